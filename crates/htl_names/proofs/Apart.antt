@@ -13,7 +13,7 @@ use Rattle.htl_names.specs.Programs.{named_program, naming, refined_by, level}
 use Rattle.htl_names.specs.Nth.{nth_module, mode_in}
 use Rattle.htl_names.proofs.Members.{Each, each_at, each_weaker, each_of_places}
 use Rattle.htl_names.proofs.TreeLevels.{IsTree, refined_at, level_step}
-use Rattle.htl_names.proofs.ModulePlaces.{IsPlaced, IsKid, placed_within, placed_names, placed_root, mode_kids_are, each_below, each_below_kids, each_kid, each_root}
+use Rattle.htl_names.proofs.ModulePlaces.{IsKid, placed_within, placed_names, placed_root, mode_kids_are, each_below, each_below_kids, each_kid, each_root}
 use Rattle.std.proofs.lemmas.List.{length-map}
 use Rattle.std.proofs.lemmas.List.Concat.{length-flat_map, flat_map_single}
 use Rattle.std.proofs.lemmas.List.Sums.{sum-map}

@@ -1,6 +1,7 @@
 -- The modes that name programs, and the levels of programs by the table of refined modes.
-use Rattle.std.proofs.Common.{◌≡◌, ℕ, zero, suc, ◌≤◌, ◌<◌, Bool, true, false, cond, ◌||◌, eqb, List, [], ◌∷◌, map, length, slice_get, Option, Some, None, refl, sym, ◌∙◌, ap, subst, arith, eqb-true, ◌+◌, ◌-◌, max, ◌++◌, add-one}
+use Rattle.std.proofs.Common.{◌≡◌, ℕ, zero, suc, ◌≤◌, ◌<◌, Bool, true, cond, eqb, List, [], ◌∷◌, map, length, slice_get, Option, Some, None, refl, sym, ◌∙◌, ap, subst, arith, eqb-true, inl, inr, ◌+◌, ◌-◌, max, ◌++◌, add-one}
 use Rattle.std.specs.List.{flat_map, list_any, count_by}
+use Rattle.std.proofs.lemmas.Bool.{or_cases}
 use Rattle.std.proofs.lemmas.Bool.Decides.{nat_tests}
 use Rattle.std.proofs.lemmas.List.Sums.{sum_by-append, sum_by-cons}
 use Rattle.std.proofs.lemmas.Option.{slice_get_within, none-some, same_Some}
@@ -142,12 +143,7 @@ row_names symbols ps p x there =
 
 target_of : (P : Naming → Type 0) (q : ℕ) (row : List Naming) → Each P row → list_any (eqb q) (map (λ (y : Naming). y.1) row) ≡ true → (y : Naming) × P y × (y.1 ≡ q)
 target_of P q [] h e = cc
-target_of P q (y ∷ row) h e = by (eqb q y.1) refl e (target_of P q row h.1)
-  where
-    by : (b : Bool) → eqb q y.1 ≡ b → (b || list_any (eqb q) (map (λ (z : Naming). z.1) row)) ≡ true
-        → (list_any (eqb q) (map (λ (z : Naming). z.1) row) ≡ true → (z : Naming) × P z × (z.1 ≡ q)) → (z : Naming) × P z × (z.1 ≡ q)
-    by true is e later = (y, h.0, sym (eqb-true q y.1 is))
-    by false is e later = later e
+target_of P q (y ∷ row) h e = elim (or_cases (eqb q y.1) _ e) [ inl is ↦ (y, h.0, sym (eqb-true q y.1 is)) | inr later ↦ target_of P q row h.1 later ]
 
 -- what a program names, one of its modes names
 pub link_names : (symbols : List (Key × ℕ)) (ps : List PlainProgram) (p q : ℕ) → list_any (eqb q) (named_by (links symbols ps) p) ≡ true

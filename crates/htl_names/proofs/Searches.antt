@@ -11,7 +11,7 @@ use Rattle.htl_names.specs.declared.key.Key.{Key}
 use Rattle.htl_names.specs.declared.place.ModeAt.{ModeAt}
 use Rattle.htl_names.specs.declared.programs.Named.{Named}
 use Rattle.htl_names.specs.Graph.{naming_rows, targets, graph_by, MarksReached}
-use Rattle.htl_names.specs.Named.{unnamed, named_too, noted, refined_at, is_misplaced, CountsNamings, AreRefined}
+use Rattle.htl_names.specs.Named.{unnamed, named_too, noted, is_misplaced, CountsNamings, AreRefined}
 use Rattle.htl_names.specs.Programs.{Graph, IsMisplaced, Naming, program_naming, naming, refined_in}
 use Rattle.htl_names.proofs.Naming.{flat, flat-count, flat-rows}
 use Rattle.htl_names.proofs.Walking.{length-map_at}
@@ -23,19 +23,19 @@ noted-get : (table : List Named) (x : Naming) (p : ℕ) → p < length table
 noted-get table x p small = grind (arith, common_steps, nat_tests)
 
 -- how often and by which mode program p is named, after these modes too
-abbrev named_by : ℕ → Named → List Naming → Named
-named_by p n [] = n
-named_by p n (x ∷ xs) = named_by p (cond (eqb x.1 p) (named_too x.0 n) n) xs
+abbrev noted_for : ℕ → Named → List Naming → Named
+noted_for p n [] = n
+noted_for p n (x ∷ xs) = noted_for p (cond (eqb x.1 p) (named_too x.0 n) n) xs
 
-all-get : (table : List Named) (xs : List Naming) (p : ℕ) → p < length table → get_or (fold noted table xs) p unnamed ≡ named_by p (get_or table p unnamed) xs
+all-get : (table : List Named) (xs : List Naming) (p : ℕ) → p < length table → get_or (fold noted table xs) p unnamed ≡ noted_for p (get_or table p unnamed) xs
 all-get table [] p small = refl
-all-get table (x ∷ xs) p small = all-get (noted table x) xs p (grind (arith, common_steps)) ∙ ap (λ (n : Named). named_by p n xs) (noted-get table x p small)
+all-get table (x ∷ xs) p small = all-get (noted table x) xs p (grind (arith, common_steps)) ∙ ap (λ (n : Named). noted_for p n xs) (noted-get table x p small)
 
 length-noted : (table : List Named) (xs : List Naming) → length (fold noted table xs) ≡ length table
 length-noted table [] = refl
 length-noted table (x ∷ xs) = grind (arith, common_steps, length-noted (noted table x) xs)
 
-count_of : (p : ℕ) (n : Named) (xs : List Naming) → min (named_by p n xs).count 255 ≡ min (n.count + count_by (λ (x : Naming). eqb p x.1) xs) 255
+count_of : (p : ℕ) (n : Named) (xs : List Naming) → min (noted_for p n xs).count 255 ≡ min (n.count + count_by (λ (x : Naming). eqb p x.1) xs) 255
 count_of p n [] = grind (arith, common_steps)
 count_of p n (x ∷ xs) =
     let rest = count_of p (cond (eqb x.1 p) (named_too x.0 n) n) xs in
@@ -47,7 +47,7 @@ abbrev or_refined : Option ModeAt → Option ModeAt → Option ModeAt
 or_refined (Some a) o = Some a
 or_refined None o = o
 
-mode_of : (p : ℕ) (n : Named) (xs : List Naming) → (named_by p n xs).mode ≡ or_refined n.mode (refined_in p xs)
+mode_of : (p : ℕ) (n : Named) (xs : List Naming) → (noted_for p n xs).mode ≡ or_refined n.mode (refined_in p xs)
 mode_of p n [] = grind arith
 mode_of p n (x ∷ xs) = let rest = mode_of p (cond (eqb x.1 p) (named_too x.0 n) n) xs in grind (arith, nat_tests)
 
@@ -58,36 +58,38 @@ flat-noted : (table : List Named) (rows : List (List Naming)) → fold (fold not
 flat-noted table [] = refl
 flat-noted table (r ∷ rows) = flat-noted (fold noted table r) rows ∙ sym (fold-append noted table r (flat rows))
 
-pub counts_namings : (rows : List (List Naming)) (table : List Named) → table ≡ fold (fold noted) (replicate (length rows) unnamed) rows → CountsNamings (graph_by rows) table
-counts_namings rows table is =
-    let free = replicate (length rows) unnamed in
-    let whole = is ∙ flat-noted free rows in
-    let len = ap length whole ∙ length-noted free (flat rows) in
-    let size = length-map rows targets in
-    record {
-      len = grind (arith, common_steps);
-      says = λ p small.
-          let one = ap (λ (t : List Named). (get_or t p unnamed).count) whole ∙ ap (λ (n : Named). n.count) (all-get free (flat rows) p (grind (arith, common_steps))) in
-          let all = count_of p (get_or free p unnamed) (flat rows) in
-          let counted = flat-count rows p in
-          grind (arith, common_steps);
-    }
+module _ (rows : List (List Naming)) (table : List Named) (is : table ≡ fold (fold noted) (replicate (length rows) unnamed) rows) where
+  abbrev unnoted : List Named
+  unnoted = replicate (length rows) unnamed
 
-pub refined_rows : (symbols : List (Key × ℕ)) (ps : List PlainProgram) (rows : List (List Naming)) (table : List Named) → rows ≡ naming_rows symbols ps
-    → table ≡ fold (fold noted) (replicate (length rows) unnamed) rows → AreRefined symbols ps table
-refined_rows symbols ps rows table are is =
-    let free = replicate (length rows) unnamed in
-    let xs = naming symbols ps in
-    let size = ap length are ∙ length-map_at (program_naming symbols) 0 ps in
-    let whole : table ≡ fold noted free xs = is ∙ flat-noted free rows ∙ ap (fold noted free) (ap flat are ∙ flat-rows (program_naming symbols) 0 ps) in
-    let len = ap length whole ∙ length-noted free xs in
-    record {
-      len = grind (arith, common_steps);
-      says = λ p small.
-          let one = ap (λ (t : List Named). refined_at t p) whole ∙ ap (λ (n : Named). n.mode) (all-get free xs p (grind (arith, common_steps))) ∙ mode_of p (get_or free p unnamed) xs in
-          let none : get_or free p unnamed ≡ unnamed = grind (arith, common_steps) in
-          one ∙ ap (λ (n : Named). or_refined n.mode (refined_in p xs)) none;
-    }
+  length-table : length table ≡ length rows
+  length-table = let len = ap length (is ∙ flat-noted unnoted rows) ∙ length-noted unnoted (flat rows) in grind (arith, common_steps)
+
+  table-get : (p : ℕ) → p < length rows → get_or table p unnamed ≡ noted_for p unnamed (flat rows)
+  table-get p small =
+      let all = ap (λ (t : List Named). get_or t p unnamed) (is ∙ flat-noted unnoted rows) ∙ all-get unnoted (flat rows) p (grind (arith, common_steps)) in
+      grind (arith, common_steps)
+
+  pub counts_namings : CountsNamings (graph_by rows) table
+  counts_namings =
+      let size = length-map rows targets in
+      record {
+        len = omega (arith, length-table, size);
+        says = λ p small.
+            let count = ap (λ (n : Named). n.count) (table-get p (omega (arith, small, size))) in
+            let all = count_of p unnamed (flat rows) in
+            let counted = flat-count rows p in
+            omega (arith, count, all, counted);
+      }
+
+  pub refined_rows : (symbols : List (Key × ℕ)) (ps : List PlainProgram) → rows ≡ naming_rows symbols ps → AreRefined symbols ps table
+  refined_rows symbols ps are =
+      let size = ap length are ∙ length-map_at (program_naming symbols) 0 ps in
+      let same : flat rows ≡ naming symbols ps = ap flat are ∙ flat-rows (program_naming symbols) 0 ps in
+      record {
+        len = length-table ∙ size;
+        says = λ p small. ap (λ (n : Named). n.mode) (table-get p (omega (arith, small, size))) ∙ mode_of p unnamed (flat rows) ∙ ap (refined_in p) same;
+      }
 
 -- ---- the test whether a program is out of place
 

@@ -1,5 +1,5 @@
 -- A tree of programs: its levels, how many programs it has, and the table of refined modes.
-use Rattle.std.proofs.Common.{◌≡◌, ℕ, zero, suc, ◌+◌, ◌≤◌, ◌<◌, inl, inr, Bool, true, eqb, List, [], ◌∷◌, length, Option, Some, None, refl, sym, ◌∙◌, ap, subst, arith, cond, eq-or-lt_of_le}
+use Rattle.std.proofs.Common.{◌≡◌, ℕ, zero, suc, ◌+◌, ◌≤◌, ◌<◌, inl, inr, Bool, true, eqb, List, [], ◌∷◌, length, Some, refl, sym, ◌∙◌, ap, subst, arith, cond, eq-or-lt_of_le}
 use Rattle.std.specs.List.{list_any, flat_map, count_by}
 use Rattle.std.proofs.lemmas.Bool.Decides.{nat_tests}
 use Rattle.std.proofs.lemmas.Map.Steps.{le-length_from_below}
@@ -8,7 +8,7 @@ use Rattle.htl_model.proofs.Listed.{length-list_to}
 use Rattle.htl_text.specs.Nodes.{PlainProgram, PlainModule, PlainMode}
 use Rattle.htl_names.specs.declared.key.Key.{Key}
 use Rattle.htl_names.specs.declared.place.ModeAt.{ModeAt}
-use Rattle.htl_names.specs.Programs.{Reached, root, below as beneath, links, namings, IsMisplaced, naming, refined_by, level, named_program, mode_links, module_links, program_links}
+use Rattle.htl_names.specs.Programs.{Reached, root, below as beneath, links, namings, IsMisplaced, naming, refined_by, level, mode_links, module_links, program_links}
 use Rattle.htl_names.proofs.Places.{not_above, stable}
 use Rattle.htl_names.proofs.Naming.{Names, refined_is, refined_none, named_counts, link_names}
 use Rattle.std.proofs.lemmas.List.Sums.{sum_by-cons}
@@ -42,17 +42,13 @@ module _ (symbols : List (Key × ℕ)) (ps : List PlainProgram) (tree : IsTree s
   abbrev Deep : ℕ → ℕ → Type 0
   Deep d q = (m : ℕ) → d < m → level (naming symbols ps) m q ≡ suc d
 
-  level_some : (m q : ℕ) (a : ModeAt) → refined_by symbols ps q ≡ Some a → level (naming symbols ps) (suc m) q ≡ suc (level (naming symbols ps) m a.program)
-  level_some m q a e = ap (λ (o : Option ModeAt). elim o [ Some b ↦ suc (level (naming symbols ps) m b.program) | None ↦ 1 ]) e
-
   deep_root : 0 < length ps → Deep 0 0
   deep_root some zero lt = absurd (omega arith)
-  deep_root some (suc m) lt =
-      ap (λ (o : Option ModeAt). elim o [ Some a ↦ suc (level (naming symbols ps) m a.program) | None ↦ 1 ]) (refined_none symbols ps 0 (root_unnamed some))
+  deep_root some (suc m) lt = let none = refined_none symbols ps 0 (root_unnamed some) in grind arith
 
   deep_more : (d q : ℕ) (a : ModeAt) → refined_by symbols ps q ≡ Some a → Deep d a.program → Deep (suc d) q
   deep_more d q a e h zero lt = absurd (omega arith)
-  deep_more d q a e h (suc m) lt = level_some m q a e ∙ ap suc (h m (omega arith))
+  deep_more d q a e h (suc m) lt = let up = h m (omega arith) in grind arith
 
   -- at each depth down to d stands a program
   abbrev Chain : ℕ → Type 0
@@ -96,8 +92,8 @@ module _ (symbols : List (Key × ℕ)) (ps : List PlainProgram) (tree : IsTree s
       let short = chain_short d.0 d.2 in
       let one = d.1 (length ps) short in
       let two = d.1 (suc (length ps)) (omega (arith, short)) in
-      let three = level_some (length ps) (suc q) a (refined_at a (suc q) lt h) in
-      no (omega (arith, one, two, three)))))
+      let up = refined_at a (suc q) lt h in
+      no (grind arith))))
 
 -- ---- a tree of programs has at most one program more than modes
 
@@ -106,11 +102,7 @@ any_counted test [] h = absurd (let none : count_by test [] ≡ 0 = refl in omeg
 any_counted test (x ∷ xs) h = let first = sum_by-cons (λ y. cond (test y) 1 0) x xs in grind (arith, any_counted test xs)
 
 mode_links_one : (symbols : List (Key × ℕ)) (x : PlainMode) → length (mode_links symbols x) ≤ 1
-mode_links_one symbols x = by (named_program symbols x)
-  where
-    by : (o : Option ℕ) → length {A = ℕ} (elim o [ Some q ↦ q ∷ [] | None ↦ [] ]) ≤ 1
-    by None = omega arith
-    by (Some q) = omega arith
+mode_links_one symbols x = grind arith
 
 module _ (symbols : List (Key × ℕ)) (ps : List PlainProgram) where
   links_length : length (flat_map (program_links symbols) ps) ≤ length (modes_of (modules_of ps))

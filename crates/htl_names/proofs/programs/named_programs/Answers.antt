@@ -11,4 +11,4 @@ returns c =
     let table = c.loop-k.named.items in
     let is : table ≡ fold (fold noted) (replicate (length rows) unnamed) rows =
     sym (ap (λ (rest : List (List Naming)). fold (fold noted) table rest) (drop_all c.loop-k.k rows (omega arith))) ∙ c.loop-k.invariant in
-    record { counts = counts_namings rows table is; modes = λ symbols ps are. refined_rows symbols ps rows table are is }
+    record { counts = counts_namings rows table is; modes = refined_rows rows table is }
