@@ -214,16 +214,7 @@ module _ (ps : List PlainProgram) where
         omega (arith, one, two, three, four, five)
 
     pub few_modules_than : length modules ≤ length (modules_of ps)
-    few_modules_than =
-        let n = few (λ (s : ModuleAt). s ∷ []) (λ (y : PlainModule). y ∷ []) (λ s y e. refl) in
-        omega (
-          arith,
-          n,
-          ap length (flat_map_single (λ (s : ModuleAt). s) modules),
-          length-map modules (λ (s : ModuleAt). s),
-          ap length (flat_map_single (λ (y : PlainModule). y) (modules_of ps)),
-          length-map (modules_of ps) (λ (y : PlainModule). y),
-        )
+    few_modules_than = simp (flat_map_single, length-map) at (few (λ (s : ModuleAt). s ∷ []) (λ (y : PlainModule). y ∷ []) (λ s y e. refl))
 
     pub few_modes_than : length (mode_order ps modules) ≤ length (modes_of (modules_of ps))
     few_modes_than = few (module_modes ps) (λ (y : PlainModule). y.modes) (λ s y e. length-list_to _ _ ∙ ap length (modes_there ps s.program s.«module» y e))
@@ -237,8 +228,8 @@ module _ (ps : List PlainProgram) where
     pub few_in_modes : {B : Type 0} (part : PlainMode → List B)
         → length (flat_map (λ (a : ModeAt). elim (mode_at ps a) [ Some x ↦ part x | None ↦ [] ]) (mode_order ps modules)) ≤ length (flat_map part (modes_of (modules_of ps)))
     few_in_modes {B} part =
-        let n = few (λ s. flat_map at (module_modes ps s)) (λ (y : PlainModule). flat_map part y.modes) (λ s y e. ap length (same s y e)) in
-        omega (arith, n, ap length (flat_map_flat_map at (module_modes ps) modules), ap length (flat_map_flat_map part (λ (y : PlainModule). y.modes) (modules_of ps)))
+        rw (flat_map_flat_map at (module_modes ps) modules, flat_map_flat_map part (λ (y : PlainModule). y.modes) (modules_of ps))
+        (few (λ s. flat_map at (module_modes ps s)) (λ (y : PlainModule). flat_map part y.modes) (λ s y e. ap length (same s y e)))
       where
         at : ModeAt → List B
         at a = elim (mode_at ps a) [ Some x ↦ part x | None ↦ [] ]
