@@ -178,9 +178,8 @@ pub level-step : (table : List Named) (n k p whole : ℕ) (a : ModeAt) → k < n
     → k + level_by table (n - k) p ≡ whole → k + 1 + level_by table (n - (k + 1)) a.program ≡ whole
 level-step table n k p whole a within up going =
     let left : n - k ≡ suc (n - (k + 1)) = omega arith in
-    let more = ap (λ (m : ℕ). level_by table m p) left
-    ∙ ap (λ (o : Option ModeAt). elim o as (λ _. ℕ) [ Some b ↦ suc (level_by table (n - (k + 1)) b.program) | None ↦ 1 ]) up in
-    omega (arith, more, going)
+    let more = ap (λ (m : ℕ). level_by table m p) left in
+    grind arith
 
 -- one program more
 pub levels-step : (f : ℕ → ℕ) (p most here next : ℕ) → most ≡ greatest 0 (list_to f p) → here ≡ f p → next ≡ max most here

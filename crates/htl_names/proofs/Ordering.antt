@@ -15,7 +15,6 @@ use Rattle.htl_names.proofs.Places.{not_above, modes_there, mode_in_source}
 use Rattle.htl_names.proofs.FlatMaps.{list_to_at, take_length}
 use Rattle.htl_names.proofs.TreeLevels.{IsTree, refined_at, level_step, few_programs}
 use Rattle.htl_names.proofs.Members.{Each, each_at, each_all, each_weaker, All-from_places}
-use Rattle.htl_names.proofs.Naming.{Names}
 use Rattle.htl_names.proofs.ModulePlaces.{parents_before, IsPlaced, placed_within, placed_names, modules_placed, roots_of, IsParent}
 use Rattle.htl_names.proofs.ListLaws.{greatest_at}
 use Rattle.std.specs.List.{flat_map}
@@ -43,17 +42,8 @@ pub right_tree : (ps : List PlainProgram) → AreNamesRight ps → IsTree (symbo
 right_tree ps right p lt wrong = right ProgramTree p (fault.NotATree p) (lt, wrong, refl)
 
 module _ (ps : List PlainProgram) (right : AreNamesRight ps) where
-  at : (k : ℕ) (s : ModuleAt) → slice_get (order (symbols_of ps) ps) k ≡ Some s → IsPlaced (symbols_of ps) ps s
-  at k s e = each_at (IsPlaced (symbols_of ps) ps) (order (symbols_of ps) ps) k s (modules_placed (symbols_of ps) ps) e
-
   all : Each (Exists ps) (order (symbols_of ps) ps)
   all = each_weaker (IsPlaced (symbols_of ps) ps) (Exists ps) (λ s h. h.there) (order (symbols_of ps) ps) (modules_placed (symbols_of ps) ps)
-
-  named : (k : ℕ) (s : ModuleAt) (a : ModeAt) → slice_get (order (symbols_of ps) ps) k ≡ Some s → s.parent ≡ Some a → Names (symbols_of ps) ps a s.program
-  named k s a e p = placed_names (symbols_of ps) ps s a (at k s e) p
-
-  within : (k : ℕ) (s : ModuleAt) → slice_get (order (symbols_of ps) ps) k ≡ Some s → s.program < length ps
-  within k s e = placed_within (symbols_of ps) ps s (at k s e)
 
   low : (p : ℕ) → p < length ps → level (naming (symbols_of ps) ps) (length ps) p ≤ 8
   low p lt =
@@ -69,14 +59,16 @@ names-ordered ps right =
     let tree = right_tree ps right in
     let apart = order_apart symbols ps tree in
     let here = all ps right in
+    let at = λ (k : ℕ) (s : ModuleAt) (e : slice_get modules k ≡ Some s). each_at (IsPlaced symbols ps) modules k s (modules_placed symbols ps) e in
+    let within = λ (k : ℕ) (s : ModuleAt) (e : slice_get modules k ≡ Some s). placed_within symbols ps s (at k s e) in
     record {
       exist = each_all (Exists ps) modules here;
       apart = apart;
       parents = parents_before symbols ps;
-      refined = λ k s a e p. refined_at symbols ps tree a s.program (within ps right k s e) (named ps right k s a e p);
+      refined = λ k s a e p. refined_at symbols ps tree a s.program (within k s e) (placed_names symbols ps s a (at k s e) p);
       roots = roots_of symbols ps;
-      levels = λ k s e. low ps right s.program (within ps right k s e);
-      steps = λ k s a e p. level_step symbols ps tree s.program a (within ps right k s e) (named ps right k s a e p);
+      levels = λ k s e. low ps right s.program (within k s e);
+      steps = λ k s a e p. level_step symbols ps tree s.program a (within k s e) (placed_names symbols ps s a (at k s e) p);
       few_modules = le_trans (few_modules_than ps modules here apart) (kept_limit ps right 1 _ 64 refl refl);
       few_modes = le_trans (few_modes_than ps modules here apart) (kept_limit ps right 2 _ 256 refl refl);
       few_tasks = le_trans (few_tasks_than ps modules here apart) (kept_limit ps right 4 _ 4096 refl refl);
