@@ -1,8 +1,8 @@
 // The tree of programs: the modes that name programs, the first program that is out of place, and the mode that each refines.
-ghost use Rattle.std.specs.Prelude.{◌≡◌, ◌++◌, OnOk, IfOk, eqb, ◌<◌, length, slice_get, fold, MatchBool, ◌≤◌, ℕ, List};
+ghost use Rattle.std.specs.Prelude.{◌≡◌, ◌++◌, OnOk, IfOk, ◌<◌, length, fold, ◌≤◌, ℕ, List};
 ghost use Rattle.htl_text.specs.Nodes.{mode_of, module_of, program_of, tree_of, PlainProgram};
 ghost use Rattle.htl_names.specs.Graph.{naming_rows, targets, graph_by, MarksReached};
-ghost use Rattle.htl_names.specs.Programs.{IsFirstMisplaced, named_program as program_of_mode, module_naming, program_naming, named_by, IsMisplaced};
+ghost use Rattle.htl_names.specs.Programs.{IsFirstMisplaced, named_program as program_of_mode, module_naming, program_naming};
 ghost use Rattle.htl_names.specs.Named.{noted, refined_at, is_misplaced, CountsNamings, AreRefined};
 ghost use Rattle.htl_names.specs.declared.key.Key.{Key};
 
