@@ -1,5 +1,5 @@
 // The tree of programs: the modes that name programs, the first program that is out of place, and the mode that each refines.
-ghost use Rattle.std.specs.Prelude.{◌≡◌, ◌++◌, OnOk, IfOk, ◌<◌, length, fold, ◌≤◌, ℕ, List};
+ghost use Rattle.std.specs.Prelude.{◌≡◌, ◌++◌, OnOk, IfOk, length, fold, ◌≤◌, ℕ, List};
 ghost use Rattle.htl_text.specs.Nodes.{mode_of, module_of, program_of, tree_of, PlainProgram};
 ghost use Rattle.htl_names.specs.Graph.{naming_rows, targets, graph_by, MarksReached};
 ghost use Rattle.htl_names.specs.Programs.{IsFirstMisplaced, named_program as program_of_mode, module_naming, program_naming};
