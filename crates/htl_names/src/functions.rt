@@ -3,17 +3,17 @@ ghost use Rattle.std.specs.List.{flat_map};
 ghost use Rattle.std.specs.Prelude.{◌≡◌, ◌≤◌, ℕ, eqb, IfOk, ◌++◌, OnOk, map};
 ghost use Rattle.htl_model.specs.Functions.{term_of};
 ghost use Rattle.htl_model.specs.Tables.{fun_of};
-ghost use Rattle.htl_text.specs.Nodes.{tree_of, out_of};
+ghost use Rattle.htl_text.specs.Nodes.{outs_of};
 ghost use Rattle.htl_text.specs.declared.tree.Id.{Id as AnId};
-ghost use Rattle.htl_names.specs.Flat.{term_by, input_place, read_place, flat_output_function, module_functions};
+ghost use Rattle.htl_names.specs.Flat.{term_by, input_place, read_place, outs_functions};
 ghost use Rattle.htl_names.specs.Lists.{place_in};
 
 use crate::Done;
 use crate::key::Space;
-use crate::place::{ModuleAt, tasks_at};
+use crate::place::ModuleAt;
 use crate::tables::Source;
 use htl_model::{Expr, Function};
-use htl_text::{Id, Operand, OutNode, OutNodes, Part};
+use htl_text::{Id, Operand, OutNodes, Part};
 use std::alloc::{AllocError, Global};
 
 // ---- expressions
@@ -119,43 +119,15 @@ fn boxed<A: Arguments>(
 
 // ---- the functions of outputs
 
-/// Puts one for each output of each concrete task behind others, in the order of tasks.
-pub fn put_outputs(source: &Source<'_>, into: &mut Vec<Function>) -> Done
-    ensures { OnOk result (map fun_of into.new.items
-        ≡ map fun_of into.old.items ++ flat_map (module_functions source.now.layout.now (tree_of source.now.tree.now)) source.now.layout.now.modules) }
-{
-    let layout = source.layout;
-    let modules = layout.modules.as_slice();
-    for k in 0..modules.len() {
-        put_module(source, modules[k], into)?;
-    }
-    Ok(())
-}
-
-// Those of the tasks of a module: none of an abstract one.
-fn put_module(source: &Source<'_>, at: ModuleAt, into: &mut Vec<Function>) -> Done
-    ensures { OnOk result (map fun_of into.new.items
-        ≡ map fun_of into.old.items ++ module_functions source.now.layout.now (tree_of source.now.tree.now) at) }
-{
-    let tasks = tasks_at(source.tree, at.program, at.module);
-    for k in 0..tasks.len() {
-        let inputs = Inputs {
-            source: *source,
-            at,
-            task: k,
-        };
-        if let OutNodes::Concrete { outs } = &tasks[k].outputs {
-            put_outs(&inputs, outs.as_slice(), into)?;
-        }
-    }
-    Ok(())
-}
-
-// Those of a task with these inputs.
-fn put_outs(inputs: &Inputs<'_>, outs: &[OutNode], into: &mut Vec<Function>) -> Done
+/// Puts one for each output of the task with these inputs behind others: none of an abstract one.
+pub fn put_outputs(inputs: &Inputs<'_>, outputs: &OutNodes, into: &mut Vec<Function>) -> Done
     ensures { OnOk result (map fun_of into.new.items ≡ map fun_of into.old.items
-        ++ map (flat_output_function inputs.now.source.layout.now inputs.now.at.program inputs.now.at.«module» inputs.now.task) (map out_of outs.now)) }
+        ++ outs_functions inputs.now.source.layout.now inputs.now.at.program inputs.now.at.«module» inputs.now.task (outs_of outputs.now)) }
 {
+    let OutNodes::Concrete { outs } = outputs else {
+        return Ok(());
+    };
+    let outs = outs.as_slice();
     for k in 0..outs.len() {
         let out = &outs[k];
         let e = formula(inputs.source.alloc, inputs, &out.value.whole())?;

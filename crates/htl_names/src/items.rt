@@ -1,19 +1,18 @@
 // The lists of communicators, modes, modules, ports and tasks.
-ghost use Rattle.std.specs.Prelude.{◌≡◌, ◌≤◌, ◌++◌, None, Some, All, IfOk, OnOk, length, map};
+ghost use Rattle.std.specs.Prelude.{◌≡◌, ◌≤◌, ◌++◌, None, Some, All, IfOk, OnOk, map};
+ghost use Rattle.htl_model.specs.Tables.{fun_of};
 ghost use Rattle.htl_text.specs.Bounds.{out_params};
 ghost use Rattle.htl_text.specs.Nodes.{tree_of, module_of, mode_of, task_of, outs_of, out_of};
 ghost use Rattle.htl_text.specs.declared.tree.CommNode.{CommNode as ACommNode};
-ghost use Rattle.htl_names.specs.Flat.{size_of, value_of, comm_item, comm_items, mode_item, module_mode_items, mode_number, module_item, module_items, mode_port_items, types_of, task_item, module_task_items};
-ghost use Rattle.htl_names.specs.Narrow.{IsNarrowParent};
+ghost use Rattle.htl_names.specs.Flat.{size_of, value_of, comm_item, comm_items, mode_item, module_mode_items, module_item, module_items_at, mode_port_items, types_of, task_item, module_task_items, module_functions};
 
 use crate::Done;
+use crate::functions::{Inputs, put_outputs};
 use crate::key::Space;
-use crate::place::{
-    ModeAt, ModuleAt, before, mode_number, modes_at, module_at, ports_at, tasks_at,
-};
-use crate::tables::{Listing, Source};
+use crate::place::{ModeHome, ModuleHome, mode_number, modes_at, module_at, ports_at, tasks_at};
+use crate::tables::Source;
 use htl_base::{Seq, Ty, Value};
-use htl_model::{Comm, Mode, Module, Port, Task};
+use htl_model::{Comm, Function, Mode, Module, Port, Task};
 use htl_text::{CommNode, ConstNode, ModeNode, ModuleNode, OutNode, OutNodes, ParamNode, TaskNode};
 use std::alloc::{AllocError, Global};
 
@@ -73,18 +72,17 @@ fn put_program_comms(nodes: &[CommNode], into: &mut Vec<Comm>) -> Done
     Ok(())
 }
 
-/// The modes of a module.
-impl Listing<ModuleAt, Mode> for Source<'_> {
-    ghost items_of = { λ s. module_mode_items (tree_of s.tree.now) };
-
-    fn put(&self, number: usize, at: ModuleAt, into: &mut Vec<Mode>) -> Done {
-        let module = number as u16;
-        let nodes = modes_at(self.tree, at.program, at.module);
-        for k in 0..nodes.len() {
-            into.push(mode(&nodes[k], module))?;
-        }
-        Ok(())
+/// Puts the modes of a module behind others.
+pub fn put_modes(home: &ModuleHome<'_>, into: &mut Vec<Mode>) -> Done
+    ensures { OnOk result (into.new.items
+        ≡ into.old.items ++ module_mode_items (tree_of home.now.source.tree.now) home.now.number home.now.at) }
+{
+    let module = home.number as u16;
+    let nodes = modes_at(home.source.tree, home.at.program, home.at.module);
+    for k in 0..nodes.len() {
+        into.push(mode(&nodes[k], module))?;
     }
+    Ok(())
 }
 
 fn mode(node: &ModeNode, module: u16) -> Mode
@@ -98,31 +96,24 @@ fn mode(node: &ModeNode, module: u16) -> Mode
     }
 }
 
-/// Puts the modules behind others, in the order of the layout.
-pub fn put_modules(source: &Source<'_>, into: &mut Vec<Module>) -> Done
-    ensures { OnOk result (into.new.items ≡ into.old.items ++ module_items source.now.layout.now (tree_of source.now.tree.now)) }
+/// Puts a module behind others, if it stands in the tree.
+pub fn put_module(home: &ModuleHome<'_>, into: &mut Vec<Module>) -> Done
+    ensures { OnOk result (into.new.items ≡ into.old.items
+        ++ module_items_at home.now.source.layout.now (tree_of home.now.source.tree.now) home.now.number home.now.at) }
 {
-    let layout = source.layout;
-    let modules = layout.modules.as_slice();
-    for k in 0..modules.len() {
-        let at = modules[k];
-        if let Some(node) = module_at(source.tree, at.program, at.module) {
-            into.push(flat_module(source, k, at, node))?;
-        }
+    if let Some(node) = module_at(home.source.tree, home.at.program, home.at.module) {
+        into.push(flat_module(home, node))?;
     }
     Ok(())
 }
 
-fn flat_module(source: &Source<'_>, number: usize, at: ModuleAt, node: &ModuleNode) -> Module
-    requires there { number ≤ length source.now.layout.now.modules }
-    requires parent { IsNarrowParent at.parent }
-    ensures { result ≡ module_item source.now.layout.now (tree_of source.now.tree.now) number at (module_of node.now) }
+fn flat_module(home: &ModuleHome<'_>, node: &ModuleNode) -> Module
+    ensures { result ≡ module_item home.now.source.layout.now (tree_of home.now.source.tree.now) home.now.number home.now.at (module_of node.now) }
 {
-    let names = Space::Modes.of(at.program, at.module, 0);
-    let first = before(source, number).modes;
-    let start = (first + source.layout.meaning(names, node.start.name)) as u16;
-    let parent = match at.parent {
-        Some(mode) => Some(mode_number(source, mode) as u16),
+    let names = Space::Modes.of(home.at.program, home.at.module, 0);
+    let start = (home.mode + home.source.layout.meaning(names, node.start.name)) as u16;
+    let parent = match home.at.parent {
+        Some(mode) => Some(mode_number(&home.source, mode) as u16),
         None => None,
     };
     Module {
@@ -132,39 +123,48 @@ fn flat_module(source: &Source<'_>, number: usize, at: ModuleAt, node: &ModuleNo
     }
 }
 
-/// The ports of a mode.
-impl Listing<ModeAt, Port> for Source<'_> {
-    ghost items_of = { λ s. mode_port_items (tree_of s.tree.now) };
-
-    fn put(&self, number: usize, at: ModeAt, into: &mut Vec<Port>) -> Done {
-        let mode = number as u16;
-        let nodes = ports_at(self.tree, at);
-        for k in 0..nodes.len() {
-            let node = &nodes[k];
-            into.push(Port {
-                name: node.name.name,
-                mode,
-                ty: node.ty,
-            })?;
-        }
-        Ok(())
+/// Puts the ports of a mode behind others.
+pub fn put_ports(home: &ModeHome<'_>, into: &mut Vec<Port>) -> Done
+    ensures { OnOk result (into.new.items
+        ≡ into.old.items ++ mode_port_items (tree_of home.now.source.tree.now) home.now.number home.now.at) }
+{
+    let mode = home.number as u16;
+    let nodes = ports_at(home.source.tree, home.at);
+    for k in 0..nodes.len() {
+        let node = &nodes[k];
+        into.push(Port {
+            name: node.name.name,
+            mode,
+            ty: node.ty,
+        })?;
     }
+    Ok(())
 }
 
 // ---- tasks
 
-/// The tasks of a module.
-impl Listing<ModuleAt, Task> for Source<'_> {
-    ghost items_of = { λ s. module_task_items (tree_of s.tree.now) };
-
-    fn put(&self, number: usize, at: ModuleAt, into: &mut Vec<Task>) -> Done {
-        let module = number as u16;
-        let nodes = tasks_at(self.tree, at.program, at.module);
-        for k in 0..nodes.len() {
-            into.push(task(self.alloc, &nodes[k], module)?)?;
-        }
-        Ok(())
+/// Puts the tasks of a module behind others, and the functions of their outputs.
+pub fn put_tasks(home: &ModuleHome<'_>, into: &mut Vec<Task>, functions: &mut Vec<Function>) -> Done
+    ensures items { OnOk result (into.new.items
+        ≡ into.old.items ++ module_task_items (tree_of home.now.source.tree.now) home.now.number home.now.at) }
+    ensures functions { OnOk result (map fun_of functions.new.items ≡ map fun_of functions.old.items
+        ++ module_functions home.now.source.layout.now (tree_of home.now.source.tree.now) home.now.at) }
+{
+    let module = home.number as u16;
+    let source = home.source;
+    let at = home.at;
+    let nodes = tasks_at(source.tree, at.program, at.module);
+    for k in 0..nodes.len() {
+        let node = &nodes[k];
+        let inputs = Inputs {
+            source,
+            at,
+            task: k,
+        };
+        put_outputs(&inputs, &node.outputs, functions)?;
+        into.push(task(source.alloc, node, module)?)?;
     }
+    Ok(())
 }
 
 fn task(alloc: Global, node: &TaskNode, module: u16) -> Result<Task, AllocError>

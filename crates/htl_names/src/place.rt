@@ -1,7 +1,8 @@
 // Places in the tree of a source, what stands there, and the numbers of modules and modes in the tables.
-ghost use Rattle.std.specs.Prelude.{◌≡◌, map, MatchOption, None, Some, ◌≤◌, length};
+ghost use Rattle.std.specs.Prelude.{◌≡◌, map, MatchOption, None, Some, ◌≤◌, ◌<◌, length, slice_get};
 ghost use Rattle.htl_text.specs.Nodes.{tree_of, module_of, mode_of, task_of, switch_of};
-ghost use Rattle.htl_names.specs.Flat.{module_number, modes_before, tasks_before, invokes_before, mode_number};
+ghost use Rattle.htl_names.specs.Flat.{module_number, modes_before, tasks_before, ports_before, invokes_before, mode_number, refined_mode, first_parent};
+ghost use Rattle.htl_names.specs.Narrow.{IsNarrowParent};
 ghost use Rattle.htl_names.specs.Order.{modules_at, module_at, tasks_at, modes_at, mode_at, ports_at, invokes_at, switches_at};
 
 use crate::tables::{Layout, Source};
@@ -163,4 +164,67 @@ pub fn mode_number(source: &Source<'_>, at: ModeAt) -> usize
     ensures within { result ≤ 512 }
 {
     before(source, module_number(source.layout, at.program, at.module)).modes + at.mode
+}
+
+// ---- a module and a mode with what their items need
+
+/// A module of a source, with its number and that of its first mode.
+#[derive(Clone, Copy)]
+pub struct ModuleHome<'a> {
+    pub source: Source<'a>,
+    pub number: usize,
+    pub at: ModuleAt,
+    pub mode: usize,
+    ghost few: { number ≤ 64 },
+    ghost narrow: { IsNarrowParent at.parent },
+    ghost modes: { mode ≡ modes_before source.layout.now (tree_of source.tree.now) number },
+}
+
+/// A mode of a source, with its number, the numbers of its first port and of the first mode and task of its module, and
+/// the mode that its program refines, with the number of the first invocation of that.
+#[derive(Clone, Copy)]
+pub struct ModeHome<'a> {
+    pub source: Source<'a>,
+    pub number: usize,
+    pub at: ModeAt,
+    pub port: usize,
+    pub first: Held,
+    pub refined: Option<ModeAt>,
+    pub parent: usize,
+    ghost few: { number ≤ 256 },
+    ghost ports: { port ≡ ports_before source.layout.now (tree_of source.tree.now) number },
+    ghost modes: { first.modes ≡ modes_before source.layout.now (tree_of source.tree.now) (module_number source.layout.now at.program at.«module») },
+    ghost tasks: { first.tasks ≡ tasks_before source.layout.now (tree_of source.tree.now) (module_number source.layout.now at.program at.«module») },
+    ghost refines: { refined ≡ refined_mode source.layout.now at.program at.«module» },
+    ghost parents: { parent ≡ first_parent source.layout.now (tree_of source.tree.now) refined },
+}
+
+/// What the items of the mode with this number need, whose first port is known.
+pub fn mode_home<'a>(source: &Source<'a>, number: usize, port: usize) -> ModeHome<'a>
+    requires within { number < length source.now.layout.now.modes }
+    requires ports { port ≡ ports_before source.now.layout.now (tree_of source.now.tree.now) number }
+    ensures source { result.source ≡ source.now }
+    ensures number { result.number ≡ number }
+    ensures at { slice_get source.now.layout.now.modes number ≡ Some result.at }
+{
+    let layout = source.layout;
+    let at = layout.modes.as_slice()[number];
+    let module = module_number(layout, at.program, at.module);
+    let refined = match layout.modules.as_slice().get(module) {
+        Some(module) => module.parent,
+        None => None,
+    };
+    let parent = match refined {
+        Some(at) => invokes_before(source, mode_number(source, at)),
+        None => 0,
+    };
+    ModeHome {
+        source: *source,
+        number,
+        at,
+        port,
+        first: before(source, module),
+        refined,
+        parent,
+    }
 }

@@ -1,19 +1,18 @@
 // The flat tables of a tree by a layout.
-ghost use Rattle.std.specs.Prelude.{◌≡◌, ◌≤◌, ◌++◌, ℕ, List, IfOk, OnOk, length};
-ghost use Rattle.htl_model.specs.Tables.{tables_of};
+ghost use Rattle.std.specs.Prelude.{◌≡◌, ◌<◌, ◌+◌, IfOk, OnOk, length, map, take};
+ghost use Rattle.std.specs.List.{flat_map};
+ghost use Rattle.htl_model.specs.Tables.{fun_of, tables_of};
 ghost use Rattle.htl_text.specs.Nodes.{tree_of};
-ghost use Rattle.htl_names.specs.Filled.{AreFilled};
-ghost use Rattle.htl_names.specs.Flat.{meaning, tables_by};
+ghost use Rattle.htl_names.specs.Filled.{AreOfModes, AreOfModules};
+ghost use Rattle.htl_names.specs.Flat.{meaning, module_functions, tables_by};
 ghost use Rattle.htl_names.specs.Keys.{key_in};
-ghost use Rattle.htl_names.specs.Lists.{flat_map_at};
 ghost use Rattle.htl_names.specs.Narrow.{IsNarrow};
 
 use crate::Done;
-use crate::functions::put_outputs;
 use crate::invocations::put_invocations;
-use crate::items::{put_comms, put_modules};
+use crate::items::{put_comms, put_modes, put_module as put_module_itself, put_ports, put_tasks};
 use crate::key::Scope;
-use crate::place::{ModeAt, ModuleAt};
+use crate::place::{ModeAt, ModeHome, ModuleAt, ModuleHome, mode_home};
 use crate::switches::put_switches;
 use crate::symbols::Symbols;
 use htl_base::{Name, Seq};
@@ -69,91 +68,115 @@ pub struct Source<'a> {
     ghost narrow: { IsNarrow layout.now (tree_of tree.now) },
 }
 
-// ---- lists by module or by mode
+// ---- the lists by module
 
-/// What a list of the tables has for each owner: a module or a mode.
-pub trait Listing<A, B> {
-    ghost items_of: { Self → ℕ → A → List B };
-
-    /// Puts the items of the owner with this number behind others, in order.
-    fn put(&self, number: usize, owner: A, into: &mut Vec<B>) -> Done
-        requires { number ≤ 256 }
-        ensures { OnOk result (into.new.items ≡ into.old.items ++ items_of self.now number owner) };
-}
-
-/// Puts the items of each owner behind others, in order.
-fn put_all<A: Copy, B, L: Listing<A, B>>(listing: &L, owners: &[A], into: &mut Vec<B>) -> Done
-    requires { length owners.now ≤ 256 }
-    ensures { OnOk result (into.new.items ≡ into.old.items ++ flat_map_at (L.items_of listing.now) 0 owners.now) }
-{
-    for k in 0..owners.len() {
-        listing.put(k, owners[k], into)?;
-    }
-    Ok(())
-}
-
-// ---- the tables
-
-/// The lists of the tables, as they are made.
+/// The lists that have items for each module, as they are made; the functions are those of outputs.
 #[derive(Drop)]
-struct Lists {
-    comms: Vec<Comm>,
+struct ModuleLists {
     modes: Vec<Mode>,
     modules: Vec<Module>,
-    ports: Vec<Port>,
     tasks: Vec<Task>,
+    functions: Vec<Function>,
+}
+
+/// Puts the items of the module with this number behind those of the modules before it.
+fn put_module(source: &Source<'_>, number: usize, into: &mut ModuleLists) -> Done
+    requires within { number < length source.now.layout.now.modules }
+    requires before { AreOfModules source.now.layout.now (tree_of source.now.tree.now) (take number source.now.layout.now.modules) into.old }
+    ensures { OnOk result (AreOfModules source.now.layout.now (tree_of source.now.tree.now) (take (number + 1) source.now.layout.now.modules) into.new) }
+{
+    let layout = source.layout;
+    let home = ModuleHome {
+        source: *source,
+        number,
+        at: layout.modules.as_slice()[number],
+        mode: into.modes.len(),
+    };
+    put_modes(&home, &mut into.modes)?;
+    put_module_itself(&home, &mut into.modules)?;
+    put_tasks(&home, &mut into.tasks, &mut into.functions)
+}
+
+fn module_lists(source: &Source<'_>) -> Result<ModuleLists, AllocError>
+    ensures { IfOk result (λ made. AreOfModules source.now.layout.now (tree_of source.now.tree.now) source.now.layout.now.modules made) }
+{
+    let mut made = ModuleLists {
+        modes: Vec::new(source.alloc),
+        modules: Vec::new(source.alloc),
+        tasks: Vec::new(source.alloc),
+        functions: Vec::new(source.alloc),
+    };
+    let layout = source.layout;
+    for k in 0..layout.modules.len() {
+        put_module(source, k, &mut made)?;
+    }
+    Ok(made)
+}
+
+// ---- the lists by mode
+
+/// The lists that have items for each mode, as they are made; the functions of switches stand behind those of outputs.
+#[derive(Drop)]
+struct ModeLists {
+    ports: Vec<Port>,
     invs: Vec<Inv>,
     switches: Vec<Switch>,
     functions: Vec<Function>,
 }
 
-impl Lists {
-    /// Puts the items of a source behind others.
-    fn put_all(&mut self, source: &Source<'_>) -> Done
-        ensures { OnOk result (AreFilled source.now.layout.now (tree_of source.now.tree.now) self.old self.new) }
-    {
-        let layout = source.layout;
-        let modules = layout.modules.as_slice();
-        let modes = layout.modes.as_slice();
-        put_comms(source, &mut self.comms)?;
-        put_all(source, modules, &mut self.modes)?;
-        put_modules(source, &mut self.modules)?;
-        put_all(source, modes, &mut self.ports)?;
-        put_all(source, modules, &mut self.tasks)?;
-        put_invocations(source, &mut self.invs)?;
-        put_outputs(source, &mut self.functions)?;
-        put_switches(source, &mut self.switches, &mut self.functions)
-    }
+/// Puts the items of the mode with this number behind those of the modes before it.
+fn put_mode(source: &Source<'_>, number: usize, into: &mut ModeLists) -> Done
+    requires within { number < length source.now.layout.now.modes }
+    requires before { AreOfModes source.now.layout.now (tree_of source.now.tree.now) (take number source.now.layout.now.modes) into.old }
+    ensures { OnOk result (AreOfModes source.now.layout.now (tree_of source.now.tree.now) (take (number + 1) source.now.layout.now.modes) into.new) }
+{
+    let home = mode_home(source, number, into.ports.len());
+    put_ports(&home, &mut into.ports)?;
+    put_invocations(&home, &mut into.invs)?;
+    put_switches(&home, &mut into.switches, &mut into.functions)
 }
+
+fn mode_lists(source: &Source<'_>, functions: Vec<Function>) -> Result<ModeLists, AllocError>
+    requires { map fun_of functions.items ≡ flat_map (module_functions source.now.layout.now (tree_of source.now.tree.now)) source.now.layout.now.modules }
+    ensures { IfOk result (λ made. AreOfModes source.now.layout.now (tree_of source.now.tree.now) source.now.layout.now.modes made) }
+{
+    let mut made = ModeLists {
+        ports: Vec::new(source.alloc),
+        invs: Vec::new(source.alloc),
+        switches: Vec::new(source.alloc),
+        functions,
+    };
+    let layout = source.layout;
+    for k in 0..layout.modes.len() {
+        put_mode(source, k, &mut made)?;
+    }
+    Ok(made)
+}
+
+// ---- the tables
 
 /// The lists of the tables.
 pub(crate) fn parts_of(alloc: Global, tree: &Tree, layout: &Layout) -> Result<Parts, AllocError>
     requires { IsNarrow layout.now (tree_of tree.now) }
     ensures { IfOk result (λ parts. tables_of parts ≡ tables_by layout.now (tree_of tree.now)) }
 {
-    let mut lists = Lists {
-        comms: Vec::new(alloc),
-        modes: Vec::new(alloc),
-        modules: Vec::new(alloc),
-        ports: Vec::new(alloc),
-        tasks: Vec::new(alloc),
-        invs: Vec::new(alloc),
-        switches: Vec::new(alloc),
-        functions: Vec::new(alloc),
-    };
-    lists.put_all(&Source {
+    let source = Source {
         alloc,
         tree,
         layout,
-    })?;
+    };
+    let mut comms = Vec::new(alloc);
+    put_comms(&source, &mut comms)?;
+    let of_modules = module_lists(&source)?;
+    let of_modes = mode_lists(&source, of_modules.functions)?;
     Ok(Parts {
-        comms: Seq::new(lists.comms),
-        modes: Seq::new(lists.modes),
-        modules: Seq::new(lists.modules),
-        ports: Seq::new(lists.ports),
-        tasks: Seq::new(lists.tasks),
-        invs: Seq::new(lists.invs),
-        switches: Seq::new(lists.switches),
-        functions: Seq::new(lists.functions),
+        comms: Seq::new(comms),
+        modes: Seq::new(of_modules.modes),
+        modules: Seq::new(of_modules.modules),
+        ports: Seq::new(of_modes.ports),
+        tasks: Seq::new(of_modules.tasks),
+        invs: Seq::new(of_modes.invs),
+        switches: Seq::new(of_modes.switches),
+        functions: Seq::new(of_modes.functions),
     })
 }

@@ -1,9 +1,10 @@
 use Rattle.std.proofs.Common.{◌≡◌, ◌++◌, drop, map}
 use Rattle.htl_model.specs.Tables.{fun_of}
-use Rattle.std.specs.List.{flat_map}
-use Rattle.htl_text.specs.Nodes.{tree_of}
-use Rattle.htl_names.specs.Flat.{module_functions}
+use Rattle.htl_text.specs.Nodes.{out_of}
+use Rattle.htl_names.specs.Flat.{flat_output_function}
 use Rattle.htl_names.proofs.functions.put_outputs.Given as goal
 
 abbrev pub invariant-loop-k : goal.invariant-loop-k
-invariant-loop-k l = map fun_of l.into.items ++ flat_map (module_functions l.source.layout.now (tree_of l.source.tree.now)) (drop l.k l.modules) ≡ map fun_of l.initial.into.items ++ flat_map (module_functions l.source.layout.now (tree_of l.source.tree.now)) l.modules
+invariant-loop-k l =
+    map fun_of l.into.items ++ map (flat_output_function l.inputs.source.layout.now l.inputs.at.program l.inputs.at.«module» l.inputs.task) (map out_of (drop l.k l.outs))
+    ≡ map fun_of l.initial.into.items ++ map (flat_output_function l.inputs.source.layout.now l.inputs.at.program l.inputs.at.«module» l.inputs.task) (map out_of l.outs)

@@ -5,5 +5,5 @@ use Rattle.htl_names.proofs.invocations.ends.Given as goal
 
 abbrev pub invariant-loop-k : goal.invariant-loop-k
 invariant-loop-k l =
-    l.found.items ++ map (end_item l.home.source.layout.now (tree_of l.home.source.tree.now) l.home.mode l.home.at) (drop l.k l.nodes)
-    ≡ map (end_item l.home.source.layout.now (tree_of l.home.source.tree.now) l.home.mode l.home.at) l.nodes
+    l.found.items ++ map (end_item l.home.source.layout.now (tree_of l.home.source.tree.now) l.home.number l.home.at) (drop l.k l.nodes)
+    ≡ map (end_item l.home.source.layout.now (tree_of l.home.source.tree.now) l.home.number l.home.at) l.nodes

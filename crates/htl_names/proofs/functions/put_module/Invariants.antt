@@ -1,9 +1,0 @@
-use Rattle.std.proofs.Common.{◌≡◌, ◌++◌, drop, map}
-use Rattle.htl_model.specs.Tables.{fun_of}
-use Rattle.htl_names.specs.Lists.{flat_map_at}
-use Rattle.htl_text.specs.Nodes.{task_of}
-use Rattle.htl_names.specs.Flat.{task_functions}
-use Rattle.htl_names.proofs.functions.put_module.Given as goal
-
-abbrev pub invariant-loop-k : goal.invariant-loop-k
-invariant-loop-k l = map fun_of l.into.items ++ flat_map_at (task_functions l.source.layout.now l.at.program l.at.«module») l.k (map task_of (drop l.k l.tasks)) ≡ map fun_of l.initial.into.items ++ flat_map_at (task_functions l.source.layout.now l.at.program l.at.«module») 0 (map task_of l.tasks)
