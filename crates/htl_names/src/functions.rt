@@ -56,8 +56,7 @@ impl Arguments for Reads<'_> {
     ghost place = { λ s. read_place s.source.layout.now s.comms.now };
 
     fn place(&self, id: &Id) -> u16 {
-        let layout = self.source.layout;
-        let comm = layout.meaning(Space::Comms.of(0, 0, 0), id.name);
+        let comm = self.source.layout.comm(id);
         let comms = self.comms;
         for k in 0..comms.len() {
             if comms[k] as usize == comm {

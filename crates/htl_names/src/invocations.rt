@@ -68,7 +68,7 @@ fn end(home: &ModeHome<'_>, node: &EndNode) -> End
     let layout = home.source.layout;
     match node {
         EndNode::Comm { comm, instance } => End::Comm {
-            comm: layout.meaning(Space::Comms.of(0, 0, 0), comm.name) as u16,
+            comm: layout.comm(comm) as u16,
             instance: size_of(instance.x),
         },
         EndNode::Port { port } => {

@@ -2,8 +2,9 @@
 ghost use Rattle.std.specs.Prelude.{◌≡◌, ◌++◌, ◌≤◌, OnOk, IfOk, map};
 ghost use Rattle.htl_model.specs.Tables.{fun_of};
 ghost use Rattle.htl_text.specs.Nodes.{tree_of, switch_of};
+ghost use Rattle.htl_names.specs.Keys.{comm_key};
 ghost use Rattle.htl_names.specs.Lists.{with_new};
-ghost use Rattle.htl_names.specs.Flat.{comms_in, flat_switch_function, mode_functions, mode_switch_items};
+ghost use Rattle.htl_names.specs.Flat.{comms_in, flat_switch_function, meaning, mode_functions, mode_switch_items};
 
 use crate::Done;
 use crate::functions::{Reads, formula};
@@ -12,7 +13,7 @@ use crate::place::{ModeHome, switches_at};
 use crate::tables::Source;
 use htl_base::Seq;
 use htl_model::{Function, Switch};
-use htl_text::{Expression, Node, SwitchNode};
+use htl_text::{Expression, Id, Node, SwitchNode};
 use std::alloc::AllocError;
 
 /// Puts the switches of a mode behind others, in source order; and their functions, in the same order.
@@ -62,21 +63,20 @@ fn condition(source: &Source<'_>, comms: &[u16], node: &SwitchNode) -> Result<Fu
 fn comms_in(source: &Source<'_>, e: &Expression) -> Result<Vec<u16>, AllocError>
     ensures { IfOk result (λ v. v.items ≡ comms_in source.now.layout.now e.now) }
 {
-    let layout = source.layout;
     let mut comms = Vec::new(source.alloc);
     let nodes = e.nodes();
     for k in 0..nodes.len() {
         if let Node::Named { id } = &nodes[k] {
-            let comm = layout.meaning(Space::Comms.of(0, 0, 0), id.name);
-            put_comm(comm as u16, &mut comms)?;
+            put_comm(source, id, &mut comms)?;
         }
     }
     Ok(comms)
 }
 
-fn put_comm(comm: u16, comms: &mut Vec<u16>) -> Done
-    ensures { OnOk result (comms.new.items ≡ with_new comms.old.items comm) }
+fn put_comm(source: &Source<'_>, id: &Id, comms: &mut Vec<u16>) -> Done
+    ensures { OnOk result (comms.new.items ≡ with_new comms.old.items (meaning source.now.layout.now (comm_key id.now.name))) }
 {
+    let comm = source.layout.comm(id) as u16;
     if !comms.contains(&comm) {
         comms.push(comm)?;
     }

@@ -5,19 +5,19 @@ ghost use Rattle.htl_model.specs.Tables.{fun_of, tables_of};
 ghost use Rattle.htl_text.specs.Nodes.{tree_of};
 ghost use Rattle.htl_names.specs.Filled.{AreOfModes, AreOfModules};
 ghost use Rattle.htl_names.specs.Flat.{meaning, module_functions, tables_by};
-ghost use Rattle.htl_names.specs.Keys.{key_in};
+ghost use Rattle.htl_names.specs.Keys.{comm_key, key_in};
 ghost use Rattle.htl_names.specs.Narrow.{IsNarrow};
 
 use crate::Done;
 use crate::invocations::put_invocations;
 use crate::items::{put_comms, put_modes, put_module as put_module_itself, put_ports, put_tasks};
-use crate::key::Scope;
+use crate::key::{Scope, Space};
 use crate::place::{ModeAt, ModeHome, ModuleAt, ModuleHome, mode_home};
 use crate::switches::put_switches;
 use crate::symbols::Symbols;
 use htl_base::{Name, Seq};
 use htl_model::{Comm, Function, Inv, Mode, Module, Parts, Port, Switch, Task};
-use htl_text::Tree;
+use htl_text::{Id, Tree};
 use std::alloc::{AllocError, Global};
 use std::marker::Model;
 
@@ -54,6 +54,13 @@ impl Layout {
         ensures { result ≡ meaning self.now (key_in scope name) }
     {
         self.symbols.get(&scope.key(name)).unwrap_or(0)
+    }
+
+    /// The number of the communicator that a name means.
+    pub fn comm(&self, id: &Id) -> usize
+        ensures { result ≡ meaning self.now (comm_key id.now.name) }
+    {
+        self.meaning(Space::Comms.of(0, 0, 0), id.name)
     }
 }
 
