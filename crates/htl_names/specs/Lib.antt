@@ -1,7 +1,6 @@
 pub mod Conditions
 pub mod Entries
 pub mod Excess
-pub mod Filled
 pub mod Flat
 pub mod Graph
 pub mod Keys

@@ -1,24 +1,24 @@
 // The list of invocations.
 ghost use Rattle.std.specs.Prelude.{◌≡◌, ◌++◌, ◌≤◌, None, Some, OnOk, IfOk, All, map};
 ghost use Rattle.htl_text.specs.Nodes.{tree_of};
-ghost use Rattle.htl_names.specs.Flat.{end_item, invoke_item, mode_invoke_items};
+ghost use Rattle.htl_names.specs.Flat.{end_item, invoke_item};
 ghost use Rattle.htl_names.specs.Narrow.{IsNarrowEnd, IsNarrowInvoke};
 
 use crate::Done;
 use crate::items::size_of;
 use crate::key::Space;
-use crate::place::{ModeHome, invokes_at};
+use crate::place::ModeHome;
 use htl_base::Seq;
 use htl_model::{End, Inv};
 use htl_text::{EndNode, Id, InvokeNode};
 use std::alloc::AllocError;
 
 /// Puts the invocations of a mode behind others, in source order.
-pub fn put_invocations(home: &ModeHome<'_>, into: &mut Vec<Inv>) -> Done
+pub fn put_invocations(home: &ModeHome<'_>, nodes: &[InvokeNode], into: &mut Vec<Inv>) -> Done
+    requires { All IsNarrowInvoke nodes.now }
     ensures { OnOk result (into.new.items ≡ into.old.items
-        ++ mode_invoke_items home.now.source.layout.now (tree_of home.now.source.tree.now) home.now.number home.now.at) }
+        ++ map (invoke_item home.now.source.layout.now (tree_of home.now.source.tree.now) home.now.number home.now.at) nodes.now) }
 {
-    let nodes = invokes_at(home.source.tree, home.at);
     for k in 0..nodes.len() {
         into.push(invocation(home, &nodes[k])?)?;
     }

@@ -2,18 +2,21 @@
 ghost use Rattle.std.specs.Prelude.{◌≡◌, ◌≤◌, ◌++◌, None, Some, All, IfOk, OnOk, map};
 ghost use Rattle.htl_model.specs.Tables.{fun_of};
 ghost use Rattle.htl_text.specs.Bounds.{out_params};
-ghost use Rattle.htl_text.specs.Nodes.{tree_of, module_of, mode_of, task_of, outs_of, out_of};
+ghost use Rattle.htl_text.specs.Nodes.{tree_of, module_of, mode_of, task_of, outs_of};
 ghost use Rattle.htl_text.specs.declared.tree.CommNode.{CommNode as ACommNode};
-ghost use Rattle.htl_names.specs.Flat.{size_of, value_of, comm_item, comm_items, mode_item, module_mode_items, module_item, module_items_at, mode_port_items, types_of, task_item, module_task_items, module_functions};
+ghost use Rattle.htl_text.specs.declared.tree.ModeNode.{ModeNode as AModeNode};
+ghost use Rattle.htl_text.specs.declared.tree.TaskNode.{TaskNode as ATaskNode};
+ghost use Rattle.htl_names.specs.Flat.{size_of, value_of, comm_item, comm_items, mode_item, module_item, port_item, types_of, task_item, task_functions};
+ghost use Rattle.htl_names.specs.Lists.{flat_map_at};
 
 use crate::Done;
 use crate::functions::{Inputs, put_outputs};
 use crate::key::Space;
-use crate::place::{ModeHome, ModuleHome, mode_number, modes_at, module_at, ports_at, tasks_at};
+use crate::place::{ModuleHome, mode_number};
 use crate::tables::Source;
 use htl_base::{Seq, Ty, Value};
 use htl_model::{Comm, Function, Mode, Module, Port, Task};
-use htl_text::{CommNode, ConstNode, ModeNode, ModuleNode, OutNode, OutNodes, ParamNode, TaskNode};
+use htl_text::{CommNode, ConstNode, ModeNode, ModuleNode, OutNodes, ParamNode, TaskNode};
 use std::alloc::{AllocError, Global};
 
 // ---- literals
@@ -72,42 +75,25 @@ fn put_program_comms(nodes: &[CommNode], into: &mut Vec<Comm>) -> Done
     Ok(())
 }
 
-/// Puts the modes of a module behind others.
-pub fn put_modes(home: &ModuleHome<'_>, into: &mut Vec<Mode>) -> Done
-    ensures { OnOk result (into.new.items
-        ≡ into.old.items ++ module_mode_items (tree_of home.now.source.tree.now) home.now.number home.now.at) }
+/// Puts the modes of the module with this number behind others.
+pub fn put_modes(number: usize, nodes: &[ModeNode], into: &mut Vec<Mode>) -> Done
+    requires few { number ≤ 64 }
+    requires periods { All (λ (x : AModeNode). size_of x.period.x ≤ 1000000) nodes.now }
+    ensures { OnOk result (into.new.items ≡ into.old.items ++ map (mode_item number) (map mode_of nodes.now)) }
 {
-    let module = home.number as u16;
-    let nodes = modes_at(home.source.tree, home.at.program, home.at.module);
     for k in 0..nodes.len() {
-        into.push(mode(&nodes[k], module))?;
+        let node = &nodes[k];
+        into.push(Mode {
+            name: node.name.name,
+            module: number as u16,
+            period: size_of(node.period.x),
+        })?;
     }
     Ok(())
 }
 
-fn mode(node: &ModeNode, module: u16) -> Mode
-    requires { size_of node.now.period.x ≤ 1000000 }
-    ensures { result ≡ mode_item «module» (mode_of node.now) }
-{
-    Mode {
-        name: node.name.name,
-        module,
-        period: size_of(node.period.x),
-    }
-}
-
-/// Puts a module behind others, if it stands in the tree.
-pub fn put_module(home: &ModuleHome<'_>, into: &mut Vec<Module>) -> Done
-    ensures { OnOk result (into.new.items ≡ into.old.items
-        ++ module_items_at home.now.source.layout.now (tree_of home.now.source.tree.now) home.now.number home.now.at) }
-{
-    if let Some(node) = module_at(home.source.tree, home.at.program, home.at.module) {
-        into.push(flat_module(home, node))?;
-    }
-    Ok(())
-}
-
-fn flat_module(home: &ModuleHome<'_>, node: &ModuleNode) -> Module
+/// A module of the tables.
+pub fn flat_module(home: &ModuleHome<'_>, node: &ModuleNode) -> Module
     ensures { result ≡ module_item home.now.source.layout.now (tree_of home.now.source.tree.now) home.now.number home.now.at (module_of node.now) }
 {
     let names = Space::Modes.of(home.at.program, home.at.module, 0);
@@ -123,18 +109,16 @@ fn flat_module(home: &ModuleHome<'_>, node: &ModuleNode) -> Module
     }
 }
 
-/// Puts the ports of a mode behind others.
-pub fn put_ports(home: &ModeHome<'_>, into: &mut Vec<Port>) -> Done
-    ensures { OnOk result (into.new.items
-        ≡ into.old.items ++ mode_port_items (tree_of home.now.source.tree.now) home.now.number home.now.at) }
+/// Puts the ports of the mode with this number behind others.
+pub fn put_ports(number: usize, nodes: &[ParamNode], into: &mut Vec<Port>) -> Done
+    requires { number ≤ 256 }
+    ensures { OnOk result (into.new.items ≡ into.old.items ++ map (port_item number) nodes.now) }
 {
-    let mode = home.number as u16;
-    let nodes = ports_at(home.source.tree, home.at);
     for k in 0..nodes.len() {
         let node = &nodes[k];
         into.push(Port {
             name: node.name.name,
-            mode,
+            mode: number as u16,
             ty: node.ty,
         })?;
     }
@@ -144,25 +128,27 @@ pub fn put_ports(home: &ModeHome<'_>, into: &mut Vec<Port>) -> Done
 // ---- tasks
 
 /// Puts the tasks of a module behind others, and the functions of their outputs.
-pub fn put_tasks(home: &ModuleHome<'_>, into: &mut Vec<Task>, functions: &mut Vec<Function>) -> Done
-    ensures items { OnOk result (into.new.items
-        ≡ into.old.items ++ module_task_items (tree_of home.now.source.tree.now) home.now.number home.now.at) }
+pub fn put_tasks(
+    home: &ModuleHome<'_>,
+    nodes: &[TaskNode],
+    into: &mut Vec<Task>,
+    functions: &mut Vec<Function>,
+) -> Done
+    requires { All (λ (t : ATaskNode). size_of t.worst.x ≤ 1000000) nodes.now }
+    ensures items { OnOk result (into.new.items ≡ into.old.items ++ map (task_item home.now.number) (map task_of nodes.now)) }
     ensures functions { OnOk result (map fun_of functions.new.items ≡ map fun_of functions.old.items
-        ++ module_functions home.now.source.layout.now (tree_of home.now.source.tree.now) home.now.at) }
+        ++ flat_map_at (task_functions home.now.source.layout.now home.now.at.program home.now.at.«module») 0 (map task_of nodes.now)) }
 {
-    let module = home.number as u16;
     let source = home.source;
-    let at = home.at;
-    let nodes = tasks_at(source.tree, at.program, at.module);
     for k in 0..nodes.len() {
         let node = &nodes[k];
         let inputs = Inputs {
             source,
-            at,
+            at: home.at,
             task: k,
         };
         put_outputs(&inputs, &node.outputs, functions)?;
-        into.push(task(source.alloc, node, module)?)?;
+        into.push(task(source.alloc, node, home.number as u16)?)?;
     }
     Ok(())
 }
@@ -186,10 +172,15 @@ fn task(alloc: Global, node: &TaskNode, module: u16) -> Result<Task, AllocError>
 fn output_types(alloc: Global, outputs: &OutNodes) -> Result<Vec<Ty>, AllocError>
     ensures { IfOk result (λ v. v.items ≡ types_of (out_params (outs_of outputs.now))) }
 {
-    match outputs {
-        OutNodes::Concrete { outs } => concrete_types(alloc, outs.as_slice()),
-        OutNodes::Abstract { outs } => types_of(alloc, outs.as_slice()),
+    let outs = match outputs {
+        OutNodes::Concrete { outs } => outs.as_slice(),
+        OutNodes::Abstract { outs } => return types_of(alloc, outs.as_slice()),
+    };
+    let mut types = Vec::new(alloc);
+    for k in 0..outs.len() {
+        types.push(outs[k].param.ty)?;
     }
+    Ok(types)
 }
 
 fn types_of(alloc: Global, params: &[ParamNode]) -> Result<Vec<Ty>, AllocError>
@@ -198,16 +189,6 @@ fn types_of(alloc: Global, params: &[ParamNode]) -> Result<Vec<Ty>, AllocError>
     let mut types = Vec::new(alloc);
     for k in 0..params.len() {
         types.push(params[k].ty)?;
-    }
-    Ok(types)
-}
-
-fn concrete_types(alloc: Global, outs: &[OutNode]) -> Result<Vec<Ty>, AllocError>
-    ensures { IfOk result (λ v. v.items ≡ types_of (map (λ o. o.param) (map out_of outs.now))) }
-{
-    let mut types = Vec::new(alloc);
-    for k in 0..outs.len() {
-        types.push(outs[k].param.ty)?;
     }
     Ok(types)
 }

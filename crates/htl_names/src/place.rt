@@ -1,12 +1,12 @@
 // Places in the tree of a source, what stands there, and the numbers of modules and modes in the tables.
-ghost use Rattle.std.specs.Prelude.{◌≡◌, map, MatchOption, None, Some, ◌≤◌, ◌<◌, length, slice_get};
-ghost use Rattle.htl_text.specs.Nodes.{tree_of, module_of, mode_of, task_of, switch_of};
+ghost use Rattle.std.specs.Prelude.{◌≡◌, map, MatchOption, None, Some, ◌≤◌, length};
+ghost use Rattle.htl_text.specs.Nodes.{tree_of, module_of, mode_of};
 ghost use Rattle.htl_names.specs.Flat.{module_number, modes_before, tasks_before, ports_before, invokes_before, mode_number, refined_mode, first_parent};
 ghost use Rattle.htl_names.specs.Narrow.{IsNarrowParent};
-ghost use Rattle.htl_names.specs.Order.{modules_at, module_at, tasks_at, modes_at, mode_at, ports_at, invokes_at, switches_at};
+ghost use Rattle.htl_names.specs.Order.{modules_at, module_at, modes_at, mode_at};
 
 use crate::tables::{Layout, Source};
-use htl_text::{InvokeNode, ModeNode, ModuleNode, ParamNode, SwitchNode, TaskNode, Tree};
+use htl_text::{ModeNode, ModuleNode, Tree};
 
 // ---- places
 
@@ -46,16 +46,6 @@ pub fn module_at(tree: &Tree, program: usize, module: usize) -> Option<&ModuleNo
     modules_at(tree, program).get(module)
 }
 
-/// The tasks of a module.
-pub fn tasks_at(tree: &Tree, program: usize, module: usize) -> &[TaskNode]
-    ensures { map task_of result.now ≡ tasks_at (tree_of tree.now) program «module» }
-{
-    match module_at(tree, program, module) {
-        Some(node) => node.tasks.as_slice(),
-        None => &[],
-    }
-}
-
 /// The modes of a module.
 pub fn modes_at(tree: &Tree, program: usize, module: usize) -> &[ModeNode]
     ensures { map mode_of result.now ≡ modes_at (tree_of tree.now) program «module» }
@@ -72,36 +62,6 @@ pub fn mode_at(tree: &Tree, at: ModeAt) -> Option<&ModeNode>
         (λ node. mode_at (tree_of tree.now) at ≡ Some (mode_of node.now)) }
 {
     modes_at(tree, at.program, at.module).get(at.mode)
-}
-
-/// The ports of a mode.
-pub fn ports_at(tree: &Tree, at: ModeAt) -> &[ParamNode]
-    ensures { result.now ≡ ports_at (tree_of tree.now) at }
-{
-    match mode_at(tree, at) {
-        Some(node) => node.ports.as_slice(),
-        None => &[],
-    }
-}
-
-/// The invocations of a mode.
-pub fn invokes_at(tree: &Tree, at: ModeAt) -> &[InvokeNode]
-    ensures { result.now ≡ invokes_at (tree_of tree.now) at }
-{
-    match mode_at(tree, at) {
-        Some(node) => node.invokes.as_slice(),
-        None => &[],
-    }
-}
-
-/// The switches of a mode.
-pub fn switches_at(tree: &Tree, at: ModeAt) -> &[SwitchNode]
-    ensures { map switch_of result.now ≡ switches_at (tree_of tree.now) at }
-{
-    match mode_at(tree, at) {
-        Some(node) => node.switches.as_slice(),
-        None => &[],
-    }
 }
 
 // ---- numbers in the tables
@@ -138,8 +98,10 @@ pub fn before(source: &Source<'_>, module: usize) -> Held
     let modules = layout.modules.as_slice();
     for k in 0..module {
         let at = modules[k];
-        sum.modes += modes_at(source.tree, at.program, at.module).len();
-        sum.tasks += tasks_at(source.tree, at.program, at.module).len();
+        if let Some(node) = module_at(source.tree, at.program, at.module) {
+            sum.modes += node.modes.as_slice().len();
+            sum.tasks += node.tasks.as_slice().len();
+        }
     }
     sum
 }
@@ -152,7 +114,9 @@ pub fn invokes_before(source: &Source<'_>, mode: usize) -> usize
     let layout = source.layout;
     let modes = layout.modes.as_slice();
     for k in 0..mode.min(modes.len()) {
-        count += invokes_at(source.tree, modes[k]).len();
+        if let Some(node) = mode_at(source.tree, modes[k]) {
+            count += node.invokes.as_slice().len();
+        }
     }
     count
 }
@@ -199,16 +163,15 @@ pub struct ModeHome<'a> {
     ghost parents: { parent ≡ first_parent source.layout.now (tree_of source.tree.now) refined },
 }
 
-/// What the items of the mode with this number need, whose first port is known.
-pub fn mode_home<'a>(source: &Source<'a>, number: usize, port: usize) -> ModeHome<'a>
-    requires within { number < length source.now.layout.now.modes }
+/// What the items of a mode need; its number and first port are known.
+pub fn mode_home<'a>(source: &Source<'a>, number: usize, at: ModeAt, port: usize) -> ModeHome<'a>
+    requires few { number ≤ 256 }
     requires ports { port ≡ ports_before source.now.layout.now (tree_of source.now.tree.now) number }
     ensures source { result.source ≡ source.now }
     ensures number { result.number ≡ number }
-    ensures at { slice_get source.now.layout.now.modes number ≡ Some result.at }
+    ensures at { result.at ≡ at }
 {
     let layout = source.layout;
-    let at = layout.modes.as_slice()[number];
     let module = module_number(layout, at.program, at.module);
     let refined = match layout.modules.as_slice().get(module) {
         Some(module) => module.parent,

@@ -4,12 +4,12 @@ ghost use Rattle.htl_model.specs.Tables.{fun_of};
 ghost use Rattle.htl_text.specs.Nodes.{tree_of, switch_of};
 ghost use Rattle.htl_names.specs.Keys.{comm_key};
 ghost use Rattle.htl_names.specs.Lists.{with_new};
-ghost use Rattle.htl_names.specs.Flat.{comms_in, flat_switch_function, meaning, mode_functions, mode_switch_items};
+ghost use Rattle.htl_names.specs.Flat.{comms_in, flat_switch_function, meaning, switch_item};
 
 use crate::Done;
 use crate::functions::{Reads, formula};
 use crate::key::Space;
-use crate::place::{ModeHome, switches_at};
+use crate::place::ModeHome;
 use crate::tables::Source;
 use htl_base::Seq;
 use htl_model::{Function, Switch};
@@ -19,17 +19,17 @@ use std::alloc::AllocError;
 /// Puts the switches of a mode behind others, in source order; and their functions, in the same order.
 pub fn put_switches(
     home: &ModeHome<'_>,
+    nodes: &[SwitchNode],
     into: &mut Vec<Switch>,
     functions: &mut Vec<Function>,
 ) -> Done
     ensures items { OnOk result (into.new.items ≡ into.old.items
-        ++ mode_switch_items home.now.source.layout.now (tree_of home.now.source.tree.now) home.now.number home.now.at) }
+        ++ map (switch_item home.now.source.layout.now (tree_of home.now.source.tree.now) home.now.number home.now.at) (map switch_of nodes.now)) }
     ensures functions { OnOk result (map fun_of functions.new.items ≡ map fun_of functions.old.items
-        ++ mode_functions home.now.source.layout.now (tree_of home.now.source.tree.now) home.now.at) }
+        ++ map (flat_switch_function home.now.source.layout.now) (map switch_of nodes.now)) }
 {
     let source = &home.source;
     let modes = Space::Modes.of(home.at.program, home.at.module, 0);
-    let nodes = switches_at(source.tree, home.at);
     for k in 0..nodes.len() {
         let node = &nodes[k];
         let comms = comms_in(source, &node.cond)?;

@@ -1,18 +1,17 @@
 // The flat tables of a tree by a layout.
-ghost use Rattle.std.specs.Prelude.{◌≡◌, ◌<◌, ◌+◌, IfOk, OnOk, length, map, take};
+ghost use Rattle.std.specs.Prelude.{◌≡◌, ◌≤◌, ◌++◌, IfOk, OnOk, length, map};
 ghost use Rattle.std.specs.List.{flat_map};
 ghost use Rattle.htl_model.specs.Tables.{fun_of, tables_of};
 ghost use Rattle.htl_text.specs.Nodes.{tree_of};
-ghost use Rattle.htl_names.specs.Filled.{AreOfModes, AreOfModules};
-ghost use Rattle.htl_names.specs.Flat.{meaning, module_functions, tables_by};
+ghost use Rattle.htl_names.specs.Flat.{meaning, modes_before, module_functions, module_mode_items, module_items_at, module_task_items, mode_functions, ports_before, mode_port_items, mode_invoke_items, mode_switch_items, mode_items, module_items, task_items, port_items, invoke_items, switch_items, tables_by};
 ghost use Rattle.htl_names.specs.Keys.{comm_key, key_in};
-ghost use Rattle.htl_names.specs.Narrow.{IsNarrow};
+ghost use Rattle.htl_names.specs.Narrow.{IsNarrow, IsNarrowParent};
 
 use crate::Done;
 use crate::invocations::put_invocations;
-use crate::items::{put_comms, put_modes, put_module as put_module_itself, put_ports, put_tasks};
+use crate::items::{flat_module, put_comms, put_modes, put_ports, put_tasks};
 use crate::key::{Scope, Space};
-use crate::place::{ModeAt, ModeHome, ModuleAt, ModuleHome, mode_home};
+use crate::place::{ModeAt, ModuleAt, ModuleHome, mode_at, mode_home, module_at};
 use crate::switches::put_switches;
 use crate::symbols::Symbols;
 use htl_base::{Name, Seq};
@@ -86,26 +85,11 @@ struct ModuleLists {
     functions: Vec<Function>,
 }
 
-/// Puts the items of the module with this number behind those of the modules before it.
-fn put_module(source: &Source<'_>, number: usize, into: &mut ModuleLists) -> Done
-    requires within { number < length source.now.layout.now.modules }
-    requires before { AreOfModules source.now.layout.now (tree_of source.now.tree.now) (take number source.now.layout.now.modules) into.old }
-    ensures { OnOk result (AreOfModules source.now.layout.now (tree_of source.now.tree.now) (take (number + 1) source.now.layout.now.modules) into.new) }
-{
-    let layout = source.layout;
-    let home = ModuleHome {
-        source: *source,
-        number,
-        at: layout.modules.as_slice()[number],
-        mode: into.modes.len(),
-    };
-    put_modes(&home, &mut into.modes)?;
-    put_module_itself(&home, &mut into.modules)?;
-    put_tasks(&home, &mut into.tasks, &mut into.functions)
-}
-
-fn module_lists(source: &Source<'_>) -> Result<ModuleLists, AllocError>
-    ensures { IfOk result (λ made. AreOfModules source.now.layout.now (tree_of source.now.tree.now) source.now.layout.now.modules made) }
+fn by_module(source: &Source<'_>) -> Result<ModuleLists, AllocError>
+    ensures modes { IfOk result (λ made. made.modes.items ≡ mode_items source.now.layout.now (tree_of source.now.tree.now)) }
+    ensures modules { IfOk result (λ made. made.modules.items ≡ module_items source.now.layout.now (tree_of source.now.tree.now)) }
+    ensures tasks { IfOk result (λ made. made.tasks.items ≡ task_items source.now.layout.now (tree_of source.now.tree.now)) }
+    ensures functions { IfOk result (λ made. map fun_of made.functions.items ≡ flat_map (module_functions source.now.layout.now (tree_of source.now.tree.now)) source.now.layout.now.modules) }
 {
     let mut made = ModuleLists {
         modes: Vec::new(source.alloc),
@@ -114,10 +98,41 @@ fn module_lists(source: &Source<'_>) -> Result<ModuleLists, AllocError>
         functions: Vec::new(source.alloc),
     };
     let layout = source.layout;
-    for k in 0..layout.modules.len() {
-        put_module(source, k, &mut made)?;
+    let modules = layout.modules.as_slice();
+    for k in 0..modules.len() {
+        put_module(source, k, modules[k], &mut made)?;
     }
     Ok(made)
+}
+
+// Puts the items of a module behind those of the modules before it.
+fn put_module(source: &Source<'_>, number: usize, at: ModuleAt, into: &mut ModuleLists) -> Done
+    requires few { number ≤ 64 }
+    requires narrow { IsNarrowParent at.parent }
+    requires first { length into.old.modes.items ≡ modes_before source.now.layout.now (tree_of source.now.tree.now) number }
+    ensures modes { OnOk result (into.new.modes.items ≡ into.old.modes.items ++ module_mode_items (tree_of source.now.tree.now) number at) }
+    ensures modules { OnOk result (into.new.modules.items ≡ into.old.modules.items ++ module_items_at source.now.layout.now (tree_of source.now.tree.now) number at) }
+    ensures tasks { OnOk result (into.new.tasks.items ≡ into.old.tasks.items ++ module_task_items (tree_of source.now.tree.now) number at) }
+    ensures functions { OnOk result (map fun_of into.new.functions.items ≡ map fun_of into.old.functions.items ++ module_functions source.now.layout.now (tree_of source.now.tree.now) at) }
+{
+    let Some(node) = module_at(source.tree, at.program, at.module) else {
+        return Ok(());
+    };
+    let home = ModuleHome {
+        source: *source,
+        number,
+        at,
+        mode: into.modes.len(),
+    };
+    into.modules.push(flat_module(&home, node))?;
+    put_modes(number, node.modes.as_slice(), &mut into.modes)?;
+    put_tasks(
+        &home,
+        node.tasks.as_slice(),
+        &mut into.tasks,
+        &mut into.functions,
+    )?;
+    Ok(())
 }
 
 // ---- the lists by mode
@@ -131,21 +146,11 @@ struct ModeLists {
     functions: Vec<Function>,
 }
 
-/// Puts the items of the mode with this number behind those of the modes before it.
-fn put_mode(source: &Source<'_>, number: usize, into: &mut ModeLists) -> Done
-    requires within { number < length source.now.layout.now.modes }
-    requires before { AreOfModes source.now.layout.now (tree_of source.now.tree.now) (take number source.now.layout.now.modes) into.old }
-    ensures { OnOk result (AreOfModes source.now.layout.now (tree_of source.now.tree.now) (take (number + 1) source.now.layout.now.modes) into.new) }
-{
-    let home = mode_home(source, number, into.ports.len());
-    put_ports(&home, &mut into.ports)?;
-    put_invocations(&home, &mut into.invs)?;
-    put_switches(&home, &mut into.switches, &mut into.functions)
-}
-
-fn mode_lists(source: &Source<'_>, functions: Vec<Function>) -> Result<ModeLists, AllocError>
-    requires { map fun_of functions.items ≡ flat_map (module_functions source.now.layout.now (tree_of source.now.tree.now)) source.now.layout.now.modules }
-    ensures { IfOk result (λ made. AreOfModes source.now.layout.now (tree_of source.now.tree.now) source.now.layout.now.modes made) }
+fn by_mode(source: &Source<'_>, functions: Vec<Function>) -> Result<ModeLists, AllocError>
+    ensures ports { IfOk result (λ made. made.ports.items ≡ port_items source.now.layout.now (tree_of source.now.tree.now)) }
+    ensures invs { IfOk result (λ made. made.invs.items ≡ invoke_items source.now.layout.now (tree_of source.now.tree.now)) }
+    ensures switches { IfOk result (λ made. made.switches.items ≡ switch_items source.now.layout.now (tree_of source.now.tree.now)) }
+    ensures functions { IfOk result (λ made. map fun_of made.functions.items ≡ map fun_of functions.items ++ flat_map (mode_functions source.now.layout.now (tree_of source.now.tree.now)) source.now.layout.now.modes) }
 {
     let mut made = ModeLists {
         ports: Vec::new(source.alloc),
@@ -154,10 +159,35 @@ fn mode_lists(source: &Source<'_>, functions: Vec<Function>) -> Result<ModeLists
         functions,
     };
     let layout = source.layout;
-    for k in 0..layout.modes.len() {
-        put_mode(source, k, &mut made)?;
+    let modes = layout.modes.as_slice();
+    for k in 0..modes.len() {
+        put_mode(source, k, modes[k], &mut made)?;
     }
     Ok(made)
+}
+
+// Puts the items of a mode behind those of the modes before it.
+fn put_mode(source: &Source<'_>, number: usize, at: ModeAt, into: &mut ModeLists) -> Done
+    requires few { number ≤ 256 }
+    requires first { length into.old.ports.items ≡ ports_before source.now.layout.now (tree_of source.now.tree.now) number }
+    ensures ports { OnOk result (into.new.ports.items ≡ into.old.ports.items ++ mode_port_items (tree_of source.now.tree.now) number at) }
+    ensures invs { OnOk result (into.new.invs.items ≡ into.old.invs.items ++ mode_invoke_items source.now.layout.now (tree_of source.now.tree.now) number at) }
+    ensures switches { OnOk result (into.new.switches.items ≡ into.old.switches.items ++ mode_switch_items source.now.layout.now (tree_of source.now.tree.now) number at) }
+    ensures functions { OnOk result (map fun_of into.new.functions.items ≡ map fun_of into.old.functions.items ++ mode_functions source.now.layout.now (tree_of source.now.tree.now) at) }
+{
+    let Some(node) = mode_at(source.tree, at) else {
+        return Ok(());
+    };
+    let home = mode_home(source, number, at, into.ports.len());
+    put_ports(number, node.ports.as_slice(), &mut into.ports)?;
+    put_invocations(&home, node.invokes.as_slice(), &mut into.invs)?;
+    put_switches(
+        &home,
+        node.switches.as_slice(),
+        &mut into.switches,
+        &mut into.functions,
+    )?;
+    Ok(())
 }
 
 // ---- the tables
@@ -174,8 +204,8 @@ pub(crate) fn parts_of(alloc: Global, tree: &Tree, layout: &Layout) -> Result<Pa
     };
     let mut comms = Vec::new(alloc);
     put_comms(&source, &mut comms)?;
-    let of_modules = module_lists(&source)?;
-    let of_modes = mode_lists(&source, of_modules.functions)?;
+    let of_modules = by_module(&source)?;
+    let of_modes = by_mode(&source, of_modules.functions)?;
     Ok(Parts {
         comms: Seq::new(comms),
         modes: Seq::new(of_modules.modes),
