@@ -34,15 +34,13 @@ fn invocation(home: &ModeHome<'_>, node: &InvokeNode) -> Result<Inv, AllocError>
     let writes = ends(home, node.writes.as_slice())?;
     Ok(Inv {
         mode: home.number as u16,
-        task: (home.first.tasks + home.source.layout.meaning(tasks, node.task.name)) as u16,
+        task: (home.module.tasks + home.source.layout.meaning(tasks, node.task.name)) as u16,
         parent: match (home.refined, node.parent) {
             (Some(b), Some(id)) => {
                 let invokes = Space::Invokes.of(b.program, b.module, b.mode);
                 Some((home.parent + home.source.layout.meaning(invokes, id.name)) as u16)
             }
-            (None, Some(_)) => None,
-            (Some(_), None) => None,
-            (None, None) => None,
+            _ => None,
         },
         reads: Seq::new(reads),
         writes: Seq::new(writes),

@@ -66,44 +66,43 @@ pub fn mode_at(tree: &Tree, at: ModeAt) -> Option<&ModeNode>
 
 // ---- numbers in the tables
 
-/// The number of a module; that of modules where it stands nowhere.
-pub fn module_number(layout: &Layout, program: usize, module: usize) -> usize
-    ensures value { result ≡ module_number layout.now program «module» }
-    ensures within { result ≤ length layout.now.modules }
-{
-    let modules = layout.modules.as_slice();
-    for k in 0..modules.len() {
-        if modules[k].program == program && modules[k].module == module {
-            return k;
-        }
-    }
-    modules.len()
-}
-
-/// How many modes and tasks modules have.
+/// The number of a module, and how many modes and tasks stand before its own.
 #[derive(Clone, Copy)]
-pub struct Held {
+pub struct Before {
+    pub number: usize,
     pub modes: usize,
     pub tasks: usize,
 }
 
-/// How many modes and tasks the modules below a number have.
-pub fn before(source: &Source<'_>, module: usize) -> Held
-    requires { «module» ≤ length source.now.layout.now.modules }
-    ensures modes { result.modes ≡ modes_before source.now.layout.now (tree_of source.now.tree.now) «module» }
-    ensures tasks { result.tasks ≡ tasks_before source.now.layout.now (tree_of source.now.tree.now) «module» }
+/// A module by its place; behind all others where it stands nowhere.
+pub fn module_before(source: &Source<'_>, program: usize, module: usize) -> Before
+    ensures number { result.number ≡ module_number source.now.layout.now program «module» }
+    ensures modes { result.modes ≡ modes_before source.now.layout.now (tree_of source.now.tree.now) (module_number source.now.layout.now program «module») }
+    ensures tasks { result.tasks ≡ tasks_before source.now.layout.now (tree_of source.now.tree.now) (module_number source.now.layout.now program «module») }
 {
-    let mut sum = Held { modes: 0, tasks: 0 };
+    let mut modes: usize = 0;
+    let mut tasks: usize = 0;
     let layout = source.layout;
     let modules = layout.modules.as_slice();
-    for k in 0..module {
+    for k in 0..modules.len() {
         let at = modules[k];
+        if at.program == program && at.module == module {
+            return Before {
+                number: k,
+                modes,
+                tasks,
+            };
+        }
         if let Some(node) = module_at(source.tree, at.program, at.module) {
-            sum.modes += node.modes.as_slice().len();
-            sum.tasks += node.tasks.as_slice().len();
+            modes += node.modes.as_slice().len();
+            tasks += node.tasks.as_slice().len();
         }
     }
-    sum
+    Before {
+        number: modules.len(),
+        modes,
+        tasks,
+    }
 }
 
 /// How many invocations the modes below a number have.
@@ -127,7 +126,7 @@ pub fn mode_number(source: &Source<'_>, at: ModeAt) -> usize
     ensures value { result ≡ mode_number source.now.layout.now (tree_of source.now.tree.now) at }
     ensures within { result ≤ 512 }
 {
-    before(source, module_number(source.layout, at.program, at.module)).modes + at.mode
+    module_before(source, at.program, at.module).modes + at.mode
 }
 
 // ---- a module and a mode with what their items need
@@ -144,21 +143,21 @@ pub struct ModuleHome<'a> {
     ghost modes: { mode ≡ modes_before source.layout.now (tree_of source.tree.now) number },
 }
 
-/// A mode of a source, with its number, the numbers of its first port and of the first mode and task of its module, and
-/// the mode that its program refines, with the number of the first invocation of that.
+/// A mode of a source, with its number, that of its first port, its module, and the mode that its program refines, with
+/// the number of the first invocation of that.
 #[derive(Clone, Copy)]
 pub struct ModeHome<'a> {
     pub source: Source<'a>,
     pub number: usize,
     pub at: ModeAt,
     pub port: usize,
-    pub first: Held,
+    pub module: Before,
     pub refined: Option<ModeAt>,
     pub parent: usize,
     ghost few: { number ≤ 256 },
     ghost ports: { port ≡ ports_before source.layout.now (tree_of source.tree.now) number },
-    ghost modes: { first.modes ≡ modes_before source.layout.now (tree_of source.tree.now) (module_number source.layout.now at.program at.«module») },
-    ghost tasks: { first.tasks ≡ tasks_before source.layout.now (tree_of source.tree.now) (module_number source.layout.now at.program at.«module») },
+    ghost modes: { «module».modes ≡ modes_before source.layout.now (tree_of source.tree.now) (module_number source.layout.now at.program at.«module») },
+    ghost tasks: { «module».tasks ≡ tasks_before source.layout.now (tree_of source.tree.now) (module_number source.layout.now at.program at.«module») },
     ghost refines: { refined ≡ refined_mode source.layout.now at.program at.«module» },
     ghost parents: { parent ≡ first_parent source.layout.now (tree_of source.tree.now) refined },
 }
@@ -171,9 +170,9 @@ pub fn mode_home<'a>(source: &Source<'a>, number: usize, at: ModeAt, port: usize
     ensures number { result.number ≡ number }
     ensures at { result.at ≡ at }
 {
+    let module = module_before(source, at.program, at.module);
     let layout = source.layout;
-    let module = module_number(layout, at.program, at.module);
-    let refined = match layout.modules.as_slice().get(module) {
+    let refined = match layout.modules.as_slice().get(module.number) {
         Some(module) => module.parent,
         None => None,
     };
@@ -186,7 +185,7 @@ pub fn mode_home<'a>(source: &Source<'a>, number: usize, at: ModeAt, port: usize
         number,
         at,
         port,
-        first: before(source, module),
+        module,
         refined,
         parent,
     }

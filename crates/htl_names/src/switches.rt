@@ -37,7 +37,7 @@ pub fn put_switches(
         functions.push(function)?;
         into.push(Switch {
             mode: home.number as u16,
-            target: (home.first.modes + source.layout.meaning(modes, node.target.name)) as u16,
+            target: (home.module.modes + source.layout.meaning(modes, node.target.name)) as u16,
             reads: Seq::new(comms),
         })?;
     }
