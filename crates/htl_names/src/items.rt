@@ -34,14 +34,8 @@ pub fn value_of(constant: ConstNode) -> Value
     ensures { result ≡ value_of constant }
 {
     match constant {
-        ConstNode::Int { minus: true, x, .. } => x.wrapping_neg(),
-        ConstNode::Int {
-            minus: false,
-            x,
-            ..
-        } => x,
-        ConstNode::Bool { x: true, .. } => 1,
-        ConstNode::Bool { x: false, .. } => 0,
+        ConstNode::Int { minus, x, .. } => if minus { x.wrapping_neg() } else { x },
+        ConstNode::Bool { x, .. } => Value::from(x),
     }
 }
 

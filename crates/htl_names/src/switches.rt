@@ -33,8 +33,13 @@ pub fn put_switches(
     for k in 0..nodes.len() {
         let node = &nodes[k];
         let comms = comms_in(source, &node.cond)?;
-        let function = condition(source, comms.as_slice(), node)?;
-        functions.push(function)?;
+        let reads = Reads {
+            source: *source,
+            comms: comms.as_slice(),
+        };
+        let e = formula(source.alloc, &reads, &node.cond.whole())?;
+        let first = node.first;
+        functions.push(Function::Expr { first, e })?;
         into.push(Switch {
             mode: home.number as u16,
             target: (home.module.modes + source.layout.meaning(modes, node.target.name)) as u16,
@@ -42,21 +47,6 @@ pub fn put_switches(
         })?;
     }
     Ok(())
-}
-
-// The function of a switch, over the communicators of its condition.
-fn condition(source: &Source<'_>, comms: &[u16], node: &SwitchNode) -> Result<Function, AllocError>
-    requires { comms.now ≡ comms_in source.now.layout.now node.now.cond }
-    ensures { IfOk result (λ f. fun_of f ≡ flat_switch_function source.now.layout.now (switch_of node.now)) }
-{
-    let reads = Reads {
-        source: *source,
-        comms,
-    };
-    Ok(Function::Expr {
-        first: node.first,
-        e: formula(source.alloc, &reads, &node.cond.whole())?,
-    })
 }
 
 /// The communicators of a condition, each once, in the order of their first occurrence.
