@@ -11,8 +11,7 @@ ghost use Rattle.htl_names.specs.Lists.{flat_map_at};
 
 use crate::Done;
 use crate::functions::{Inputs, put_outputs};
-use crate::key::Space;
-use crate::place::{ModuleHome, mode_number};
+use crate::place::ModuleAt;
 use crate::tables::Source;
 use htl_base::{Seq, Ty, Value};
 use htl_model::{Comm, Function, Mode, Module, Port, Task};
@@ -86,23 +85,6 @@ pub fn put_modes(number: usize, nodes: &[ModeNode], into: &mut Vec<Mode>) -> Don
     Ok(())
 }
 
-/// A module of the tables.
-pub fn flat_module(home: &ModuleHome<'_>, node: &ModuleNode) -> Module
-    ensures { result ≡ module_item home.now.source.layout.now (tree_of home.now.source.tree.now) home.now.number home.now.at (module_of node.now) }
-{
-    let names = Space::Modes.of(home.at.program, home.at.module, 0);
-    let start = (home.mode + home.source.layout.meaning(names, node.start.name)) as u16;
-    let parent = match home.at.parent {
-        Some(mode) => Some(mode_number(&home.source, mode) as u16),
-        None => None,
-    };
-    Module {
-        name: node.name.name,
-        parent,
-        start,
-    }
-}
-
 /// Puts the ports of the mode with this number behind others.
 pub fn put_ports(number: usize, nodes: &[ParamNode], into: &mut Vec<Port>) -> Done
     requires { number ≤ 256 }
@@ -123,26 +105,28 @@ pub fn put_ports(number: usize, nodes: &[ParamNode], into: &mut Vec<Port>) -> Do
 
 /// Puts the tasks of a module behind others, and the functions of their outputs.
 pub fn put_tasks(
-    home: &ModuleHome<'_>,
+    source: &Source<'_>,
+    number: usize,
+    at: ModuleAt,
     nodes: &[TaskNode],
     into: &mut Vec<Task>,
     functions: &mut Vec<Function>,
 ) -> Done
-    requires { All (λ (t : ATaskNode). size_of t.worst.x ≤ 1000000) nodes.now }
-    ensures items { OnOk result (into.new.items ≡ into.old.items ++ map (task_item home.now.number) (map task_of nodes.now)) }
+    requires few { number ≤ 64 }
+    requires worsts { All (λ (t : ATaskNode). size_of t.worst.x ≤ 1000000) nodes.now }
+    ensures items { OnOk result (into.new.items ≡ into.old.items ++ map (task_item number) (map task_of nodes.now)) }
     ensures functions { OnOk result (map fun_of functions.new.items ≡ map fun_of functions.old.items
-        ++ flat_map_at (task_functions home.now.source.layout.now home.now.at.program home.now.at.«module») 0 (map task_of nodes.now)) }
+        ++ flat_map_at (task_functions source.now.layout.now at.program at.«module») 0 (map task_of nodes.now)) }
 {
-    let source = home.source;
     for k in 0..nodes.len() {
         let node = &nodes[k];
         let inputs = Inputs {
-            source,
-            at: home.at,
+            source: *source,
+            at,
             task: k,
         };
         put_outputs(&inputs, &node.outputs, functions)?;
-        into.push(task(source.alloc, node, home.number as u16)?)?;
+        into.push(task(source.alloc, node, number as u16)?)?;
     }
     Ok(())
 }

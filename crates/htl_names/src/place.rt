@@ -2,7 +2,6 @@
 ghost use Rattle.std.specs.Prelude.{◌≡◌, map, MatchOption, None, Some, ◌≤◌, length};
 ghost use Rattle.htl_text.specs.Nodes.{tree_of, module_of, mode_of};
 ghost use Rattle.htl_names.specs.Flat.{module_number, modes_before, tasks_before, ports_before, invokes_before, mode_number, refined_mode, first_parent};
-ghost use Rattle.htl_names.specs.Narrow.{IsNarrowParent};
 ghost use Rattle.htl_names.specs.Order.{modules_at, module_at, modes_at, mode_at};
 
 use crate::tables::{Layout, Source};
@@ -129,19 +128,7 @@ pub fn mode_number(source: &Source<'_>, at: ModeAt) -> usize
     module_before(source, at.program, at.module).modes + at.mode
 }
 
-// ---- a module and a mode with what their items need
-
-/// A module of a source, with its number and that of its first mode.
-#[derive(Clone, Copy)]
-pub struct ModuleHome<'a> {
-    pub source: Source<'a>,
-    pub number: usize,
-    pub at: ModuleAt,
-    pub mode: usize,
-    ghost few: { number ≤ 64 },
-    ghost narrow: { IsNarrowParent at.parent },
-    ghost modes: { mode ≡ modes_before source.layout.now (tree_of source.tree.now) number },
-}
+// ---- a mode with what its items need
 
 /// A mode of a source, with its number, that of its first port, its module, and the mode that its program refines, with
 /// the number of the first invocation of that.

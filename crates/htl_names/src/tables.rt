@@ -9,9 +9,9 @@ ghost use Rattle.htl_names.specs.Narrow.{IsNarrow, IsNarrowParent};
 
 use crate::Done;
 use crate::invocations::put_invocations;
-use crate::items::{flat_module, put_comms, put_modes, put_ports, put_tasks};
+use crate::items::{put_comms, put_modes, put_ports, put_tasks};
 use crate::key::{Scope, Space};
-use crate::place::{ModeAt, ModuleAt, ModuleHome, mode_at, mode_home, module_at};
+use crate::place::{ModeAt, ModuleAt, mode_at, mode_home, mode_number, module_at};
 use crate::switches::put_switches;
 use crate::symbols::Symbols;
 use htl_base::{Name, Seq};
@@ -118,16 +118,22 @@ fn put_module(source: &Source<'_>, number: usize, at: ModuleAt, into: &mut Modul
     let Some(node) = module_at(source.tree, at.program, at.module) else {
         return Ok(());
     };
-    let home = ModuleHome {
-        source: *source,
-        number,
-        at,
-        mode: into.modes.len(),
+    let names = Space::Modes.of(at.program, at.module, 0);
+    let start = (into.modes.len() + source.layout.meaning(names, node.start.name)) as u16;
+    let parent = match at.parent {
+        Some(mode) => Some(mode_number(source, mode) as u16),
+        None => None,
     };
-    into.modules.push(flat_module(&home, node))?;
+    into.modules.push(Module {
+        name: node.name.name,
+        parent,
+        start,
+    })?;
     put_modes(number, node.modes.as_slice(), &mut into.modes)?;
     put_tasks(
-        &home,
+        source,
+        number,
+        at,
         node.tasks.as_slice(),
         &mut into.tasks,
         &mut into.functions,

@@ -17,8 +17,8 @@ put_modes-requires-clause-periods c =
     let there : modes_at (tree_of c.args.source.now.tree.now) at.program at.«module» ≡ map mode_of c.as_slice.result.now = search rules in
     all_of (λ (x : PlainMode). size_of x.period.x ≤ 1000000) mode_of _ _ there (c.args.source.now.narrow.mode_periods at.program at.«module»)
 
-pub put_tasks-requires : goal.put_tasks-requires
-put_tasks-requires c =
+pub put_tasks-requires-clause-worsts : goal.put_tasks-requires-clause-worsts
+put_tasks-requires-clause-worsts c =
     let at = c.args.at in
     let there : tasks_at (tree_of c.args.source.now.tree.now) at.program at.«module» ≡ map task_of c.as_slice-2.result.now = search rules in
     all_of (λ (t : PlainTask). size_of t.worst.x ≤ 1000000) task_of _ _ there (c.args.source.now.narrow.worsts at.program at.«module»)
