@@ -1,12 +1,10 @@
 // The functions of outputs, and expressions with places of arguments for names.
-ghost use Rattle.std.specs.List.{flat_map};
-ghost use Rattle.std.specs.Prelude.{◌≡◌, ◌≤◌, ℕ, eqb, IfOk, ◌++◌, OnOk, map};
+ghost use Rattle.std.specs.Prelude.{◌≡◌, ◌≤◌, ℕ, IfOk, ◌++◌, OnOk, map};
 ghost use Rattle.htl_model.specs.Functions.{term_of};
 ghost use Rattle.htl_model.specs.Tables.{fun_of};
 ghost use Rattle.htl_text.specs.Nodes.{outs_of};
 ghost use Rattle.htl_text.specs.declared.tree.Id.{Id as AnId};
 ghost use Rattle.htl_names.specs.Flat.{term_by, input_place, read_place, outs_functions};
-ghost use Rattle.htl_names.specs.Lists.{place_in};
 
 use crate::Done;
 use crate::key::Space;

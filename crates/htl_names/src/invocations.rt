@@ -1,5 +1,5 @@
 // The list of invocations.
-ghost use Rattle.std.specs.Prelude.{◌≡◌, ◌++◌, ◌≤◌, None, Some, OnOk, IfOk, All, map};
+ghost use Rattle.std.specs.Prelude.{◌≡◌, ◌++◌, None, Some, OnOk, IfOk, All, map};
 ghost use Rattle.htl_text.specs.Nodes.{tree_of};
 ghost use Rattle.htl_names.specs.Flat.{end_item, invoke_item};
 ghost use Rattle.htl_names.specs.Narrow.{IsNarrowEnd, IsNarrowInvoke};
@@ -10,7 +10,7 @@ use crate::key::Space;
 use crate::place::ModeHome;
 use htl_base::Seq;
 use htl_model::{End, Inv};
-use htl_text::{EndNode, Id, InvokeNode};
+use htl_text::{EndNode, InvokeNode};
 use std::alloc::AllocError;
 
 /// Puts the invocations of a mode behind others, in source order.

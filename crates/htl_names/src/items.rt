@@ -1,12 +1,12 @@
-// The lists of communicators, modes, modules, ports and tasks.
-ghost use Rattle.std.specs.Prelude.{◌≡◌, ◌≤◌, ◌++◌, None, Some, All, IfOk, OnOk, map};
+// The lists of communicators, modes, ports and tasks.
+ghost use Rattle.std.specs.Prelude.{◌≡◌, ◌≤◌, ◌++◌, All, IfOk, OnOk, map};
 ghost use Rattle.htl_model.specs.Tables.{fun_of};
 ghost use Rattle.htl_text.specs.Bounds.{out_params};
-ghost use Rattle.htl_text.specs.Nodes.{tree_of, module_of, mode_of, task_of, outs_of};
+ghost use Rattle.htl_text.specs.Nodes.{tree_of, mode_of, task_of, outs_of};
 ghost use Rattle.htl_text.specs.declared.tree.CommNode.{CommNode as ACommNode};
 ghost use Rattle.htl_text.specs.declared.tree.ModeNode.{ModeNode as AModeNode};
 ghost use Rattle.htl_text.specs.declared.tree.TaskNode.{TaskNode as ATaskNode};
-ghost use Rattle.htl_names.specs.Flat.{size_of, value_of, comm_item, comm_items, mode_item, module_item, port_item, types_of, task_item, task_functions};
+ghost use Rattle.htl_names.specs.Flat.{size_of, value_of, comm_item, comm_items, mode_item, port_item, types_of, task_item, task_functions};
 ghost use Rattle.htl_names.specs.Lists.{flat_map_at};
 
 use crate::Done;
@@ -14,8 +14,8 @@ use crate::functions::{Inputs, put_outputs};
 use crate::place::ModuleAt;
 use crate::tables::Source;
 use htl_base::{Seq, Ty, Value};
-use htl_model::{Comm, Function, Mode, Module, Port, Task};
-use htl_text::{CommNode, ConstNode, ModeNode, ModuleNode, OutNodes, ParamNode, TaskNode};
+use htl_model::{Comm, Function, Mode, Port, Task};
+use htl_text::{CommNode, ConstNode, ModeNode, OutNodes, ParamNode, TaskNode};
 use std::alloc::{AllocError, Global};
 
 // ---- literals
@@ -38,7 +38,7 @@ pub fn value_of(constant: ConstNode) -> Value
     }
 }
 
-// ---- communicators, modes, modules and ports
+// ---- communicators, modes and ports
 
 /// Puts the communicators behind others, in source order.
 pub fn put_comms(source: &Source<'_>, into: &mut Vec<Comm>) -> Done

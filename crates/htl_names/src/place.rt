@@ -1,10 +1,10 @@
 // Places in the tree of a source, what stands there, and the numbers of modules and modes in the tables.
-ghost use Rattle.std.specs.Prelude.{◌≡◌, map, MatchOption, None, Some, ◌≤◌, length};
+ghost use Rattle.std.specs.Prelude.{◌≡◌, map, MatchOption, None, Some, ◌≤◌};
 ghost use Rattle.htl_text.specs.Nodes.{tree_of, module_of, mode_of};
 ghost use Rattle.htl_names.specs.Flat.{module_number, modes_before, tasks_before, ports_before, invokes_before, mode_number, refined_mode, first_parent};
 ghost use Rattle.htl_names.specs.Order.{modules_at, module_at, modes_at, mode_at};
 
-use crate::tables::{Layout, Source};
+use crate::tables::Source;
 use htl_text::{ModeNode, ModuleNode, Tree};
 
 // ---- places
@@ -147,33 +147,4 @@ pub struct ModeHome<'a> {
     ghost tasks: { «module».tasks ≡ tasks_before source.layout.now (tree_of source.tree.now) (module_number source.layout.now at.program at.«module») },
     ghost refines: { refined ≡ refined_mode source.layout.now at.program at.«module» },
     ghost parents: { parent ≡ first_parent source.layout.now (tree_of source.tree.now) refined },
-}
-
-/// What the items of a mode need; its number and first port are known.
-pub fn mode_home<'a>(source: &Source<'a>, number: usize, at: ModeAt, port: usize) -> ModeHome<'a>
-    requires few { number ≤ 256 }
-    requires ports { port ≡ ports_before source.now.layout.now (tree_of source.now.tree.now) number }
-    ensures source { result.source ≡ source.now }
-    ensures number { result.number ≡ number }
-    ensures at { result.at ≡ at }
-{
-    let module = module_before(source, at.program, at.module);
-    let layout = source.layout;
-    let refined = match layout.modules.as_slice().get(module.number) {
-        Some(module) => module.parent,
-        None => None,
-    };
-    let parent = match refined {
-        Some(at) => invokes_before(source, mode_number(source, at)),
-        None => 0,
-    };
-    ModeHome {
-        source: *source,
-        number,
-        at,
-        port,
-        module,
-        refined,
-        parent,
-    }
 }

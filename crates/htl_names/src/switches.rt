@@ -1,5 +1,5 @@
 // The list of switches, with their functions.
-ghost use Rattle.std.specs.Prelude.{◌≡◌, ◌++◌, ◌≤◌, OnOk, IfOk, map};
+ghost use Rattle.std.specs.Prelude.{◌≡◌, ◌++◌, OnOk, IfOk, map};
 ghost use Rattle.htl_model.specs.Tables.{fun_of};
 ghost use Rattle.htl_text.specs.Nodes.{tree_of, switch_of};
 ghost use Rattle.htl_names.specs.Keys.{comm_key};

@@ -11,11 +11,13 @@ use crate::Done;
 use crate::invocations::put_invocations;
 use crate::items::{put_comms, put_modes, put_ports, put_tasks};
 use crate::key::{Scope, Space};
-use crate::place::{ModeAt, ModuleAt, mode_at, mode_home, mode_number, module_at};
+use crate::place::{
+    ModeAt, ModeHome, ModuleAt, invokes_before, mode_at, mode_number, module_at, module_before,
+};
 use crate::switches::put_switches;
 use crate::symbols::Symbols;
 use htl_base::{Name, Seq};
-use htl_model::{Comm, Function, Inv, Mode, Module, Parts, Port, Switch, Task};
+use htl_model::{Function, Inv, Mode, Module, Parts, Port, Switch, Task};
 use htl_text::{Id, Tree};
 use std::alloc::{AllocError, Global};
 use std::marker::Model;
@@ -184,15 +186,29 @@ fn put_mode(source: &Source<'_>, number: usize, at: ModeAt, into: &mut ModeLists
     let Some(node) = mode_at(source.tree, at) else {
         return Ok(());
     };
-    let home = mode_home(source, number, at, into.ports.len());
+    let layout = source.layout;
+    let module = module_before(source, at.program, at.module);
+    let refined = match layout.modules.as_slice().get(module.number) {
+        Some(module) => module.parent,
+        None => None,
+    };
+    let parent = match refined {
+        Some(at) => invokes_before(source, mode_number(source, at)),
+        None => 0,
+    };
+    let home = ModeHome {
+        source: *source,
+        number,
+        at,
+        port: into.ports.len(),
+        module,
+        refined,
+        parent,
+    };
     put_ports(number, node.ports.as_slice(), &mut into.ports)?;
     put_invocations(&home, node.invokes.as_slice(), &mut into.invs)?;
-    put_switches(
-        &home,
-        node.switches.as_slice(),
-        &mut into.switches,
-        &mut into.functions,
-    )?;
+    let switches = node.switches.as_slice();
+    put_switches(&home, switches, &mut into.switches, &mut into.functions)?;
     Ok(())
 }
 

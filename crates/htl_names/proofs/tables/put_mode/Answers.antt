@@ -7,5 +7,5 @@ use Rattle.htl_names.proofs.tables.put_mode.Goals as goal
 
 pub put_invocations-requires : goal.put_invocations-requires
 put_invocations-requires c =
-    let there : invokes_at (tree_of c.args.source.now.tree.now) c.args.at ≡ c.as_slice-2.result.now = search rules in
+    let there : invokes_at (tree_of c.args.source.now.tree.now) c.args.at ≡ c.as_slice-3.result.now = search rules in
     subst (All IsNarrowInvoke) there (c.args.source.now.narrow.instances c.args.at)
