@@ -23,7 +23,7 @@ use Rattle.htl_text.specs.declared.tree.InvokeNode.{InvokeNode}
 use Rattle.htl_names.specs.Limits.{most_invokes}
 use Rattle.htl_names.specs.Ordered.{Exists}
 use Rattle.htl_names.proofs.ListLaws.{Differ, sum_by_same, sum_at_places, flat_map_flat_map, flat_map_places, greatest_at}
-use Rattle.htl_names.proofs.FlatMaps.{at_flat, at_part_0, flat_map_is, list_to_at, of_list_to, part_of_0, same_length}
+use Rattle.htl_names.proofs.FlatMaps.{at_flat, at_part, flat_map_is, list_to_at, of_list_to, part_of, same_length}
 use Rattle.htl_model.proofs.PlaceLaws.{get_mapped}
 use Rattle.htl_names.proofs.Places.{program_of_module, modes_there, mode_in_source}
 
@@ -44,8 +44,8 @@ once_parts : {A B : Type 0} (f : ℕ → A → List B) (P : B → Type 0) (Q : �
     → ((i : ℕ) (x : A) → slice_get xs i ≡ Some x → ((j : ℕ) (y : B) → slice_get (f i x) j ≡ Some y → P y → Q i x) × Once P (f i x))
     → ((i j : ℕ) (x y : A) → slice_get xs i ≡ Some x → slice_get xs j ≡ Some y → Q i x → Q j y → i ≡ j) → Once P (flat_map_at f 0 xs)
 once_parts {A} f P Q xs its one m n y z a b p q =
-    let u = part_of_0 f xs m y a in
-    let v = part_of_0 f xs n z b in
+    let u = part_of f xs m y a in
+    let v = part_of f xs n z b in
     let parts = one u.part v.part u.owner v.owner u.there v.there ((its u.part u.owner u.there).0 u.place y u.item p) ((its v.part v.owner v.there).0 v.place z v.item q) in
     let owners = same_Some u.owner v.owner (sym u.there ∙ ap (slice_get xs) parts ∙ v.there) in
     let item : slice_get (f u.part u.owner) v.place ≡ Some z = ap (λ (i : ℕ). slice_get (f i u.owner) v.place) parts ∙ ap (λ (x : A). slice_get (f v.part x) v.place) owners ∙ v.item in
@@ -182,7 +182,7 @@ module _ (ps : List PlainProgram) where
   spot_there s h =
       let x = program_of_module ps s.program s.«module» h.0 h.1 in
       ap (λ n. slice_get (flat_map_at spots 0 ps) (n + s.«module»)) (sym (same_length spots (λ (x : PlainProgram). x.modules) (λ k x. length-list_to (λ u. (k, u)) (length x.modules)) 0 (take s.program ps)))
-      ∙ at_part_0 spots ps s.program s.«module» x.0 (spot s) x.1
+      ∙ at_part spots 0 ps s.program s.«module» s.program x.0 (spot s) (omega arith) x.1
       (list_to_at (λ u. (s.program, u)) (length x.0.modules) s.«module» (slice_get_within x.0.modules s.«module» h.0 x.2))
 
   differ : (modules : List ModuleAt) → Each (Exists ps) modules → Apart modules → Differ number modules

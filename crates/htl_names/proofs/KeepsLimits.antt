@@ -1,6 +1,6 @@
 -- The root selections of a tree's tables are as many as the tree's, and have no more positions than the limit.
 use Rattle.std.proofs.Common.{◌≡◌, ◌<◌, ◌≤◌, ◌+◌, ◌*◌, cond, ℕ, suc, Bool, true, false, List, [], ◌∷◌, ◌++◌, map, length, slice_get, Option, Some, None, filter, sum, refl, sym, ◌∙◌, ap, subst, arith, length-append}
-use Rattle.std.specs.List.{flat_map}
+use Rattle.std.specs.List.{flat_map, AllZip}
 use Rattle.std.proofs.lemmas.List.{length-map}
 use Rattle.std.proofs.lemmas.List.Sums.{sum_by-cons}
 use Rattle.std.proofs.lemmas.Option.{slice_get_within, same_Some}
@@ -29,7 +29,7 @@ use Rattle.htl_names.proofs.Numbered.{modules_exist, AreModules, modes_in, mode_
 use Rattle.htl_names.proofs.FlatMaps.{owned, owned_count, there_is}
 use Rattle.htl_names.proofs.Ordering.{kept_limit, names-ordered}
 use Rattle.htl_model.proofs.PlaceLaws.{get_mapped}
-use Rattle.htl_names.proofs.ListLaws.{greatest_at, map_places, length-places, Paired}
+use Rattle.htl_names.proofs.ListLaws.{greatest_at, map_places, length-places}
 use Rattle.htl_names.proofs.Places.{modes_there}
 use Rattle.htl_names.proofs.LimitLaws.{root_modules_are}
 use Rattle.htl_names.proofs.Members.{at_place}
@@ -61,7 +61,7 @@ module _ (t : Tables) where
     counted : (n : ℕ) → n ≡ choices xs → ◌≡◌ {A = ℕ} (elim us [ [] ↦ 0 | u ∷ vs ↦ n ]) (elim xs [ [] ↦ 0 | y ∷ ys ↦ choices (y ∷ ys) ])
     few : (sel : ℕ) → length (flat_map (λ u. invs_of t (root_mode t sel u)) us) ≤ sum (map (λ (x : PlainModule). most_invokes x.modes) xs)
 
-  alike : (us : List ℕ) (xs : List PlainModule) → Paired (IsRoot t) us (map (λ (x : PlainModule). x.modes) xs) → AreAlike us xs
+  alike : (us : List ℕ) (xs : List PlainModule) → AllZip (IsRoot t) us (map (λ (x : PlainModule). x.modes) xs) → AreAlike us xs
   alike [] [] h = record { same = refl; counted = λ n is. refl; few = λ sel. omega arith }
   alike [] (x ∷ xs) h = absurd h
   alike (u ∷ us) [] h = absurd h
@@ -128,19 +128,19 @@ module _ (ps : List PlainProgram) (small : MeetsBounds ps) (right : AreNamesRigh
 
   -- the root modules among the modules from place k on
   roots_from : (k : ℕ) (us : List ModuleAt) → ((i j : ℕ) (s : ModuleAt) → i ≡ k + j → slice_get us j ≡ Some s → slice_get l.modules i ≡ Some s)
-      → Paired (IsRoot t) (places_from is_root k (flat_map_at (module_items_at l ps) k us)) (map (modes_in ps) (filter is_root_module us))
+      → AllZip (IsRoot t) (places_from is_root k (flat_map_at (module_items_at l ps) k us)) (map (modes_in ps) (filter is_root_module us))
   roots_from k [] stand = tt
   roots_from k (s ∷ us) stand =
       let there = stand k 0 s (omega arith) refl in
       let x = exist k s there in
       let later = flat_map_at (module_items_at l ps) (suc k) us in
       let rest = roots_from (suc k) us (λ i j r is e. stand i (suc j) r (omega (arith, is)) e) in
-      subst (λ ms. Paired (IsRoot t) (places_from is_root k (ms ++ later)) (map (modes_in ps) (filter is_root_module (s ∷ us)))) (sym (one_module l ps k s x.0 x.1))
+      subst (λ ms. AllZip (IsRoot t) (places_from is_root k (ms ++ later)) (map (modes_in ps) (filter is_root_module (s ∷ us)))) (sym (one_module l ps k s x.0 x.1))
       (by x.0 s.parent _ _ (root_is k s there) rest)
     where
-      by : (x : PlainModule) (o : Option ModeAt) (ks : List ℕ) (ss : List ModuleAt) → IsRoot t k (modes_in ps s) → Paired (IsRoot t) ks (map (modes_in ps) ss)
+      by : (x : PlainModule) (o : Option ModeAt) (ks : List ℕ) (ss : List ModuleAt) → IsRoot t k (modes_in ps s) → AllZip (IsRoot t) ks (map (modes_in ps) ss)
           → (let r : ModuleAt = record s { parent = o } in
-          Paired (IsRoot t) (cond (is_root (module_item l ps k r x)) (k ∷ ks) ks) (map (modes_in ps) (cond (is_root_module r) (s ∷ ss) ss)))
+          AllZip (IsRoot t) (cond (is_root (module_item l ps k r x)) (k ∷ ks) ks) (map (modes_in ps) (cond (is_root_module r) (s ∷ ss) ss)))
       by x None ks ss here rest = (here, rest)
       by x (Some a) ks ss here rest = rest
 
@@ -150,7 +150,7 @@ module _ (ps : List PlainProgram) (small : MeetsBounds ps) (right : AreNamesRigh
       let roots : map (modes_in ps) (filter is_root_module l.modules) ≡ map modes (plain_root_modules ps) =
       ap (map (modes_in ps)) (names-ordered ps right).roots ∙ map_places (modes_in ps) (nth_module 0 None) modes (modules_at ps 0) (modes_there ps 0)
       ∙ ap (map modes) (root_modules_are ps) in
-      alike t (root_modules t) (plain_root_modules ps) (subst (Paired (IsRoot t) (root_modules t)) roots (roots_from 0 l.modules (at_place l.modules)))
+      alike t (root_modules t) (plain_root_modules ps) (subst (AllZip (IsRoot t) (root_modules t)) roots (roots_from 0 l.modules (at_place l.modules)))
 
   pub names-keep-limits : KeepsLimits (tables_of_tree ps)
   names-keep-limits =
