@@ -15,7 +15,6 @@ use Rattle.std.proofs.lemmas.Map.Steps.{length-le_from_distinct_below}
 use Rattle.std.proofs.lemmas.List.Sums.{sum_by-cons, sum_by-set}
 use Rattle.htl_model.specs.Lists.{AreApart, list_to, places_from}
 use Rattle.htl_model.specs.Tables.{greatest}
-use Rattle.htl_model.proofs.SelectionLaws.{place_passes as passes_there}
 use Rattle.htl_text.specs.Bounds.{names_of}
 use Rattle.htl_text.specs.Expressions.{Expr}
 use Rattle.htl_text.specs.Nodes.{PlainProgram}
@@ -239,14 +238,3 @@ length-places test k (x ∷ xs) =
     front : (b : Bool) (k : ℕ) (ks : List ℕ) → length (cond b (k ∷ ks) ks) ≡ cond b 1 0 + length ks
     front true k ks = omega arith
     front false k ks = omega arith
-
--- an item that passes the test stands at the place
-pub record Passes {A : Type 0} (test : A → Bool) (k : ℕ) (xs : List A) (p : ℕ) : Type 0 where
-  pub place : ℕ
-  pub number : p ≡ k + place
-  pub item : A
-  pub there : slice_get xs place ≡ Some item
-  pub passes : test item ≡ true
-
-pub place_passes : {A : Type 0} (test : A → Bool) (k : ℕ) (xs : List A) (j p : ℕ) → slice_get (places_from test k xs) j ≡ Some p → Passes test k xs p
-place_passes test k xs j p e = let h = passes_there test k j p xs e in record { place = h.0; number = h.1; item = h.2; there = h.3; passes = h.4 }

@@ -1,6 +1,5 @@
 -- Lists: what holds of each item, and which items there are.
 use Rattle.std.proofs.Common.{◌≡◌, ℕ, zero, suc, ◌+◌, ◌<◌, List, [], ◌∷◌, ◌++◌, map, slice_get, Some, All, refl, sym, ◌∙◌, ap, subst, arith, length, take, get_or, sum, flat_map, sum_by}
-use Rattle.std.proofs.lemmas.List.{get_or-map, length-map}
 use Rattle.std.proofs.lemmas.List.Elements.{All-nil, All-cons, All-get_or}
 use Rattle.std.proofs.lemmas.List.Sums.{sum_by-cons, sum_by-append, sum-map}
 use Rattle.std.proofs.lemmas.Simd.{map-map}
@@ -142,11 +141,6 @@ sum_by_flat_map f h (x ∷ xs) =
     sum_by-append f (h x) (flat_map h xs) ∙ ap (λ n. sum_by f (h x) + n) (sum_by_flat_map f h xs) ∙ sym (sum_by-cons (λ y. sum_by f (h y)) x xs)
 
 -- ---- what holds of each item, at one of them
-
--- of the values of a function
-pub all_item : {X Y : Type 0} (P : Y → Type 0) (f : X → Y) (xs : List X) (k : ℕ) (x : X) → k < length xs → x ≡ get_or xs k x → All P (map f xs) → P (f x)
-all_item P f xs k x below is all =
-    subst (λ y. P (f y)) (sym is) (subst P (get_or-map f xs k x (f x) below) (all k (f x) (subst (λ n. k < n) (sym (length-map xs f)) below)))
 
 -- of one of the lists that are joined
 pub all_part : {X Y : Type 0} (P : Y → Type 0) (f : X → List Y) (xs : List X) (k : ℕ) (x : X) → k < length xs → All P (flat_map f xs)

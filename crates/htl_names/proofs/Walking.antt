@@ -1,5 +1,5 @@
 -- Steps of walks along lists, down the tree of programs, and of the walk that leaves rows.
-use Rattle.std.proofs.Common.{◌≡◌, ◌+◌, ◌≤◌, ℕ, suc, List, [], ◌∷◌, ◌++◌, length, map, refl, sym, ◌∙◌, ap, arith, append_assoc, append-nil, length-append, ◌<◌, ◌*◌, drop, drop-cons, get_or, add-one, min, ◌-◌}
+use Rattle.std.proofs.Common.{◌≡◌, ◌+◌, ◌≤◌, ℕ, suc, List, [], ◌∷◌, ◌++◌, length, map, refl, sym, ◌∙◌, ap, arith, append_assoc, append-nil, length-append, ◌<◌, ◌-◌}
 use Rattle.std.specs.List.{flat_map}
 use Rattle.std.proofs.lemmas.Grind.{flat_map-append}
 use Rattle.std.proofs.lemmas.List.Concat.{flat_map-cons}
@@ -25,10 +25,7 @@ use Rattle.htl_names.specs.Uses.{usage, output_uses, outputs_uses, task_uses, en
 use Rattle.htl_names.specs.declared.key.Entry.{Entry}
 use Rattle.htl_names.specs.declared.key.Use.{Use}
 use Rattle.htl_names.specs.declared.rows.ParentName.{ParentName}
-use Rattle.std.proofs.Math.Nat.{mul_assoc}
-use Rattle.std.proofs.lemmas.List.{length-map, map-append}
-use Rattle.htl_model.proofs.ChoiceLaws.{capped}
-use Rattle.htl_names.specs.Limits.{choices}
+use Rattle.std.proofs.lemmas.List.{map-append}
 use Rattle.htl_names.specs.declared.key.Key.{Key}
 use Rattle.htl_names.specs.declared.place.ModuleAt.{ModuleAt}
 use Rattle.htl_names.specs.Order.{below, mode_kids, modes_at}
@@ -236,20 +233,6 @@ few_more p first after x old new more grown few =
     let parts = length-append comms modules in
     let few_comms = length-map_at comm_entry first x.comms in
     omega (arith, whole, head, parts, few_comms, more, few)
-
--- ---- a product that is capped as it grows
-
--- one more module
-pub choices-step : (cap : ℕ) (modules : List ModuleNode) (k n m : ℕ) (x : ModuleNode) (modes : List ModeNode) (whole : ℕ) → k < length modules
-    → x ≡ get_or modules k x → modes ≡ (get_or modules k x).modes → m ≡ min (n * length modes) cap
-    → min (n * choices (map module_of (drop k modules))) cap ≡ whole → min (m * choices (map module_of (drop (k + 1) modules))) cap ≡ whole
-choices-step cap modules k n m x modes whole below at own is going =
-    let rest = choices (map module_of (drop (suc k) modules)) in
-    let here : length (map mode_of (get_or modules k x).modes) ≡ length modes = length-map (get_or modules k x).modes mode_of ∙ ap length (sym own) in
-    let cut : choices (map module_of (drop k modules)) ≡ length modes * rest =
-    ap (λ (xs : List ModuleNode). choices (map module_of xs)) (drop-cons modules k x below) ∙ ap (λ (y : ℕ). y * rest) here in
-    rw add-one (ap (λ y. min (y * rest) cap) is ∙ capped (n * length modes) cap rest
-    ∙ ap (λ y. min y cap) (mul_assoc n (length modes) rest ∙ ap (λ y. n * y) (sym cut)) ∙ going)
 
 -- ---- a step of the way down a tree of programs
 
