@@ -95,13 +95,6 @@ module _ {A : Type 0} (P : A → Type 0) where
   each_of_places [] h = tt
   each_of_places (x ∷ xs) h = (h 0 x refl, each_of_places xs (λ k y e. h (suc k) y e))
 
-  pub each_part_at : {B : Type 0} (f : ℕ → B → List A) (k : ℕ) (xs : List B) (i j : ℕ) (x : B) → i ≡ k + j → slice_get xs j ≡ Some x → Each P (flat_map_at f k xs) → Each P (f i x)
-  each_part_at f k xs i j x is e h =
-      each_of_places (f i x) (λ n y at. each_at (flat_map_at f k xs) _ y h (at_part f k xs j n i x y is e at))
-
-pub each_in : {A : Type 0} (xs : List A) → Each (λ x. In x xs) xs
-each_in xs = each_of_places (λ x. In x xs) xs (λ k x e. (k, e))
-
 pub each_weaker : {A : Type 0} (P Q : A → Type 0) → ((x : A) → P x → Q x) → (xs : List A) → Each P xs → Each Q xs
 each_weaker P Q f [] h = tt
 each_weaker P Q f (x ∷ xs) h = (f x h.0, each_weaker P Q f xs h.1)

@@ -1,6 +1,6 @@
 -- Where no name rule is broken, what the names mean that a tree uses stands in their lists, those after `parent` too, and
 -- its numbers and values are of their kinds.
-use Rattle.std.proofs.Common.{◌≡◌, ◌<◌, ◌≤◌, ℕ, List, slice_get, Some, None, refl, ap, inl, inr, ℤ, pos, negsuc, true, false, leb, leb-true, zero, suc, [], ◌∷◌, ◌∙◌, Option, MatchOption, flat_map}
+use Rattle.std.proofs.Common.{arith, ◌≡◌, ◌<◌, ◌≤◌, ℕ, List, slice_get, Some, None, refl, ap, inl, inr, ℤ, pos, negsuc, true, false, leb, leb-true, zero, suc, [], ◌∷◌, ◌∙◌, Option, MatchOption, flat_map}
 use Rattle.std.proofs.lemmas.Bool.{and_parts, true_from_ne_false}
 use Rattle.htl_base.specs.declared.Ty.{Ty}
 use Rattle.htl_base.specs.declared.Ty.TheVariants as ty
@@ -11,8 +11,8 @@ use Rattle.htl_text.specs.declared.tree.Id.{Id}
 use Rattle.htl_text.specs.declared.tree.InvokeNode.{InvokeNode}
 use Rattle.htl_text.specs.declared.tree.CommNode.{CommNode}
 use Rattle.htl_text.specs.declared.tree.ConstNode.{ConstNode}
-use Rattle.htl_text.specs.declared.tree.Num.{Num}
 use Rattle.htl_text.specs.declared.tree.ConstNode.TheVariants as const
+use Rattle.htl_text.specs.declared.tree.EndNode.{EndNode}
 use Rattle.htl_text.specs.declared.tree.EndNode.TheVariants as end
 use Rattle.htl_names.specs.declared.key.Use.{Use}
 use Rattle.htl_names.specs.Flat.{symbols_of, layout, meaning, size_of, value_of}
@@ -27,7 +27,8 @@ use Rattle.htl_names.specs.Programs.{refined_by}
 use Rattle.htl_names.specs.declared.key.Key.{Key}
 use Rattle.htl_names.specs.declared.fault.NameFault.TheVariants as fault
 use Rattle.htl_names.proofs.EntryLaws.{Stands, means}
-use Rattle.htl_names.proofs.Members.{In, in_next, in_first, in_second, in_mapped, in_part, in_part_at}
+use Rattle.htl_names.specs.Narrow.{IsNarrowEnd, IsNarrowInvoke}
+use Rattle.htl_names.proofs.Members.{All-from_places, In, in_next, in_first, in_second, in_mapped, in_part, in_part_at}
 use Rattle.htl_names.proofs.Places.{part_there, program_of_module, module_of_task, module_of_mode, not_below}
 use Rattle.htl_names.proofs.FlatMaps.{flat_part}
 
@@ -150,12 +151,14 @@ module _ (ps : List PlainProgram) (right : AreNamesRight ps) where
   pub mode_period_span : (p u m : ℕ) (x : PlainMode) → slice_get (modes_at ps p u) m ≡ Some x → IsSpan (size_of x.period.x)
   mode_period_span p u m x there = span x.period.x (right_in_mode ps right (Span x.period) p u m x there (0, refl))
 
-  module _ (p u m k n : ℕ) (x : PlainMode) (i : InvokeNode) (comm : Id) (instance : Num) (there : slice_get (modes_at ps p u) m ≡ Some x) (its : slice_get x.invokes k ≡ Some i) where
-    instance_in : In (Instance instance) (invoke_kinds i) → size_of instance.x ≤ 1000000
-    instance_in at = instance_most instance.x (right_in_mode ps right (Instance instance) p u m x there (in_next _ _ (in_part invoke_kinds x.invokes k i its at)))
+  module _ (p u m k : ℕ) (x : PlainMode) (i : InvokeNode) (there : slice_get (modes_at ps p u) m ≡ Some x) (its : slice_get x.invokes k ≡ Some i) where
+    narrow_end : (e : EndNode) → ((j : Judged) → In j (end_kinds e) → In j (invoke_kinds i)) → IsNarrowEnd e
+    narrow_end (end.Comm comm instance) among =
+        instance_most instance.x (right_in_mode ps right (Instance instance) p u m x there (in_next _ _ (in_part invoke_kinds x.invokes k i its (among (Instance instance) (0, refl)))))
+    narrow_end (end.Port port) among = omega arith
 
-    pub read_instance : slice_get i.reads n ≡ Some (end.Comm comm instance) → size_of instance.x ≤ 1000000
-    read_instance at = instance_in (in_first _ _ (in_part end_kinds i.reads n (end.Comm comm instance) at (0, refl)))
-
-    pub write_instance : slice_get i.writes n ≡ Some (end.Comm comm instance) → size_of instance.x ≤ 1000000
-    write_instance at = instance_in (in_second (flat_map end_kinds i.reads) _ (in_part end_kinds i.writes n (end.Comm comm instance) at (0, refl)))
+    pub narrow_invoke : IsNarrowInvoke i
+    narrow_invoke = record {
+      reads = All-from_places IsNarrowEnd i.reads (λ n e at. narrow_end e (λ j h. in_first _ _ (in_part end_kinds i.reads n e at h)));
+      writes = All-from_places IsNarrowEnd i.writes (λ n e at. narrow_end e (λ j h. in_second (flat_map end_kinds i.reads) _ (in_part end_kinds i.writes n e at h)));
+    }

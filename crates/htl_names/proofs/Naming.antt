@@ -9,12 +9,12 @@ use Rattle.htl_text.specs.Nodes.{PlainProgram, PlainMode}
 use Rattle.htl_names.specs.declared.key.Key.{Key}
 use Rattle.htl_names.specs.declared.place.ModeAt.{ModeAt}
 use Rattle.htl_names.specs.Order.{mode_at}
-use Rattle.htl_names.specs.Programs.{named_program, mode_links, module_links, program_links, links, named_by, namings, Naming, mode_naming, module_naming, program_naming, naming, refined_in, refined_by, level, levels}
+use Rattle.htl_names.specs.Programs.{named_program, mode_links, module_links, program_links, links, named_by, named_from, namings, Naming, mode_naming, module_naming, program_naming, naming, refined_in, refined_by, level, levels}
 use Rattle.htl_names.specs.declared.programs.Named.{Named}
 use Rattle.htl_names.specs.Named.{refined_at, AreRefined}
 use Rattle.htl_names.specs.Graph.{naming_rows, targets, graph_by}
 use Rattle.htl_names.specs.Lists.{map_at, flat_map_at}
-use Rattle.htl_names.proofs.Members.{In, Each, each_in, each_part_at, each_flat_map_at, at_place, map_flat_map_at, sum_by_map, each_weaker}
+use Rattle.htl_names.proofs.Members.{In, Each, in_part_at, each_flat_map_at, at_place, map_flat_map_at, sum_by_map, each_weaker}
 use Rattle.htl_names.proofs.Places.{program_of_module, module_of_mode, module_there, modes_there}
 use Rattle.htl_model.specs.Lists.{list_to}
 use Rattle.htl_model.specs.Tables.{greatest}
@@ -33,13 +33,11 @@ place_of p u m = record { program = p; «module» = u; mode = m }
 
 pub in_naming : (symbols : List (Key × ℕ)) (ps : List PlainProgram) (a : ModeAt) (q : ℕ) → Names symbols ps a q → In {A = Naming} (a, q) (naming symbols ps)
 in_naming symbols ps a q h =
-    let P : Naming → Type 0 = λ y. In y (naming symbols ps) in
     let o = module_of_mode ps a.program a.«module» a.mode h.mode h.there in
     let x = program_of_module ps a.program a.«module» o.0 o.1 in
-    let row = each_part_at P (mode_naming symbols a.program a.«module») 0 o.0.modes a.mode a.mode h.mode (omega arith) o.2
-    (each_part_at P (module_naming symbols a.program) 0 x.0.modules a.«module» a.«module» o.0 (omega arith) x.2
-    (each_part_at P (program_naming symbols) 0 ps a.program a.program x.0 (omega arith) x.1 (each_in (naming symbols ps)))) in
-    (subst (λ (n : Option ℕ). Each P (elim n [ Some r ↦ (a, r) ∷ [] | None ↦ [] ])) h.named row).0
+    let own : In {A = Naming} (a, q) (mode_naming symbols a.program a.«module» a.mode h.mode) = (0, ap (λ n. slice_get (named_from a n) 0) h.named) in
+    in_part_at (program_naming symbols) ps a.program x.0 x.1
+    (in_part_at (module_naming symbols a.program) x.0.modules a.«module» o.0 x.2 (in_part_at (mode_naming symbols a.program a.«module») o.0.modes a.mode h.mode o.2 own))
 
 -- ---- how often a program is named
 

@@ -23,15 +23,12 @@ use Rattle.std.proofs.lemmas.Option.{slice_get_within}
 use Rattle.htl_text.specs.Bounds.{comms_of, modules_of, modes_of}
 use Rattle.htl_text.specs.declared.tree.CommNode.{CommNode}
 use Rattle.htl_names.specs.Conditions.{MeetsBounds}
-use Rattle.htl_names.specs.Narrow.{IsNarrow, IsNarrowParent, IsNarrowInvoke, IsNarrowEnd}
+use Rattle.htl_names.specs.Narrow.{IsNarrow, IsNarrowParent, IsNarrowInvoke}
 use Rattle.htl_names.proofs.EntryLaws.{IsLowSource, meaning_low}
-use Rattle.htl_names.proofs.NameUses.{comm_period_span, mode_period_span, worst_span, read_instance, write_instance}
-use Rattle.htl_text.specs.declared.tree.EndNode.{EndNode}
-use Rattle.htl_text.specs.declared.tree.InvokeNode.{InvokeNode}
+use Rattle.htl_names.proofs.NameUses.{comm_period_span, mode_period_span, worst_span, narrow_invoke}
 use Rattle.htl_model.specs.Tables.{Tables}
 use Rattle.htl_names.specs.declared.key.Key.{Key}
 use Rattle.htl_names.specs.declared.fault.NameFault.TheVariants as fault
-use Rattle.htl_text.specs.declared.tree.EndNode.TheVariants as end
 
 -- no limit is exceeded
 pub kept_limit : (ps : List PlainProgram) → AreNamesRight ps → (k count limit : ℕ) → slice_get (counts (symbols_of ps) ps) k ≡ Some count → slice_get limits k ≡ Some limit → count ≤ limit
@@ -108,24 +105,12 @@ module _ (ps : List PlainProgram) (right : AreNamesRight ps) where
   worsts : (p u : ℕ) → All (λ (t : PlainTask). size_of t.worst.x ≤ 1000000) (tasks_at ps p u)
   worsts p u = All-from_places (λ (t : PlainTask). size_of t.worst.x ≤ 1000000) (tasks_at ps p u) (λ k t e. (worst_span ps right p u k t e).most)
 
-  module _ (a : ModeAt) (x : PlainMode) (there : mode_at ps a ≡ Some x) (k : ℕ) (i : InvokeNode) (its : slice_get x.invokes k ≡ Some i) where
-    narrow_read : (n : ℕ) (e : EndNode) → slice_get i.reads n ≡ Some e → IsNarrowEnd e
-    narrow_read n (end.Comm comm instance) at = read_instance ps right a.program a.«module» a.mode k n x i comm instance there its at
-    narrow_read n (end.Port port) at = omega arith
-
-    narrow_write : (n : ℕ) (e : EndNode) → slice_get i.writes n ≡ Some e → IsNarrowEnd e
-    narrow_write n (end.Comm comm instance) at = write_instance ps right a.program a.«module» a.mode k n x i comm instance there its at
-    narrow_write n (end.Port port) at = omega arith
-
-    narrow_invoke : IsNarrowInvoke i
-    narrow_invoke = record { reads = All-from_places IsNarrowEnd i.reads narrow_read; writes = All-from_places IsNarrowEnd i.writes narrow_write }
-
   pub instances : (a : ModeAt) → All IsNarrowInvoke (invokes_at ps a)
   instances a = by (mode_at ps a) refl
     where
       by : (o : Option PlainMode) → mode_at ps a ≡ o → All IsNarrowInvoke (elim o [ Some x ↦ x.invokes | None ↦ [] ])
       by None e = All-nil IsNarrowInvoke
-      by (Some x) e = All-from_places IsNarrowInvoke x.invokes (narrow_invoke a x e)
+      by (Some x) e = All-from_places IsNarrowInvoke x.invokes (λ k i its. narrow_invoke ps right a.program a.«module» a.mode k x i e its)
 
   parent_narrow : (s : ModuleAt) → IsPlaced (symbols_of ps) ps s → IsNarrowParent s.parent
   parent_narrow s h = by s.parent h.parent
