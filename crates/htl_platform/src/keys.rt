@@ -15,7 +15,7 @@ use toml::{Table, Value};
 
 // Two names with a dot between them.
 fn dotted(alloc: Global, module: &Name, task: &Name) -> Result<Vec<u8>, AllocError>
-    ensures bytes { IfOk result (λ v. v.items ≡ module.now ++ 46 ∷ task.now) }
+    ensures bytes { IfOk result (λ v. v.items ≡ «module».now ++ 46 ∷ task.now) }
     ensures text { IfOk result (λ v. IsUtf8 v.items) }
 {
     let mut key = Vec::new(alloc);
