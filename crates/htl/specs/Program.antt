@@ -3,7 +3,7 @@ use Rattle.std.specs.Prelude.{◌≡◌, ◌⊎◌, ℕ, Option, None, List}
 use Rattle.htl_top.specs.Answers.{Files, Streams, IsUntouched, AreCountsKept, KeepsCounts, Tells}
 use Rattle.htl_top.specs.Calls.{IsCall, HasSource, HasObject}
 use Rattle.htl_top.specs.Status.{status_of, fault_line}
-use Rattle.htl_top.specs.Telling.{IsLineTold}
+use Rattle.htl_top.specs.ErrorLines.{IsLineTold}
 use Rattle.htl_top.specs.Words.{command_of}
 use Rattle.htl_top.specs.declared.outcome.Outcome.{Outcome}
 use Rattle.htl_top.specs.declared.outcome.Outcome.TheVariants.{Done, Memory}

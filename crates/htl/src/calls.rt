@@ -225,7 +225,7 @@ fn comes_to(
     Some(came == status && out.bytes() == want && err.bytes() == told.as_bytes())
 }
 
-// Whether a call comes to this, also where its telling fails, which changes nothing else.
+// Whether a call comes to this, also where what it comes to cannot be written, which changes nothing else.
 fn comes_to_both(
     alloc: Global,
     asked: (&[&str], Streams),

@@ -42,7 +42,7 @@ fn is_length(t: &Tables, inv: u16, length: Time) -> bool
 
 // Whether a reading may come next.
 fn is_reading(m: &Machine<'_>, at: Time) -> bool
-    ensures { result ≡ true → (m.now.held.reading ≤ at) × (at ≤ limit.MAX_INSTANT) }
+    ensures { result ≡ true → (m.now.run_state.reading ≤ at) × (at ≤ limit.MAX_INSTANT) }
 {
     m.reading() <= at && at <= MAX_INSTANT
 }
@@ -145,7 +145,7 @@ fn first_of(m: &Machine<'_>, t: &Tables, comm: u16) -> Option<(Value, Value, Tim
 }
 
 fn shown(m: &Machine<'_>, t: &Tables, comm: u16) -> Option<(Value, Value, Time, bool)>
-    requires { length m.now.held.world.values ≡ length t.now.comms }
+    requires { length m.now.run_state.world.values ≡ length t.now.comms }
 {
     if comm as usize >= t.parts().comms.as_slice().len() {
         return None;

@@ -53,7 +53,7 @@ module _ (t : Tables) (es : List Event) (end : ℕ) (log : List Slice) (k : Kept
 
 -- ---- a sensor
 
-pub sense_follows : (a : Audit) (es : List Event) (c : ℕ) (x : ℤ) (m : machines.Seen) → m ≡ record a.machine { held = shown_as c x a.machine.held } → machines.Follows m (es ++ V.Sense c x ∷ []) → AuditFollows a es
+pub sense_follows : (a : Audit) (es : List Event) (c : ℕ) (x : ℤ) (m : machines.Seen) → m ≡ record a.machine { run_state = shown_as c x a.machine.run_state } → machines.Follows m (es ++ V.Sense c x ∷ []) → AuditFollows a es
     → AuditFollows (record a { machine = m }) (es ++ V.Sense c x ∷ [])
 sense_follows a es c x m is machine f =
     subst (λ z. AuditFollows (record a { machine = z }) fs) (sym is)
@@ -61,7 +61,7 @@ sense_follows a es c x m is machine f =
       machine = subst (λ z. machines.Follows z fs) is machine;
       shown = f.shown;
       takes = λ i u known later. took_sense t es c i u x ∙ f.takes i u known later;
-      log = subst (λ rs. LogFollows t rs a.machine.held.reading a.log a.kept) (rounds_same t es fs a.machine.held.reading senses (λ i u. sym (took_sense t es c i u x))) f.log;
+      log = subst (λ rs. LogFollows t rs a.machine.run_state.reading a.log a.kept) (rounds_same t es fs a.machine.run_state.reading senses (λ i u. sym (took_sense t es c i u x))) f.log;
     })
   where
     t : Tables
@@ -73,19 +73,19 @@ sense_follows a es c x m is machine f =
     early : (d u : ℕ) → u < reading_of 0 es → (eqb d c && leb (reading_of 0 es) u) ≡ false
     early d u h = grind (arith, nat_tests)
 
-    senses : (d u : ℕ) → u < a.machine.held.reading → sense t es d u ≡ sense t fs d u
+    senses : (d u : ℕ) → u < a.machine.run_state.reading → sense t es d u ≡ sense t fs d u
     senses d u h = sym (sense_sense t es c d u x ∙ ap (λ b. cond b x (sense t es d u)) (early d u (omega (arith, f.machine.kept.reading, h))))
 
 -- ---- the verdict of an auditor
 
-module _ (inner a : Audit) (es : List Event) (same : inner ≡ a) (f : IsAudited a es a.machine.held.reading) (r : Result AuditTotals LogFault) (at : ℕ) (at_is : at ≡ inner.machine.held.reading)
+module _ (inner a : Audit) (es : List Event) (same : inner ≡ a) (f : IsAudited a es a.machine.run_state.reading) (r : Result AuditTotals LogFault) (at : ℕ) (at_is : at ≡ inner.machine.run_state.reading)
     (s : Says (verdict_of inner.kept (length inner.log)) at r) where
-  says : Says (verdict_of a.kept (length a.log)) a.machine.held.reading r
-  says = subst (λ (z : Audit). Says (verdict_of z.kept (length z.log)) z.machine.held.reading r) same (subst (λ n. Says (verdict_of inner.kept (length inner.log)) n r) at_is s)
+  says : Says (verdict_of a.kept (length a.log)) a.machine.run_state.reading r
+  says = subst (λ (z : Audit). Says (verdict_of z.kept (length z.log)) z.machine.run_state.reading r) same (subst (λ n. Says (verdict_of inner.kept (length inner.log)) n r) at_is s)
 
-  pub audited_legal : IfOk r (λ m. (first_fault a.machine.object.tables es a.machine.held.reading a.log ≡ None) × (m.at ≡ a.machine.held.reading)
-      × (m.jobs ≡ jobs_done (all_rounds a.machine.object.tables es (suc a.machine.held.reading)) a.log) × (m.slices ≡ length a.log))
-  audited_legal = says_legal a.machine.object.tables es a.machine.held.reading a.log a.kept f.log r a.machine.held.reading says
+  pub audited_legal : IfOk r (λ m. (first_fault a.machine.object.tables es a.machine.run_state.reading a.log ≡ None) × (m.at ≡ a.machine.run_state.reading)
+      × (m.jobs ≡ jobs_done (all_rounds a.machine.object.tables es (suc a.machine.run_state.reading)) a.log) × (m.slices ≡ length a.log))
+  audited_legal = says_legal a.machine.object.tables es a.machine.run_state.reading a.log a.kept f.log r a.machine.run_state.reading says
 
-  pub audited_fault : IfErr r (λ g. first_fault a.machine.object.tables es a.machine.held.reading a.log ≡ Some g)
-  audited_fault = says_fault a.machine.object.tables es a.machine.held.reading a.log a.kept f.log r a.machine.held.reading says
+  pub audited_fault : IfErr r (λ g. first_fault a.machine.object.tables es a.machine.run_state.reading a.log ≡ Some g)
+  audited_fault = says_fault a.machine.object.tables es a.machine.run_state.reading a.log a.kept f.log r a.machine.run_state.reading says

@@ -34,7 +34,7 @@ use Rattle.htl_console.specs.declared.shown.Shown.{Shown}
 use Rattle.htl_machine.specs.StandingList.{turn_list}
 use Rattle.htl_machine.specs.declared.numbering.ListAt.{ListAt}
 use Rattle.htl_machine.specs.Calls.{Seen, Follows, GoesBy, IsFinished, text_between}
-use Rattle.htl_machine.specs.Follows.{reading_of, DeskStands, DeskFollows, IsLoaded}
+use Rattle.htl_machine.specs.Follows.{reading_of, SMachineStands, SMachineFollows, IsLoaded}
 use Rattle.htl_machine.specs.Lines.{all_records, e_done}
 use Rattle.htl_machine.specs.ListTurns.{Turn, left_before, turn_finished_by}
 use Rattle.htl_machine.specs.Plans.{finished_before}
@@ -47,7 +47,7 @@ use Rattle.htl_machine.specs.Values.{ValuesFollow}
 use Rattle.htl_machine.proofs.Accepted.{accepted_is_loaded}
 use Rattle.htl_machine.proofs.Events.{Alike, state_same, before_same, values_alike, reading_more, sense_at, took_at}
 use Rattle.htl_machine.proofs.Following.{turn_same, all_read, within_more}
-use Rattle.htl_machine.proofs.TellingLater.{later_leave}
+use Rattle.htl_machine.proofs.TextSoFar.{later_leave}
 use Rattle.htl_machine.proofs.Waking.{triggers_alike}
 
 -- the same sensors and lengths
@@ -108,10 +108,10 @@ module _ (t : Tables) (schedules : List (List SInstr)) (es fs : List Event) (sam
     finished_same zero i = refl
     finished_same (suc n) i = ap (λ (u : Turn). turn_finished_by u (left_before u (suc n)) i) (turns n)
 
-    desk_same : (root : Option ℕ) (n : ℕ) (r : Round) → DeskFollows (turn_at t schedules es) root n r → DeskFollows (turn_at t schedules fs) root n r
-    desk_same None n r f = f
-    desk_same (Some period) zero r f = f
-    desk_same (Some period) (suc n) r f = subst (λ (u : Turn). DeskStands u.plan u.frame (suc n) r) (turns n) f
+    s_machine_same : (root : Option ℕ) (n : ℕ) (r : Round) → SMachineFollows (turn_at t schedules es) root n r → SMachineFollows (turn_at t schedules fs) root n r
+    s_machine_same None n r f = f
+    s_machine_same (Some period) zero r f = f
+    s_machine_same (Some period) (suc n) r f = subst (λ (u : Turn). SMachineStands u.plan u.frame (suc n) r) (turns n) f
 
     goes_same : (o : Option ℕ) (now : ℕ) (list : Option ListAt) → GoesBy (turn_at t schedules es) o now list → GoesBy (turn_at t schedules fs) o now list
     goes_same None now list g = g
@@ -144,7 +144,7 @@ same_follows m es fs accepted same f =
                 };
             records =
                 record {
-                  desk = desk_same t schedules es fs same.told loaded f.kept.within (hyper t) now m.held.desk f.before.records.desk;
+                  s_machine = s_machine_same t schedules es fs same.told loaded f.kept.within (hyper t) now m.run_state.s_machine f.before.records.s_machine;
                   goes = goes_same t schedules es fs same.told loaded f.kept.within (hyper t) now m.list f.before.records.goes;
                   jobs_are = f.before.records.jobs_are ∙ ap (λ ls. capped (count_by (λ (l : ℕ × Left). l.1.finished) ls)) (records_same t schedules es fs same.told now);
                   s_are = f.before.records.s_are ∙ ap (λ (ls : List (ℕ × Left)). capped (length ls)) (records_same t schedules es fs same.told now);
@@ -159,15 +159,15 @@ same_follows m es fs accepted same f =
     schedules = schedules_of m.object
 
     now : ℕ
-    now = m.held.reading
+    now = m.run_state.reading
 
     loaded : IsLoaded t schedules
     loaded = accepted_is_loaded m.object accepted
 
-    values : ValuesFollow t fs now (finished_before (turn_at t schedules fs) now) m.held.world
+    values : ValuesFollow t fs now (finished_before (turn_at t schedules fs) now) m.run_state.world
     values =
-        subst (λ z. ValuesFollow t fs now z m.held.world) (fun_ext (λ i. finished_same t schedules es fs same.told loaded f.kept.within now i))
-        (values_alike t loaded.range loaded.kept es fs now (finished_before (turn_at t schedules es) now) m.held.world (alike t schedules es fs same.told now)
+        subst (λ z. ValuesFollow t fs now z m.run_state.world) (fun_ext (λ i. finished_same t schedules es fs same.told loaded f.kept.within now i))
+        (values_alike t loaded.range loaded.kept es fs now (finished_before (turn_at t schedules es) now) m.run_state.world (alike t schedules es fs same.told now)
         (λ i x s st fin. all_read t schedules loaded es f.kept.within now i x s st fin) f.before.values.values)
 
 -- a reading between two others changes nothing
@@ -186,13 +186,13 @@ pub passes_between : (m : Seen) (es : List Event) (a to : ℕ) → IsAccepted m.
 passes_between m es a to accepted within f = same_follows m (es ++ V.At a ∷ [] ++ V.At to ∷ []) (es ++ V.At to ∷ []) accepted (between m.object.tables es a to within) f
 
 -- a reading that is the last one already changes nothing
-pub reads_again : (m : Seen) (es : List Event) → IsAccepted m.object → Follows m es → Follows m (es ++ V.At m.held.reading ∷ [])
+pub reads_again : (m : Seen) (es : List Event) → IsAccepted m.object → Follows m es → Follows m (es ++ V.At m.run_state.reading ∷ [])
 reads_again m es accepted f =
-    same_follows m es (es ++ V.At m.held.reading ∷ []) accepted
+    same_follows m es (es ++ V.At m.run_state.reading ∷ []) accepted
     (record {
-      told = record { senses = λ c u. sym (sense_at m.object.tables es m.held.reading c u); tooks = λ i u. sym (took_at m.object.tables es m.held.reading i u) };
-      reading = sym f.kept.reading ∙ sym (reading_more 0 es (V.At m.held.reading));
-      within = within_more m.object.tables es (V.At m.held.reading) f.kept.within tt;
+      told = record { senses = λ c u. sym (sense_at m.object.tables es m.run_state.reading c u); tooks = λ i u. sym (took_at m.object.tables es m.run_state.reading i u) };
+      reading = sym f.kept.reading ∙ sym (reading_more 0 es (V.At m.run_state.reading));
+      within = within_more m.object.tables es (V.At m.run_state.reading) f.kept.within tt;
     })
     f
 
@@ -241,7 +241,7 @@ text_same o es a show from to accepted within =
 -- ---- the modes
 
 -- before the instant after n the E machine's modes are those of n
-pub modes_before : (m : Seen) (es : List Event) (n : ℕ) → IsAccepted m.object → Follows m es → m.held.reading ≡ suc n → m.standing.calendar.modes ≡ modes_at m.object.tables es n
+pub modes_before : (m : Seen) (es : List Event) (n : ℕ) → IsAccepted m.object → Follows m es → m.run_state.reading ≡ suc n → m.standing.calendar.modes ≡ modes_at m.object.tables es n
 modes_before m es n accepted f read =
     ext_get_or None c.modes (modes_at t es n) (b.sized.modes ∙ sym (states_are_selections t range es n).same) (λ k h. list_get c.modes k ∙ ap (λ (e : Entry). e.mode) (b.above k (omega arith) (omega (arith, h, b.sized.modes))) ∙ mode_there (state t es n).stays k)
   where

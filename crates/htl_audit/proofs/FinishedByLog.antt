@@ -16,7 +16,7 @@ use Rattle.htl_walk.specs.declared.job.Job.{Job}
 use Rattle.htl_emach.specs.Contents.{Content}
 use Rattle.htl_refine.specs.Records.{AreTookWithin}
 use Rattle.htl_machine.specs.Values.{InvStands, IsDue, IsPast, HasReadInputs, Ready, AreCarried, ValuesFollow}
-use Rattle.htl_machine.proofs.Casting.{reads_before_release, end_before_writes}
+use Rattle.htl_machine.proofs.JobWindows.{reads_before_release, end_before_writes}
 use Rattle.htl_walk.proofs.Finishes.{some_same}
 use Rattle.htl_refine.proofs.Standing.{standing_at}
 use Rattle.htl_audit.specs.declared.slice.Slice.{Slice}

@@ -38,7 +38,7 @@ use Rattle.htl_refine.proofs.PlaceOrder.{places_ordered}
 use Rattle.htl_refine.proofs.RecordOrder.{times_within}
 use Rattle.htl_refine.proofs.RoundOrder.{run_of}
 use Rattle.htl_refine.proofs.ServedFrames.{frames_are_served}
-use Rattle.htl_machine.specs.Casts.{IsCast}
+use Rattle.htl_machine.specs.JobsSoFar.{AreJobsSoFar}
 use Rattle.htl_machine.specs.FramePlacing.{frame_start, begun_by}
 use Rattle.htl_machine.specs.FramesGoOn.{AreFrames}
 use Rattle.htl_machine.specs.RunFrames.{now_of}
@@ -134,8 +134,8 @@ module _ (t : Tables) (lists : List (List SInstr)) (es : List Event) (rounds_fit
         subst (λ z. q < known_by z (frame_places t (frame_modes t es f))) (let z : d ≡ f + d - f = omega arith in z) (o.begun q (place k.inv p.at) p.place_is begun) in
         subst (λ z. slice_get (take (begun_by t es z (f + d)) (frame_jobs t (frame_modes t es z))) q ≡ Some k) (sym (start_then d less)) (there_front (begun_by t es f (f + d)) (frame_jobs t (frame_modes t es f)) q k e within)
 
-    cast_then : (d : ℕ) → d < frame_of t → IsCast t (state t es (f + d)).stays f (f + d) (now_of t lists es (f + d)).jobs
-    cast_then d less = subst (λ z. IsCast t (state t es (f + d)).stays z (f + d) (now_of t lists es (f + d)).jobs) (start_then d less) (frames.casts (f + d))
+    jobs_then : (d : ℕ) → d < frame_of t → AreJobsSoFar t (state t es (f + d)).stays f (f + d) (now_of t lists es (f + d)).jobs
+    jobs_then d less = subst (λ z. AreJobsSoFar t (state t es (f + d)).stays z (f + d) (now_of t lists es (f + d)).jobs) (start_then d less) (frames.jobs_so_far (f + d))
 
   -- ---- a job of a frame is one of rounds, and the other way round
 
@@ -175,7 +175,7 @@ module _ (t : Tables) (lists : List (List SInstr)) (es : List Event) (rounds_fit
         concrete = x.concrete;
         in_round = y.1 ∙ ap (λ m. let v : Stay = record { mode = m; start = y.0.start } in Some v) y.2 ∙ ap (λ n. let v : Stay = record { mode = x.inv.mode; start = n } in Some v) began;
       } in
-      let c = (frames.casts s).has j.inv x.inv s st in
+      let c = (frames.jobs_so_far s).has j.inv x.inv s st in
       let q = c.0 in
       let job = c.1 in
       let f = frame_start t s in
@@ -217,7 +217,7 @@ module _ (t : Tables) (lists : List (List SInstr)) (es : List Event) (rounds_fit
       let w = placed f q k e here in
       let d = w.at in
       let front = in_front f whole d q k w e (omega arith) w.early in
-      let c = (cast_then f whole d w.early).stands q k front here (omega (arith, w.end_is, w.room, w.release_is)) in
+      let c = (jobs_then f whole d w.early).stands q k front here (omega (arith, w.end_is, w.room, w.release_is)) in
       let x = c.0 in
       let s = c.1 in
       let job = c.3 in
@@ -309,7 +309,7 @@ module _ (t : Tables) (lists : List (List SInstr)) (es : List Event) (rounds_fit
           let y = placed f r i b there in
           let d = max k.release i.release in
           let less : d < frame_of t = omega (arith, (of_frame f q k whole a here).within, (of_frame f r i whole b there).within, x.room, y.room) in
-          one_position t (state t es (f + d)).stays f (f + d) (now_of t lists es (f + d)).jobs (cast_then f whole d less) q r k i (in_front f whole d q k x a (omega (arith, x.release_is)) less)
+          one_position t (state t es (f + d)).stays f (f + d) (now_of t lists es (f + d)).jobs (jobs_then f whole d less) q r k i (in_front f whole d q k x a (omega (arith, x.release_is)) less)
           (in_front f whole d r i y b (omega (arith, y.release_is)) less) here there same (omega (arith, x.room, late)) (omega (arith, y.room, early))
 
   pub frames_run : IsRun (frame_plan t lists es) (frame_of t)

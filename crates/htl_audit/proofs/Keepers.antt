@@ -229,17 +229,17 @@ audit_first m takes log k n f shown takes_are kept =
       shown = shown;
       takes = λ i u h later. worst_took m.object.tables i u h ∙ sym (ap (λ ns. get_or ns i 0) takes_are);
       log =
-          subst (λ z. LogFollows m.object.tables (all_rounds m.object.tables [] m.held.reading) m.held.reading log z) (sym kept)
+          subst (λ z. LogFollows m.object.tables (all_rounds m.object.tables [] m.run_state.reading) m.run_state.reading log z) (sym kept)
           (subst (λ at. LogFollows m.object.tables (all_rounds m.object.tables [] at) at log (first_kept n)) (sym f.kept.reading) (first_follows m.object.tables log n));
     }
 
 -- ---- a length is followed
 
 pub took_follows : (a : Audit) (es : List Event) (i n : ℕ) (m : machines.Seen) → IsAccepted a.machine.object → IsLength a.machine.object.tables i n → i < length a.takes → i < length a.kept.roster.lengths
-    → m ≡ record a.machine { held = taken_as i n a.machine.held } → machines.Follows m (es ++ V.Took i n ∷ []) → AuditFollows a es
-    → AuditFollows (record { machine = m; log = a.log; takes = set a.takes i n; kept = inv_takes a.machine.object.tables a.machine.held.reading i n a.kept }) (es ++ V.Took i n ∷ [])
+    → m ≡ record a.machine { run_state = taken_as i n a.machine.run_state } → machines.Follows m (es ++ V.Took i n ∷ []) → AuditFollows a es
+    → AuditFollows (record { machine = m; log = a.log; takes = set a.takes i n; kept = inv_takes a.machine.object.tables a.machine.run_state.reading i n a.kept }) (es ++ V.Took i n ∷ [])
 took_follows a es i n m accepted len room rows is machine f =
-    subst (λ z. AuditFollows (record { machine = z; log = a.log; takes = set a.takes i n; kept = inv_takes t a.machine.held.reading i n a.kept }) fs) (sym is)
+    subst (λ z. AuditFollows (record { machine = z; log = a.log; takes = set a.takes i n; kept = inv_takes t a.machine.run_state.reading i n a.kept }) fs) (sym is)
     (record {
       machine = subst (λ z. machines.Follows z fs) is machine;
       shown = f.shown;
@@ -261,7 +261,7 @@ took_follows a es i n m accepted len room rows is machine f =
         taken_follows t (accepted_range a.machine.object accepted) (have_rounds a.machine.object accepted) es f.machine.kept.within i n fits a.log a.kept rows
         (subst (λ r. LogFollows t (all_rounds t es r) r a.log a.kept) f.machine.kept.reading f.log)
 
-    takes : (j u : ℕ) → j < length t.invs → a.machine.held.reading ≤ u → took t fs j u ≡ get_or (set a.takes i n) j 0
+    takes : (j u : ℕ) → j < length t.invs → a.machine.run_state.reading ≤ u → took t fs j u ≡ get_or (set a.takes i n) j 0
     takes j u h later = took_took t es i n j u ∙ by (eqb j i) refl
       where
         now : (x y : ℕ) → x ≤ y → leb x y ≡ true

@@ -17,7 +17,7 @@ use Rattle.htl_walk.proofs.Work.{job_is}
 use Rattle.htl_refine.specs.ServedFrames.{IsFeasibleRun}
 use Rattle.htl_refine.proofs.ServedFrames.{frames_are_served}
 use Rattle.htl_machine.specs.Programs.{schedules_of}
-use Rattle.htl_machine.proofs.Telling.{up_to_none}
+use Rattle.htl_machine.proofs.InstantRecords.{up_to_none}
 use Rattle.htl_audit.specs.declared.slice.Slice.{Slice}
 use Rattle.htl_audit.specs.Growing.{HaveRounds}
 use Rattle.htl_audit.specs.Jobs.{BeginningJobs, round_of, all_rounds}

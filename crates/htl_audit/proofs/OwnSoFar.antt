@@ -9,7 +9,7 @@ use Rattle.htl_form.proofs.PartLaws.{none_some}
 use Rattle.htl_model.specs.Lists.{up_to}
 use Rattle.htl_walk.specs.declared.job.Job.{Job}
 use Rattle.htl_walk.specs.Walk.{first_point}
-use Rattle.htl_machine.proofs.Telling.{none_at_first, rounds_are, up_to_last}
+use Rattle.htl_machine.proofs.InstantRecords.{none_at_first, rounds_are, up_to_last}
 use Rattle.htl_audit.specs.declared.slice.Slice.{Slice}
 use Rattle.htl_audit.specs.declared.slice.LogKind.TheVariants as kind
 use Rattle.htl_audit.specs.Jobs.{BeginningJobs}

@@ -25,7 +25,7 @@ use Rattle.htl_refine.specs.ServedFrames.{IsFeasibleRun}
 use Rattle.htl_refine.proofs.Inherit.{map_at}
 use Rattle.htl_refine.proofs.OwnPeriods.{some_time}
 use Rattle.htl_refine.proofs.OwnRounds.{own_starts, since}
-use Rattle.htl_machine.specs.Casts.{rank}
+use Rattle.htl_machine.specs.JobsSoFar.{rank}
 use Rattle.htl_machine.specs.RunFrames.{now_of}
 use Rattle.htl_machine.specs.Values.{InvStands, Orders}
 use Rattle.htl_machine.proofs.FramePlaced.{entry_is}
@@ -155,4 +155,4 @@ module _ (t : Tables) (range : AreInRange t) (kept : KeptApart t 16) (rounds : H
         let run : IsFeasibleRun t lists es = record { range = range; kept = kept; within = within; modules = some; ticks = frame_some t range some; accepted = feasible } in
         let frames = feasible_runs t lists es run in
         let now = now_of t lists es n in
-        (rank now.jobs now.walk, in_order t range (first_rules t kept) (state t es n).stays now.frame n now.jobs now.walk (frames.casts n) (frames.runs n) x.mode s st.in_round)
+        (rank now.jobs now.walk, in_order t range (first_rules t kept) (state t es n).stays now.frame n now.jobs now.walk (frames.jobs_so_far n) (frames.runs n) x.mode s st.in_round)

@@ -35,8 +35,8 @@ IsLogUpTo a es now = LogFollows a.machine.object.tables (all_rounds a.machine.ob
 pub record AuditFollows (a : Audit) (es : List Event) : Type 0 where
   pub machine : machines.Follows a.machine es
   pub shown : a.machine.show ≡ Values
-  pub takes : (i u : ℕ) → i < length a.machine.object.tables.invs → a.machine.held.reading ≤ u → took a.machine.object.tables es i u ≡ get_or a.takes i 0
-  pub log : IsLogUpTo a es a.machine.held.reading
+  pub takes : (i u : ℕ) → i < length a.machine.object.tables.invs → a.machine.run_state.reading ≤ u → took a.machine.object.tables es i u ≡ get_or a.takes i 0
+  pub log : IsLogUpTo a es a.machine.run_state.reading
 
 -- the run ended at `to`: values are those of the meaning there, and the lines are judged that end by then
 pub record IsAudited (a : Audit) (es : List Event) (to : ℕ) : Type 0 where
@@ -80,11 +80,11 @@ sooner (Some n) m = min n m
 
 -- all before the reading of the machine is done, which was told these events and that reading
 pub record IsStopped (a : Audit) (es : List Event) : Type 0 where
-  pub machine : machines.Follows a.machine (es ++ V.At a.machine.held.reading ∷ [])
+  pub machine : machines.Follows a.machine (es ++ V.At a.machine.run_state.reading ∷ [])
   pub within : AreTookWithin a.machine.object.tables es
   pub shown : a.machine.show ≡ Values
-  pub takes : (i u : ℕ) → i < length a.machine.object.tables.invs → a.machine.held.reading ≤ u → took a.machine.object.tables es i u ≡ get_or a.takes i 0
-  pub log : IsLogUpTo a es a.machine.held.reading
+  pub takes : (i u : ℕ) → i < length a.machine.object.tables.invs → a.machine.run_state.reading ≤ u → took a.machine.object.tables es i u ≡ get_or a.takes i 0
+  pub log : IsLogUpTo a es a.machine.run_state.reading
 
 -- no call changes the object, what is shown and the log
 pub record IsSameAudit (old new : Audit) : Type 0 where
@@ -97,9 +97,9 @@ AreSized a = IsSized (length a.machine.object.tables.invs) a.kept
 
 -- a call that goes on to `to` wrote the text up to where it stands, or a prefix of the whole
 abbrev pub IsGone : {T E : Type 0} → Audit → Audit → List Event → ℕ → Option (List ℕ) → Option (List ℕ) → ℕ → ℕ → Result T E → Type 0
-IsGone {T} {E} old new es to w w1 f f1 (Ok x) = Puts {T = T} {E = E} w w1 f f1 (text_between old.machine.object es Values old.machine.held.reading new.machine.held.reading) (Ok x)
-IsGone {T} {E} old new es to w w1 f f1 (Err x) = Puts {T = T} {E = E} w w1 f f1 (text_between old.machine.object es Values old.machine.held.reading to) (Err x)
+IsGone {T} {E} old new es to w w1 f f1 (Ok x) = Puts {T = T} {E = E} w w1 f f1 (text_between old.machine.object es Values old.machine.run_state.reading new.machine.run_state.reading) (Ok x)
+IsGone {T} {E} old new es to w w1 f f1 (Err x) = Puts {T = T} {E = E} w w1 f f1 (text_between old.machine.object es Values old.machine.run_state.reading to) (Err x)
 
 -- no round begins from the reading on before `to`
 abbrev pub AreNone : Audit → ℕ → Type 0
-AreNone a to = (n : ℕ) → a.machine.held.reading ≤ n → n < to → begins (root_periods a.machine.object.tables) n ≡ false
+AreNone a to = (n : ℕ) → a.machine.run_state.reading ≤ n → n < to → begins (root_periods a.machine.object.tables) n ≡ false

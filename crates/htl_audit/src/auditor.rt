@@ -171,11 +171,11 @@ impl<'a> Auditor<'a> {
     // Lets the machine do all instants before `to`.
     fn step<W: Sink>(&mut self, to: Time, sink: &mut W) -> Result<(), Failed>
         requires follows { (es : List Told) × machines.Follows self.old.machine es }
-        requires order { self.old.machine.held.reading ≤ to }
+        requires order { self.old.machine.run_state.reading ≤ to }
         requires at { to ≤ limit.MAX_INSTANT }
-        ensures text { (es : List Told) → machines.Follows self.old.machine es → Puts (W.written sink.old) (W.written sink.new) (W.faults sink.old) (W.faults sink.new) (text_between self.old.machine.object es self.old.machine.show self.old.machine.held.reading to) result }
+        ensures text { (es : List Told) → machines.Follows self.old.machine es → Puts (W.written sink.old) (W.written sink.new) (W.faults sink.old) (W.faults sink.new) (text_between self.old.machine.object es self.old.machine.show self.old.machine.run_state.reading to) result }
         ensures follows { (es : List Told) → machines.Follows self.old.machine es → OnOk result (machines.Follows self.new.machine (es ++ event.At to ∷ [])) }
-        ensures spent { OnErr result (self.new.machine.held.spent ≡ true) }
+        ensures spent { OnErr result (self.new.machine.run_state.spent ≡ true) }
         ensures run { machines.IsSameRun self.old.machine self.new.machine }
         ensures rest { self.new ≡ record self.old { machine = self.new.machine } }
     {
@@ -185,11 +185,11 @@ impl<'a> Auditor<'a> {
     // Lets the machine do all instants up to and including `to`.
     fn last<W: Sink>(&mut self, to: Time, sink: &mut W) -> Result<(), Failed>
         requires follows { (es : List Told) × machines.Follows self.old.machine es }
-        requires order { self.old.machine.held.reading ≤ to }
+        requires order { self.old.machine.run_state.reading ≤ to }
         requires at { to ≤ limit.MAX_INSTANT }
-        ensures text { (es : List Told) → machines.Follows self.old.machine es → Puts (W.written sink.old) (W.written sink.new) (W.faults sink.old) (W.faults sink.new) (text_between self.old.machine.object es self.old.machine.show self.old.machine.held.reading (suc to)) result }
+        ensures text { (es : List Told) → machines.Follows self.old.machine es → Puts (W.written sink.old) (W.written sink.new) (W.faults sink.old) (W.faults sink.new) (text_between self.old.machine.object es self.old.machine.show self.old.machine.run_state.reading (suc to)) result }
         ensures finished { (es : List Told) → machines.Follows self.old.machine es → OnOk result (machines.IsFinished self.new.machine es to) }
-        ensures spent { OnErr result (self.new.machine.held.spent ≡ true) }
+        ensures spent { OnErr result (self.new.machine.run_state.spent ≡ true) }
         ensures run { machines.IsSameRun self.old.machine self.new.machine }
         ensures rest { self.new ≡ record self.old { machine = self.new.machine } }
     {
@@ -199,14 +199,14 @@ impl<'a> Auditor<'a> {
     // Goes over an instant at which rounds begin, where none begins before.
     fn turn<W: Sink>(&mut self, at: Time, sink: &mut W) -> Result<(), Failed>
         requires stopped { (es : List Told) × IsStopped self.old es }
-        requires order { self.old.machine.held.reading ≤ at }
+        requires order { self.old.machine.run_state.reading ≤ at }
         requires at { at < limit.MAX_INSTANT }
         requires start { begins (root_periods self.old.machine.object.tables) at ≡ true }
-        requires none { (n : ℕ) → self.old.machine.held.reading ≤ n → n < at → begins (root_periods self.old.machine.object.tables) n ≡ false }
-        ensures text { (es : List Told) → IsStopped self.old es → Puts (W.written sink.old) (W.written sink.new) (W.faults sink.old) (W.faults sink.new) (text_between self.old.machine.object es Values self.old.machine.held.reading (suc at)) result }
+        requires none { (n : ℕ) → self.old.machine.run_state.reading ≤ n → n < at → begins (root_periods self.old.machine.object.tables) n ≡ false }
+        ensures text { (es : List Told) → IsStopped self.old es → Puts (W.written sink.old) (W.written sink.new) (W.faults sink.old) (W.faults sink.new) (text_between self.old.machine.object es Values self.old.machine.run_state.reading (suc at)) result }
         ensures stopped { (es : List Told) → IsStopped self.old es → OnOk result (IsStopped self.new es) }
-        ensures reading { OnOk result (self.new.machine.held.reading ≡ suc at) }
-        ensures spent { OnErr result (self.new.machine.held.spent ≡ true) }
+        ensures reading { OnOk result (self.new.machine.run_state.reading ≡ suc at) }
+        ensures spent { OnErr result (self.new.machine.run_state.spent ≡ true) }
         ensures same { IsSameAudit self.old self.new }
     {
         self.pass(at + 1);
@@ -219,17 +219,17 @@ impl<'a> Auditor<'a> {
 
     // The first start of rounds from the last reading on.
     fn next_start(&self) -> Option<Time>
-        requires { self.now.machine.held.reading ≤ 1000000000 }
-        ensures { IsNextStart self.now.machine.object.tables self.now.machine.held.reading result }
+        requires { self.now.machine.run_state.reading ≤ 1000000000 }
+        ensures { IsNextStart self.now.machine.object.tables self.now.machine.run_state.reading result }
     {
         next_start(self.loaded.tables(), self.machine.reading())
     }
 
     // The first start of rounds from the last reading on, or `to` where none comes before.
     fn next_stop(&self, to: Time) -> Time
-        requires order { self.now.machine.held.reading ≤ to }
+        requires order { self.now.machine.run_state.reading ≤ to }
         requires at { to ≤ limit.MAX_INSTANT }
-        ensures low { self.now.machine.held.reading ≤ result }
+        ensures low { self.now.machine.run_state.reading ≤ result }
         ensures high { result ≤ to }
         ensures start { result < to → begins (root_periods self.now.machine.object.tables) result ≡ true }
         ensures none { AreNone self.now result }
@@ -245,14 +245,14 @@ impl<'a> Auditor<'a> {
     // Goes over all instants before `to` at which rounds begin.
     fn go<W: Sink>(&mut self, to: Time, sink: &mut W) -> Result<(), Failed>
         requires stopped { (es : List Told) × IsStopped self.old es }
-        requires order { self.old.machine.held.reading ≤ to }
+        requires order { self.old.machine.run_state.reading ≤ to }
         requires at { to ≤ limit.MAX_INSTANT }
         ensures text { (es : List Told) → IsStopped self.old es → IsGone self.old self.new es to (W.written sink.old) (W.written sink.new) (W.faults sink.old) (W.faults sink.new) result }
         ensures stopped { (es : List Told) → IsStopped self.old es → OnOk result (IsStopped self.new es) }
-        ensures low { OnOk result (self.old.machine.held.reading ≤ self.new.machine.held.reading) }
-        ensures high { OnOk result (self.new.machine.held.reading ≤ to) }
+        ensures low { OnOk result (self.old.machine.run_state.reading ≤ self.new.machine.run_state.reading) }
+        ensures high { OnOk result (self.new.machine.run_state.reading ≤ to) }
         ensures none { OnOk result (AreNone self.new to) }
-        ensures spent { OnErr result (self.new.machine.held.spent ≡ true) }
+        ensures spent { OnErr result (self.new.machine.run_state.spent ≡ true) }
         ensures same { IsSameAudit self.old self.new }
     {
         'starts: loop {
@@ -272,11 +272,11 @@ impl<'a> Auditor<'a> {
     /// goes over those at which rounds begin.
     pub fn advance<W: Sink>(&mut self, to: Time, sink: &mut W) -> Result<(), Failed>
         requires follows { (es : List Told) × AuditFollows self.old es }
-        requires order { self.old.machine.held.reading ≤ to }
+        requires order { self.old.machine.run_state.reading ≤ to }
         requires at { to ≤ limit.MAX_INSTANT }
-        ensures text { (es : List Told) → AuditFollows self.old es → Puts (W.written sink.old) (W.written sink.new) (W.faults sink.old) (W.faults sink.new) (text_between self.old.machine.object es Values self.old.machine.held.reading to) result }
+        ensures text { (es : List Told) → AuditFollows self.old es → Puts (W.written sink.old) (W.written sink.new) (W.faults sink.old) (W.faults sink.new) (text_between self.old.machine.object es Values self.old.machine.run_state.reading to) result }
         ensures follows { (es : List Told) → AuditFollows self.old es → OnOk result (AuditFollows self.new (es ++ event.At to ∷ [])) }
-        ensures spent { OnErr result (self.new.machine.held.spent ≡ true) }
+        ensures spent { OnErr result (self.new.machine.run_state.spent ≡ true) }
         ensures same { IsSameAudit self.old self.new }
     {
         self.stop();
@@ -292,11 +292,11 @@ impl<'a> Auditor<'a> {
     /// sink's count rose: then a prefix of the lines was written, and the auditor is spent.
     pub fn finish<W: Sink>(&mut self, to: Time, sink: &mut W) -> Result<(), Failed>
         requires follows { (es : List Told) × AuditFollows self.old es }
-        requires order { self.old.machine.held.reading ≤ to }
+        requires order { self.old.machine.run_state.reading ≤ to }
         requires at { to ≤ limit.MAX_INSTANT }
-        ensures text { (es : List Told) → AuditFollows self.old es → Puts (W.written sink.old) (W.written sink.new) (W.faults sink.old) (W.faults sink.new) (text_between self.old.machine.object es Values self.old.machine.held.reading (suc to)) result }
+        ensures text { (es : List Told) → AuditFollows self.old es → Puts (W.written sink.old) (W.written sink.new) (W.faults sink.old) (W.faults sink.new) (text_between self.old.machine.object es Values self.old.machine.run_state.reading (suc to)) result }
         ensures audited { (es : List Told) → AuditFollows self.old es → OnOk result (IsAudited self.new es to) }
-        ensures spent { OnErr result (self.new.machine.held.spent ≡ true) }
+        ensures spent { OnErr result (self.new.machine.run_state.spent ≡ true) }
         ensures same { IsSameAudit self.old self.new }
     {
         self.stop();
@@ -316,9 +316,9 @@ impl<'a> Auditor<'a> {
 
     /// The numbers of the log, or its first fault, once the run has ended.
     pub fn verdict(&self) -> Result<AuditTotals, LogFault>
-        requires audited { (es : List Told) × IsAudited self.now es self.now.machine.held.reading }
-        ensures legal { (es : List Told) → IsAudited self.now es self.now.machine.held.reading → IfOk result (λ n. (first_fault self.now.machine.object.tables es self.now.machine.held.reading self.now.log ≡ None) × (n.at ≡ self.now.machine.held.reading) × (n.jobs ≡ jobs_done (all_rounds self.now.machine.object.tables es (suc self.now.machine.held.reading)) self.now.log) × (n.slices ≡ length self.now.log)) }
-        ensures fault { (es : List Told) → IsAudited self.now es self.now.machine.held.reading → IfErr result (λ f. first_fault self.now.machine.object.tables es self.now.machine.held.reading self.now.log ≡ Some f) }
+        requires audited { (es : List Told) × IsAudited self.now es self.now.machine.run_state.reading }
+        ensures legal { (es : List Told) → IsAudited self.now es self.now.machine.run_state.reading → IfOk result (λ n. (first_fault self.now.machine.object.tables es self.now.machine.run_state.reading self.now.log ≡ None) × (n.at ≡ self.now.machine.run_state.reading) × (n.jobs ≡ jobs_done (all_rounds self.now.machine.object.tables es (suc self.now.machine.run_state.reading)) self.now.log) × (n.slices ≡ length self.now.log)) }
+        ensures fault { (es : List Told) → IsAudited self.now es self.now.machine.run_state.reading → IfErr result (λ f. first_fault self.now.machine.object.tables es self.now.machine.run_state.reading self.now.log ≡ Some f) }
     {
         self.ledger
             .verdict(self.log.len() as u64, self.machine.reading())

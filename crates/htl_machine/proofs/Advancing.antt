@@ -18,7 +18,7 @@ use Rattle.htl_refine.specs.Records.{took, IsTookWithin}
 use Rattle.htl_emach.specs.Shapes.{IsShaped}
 use Rattle.htl_machine.specs.Plans.{next_world}
 use Rattle.htl_machine.specs.RunLists.{turn_at}
-use Rattle.htl_machine.specs.Follows.{Held, reading_of, DeskFollows, IsLoaded, at_reading, shown_as, desk_taking, taken_as}
+use Rattle.htl_machine.specs.Follows.{RunState, reading_of, SMachineFollows, IsLoaded, at_reading, shown_as, s_machine_taking, taken_as}
 use Rattle.htl_console.specs.declared.shown.Shown.{Shown}
 use Rattle.htl_machine.specs.Texts.{instant_text, records_of}
 use Rattle.htl_machine.specs.Machines.{Counts, RunStands, Followed}
@@ -26,28 +26,28 @@ use Rattle.htl_machine.proofs.Events.{Alike, sense_at, sense_sense, took_at, too
 use Rattle.htl_machine.proofs.Following.{read_follows, sense_follows}
 use Rattle.htl_machine.proofs.Taking.{took_follows, instant_follows, alike}
 use Rattle.htl_machine.proofs.Writing.{before_stays}
-use Rattle.htl_machine.proofs.Retelling.{took_stays, took_records}
+use Rattle.htl_machine.proofs.TextStays.{took_stays, took_records}
 use Rattle.htl_machine.proofs.Counting.{totals_next, totals_same, records_alike}
 
 module _ (t : Tables) (code : ECode) (schedules : List (List SInstr)) (loaded : IsLoaded t schedules) (show : Shown) where
   -- one instant: the world goes on, the S machine stands before the next, the text of the instant is written
-  pub instant_stands : (es : List Event) (now : ℕ) (m : Held) (n : Counts) (written new : List ℕ) (r : Round) → RunStands t code schedules show es now m n written
-      → IsShaped t (next_world t es (turn_at t schedules es) now m.world) → DeskFollows (turn_at t schedules es) (hyper t) (suc now) r → new ≡ written ++ instant_text t code schedules es show now
-      → RunStands t code schedules show es (suc now) (record m { world = next_world t es (turn_at t schedules es) now m.world; desk = r })
+  pub instant_stands : (es : List Event) (now : ℕ) (m : RunState) (n : Counts) (written new : List ℕ) (r : Round) → RunStands t code schedules show es now m n written
+      → IsShaped t (next_world t es (turn_at t schedules es) now m.world) → SMachineFollows (turn_at t schedules es) (hyper t) (suc now) r → new ≡ written ++ instant_text t code schedules es show now
+      → RunStands t code schedules show es (suc now) (record m { world = next_world t es (turn_at t schedules es) now m.world; s_machine = r })
       (record {
         jobs = min (n.jobs + count_by (λ (l : Left). l.finished) (records_of t schedules es (hyper t) now)) (2 ^ 64 - 1);
         e = min (n.e + length (e_path t code es now)) (2 ^ 64 - 1);
         s = min (n.s + length (records_of t schedules es (hyper t) now)) (2 ^ 64 - 1);
       }) new
-  instant_stands es now m n written new r f shape desk text =
+  instant_stands es now m n written new r f shape s_machine text =
       record {
-        up_to = instant_follows t schedules loaded es f.up_to.within now m r f.up_to shape desk;
+        up_to = instant_follows t schedules loaded es f.up_to.within now m r f.up_to shape s_machine;
         totals = totals_next t code schedules es now n.jobs n.e n.s f.totals;
         text = text ∙ ap (λ z. z ++ instant_text t code schedules es show now) f.text;
       }
 
   -- a reading, once all instants before it are done
-  pub read_stands : (es : List Event) (to : ℕ) (m : Held) (n : Counts) (written : List ℕ) → m.spent ≡ false → RunStands t code schedules show es to m n written
+  pub read_stands : (es : List Event) (to : ℕ) (m : RunState) (n : Counts) (written : List ℕ) → m.spent ≡ false → RunStands t code schedules show es to m n written
       → Followed t code schedules show (es ++ V.At to ∷ []) (at_reading to m) n written
   read_stands es to m n written open_yet f =
       let fs = es ++ V.At to ∷ [] in
@@ -65,7 +65,7 @@ module _ (t : Tables) (code : ECode) (schedules : List (List SInstr)) (loaded : 
       }
 
   -- a sensor
-  pub sense_stands : (es : List Event) (d : ℕ) (y : ℤ) (m : Held) (n : Counts) (written : List ℕ) → d < length t.comms → IfSome (slice_get t.comms d) (λ x. FitsType x.ty y) → Followed t code schedules show es m n written
+  pub sense_stands : (es : List Event) (d : ℕ) (y : ℤ) (m : RunState) (n : Counts) (written : List ℕ) → d < length t.comms → IfSome (slice_get t.comms d) (λ x. FitsType x.ty y) → Followed t code schedules show es m n written
       → Followed t code schedules show (es ++ V.Sense d y ∷ []) (shown_as d y m) n written
   sense_stands es d y m n written known fits f =
       let fs = es ++ V.Sense d y ∷ [] in
@@ -86,8 +86,8 @@ module _ (t : Tables) (code : ECode) (schedules : List (List SInstr)) (loaded : 
       early c u h = grind (arith, nat_tests)
 
   -- a length
-  pub took_stands : (es : List Event) (i k : ℕ) (m : Held) (n : Counts) (written : List ℕ) → IsTookWithin t (V.Took i k) → i < length t.invs → length m.takes ≡ length t.invs
-      → ((c : List SInstr) → rounds.Stands m.desk c → rounds.Stands (desk_taking i k m.desk) c) → Followed t code schedules show es m n written
+  pub took_stands : (es : List Event) (i k : ℕ) (m : RunState) (n : Counts) (written : List ℕ) → IsTookWithin t (V.Took i k) → i < length t.invs → length m.takes ≡ length t.invs
+      → ((c : List SInstr) → rounds.Stands m.s_machine c → rounds.Stands (s_machine_taking i k m.s_machine) c) → Followed t code schedules show es m n written
       → Followed t code schedules show (es ++ V.Took i k ∷ []) (taken_as i k m) n written
   took_stands es i k m n written fits known long keeps f =
       let follows = took_follows t schedules loaded es f.stands.up_to.within i k m fits known long keeps f.follows in

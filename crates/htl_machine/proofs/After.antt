@@ -31,14 +31,14 @@ use Rattle.htl_machine.specs.declared.numbering.ListAt.{ListAt}
 use Rattle.htl_machine.specs.Beginning.{IsToBegin}
 use Rattle.htl_machine.specs.Calls.{Seen, IsUpTo, GoesBy, schedule_by}
 use Rattle.htl_machine.specs.Doing.{path_lines}
-use Rattle.htl_machine.specs.Follows.{IsLoaded, DeskAt, DeskFollows}
+use Rattle.htl_machine.specs.Follows.{IsLoaded, SMachineAt, SMachineFollows}
 use Rattle.htl_machine.specs.Instant.{IsReadyAt}
 use Rattle.htl_machine.specs.Leaving.{due_by}
 use Rattle.htl_machine.specs.Machines.{Counts}
 use Rattle.htl_machine.specs.Opening.{IsOpened, closing_text, first_records, beginning_text}
 use Rattle.htl_machine.specs.Plans.{with_records}
 use Rattle.htl_machine.specs.Programs.{schedules_of, lines_of}
-use Rattle.htl_machine.specs.Readiness.{desk_replay}
+use Rattle.htl_machine.specs.Readiness.{s_machine_replay}
 use Rattle.htl_machine.specs.Recording.{Records}
 use Rattle.htl_machine.specs.Running.{replay}
 use Rattle.htl_machine.specs.Sensors.{AreShown}
@@ -59,9 +59,9 @@ use Rattle.htl_machine.proofs.Meeting.{next_is, switch_values}
 use Rattle.htl_machine.proofs.LoadedLists.{loaded_code}
 use Rattle.htl_machine.proofs.Showing.{sensors_are}
 use Rattle.htl_walk.proofs.Work.{all_at}
-use Rattle.htl_machine.proofs.TellingLoaded.{loaded_lines}
+use Rattle.htl_machine.proofs.LoadedRecords.{loaded_lines}
 use Rattle.htl_machine.proofs.Ready.{node_known}
-use Rattle.htl_machine.proofs.NextStands.{IsScheduleOf, owed_before, owed_are, beginning, going, going_desk, going_on, list_over, begun_desk, begun_goes}
+use Rattle.htl_machine.proofs.NextStands.{IsScheduleOf, owed_before, owed_are, beginning, going, going_s_machine, going_on, list_over, begun_s_machine, begun_goes}
 use Rattle.htl_machine.proofs.ToBegin.{is_to_begin}
 use Rattle.htl_object.proofs.NodeCounts.{nodes_few}
 use Rattle.htl_machine.proofs.Wholly.{modes_read, counted, whole_instant}
@@ -92,7 +92,7 @@ short_at ss all k = elim (order k (length ss)) [
   | inr past ↦ subst (λ (is : List SInstr). length is ≤ 4294967295) (sym (get_or_past (instrs_of ss) k [] (let same : length (instrs_of ss) ≡ length ss = length-map ss (λ (s : Schedule). s.instrs) in omega (arith, past, same)))) (omega arith)
 ]
 
-module _ (m : Seen) (es : List Event) (now : ℕ) (accepted : IsAccepted m.object) (read : m.held.reading ≤ now) (u : IsUpTo m es now) where
+module _ (m : Seen) (es : List Event) (now : ℕ) (accepted : IsAccepted m.object) (read : m.run_state.reading ≤ now) (u : IsUpTo m es now) where
   abbrev t : Tables
   t = m.object.tables
 
@@ -110,19 +110,19 @@ module _ (m : Seen) (es : List Event) (now : ℕ) (accepted : IsAccepted m.objec
 
   -- after the first part
   module _ (steps : List SInstr) (r : IsReadyAt m es now steps) (values : List ℤ) (same : values ≡ values_before m.object.tables es now) (d1 : Round) (w3 : Content)
-      (a : IsOpened m.object.tables m.object.ecode es now steps m.held.shows values m.held.desk m.held.world d1 w3) where
-    recorded_is : a.w1 ≡ with_records t (turn_at t schedules es) now m.held.world
+      (a : IsOpened m.object.tables m.object.ecode es now steps m.run_state.shows values m.run_state.s_machine m.run_state.world d1 w3) where
+    recorded_is : a.w1 ≡ with_records t (turn_at t schedules es) now m.run_state.world
     recorded_is = r.recorded d1 a.w1 a.records
 
     sensed_is : w3 ≡ with_sensors t (sense t es) now a.w2
     sensed_is =
-        sensors_are t es now m.held.shows a.w2 w3 (λ c x at. let s : 0 < x.period = omega (arith, (all_at IsCommInRange t.comms loaded.range.comms c x at).period.some) in s)
-        (λ c less. u.kept.shows c now less (omega (arith, u.kept.reading, read))) (subst (λ z. AreShown t m.held.shows z now a.w2 w3) same a.sensors)
+        sensors_are t es now m.run_state.shows a.w2 w3 (λ c x at. let s : 0 < x.period = omega (arith, (all_at IsCommInRange t.comms loaded.range.comms c x at).period.some) in s)
+        (λ c less. u.kept.shows c now less (omega (arith, u.kept.reading, read))) (subst (λ z. AreShown t m.run_state.shows z now a.w2 w3) same a.sensors)
 
     -- the values that the switches ask for
     pub opened_values : w3.values ≡ (state m.object.tables es now).values
     opened_values =
-        switch_values t code schedules loaded (modes_read t code schedules loaded accepted.spelled.code m.show) es whole.stands.up_to.within now m.held a.w1 a.w2 w3 whole.stands.up_to recorded_is a.writes sensed_is
+        switch_values t code schedules loaded (modes_read t code schedules loaded accepted.spelled.code m.show) es whole.stands.up_to.within now m.run_state a.w1 a.w2 w3 whole.stands.up_to recorded_is a.writes sensed_is
 
     abbrev w4 : Content
     w4 = replay t code (phase_path t code es now 2) w3
@@ -135,14 +135,14 @@ module _ (m : Seen) (es : List Event) (now : ℕ) (accepted : IsAccepted m.objec
         ≡ (state m.object.tables es now).values
     closed_values =
         ap (λ (z : Content). z.values)
-        (next_is t code schedules loaded (modes_read t code schedules loaded accepted.spelled.code m.show) es whole.stands.up_to.within now m.held.world a.w1 a.w2 w3 w4 w5 recorded_is a.writes sensed_is refl refl)
-        ∙ (instant_values t schedules loaded es whole.stands.up_to.within now m.held whole.stands.up_to).0.values
+        (next_is t code schedules loaded (modes_read t code schedules loaded accepted.spelled.code m.show) es whole.stands.up_to.within now m.run_state.world a.w1 a.w2 w3 w4 w5 recorded_is a.writes sensed_is refl refl)
+        ∙ (instant_values t schedules loaded es whole.stands.up_to.within now m.run_state whole.stands.up_to).0.values
 
     -- what the calls of the instant said
     pub passed_of : (world : Content) (e1 : Standing)
         → world ≡ replay m.object.tables m.object.ecode (phase_path m.object.tables m.object.ecode es now 3) (replay m.object.tables m.object.ecode (phase_path m.object.tables m.object.ecode es now 2) w3)
         → Onward m.object.tables m.object.ecode es now 3 e1 (phase_path m.object.tables m.object.ecode es now 3) [] None → StandsSafely m.object.tables m.object.ecode e1 → IsShaped m.object.tables world
-        → Passed m.object.tables m.object.ecode (schedules_of m.object) es now m.held.world world e1
+        → Passed m.object.tables m.object.ecode (schedules_of m.object) es now m.run_state.world world e1
     passed_of world e1 is ends safe shaped =
         record {
           recorded = a.w1;
@@ -171,15 +171,15 @@ module _ (m : Seen) (es : List Event) (now : ℕ) (accepted : IsAccepted m.objec
       ∙ sym (loaded_lines t schedules es loaded whole.stands.up_to.within code m.show now)
 
   -- the machine after the instant, counts and all
-  pub next_up_to : (world : Content) (desk : Round) (e1 : Standing) (last : Option ListAt) (old new : List Left) (start n : Tally)
-      → Passed m.object.tables m.object.ecode (schedules_of m.object) es now m.held.world world e1
-      → DeskFollows (turn_at m.object.tables (schedules_of m.object) es) (hyper m.object.tables) (suc now) desk
+  pub next_up_to : (world : Content) (s_machine : Round) (e1 : Standing) (last : Option ListAt) (old new : List Left) (start n : Tally)
+      → Passed m.object.tables m.object.ecode (schedules_of m.object) es now m.run_state.world world e1
+      → SMachineFollows (turn_at m.object.tables (schedules_of m.object) es) (hyper m.object.tables) (suc now) s_machine
       → GoesBy (turn_at m.object.tables (schedules_of m.object) es) (hyper m.object.tables) (suc now) last
       → records_of m.object.tables (schedules_of m.object) es (hyper m.object.tables) now ≡ old ++ new
       → counts_of m ≡ record { jobs = start.jobs; e = start.e; s = start.s }
       → n ≡ counts_after old new (length (phase_path m.object.tables m.object.ecode es now 1)) (length (phase_path m.object.tables m.object.ecode es now 2)) (length (phase_path m.object.tables m.object.ecode es now 3)) start
-      → IsUpTo (record m { held = record m.held { world = world; desk = desk }; standing = e1; list = last; jobs = n.jobs; e = n.e; s = n.s }) es (suc now)
-  next_up_to world desk e1 last old new start n passed follows goes are was is =
+      → IsUpTo (record m { run_state = record m.run_state { world = world; s_machine = s_machine }; standing = e1; list = last; jobs = n.jobs; e = n.e; s = n.s }) es (suc now)
+  next_up_to world s_machine e1 last old new start n passed follows goes are was is =
       let totals = whole.stands.totals in
       let jobs_capped : start.jobs ≤ 2 ^ 64 - 1 = omega (arith, ap (λ (z : Counts). z.jobs) was, totals.jobs_are) in
       let e_capped : start.e ≤ 2 ^ 64 - 1 = omega (arith, ap (λ (z : Counts). z.e) was, totals.e_are) in
@@ -187,8 +187,8 @@ module _ (m : Seen) (es : List Event) (now : ℕ) (accepted : IsAccepted m.objec
       let counts : ◌≡◌ {A = Counts} (record { jobs = n.jobs; e = n.e; s = n.s }) (counted t code schedules es now (counts_of m)) =
       counts_are t schedules es now code old new start n are jobs_capped e_capped s_capped is ∙ ap (counted t code schedules es now) (sym was) in
       let written = listed_text_before t code schedules es m.show now ++ instant_text t code schedules es m.show now in
-      let next = whole_instant t code schedules loaded accepted.spelled.code m.show es now m.standing e1 m.held (counts_of m) (listed_text_before t code schedules es m.show now) written world desk whole passed follows refl in
-      let m1 : Seen = record m { held = record m.held { world = world; desk = desk }; standing = e1; list = last; jobs = n.jobs; e = n.e; s = n.s } in
+      let next = whole_instant t code schedules loaded accepted.spelled.code m.show es now m.standing e1 m.run_state (counts_of m) (listed_text_before t code schedules es m.show now) written world s_machine whole passed follows refl in
+      let m1 : Seen = record m { run_state = record m.run_state { world = world; s_machine = s_machine }; standing = e1; list = last; jobs = n.jobs; e = n.e; s = n.s } in
       record {
         kept =
             record {
@@ -200,7 +200,7 @@ module _ (m : Seen) (es : List Event) (now : ℕ) (accepted : IsAccepted m.objec
               takes = u.kept.takes;
               count = u.kept.count;
             };
-        before = before_of m1 es (suc now) written accepted (subst (λ (c : Counts). Whole t code schedules m.show es (suc now) e1 m1.held c written) (sym counts) next) goes;
+        before = before_of m1 es (suc now) written accepted (subst (λ (c : Counts). Whole t code schedules m.show es (suc now) e1 m1.run_state c written) (sym counts) next) goes;
       }
 
   -- ---- where no list begins
@@ -213,13 +213,13 @@ module _ (m : Seen) (es : List Event) (now : ℕ) (accepted : IsAccepted m.objec
       own (Some q) e zero g = by ∙ ap (schedule_by m.object idle) g ∙ none
       own (Some q) e (suc n) g = by ∙ ap (schedule_by m.object idle) g ∙ sym (loaded_code t schedules loaded es u.kept.within q e n)
 
-  pub desk_goes_on : (steps idle : List SInstr) → steps ≡ schedule_by m.object idle m.list → idle ≡ [] → IsReadyAt m es now steps → (d1 d2 : Round) (w1 : Content)
-      → some_round_begins m.object.tables now ≡ false → Records m.object.tables m.held.desk m.held.world d1 w1 steps now
-      → d2 ≡ desk_replay m.object.ecode (phase_path m.object.tables m.object.ecode es now 3) d1 → rounds.Stands d2 steps
-      → DeskFollows (turn_at m.object.tables (schedules_of m.object) es) (hyper m.object.tables) (suc now) d2
-  desk_goes_on steps idle by none r d1 d2 w1 b rec told st =
-      going_desk t code schedules loaded (modes_read t code schedules loaded accepted.spelled.code m.show) es u.kept.within (hyper t) refl now steps m.held.desk d1 d2 m.held.world w1 b
-      u.before.records.desk (schedule_own steps idle by none) r.stands rec told st
+  pub s_machine_goes_on : (steps idle : List SInstr) → steps ≡ schedule_by m.object idle m.list → idle ≡ [] → IsReadyAt m es now steps → (d1 d2 : Round) (w1 : Content)
+      → some_round_begins m.object.tables now ≡ false → Records m.object.tables m.run_state.s_machine m.run_state.world d1 w1 steps now
+      → d2 ≡ s_machine_replay m.object.ecode (phase_path m.object.tables m.object.ecode es now 3) d1 → rounds.Stands d2 steps
+      → SMachineFollows (turn_at m.object.tables (schedules_of m.object) es) (hyper m.object.tables) (suc now) d2
+  s_machine_goes_on steps idle by none r d1 d2 w1 b rec told st =
+      going_s_machine t code schedules loaded (modes_read t code schedules loaded accepted.spelled.code m.show) es u.kept.within (hyper t) refl now steps m.run_state.s_machine d1 d2 m.run_state.world w1 b
+      u.before.records.s_machine (schedule_own steps idle by none) r.stands rec told st
 
   pub list_goes_on : some_round_begins m.object.tables now ≡ false → GoesBy (turn_at m.object.tables (schedules_of m.object) es) (hyper m.object.tables) (suc now) m.list
   list_goes_on b = going_on t code schedules loaded (modes_read t code schedules loaded accepted.spelled.code m.show) es u.kept.within (hyper t) refl now m.list b u.before.records.goes
@@ -227,37 +227,37 @@ module _ (m : Seen) (es : List Event) (now : ℕ) (accepted : IsAccepted m.objec
   -- ---- where a list begins
 
   pub over : (steps idle : List SInstr) → steps ≡ schedule_by m.object idle m.list → idle ≡ [] → IsReadyAt m es now steps → (d1 : Round) (w1 : Content)
-      → some_round_begins m.object.tables now ≡ true → Records m.object.tables m.held.desk m.held.world d1 w1 steps now → (d1.running ≡ false) × IsAtEnd m.object.tables (schedules_of m.object) es now d1
+      → some_round_begins m.object.tables now ≡ true → Records m.object.tables m.run_state.s_machine m.run_state.world d1 w1 steps now → (d1.running ≡ false) × IsAtEnd m.object.tables (schedules_of m.object) es now d1
   over steps idle by none r d1 w1 b rec =
-      list_over t code schedules loaded (modes_read t code schedules loaded accepted.spelled.code m.show) es u.kept.within (hyper t) refl now steps m.held.desk d1 m.held.world w1 b
-      u.before.records.desk (schedule_own steps idle by none) r.stands rec
+      list_over t code schedules loaded (modes_read t code schedules loaded accepted.spelled.code m.show) es u.kept.within (hyper t) refl now steps m.run_state.s_machine d1 m.run_state.world w1 b
+      u.before.records.s_machine (schedule_own steps idle by none) r.stands rec
 
-  takes_are : (i v : ℕ) → now ≤ v → get_or m.held.takes i 0 ≡ took t es i v
+  takes_are : (i v : ℕ) → now ≤ v → get_or m.run_state.takes i 0 ≡ took t es i v
   takes_are i v later = elim (order i (length t.invs)) [
     | inl less ↦ sym (u.kept.takes i v less (omega (arith, u.kept.reading, read, later)))
     | inr past ↦ (let none : inv_worst t i ≡ 0 = ap (λ (o : Option Inv). elim o as (λ _. ℕ) [ Some x ↦ task_worst t x.task | None ↦ 0 ]) (slice_get_past t.invs i past) in
-        get_or_past m.held.takes i 0 (omega (arith, past, u.kept.count)) ∙ sym (ap (λ x. last_took i v 0 x es) none ∙ never_took t i v 0 es none u.kept.within))
+        get_or_past m.run_state.takes i 0 (omega (arith, past, u.kept.count)) ∙ sym (ap (λ x. last_took i v 0 x es) none ∙ never_took t i v 0 es none u.kept.within))
   ]
 
   -- the list that begins, behind the one that stood
-  pub to_begin : (d1 : Round) → some_round_begins m.object.tables now ≡ true → IsAtEnd m.object.tables (schedules_of m.object) es now d1 → IsToBegin m.object.tables m.object.ecode (schedules_of m.object) es now m.held.takes m.list d1
+  pub to_begin : (d1 : Round) → some_round_begins m.object.tables now ≡ true → IsAtEnd m.object.tables (schedules_of m.object) es now d1 → IsToBegin m.object.tables m.object.ecode (schedules_of m.object) es now m.run_state.takes m.list d1
   to_begin d1 b ends =
       let reads = modes_read t code schedules loaded accepted.spelled.code m.show in
       let h = beginning t code schedules loaded reads es u.kept.within now b in
       let ranges = accepted.spelled.formed.ranges in
       let many : length schedules ≡ length m.object.schedules = length-map m.object.schedules (λ (s : Schedule). s.instrs) in
       let node : (turn_at t schedules es now).node < length m.object.schedules = node_known m.object es now h.0 accepted u.kept.within h.1 in
-      is_to_begin t code schedules loaded reads es u.kept.within ranges.frames h.0 now h.1 h.2 m.held.takes takes_are d1 ends m.list (subst (λ o. GoesBy (turn_at t schedules es) o now m.list) h.1 u.before.records.goes)
+      is_to_begin t code schedules loaded reads es u.kept.within ranges.frames h.0 now h.1 h.2 m.run_state.takes takes_are d1 ends m.list (subst (λ o. GoesBy (turn_at t schedules es) o now m.list) h.1 u.before.records.goes)
       (omega (arith, node, many)) (omega (arith, many, ranges.schedules, nodes_few t ranges.tables ranges.frames))
       (subst (λ (is : List SInstr). length is ≤ 4294967295) (sym (loaded_code t schedules loaded es u.kept.within h.0 h.1 now)) (short_at m.object.schedules ranges.short (turn_at t schedules es now).node))
 
-  pub desk_begins_so : (d2 : Round) → some_round_begins m.object.tables now ≡ true
-      → (let v = turn_at m.object.tables (schedules_of m.object) es now in DeskAt v.plan v.frame (due_by v.plan v.frame now) (suc now - v.frame) d2)
-      → DeskFollows (turn_at m.object.tables (schedules_of m.object) es) (hyper m.object.tables) (suc now) d2
-  desk_begins_so d2 b at =
+  pub s_machine_begins_so : (d2 : Round) → some_round_begins m.object.tables now ≡ true
+      → (let v = turn_at m.object.tables (schedules_of m.object) es now in SMachineAt v.plan v.frame (due_by v.plan v.frame now) (suc now - v.frame) d2)
+      → SMachineFollows (turn_at m.object.tables (schedules_of m.object) es) (hyper m.object.tables) (suc now) d2
+  s_machine_begins_so d2 b at =
       let reads = modes_read t code schedules loaded accepted.spelled.code m.show in
       let h = beginning t code schedules loaded reads es u.kept.within now b in
-      begun_desk t code schedules loaded reads es u.kept.within now d2 h.0 h.1 at
+      begun_s_machine t code schedules loaded reads es u.kept.within now d2 h.0 h.1 at
 
   pub list_begins : (list : Option ListAt) → some_round_begins m.object.tables now ≡ true → list ≡ Some (turn_list (turn_at m.object.tables (schedules_of m.object) es now))
       → GoesBy (turn_at m.object.tables (schedules_of m.object) es) (hyper m.object.tables) (suc now) list
@@ -271,7 +271,7 @@ module _ (m : Seen) (es : List Event) (now : ℕ) (accepted : IsAccepted m.objec
   owed : (steps idle : List SInstr) → steps ≡ schedule_by m.object idle m.list → idle ≡ [] → (r : IsReadyAt m es now steps)
       → owed_before (turn_at t schedules es) (hyper t) now ≡ some_records r.plan r.start r.place (due_by r.plan r.start now - r.place)
   owed steps idle by none r =
-      sym (owed_are (turn_at t schedules es) (hyper t) now steps m.held.desk u.before.records.desk (schedule_own steps idle by none) r.plan r.start r.place r.offset r.same r.was)
+      sym (owed_are (turn_at t schedules es) (hyper t) now steps m.run_state.s_machine u.before.records.s_machine (schedule_own steps idle by none) r.plan r.start r.place r.offset r.same r.was)
 
   pub records_go_on : (steps idle : List SInstr) → steps ≡ schedule_by m.object idle m.list → idle ≡ [] → (r : IsReadyAt m es now steps) → some_round_begins m.object.tables now ≡ false
       → records_of m.object.tables (schedules_of m.object) es (hyper m.object.tables) now ≡ some_records r.plan r.start r.place (due_by r.plan r.start now - r.place) ++ []

@@ -9,7 +9,7 @@ use Rattle.htl_walk.specs.Walk.{Point, Left, last_point}
 use Rattle.htl_smach.specs.Rounds.{Round, no_round}
 use Rattle.htl_emach.specs.Contents.{Content}
 use Rattle.htl_machine.specs.Plans.{with_records}
-use Rattle.htl_machine.specs.Follows.{DeskAt}
+use Rattle.htl_machine.specs.Follows.{SMachineAt}
 use Rattle.htl_machine.specs.ListTurns.{left_before}
 use Rattle.htl_machine.specs.Completing.{complete_at, complete_by, run_records}
 use Rattle.htl_machine.specs.RunLists.{no_turn, turn_by, turn_at}
@@ -30,7 +30,7 @@ nothing [] e = refl
 nothing (x ∷ xs) e = absurd (omega (arith, e))
 
 -- the S machine that stands in no list
-pub stands_nowhere : (d : ℕ) (r : Round) → DeskAt no_list 0 0 d r → r ≡ no_round
+pub stands_nowhere : (d : ℕ) (r : Round) → SMachineAt no_list 0 0 d r → r ≡ no_round
 stands_nowhere d r at =
     let make : Bool → ℕ → List Job → List ℕ → List Bool → ℕ → Point → Point → Round =
     λ running start jobs lengths released place first point. record { running = running; start = start; jobs = jobs; lengths = lengths; released = released; place = place; first = first; point = point } in

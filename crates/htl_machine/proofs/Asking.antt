@@ -9,7 +9,7 @@ use Rattle.htl_emach.specs.Contents.{Content}
 use Rattle.htl_emach.specs.Following.{phase_path}
 use Rattle.htl_object.specs.declared.object.Object.{Object}
 use Rattle.htl_smach.specs.Rounds.{Round}
-use Rattle.htl_machine.specs.Follows.{DeskAt}
+use Rattle.htl_machine.specs.Follows.{SMachineAt}
 use Rattle.htl_machine.specs.Leaving.{due_by}
 use Rattle.htl_machine.specs.Programs.{schedules_of}
 use Rattle.htl_machine.specs.RunLists.{turn_at}
@@ -50,7 +50,7 @@ values_were : (t : Tables) (es : List Event) (at : ℕ) → 0 < at → values_be
 values_were t es zero h = absurd (omega (arith, h))
 values_were t es (suc n) h = refl
 
-pub noted_of : (m : Seen) (es : List Event) (at : ℕ) (t : Tables) (values : List ℤ) (modes : List (Option ℕ)) → IsUpTo m es at → t ≡ m.object.tables → values ≡ m.held.world.values → modes ≡ m.standing.calendar.modes
+pub noted_of : (m : Seen) (es : List Event) (at : ℕ) (t : Tables) (values : List ℤ) (modes : List (Option ℕ)) → IsUpTo m es at → t ≡ m.object.tables → values ≡ m.run_state.world.values → modes ≡ m.standing.calendar.modes
     → IsNoted t es at values modes
 noted_of m es at t values modes u same noted are =
     subst (λ z. IsNoted z es at values modes) (sym same)
@@ -83,11 +83,11 @@ begins_at o es at t code takes kept last r same same_code are h =
 
 -- the list that has begun
 pub begun_at : (o : Object) (es : List Event) (at : ℕ) (t : Tables) (ss : List Schedule) (d : Round) → t ≡ o.tables → ss ≡ o.schedules
-    → (let u = turn_at t (instrs_of ss) es at in DeskAt u.plan u.frame (due_by u.plan u.frame at) (suc at - u.frame) d)
-    → (let u = turn_at o.tables (schedules_of o) es at in DeskAt u.plan u.frame (due_by u.plan u.frame at) (suc at - u.frame) d)
+    → (let u = turn_at t (instrs_of ss) es at in SMachineAt u.plan u.frame (due_by u.plan u.frame at) (suc at - u.frame) d)
+    → (let u = turn_at o.tables (schedules_of o) es at in SMachineAt u.plan u.frame (due_by u.plan u.frame at) (suc at - u.frame) d)
 begun_at o es at t ss d same same_schedules h =
-    subst (λ z. let u = turn_at o.tables (instrs_of z) es at in DeskAt u.plan u.frame (due_by u.plan u.frame at) (suc at - u.frame) d) same_schedules
-    (subst (λ z. let u = turn_at z (instrs_of ss) es at in DeskAt u.plan u.frame (due_by u.plan u.frame at) (suc at - u.frame) d) same h)
+    subst (λ z. let u = turn_at o.tables (instrs_of z) es at in SMachineAt u.plan u.frame (due_by u.plan u.frame at) (suc at - u.frame) d) same_schedules
+    (subst (λ z. let u = turn_at z (instrs_of ss) es at in SMachineAt u.plan u.frame (due_by u.plan u.frame at) (suc at - u.frame) d) same h)
 
 pub stood_at : (o : Object) (es : List Event) (at : ℕ) (t : Tables) (ss : List Schedule) (list : Option ListAt) → t ≡ o.tables → ss ≡ o.schedules → list ≡ Some (turn_list (turn_at t (instrs_of ss) es at))
     → list ≡ Some (turn_list (turn_at o.tables (schedules_of o) es at))

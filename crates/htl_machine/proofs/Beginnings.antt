@@ -29,13 +29,13 @@ use Rattle.htl_machine.specs.Beginning.{CanFollow, IsToBegin}
 use Rattle.htl_machine.specs.Completing.{complete_at, complete_by, run_records}
 use Rattle.htl_machine.specs.Counts.{with_records}
 use Rattle.htl_machine.specs.Doing.{path_lines}
-use Rattle.htl_machine.specs.Follows.{DeskAt}
+use Rattle.htl_machine.specs.Follows.{SMachineAt}
 use Rattle.htl_machine.specs.Leaving.{due_by}
 use Rattle.htl_machine.specs.ListBegun.{list_begun}
 use Rattle.htl_machine.specs.ListTurns.{Turn}
 use Rattle.htl_machine.specs.Opening.{reading_text, closing_text, first_records, beginning_text}
 use Rattle.htl_machine.specs.Printing.{Prints, Counted}
-use Rattle.htl_machine.specs.Readiness.{desk_replay}
+use Rattle.htl_machine.specs.Readiness.{s_machine_replay}
 use Rattle.htl_machine.specs.Recording.{Records}
 use Rattle.htl_machine.specs.RunLists.{turn_at}
 use Rattle.htl_machine.specs.StandingList.{instrs_by, node_by, turn_list, next_at}
@@ -55,7 +55,7 @@ pub record HasBegun (t : Tables) (lists : List (List SInstr)) (es : List Event) 
   pub same : (turn_at t lists es at).plan.schedule ≡ steps
   pub jobs : first.jobs ≡ (turn_at t lists es at).plan.jobs
   pub past : (turn_at t lists es at).frame + (turn_at t lists es at).plan.first.time ≡ at
-  pub told_at : DeskAt (turn_at t lists es at).plan (turn_at t lists es at).frame 0 (suc at - (turn_at t lists es at).frame) told
+  pub told_at : SMachineAt (turn_at t lists es at).plan (turn_at t lists es at).frame 0 (suc at - (turn_at t lists es at).frame) told
 
 module _ (t : Tables) (code : ECode) (ss : List Schedule) (es : List Event) (at : ℕ) (takes : List ℕ) (last : Option ListAt) (r : Round) (modes : List (Option ℕ)) (ms : modes ≡ modes_at t es at)
     (h : IsToBegin t code (instrs_of ss) es at takes last r) where
@@ -73,26 +73,26 @@ module _ (t : Tables) (code : ECode) (ss : List Schedule) (es : List Event) (at 
     pub node_there : IfSome list (λ l. l.node < length ss)
     node_there = subst (λ (p : Option ListAt). IfSome p (λ l. l.node < length ss)) (sym list_there) (let same = length-map ss (λ (s : Schedule). s.instrs) in omega (arith, h.known, same))
 
-    pub has_begun : (idle steps : List SInstr) (first told : Round) → steps ≡ instrs_by ss idle list → first ≡ list_begun t modes takes at r → told ≡ desk_replay code (phase_path t code es at 3) first
+    pub has_begun : (idle steps : List SInstr) (first told : Round) → steps ≡ instrs_by ss idle list → first ≡ list_begun t modes takes at r → told ≡ s_machine_replay code (phase_path t code es at 3) first
         → ((s : List SInstr) → Stands first s → Stands told s) → HasBegun t (instrs_of ss) es at list steps first told
     has_begun idle steps first told by round_begun after keeps =
         let own : first ≡ list_begun t (modes_at t es at) takes at r = round_begun ∙ ap (λ z. list_begun t z takes at r) ms in
         let stands : Stands told u.plan.schedule = keeps u.plan.schedule (subst (λ d. Stands d u.plan.schedule) (sym own) h.begins.stands) in
-        let is_told : told ≡ desk_replay code (phase_path t code es at 3) (list_begun t (modes_at t es at) takes at r) = after ∙ ap (desk_replay code (phase_path t code es at 3)) own in
+        let is_told : told ≡ s_machine_replay code (phase_path t code es at 3) (list_begun t (modes_at t es at) takes at r) = after ∙ ap (s_machine_replay code (phase_path t code es at 3)) own in
         record {
           list_is = list_there;
           same = h.code_is ∙ sym (by ∙ ap (instrs_by ss idle) list_there);
           jobs = ap (λ (d : Round). d.jobs) own ∙ h.begins.jobs;
           past = h.time;
           told_at =
-              subst (DeskAt u.plan u.frame 0 (suc at - u.frame)) (sym is_told)
+              subst (SMachineAt u.plan u.frame 0 (suc at - u.frame)) (sym is_told)
               (h.told (subst (λ d. Stands d u.plan.schedule) is_told stands));
         }
 
 -- the same, of the calendar that the switches leave and of what the machines then say
 pub has_begun_so : (t : Tables) (code : ECode) (ss : List Schedule) (es : List Event) (at : ℕ) (takes : List ℕ) (last : Option ListAt) (r : Round) (c : Calendar) → AreInRange t → Between t code es at 2 c (length t.modules)
     → IsToBegin t code (instrs_of ss) es at takes last r → (list : Option ListAt) → list ≡ Some (next_at t c.modes at last) → (idle steps : List SInstr) (switched first told : Round) → switched ≡ r
-    → first ≡ list_begun t c.modes takes at switched → told ≡ desk_replay code (phase_path t code es at 3) first → steps ≡ instrs_by ss idle list → ((s : List SInstr) → Stands first s → Stands told s)
+    → first ≡ list_begun t c.modes takes at switched → told ≡ s_machine_replay code (phase_path t code es at 3) first → steps ≡ instrs_by ss idle list → ((s : List SInstr) → Stands first s → Stands told s)
     → HasBegun t (instrs_of ss) es at list steps first told
 has_begun_so t code ss es at takes last r c range between h list is idle steps switched first told same begins after by keeps =
     has_begun t code ss es at takes last r c.modes (modes_are t code es at c range between) h list is idle steps first told by (begins ∙ ap (list_begun t c.modes takes at) same) after keeps
@@ -157,7 +157,7 @@ module _ (t : Tables) (lists : List (List SInstr)) (es : List Event) (at : ℕ) 
   v = turn_at t lists es at
 
   pub first_done : (n : Round) (w x : Content) → Records t told w n x steps at
-      → DeskAt (turn_at t lists es at).plan (turn_at t lists es at).frame (due_by (turn_at t lists es at).plan (turn_at t lists es at).frame at) (suc at - (turn_at t lists es at).frame) n × (x ≡ w)
+      → SMachineAt (turn_at t lists es at).plan (turn_at t lists es at).frame (due_by (turn_at t lists es at).plan (turn_at t lists es at).frame at) (suc at - (turn_at t lists es at).frame) n × (x ≡ w)
   first_done n w x records =
       let all = records v.plan v.frame 0 (suc at - v.frame) h.same (omega (arith, h.past)) (omega arith) h.told_at in
       let few : 0 + (due_by v.plan v.frame at - 0) ≤ count_left_before (suc v.plan.first.time) (list_walk v.plan) =

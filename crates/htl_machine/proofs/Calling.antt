@@ -27,7 +27,7 @@ use Rattle.htl_object.specs.Accepted.{IsAccepted}
 use Rattle.htl_console.specs.declared.shown.Shown.{Shown}
 use Rattle.htl_machine.specs.Calls.{Seen, IsKept, IsBefore, IsUpTo, Follows, GoesBy, IsSensorValue, IsLength, IsFinished, first_seen}
 use Rattle.htl_machine.specs.Turns.{position_from}
-use Rattle.htl_machine.specs.Follows.{reading_of, at_reading, shown_as, taken_as, desk_taking, DeskFollows, IsLoaded}
+use Rattle.htl_machine.specs.Follows.{reading_of, at_reading, shown_as, taken_as, s_machine_taking, SMachineFollows, IsLoaded}
 use Rattle.htl_machine.specs.Machines.{Counts}
 use Rattle.htl_machine.specs.Programs.{schedules_of}
 use Rattle.htl_machine.specs.Texts.{listed_text_before}
@@ -44,9 +44,9 @@ use Rattle.htl_machine.proofs.Counting.{totals_start}
 use Rattle.htl_machine.proofs.Events.{Alike, sense_at, sense_took, sense_sense}
 use Rattle.htl_refine.proofs.RecordOrder.{not_some}
 use Rattle.htl_walk.proofs.Finishes.{some_same}
-use Rattle.htl_machine.proofs.Casting.{position_some}
+use Rattle.htl_machine.proofs.JobWindows.{position_some}
 use Rattle.htl_machine.proofs.Taking.{new_follows}
-use Rattle.htl_machine.proofs.TellingLoaded.{loaded_jobs, loaded_s, loaded_e}
+use Rattle.htl_machine.proofs.LoadedRecords.{loaded_jobs, loaded_s, loaded_e}
 use Rattle.htl_machine.proofs.Wholly.{whole_new, whole_reading, whole_sense, whole_took}
 
 abbrev pub counts_of : Seen → Counts
@@ -55,10 +55,10 @@ counts_of m = record { jobs = m.jobs; e = m.e; s = m.s }
 -- the whole machine before an instant, with the text of the instants before it
 abbrev pub IsWhole : Seen → List Event → ℕ → Type 0
 IsWhole m es now =
-    Whole m.object.tables m.object.ecode (schedules_of m.object) m.show es now m.standing m.held (counts_of m)
+    Whole m.object.tables m.object.ecode (schedules_of m.object) m.show es now m.standing m.run_state (counts_of m)
     (listed_text_before m.object.tables m.object.ecode (schedules_of m.object) es m.show now)
 
-pub whole_of : (m : Seen) (es : List Event) (now : ℕ) → IsAccepted m.object → IsKept m.object.tables es m.held → reading_of 0 es ≤ now → IsBefore m es now → IsWhole m es now
+pub whole_of : (m : Seen) (es : List Event) (now : ℕ) → IsAccepted m.object → IsKept m.object.tables es m.run_state → reading_of 0 es ≤ now → IsBefore m es now → IsWhole m es now
 whole_of m es now accepted kept later b =
     let loaded = accepted_is_loaded m.object accepted in
     record {
@@ -75,7 +75,7 @@ whole_of m es now accepted kept later b =
                   takes = kept.takes;
                   values = b.values.values;
                   shape = b.values.shaped;
-                  desk = b.records.desk;
+                  s_machine = b.records.s_machine;
                 };
             totals =
                 record {
@@ -88,7 +88,7 @@ whole_of m es now accepted kept later b =
     }
 
 pub before_of : (m : Seen) (es : List Event) (now : ℕ) (written : List ℕ) → IsAccepted m.object
-    → Whole m.object.tables m.object.ecode (schedules_of m.object) m.show es now m.standing m.held (counts_of m) written
+    → Whole m.object.tables m.object.ecode (schedules_of m.object) m.show es now m.standing m.run_state (counts_of m) written
     → GoesBy (turn_at m.object.tables (schedules_of m.object) es) (hyper m.object.tables) now m.list → IsBefore m es now
 before_of m es now written accepted w goes =
     let loaded = accepted_is_loaded m.object accepted in
@@ -104,7 +104,7 @@ before_of m es now written accepted w goes =
           };
       records =
           record {
-            desk = w.stands.up_to.desk;
+            s_machine = w.stands.up_to.s_machine;
             goes = goes;
             jobs_are = w.stands.totals.jobs_are ∙ sym (loaded_jobs m.object.tables (schedules_of m.object) es loaded within now);
             s_are = w.stands.totals.s_are ∙ sym (loaded_s m.object.tables (schedules_of m.object) es loaded within now);
@@ -112,15 +112,15 @@ before_of m es now written accepted w goes =
     }
 
 followed_of : (m : Seen) (es : List Event) → IsAccepted m.object → Follows m es
-    → WholeFollowed m.object.tables m.object.ecode (schedules_of m.object) m.show es m.standing m.held (counts_of m)
-    (listed_text_before m.object.tables m.object.ecode (schedules_of m.object) es m.show m.held.reading)
+    → WholeFollowed m.object.tables m.object.ecode (schedules_of m.object) m.show es m.standing m.run_state (counts_of m)
+    (listed_text_before m.object.tables m.object.ecode (schedules_of m.object) es m.show m.run_state.reading)
 followed_of m es accepted f =
-    let w = whole_of m es m.held.reading accepted f.kept (omega (arith, f.kept.reading)) f.before in
+    let w = whole_of m es m.run_state.reading accepted f.kept (omega (arith, f.kept.reading)) f.before in
     record { follows = record { fresh = f.kept.fresh; reading = f.kept.reading; up_to = w.stands.up_to }; whole = w }
 
 follows_of : (m : Seen) (es : List Event) (written : List ℕ) → IsAccepted m.object
-    → WholeFollowed m.object.tables m.object.ecode (schedules_of m.object) m.show es m.standing m.held (counts_of m) written
-    → GoesBy (turn_at m.object.tables (schedules_of m.object) es) (hyper m.object.tables) m.held.reading m.list → length m.held.takes ≡ length m.object.tables.invs → Follows m es
+    → WholeFollowed m.object.tables m.object.ecode (schedules_of m.object) m.show es m.standing m.run_state (counts_of m) written
+    → GoesBy (turn_at m.object.tables (schedules_of m.object) es) (hyper m.object.tables) m.run_state.reading m.list → length m.run_state.takes ≡ length m.object.tables.invs → Follows m es
 follows_of m es written accepted w goes count =
     record {
       kept =
@@ -133,7 +133,7 @@ follows_of m es written accepted w goes count =
             takes = w.follows.up_to.takes;
             count = count;
           };
-      before = before_of m es m.held.reading written accepted w.whole goes;
+      before = before_of m es m.run_state.reading written accepted w.whole goes;
     }
 
 -- ---- the list by which the machine goes
@@ -155,15 +155,15 @@ goes_alike t schedules loaded es fs within (Some p) (suc n) last a g = g ∙ ap 
 -- ---- calls
 
 pub sense_follows : (m : Seen) (es : List Event) (c : ℕ) (x : ℤ) → IsAccepted m.object → IsSensorValue m.object.tables c x → Follows m es
-    → Follows (record m { held = shown_as c x m.held }) (es ++ V.Sense c x ∷ [])
+    → Follows (record m { run_state = shown_as c x m.run_state }) (es ++ V.Sense c x ∷ [])
 sense_follows m es c x accepted sensor f =
     let t = m.object.tables in
     let g =
-    whole_sense t m.object.ecode (schedules_of m.object) (accepted_is_loaded m.object accepted) accepted.spelled.code m.show es c x m.standing m.held (counts_of m)
-    (listed_text_before t m.object.ecode (schedules_of m.object) es m.show m.held.reading) (slice_get_within t.comms c sensor.comm sensor.known)
+    whole_sense t m.object.ecode (schedules_of m.object) (accepted_is_loaded m.object accepted) accepted.spelled.code m.show es c x m.standing m.run_state (counts_of m)
+    (listed_text_before t m.object.ecode (schedules_of m.object) es m.show m.run_state.reading) (slice_get_within t.comms c sensor.comm sensor.known)
     (subst (λ (o : Option Comm). IfSome o (λ y. FitsType y.ty x)) (sym sensor.known) sensor.fits) (followed_of m es accepted f) in
-    follows_of (record m { held = shown_as c x m.held }) (es ++ V.Sense c x ∷ []) _ accepted g
-    (goes_alike t (schedules_of m.object) (accepted_is_loaded m.object accepted) es (es ++ V.Sense c x ∷ []) f.kept.within (hyper t) m.held.reading m.list
+    follows_of (record m { run_state = shown_as c x m.run_state }) (es ++ V.Sense c x ∷ []) _ accepted g
+    (goes_alike t (schedules_of m.object) (accepted_is_loaded m.object accepted) es (es ++ V.Sense c x ∷ []) f.kept.within (hyper t) m.run_state.reading m.list
     (λ d u h. sym (sense_sense t es c d u x ∙ ap (λ b. cond b x (sense t es d u)) (early d u (omega (arith, f.kept.reading, h))))) f.before.records.goes)
     f.kept.count
   where
@@ -172,29 +172,29 @@ sense_follows m es c x accepted sensor f =
 
 -- the worst case of the job at an invocation's position is the invocation's
 pub position_worst : (m : Seen) (es : List Event) (i n p : ℕ) → IsAccepted m.object → IsLength m.object.tables i n → Follows m es
-    → position_from 0 m.held.desk.jobs i ≡ Some p → n ≤ (job_at m.held.desk.jobs p).worst
+    → position_from 0 m.run_state.s_machine.jobs i ≡ Some p → n ≤ (job_at m.run_state.s_machine.jobs p).worst
 position_worst m es i n p accepted length f found =
-    by (hyper t) refl m.held.reading f.before.records.desk
+    by (hyper t) refl m.run_state.reading f.before.records.s_machine
   where
     t : Tables
     t = m.object.tables
 
-    in_list : (u : Turn) → m.held.desk.jobs ≡ u.plan.jobs → ((q : ℕ) (j : Job) → slice_get u.plan.jobs q ≡ Some j → j.present ≡ true → (x : Inv) × (slice_get t.invs j.inv ≡ Some x) × (is_concrete t x ≡ true) × (j.worst ≡ task_worst t x.task))
-        → n ≤ (job_at m.held.desk.jobs p).worst
+    in_list : (u : Turn) → m.run_state.s_machine.jobs ≡ u.plan.jobs → ((q : ℕ) (j : Job) → slice_get u.plan.jobs q ≡ Some j → j.present ≡ true → (x : Inv) × (slice_get t.invs j.inv ≡ Some x) × (is_concrete t x ≡ true) × (j.worst ≡ task_worst t x.task))
+        → n ≤ (job_at m.run_state.s_machine.jobs p).worst
     in_list u same of =
-        let h = position_some 0 m.held.desk.jobs i p found in
+        let h = position_some 0 m.run_state.s_machine.jobs i p found in
         let at : slice_get u.plan.jobs h.0 ≡ Some h.2 = ap (λ (js : List Job). slice_get js h.0) (sym same) ∙ h.3 in
         let st = of h.0 h.2 at h.4 in
         let inv_is : st.0 ≡ length.inv = some_same _ _ (sym st.1 ∙ ap (λ z. slice_get t.invs z) h.5 ∙ length.known) in
-        let here : job_at m.held.desk.jobs p ≡ h.2 =
-        ap (λ z. job_at m.held.desk.jobs z) (let z : p ≡ h.0 = omega (arith, h.1) in z) ∙ ap (λ (o : Option Job). elim o [ Some j ↦ j | None ↦ absent_job ]) h.3 in
-        let worst : (job_at m.held.desk.jobs p).worst ≡ task_worst t length.inv.task = ap (λ (z : Job). z.worst) here ∙ st.3 ∙ ap (λ (z : Inv). task_worst t z.task) inv_is in
+        let here : job_at m.run_state.s_machine.jobs p ≡ h.2 =
+        ap (λ z. job_at m.run_state.s_machine.jobs z) (let z : p ≡ h.0 = omega (arith, h.1) in z) ∙ ap (λ (o : Option Job). elim o [ Some j ↦ j | None ↦ absent_job ]) h.3 in
+        let worst : (job_at m.run_state.s_machine.jobs p).worst ≡ task_worst t length.inv.task = ap (λ (z : Job). z.worst) here ∙ st.3 ∙ ap (λ (z : Inv). task_worst t z.task) inv_is in
         omega (arith, worst, length.worst)
 
-    no_job : m.held.desk ≡ rounds.no_round → n ≤ (job_at m.held.desk.jobs p).worst
+    no_job : m.run_state.s_machine ≡ rounds.no_round → n ≤ (job_at m.run_state.s_machine.jobs p).worst
     no_job d = not_some p (ap (λ (r : rounds.Round). position_from 0 r.jobs i) (sym d) ∙ found)
 
-    by : (o : Option ℕ) → hyper t ≡ o → (now : ℕ) → DeskFollows (turn_at t (schedules_of m.object) es) o now m.held.desk → n ≤ (job_at m.held.desk.jobs p).worst
+    by : (o : Option ℕ) → hyper t ≡ o → (now : ℕ) → SMachineFollows (turn_at t (schedules_of m.object) es) o now m.run_state.s_machine → n ≤ (job_at m.run_state.s_machine.jobs p).worst
     by None e now d = no_job d
     by (Some q) e zero d = no_job d
     by (Some q) e (suc k) d =
@@ -202,31 +202,31 @@ position_worst m es i n p accepted length f found =
         in_list (list_turn t (schedules_of m.object) es k) (d.jobs ∙ ap (λ o. (turn_by o t (schedules_of m.object) es k).plan.jobs) e) (job_is_of t (schedules_of m.object) es run k)
 
 pub took_follows : (m : Seen) (es : List Event) (i n : ℕ) → IsAccepted m.object → IsLength m.object.tables i n
-    → ((c : List SInstr) → rounds.Stands m.held.desk c → rounds.Stands (desk_taking i n m.held.desk) c) → Follows m es
-    → Follows (record m { held = taken_as i n m.held }) (es ++ V.Took i n ∷ [])
+    → ((c : List SInstr) → rounds.Stands m.run_state.s_machine c → rounds.Stands (s_machine_taking i n m.run_state.s_machine) c) → Follows m es
+    → Follows (record m { run_state = taken_as i n m.run_state }) (es ++ V.Took i n ∷ [])
 took_follows m es i n accepted length keeps f =
     let t = m.object.tables in
     let worst : inv_worst t i ≡ task_worst t length.inv.task = ap (λ (o : Option Inv). elim o [ Some x ↦ task_worst t x.task | None ↦ 0 ]) length.known in
     let g =
-    whole_took t m.object.ecode (schedules_of m.object) (accepted_is_loaded m.object accepted) accepted.spelled.code m.show es i n m.standing m.held (counts_of m)
-    (listed_text_before t m.object.ecode (schedules_of m.object) es m.show m.held.reading) (length.some, omega (arith, length.worst, worst)) (slice_get_within t.invs i length.inv length.known) f.kept.count keeps
+    whole_took t m.object.ecode (schedules_of m.object) (accepted_is_loaded m.object accepted) accepted.spelled.code m.show es i n m.standing m.run_state (counts_of m)
+    (listed_text_before t m.object.ecode (schedules_of m.object) es m.show m.run_state.reading) (length.some, omega (arith, length.worst, worst)) (slice_get_within t.invs i length.inv length.known) f.kept.count keeps
     (followed_of m es accepted f) in
-    follows_of (record m { held = taken_as i n m.held }) (es ++ V.Took i n ∷ []) _ accepted g
-    (goes_alike t (schedules_of m.object) (accepted_is_loaded m.object accepted) es (es ++ V.Took i n ∷ []) f.kept.within (hyper t) m.held.reading m.list (λ d u h. sym (sense_took t es i n d u)) f.before.records.goes)
-    (length-set m.held.takes i n ∙ f.kept.count)
+    follows_of (record m { run_state = taken_as i n m.run_state }) (es ++ V.Took i n ∷ []) _ accepted g
+    (goes_alike t (schedules_of m.object) (accepted_is_loaded m.object accepted) es (es ++ V.Took i n ∷ []) f.kept.within (hyper t) m.run_state.reading m.list (λ d u h. sym (sense_took t es i n d u)) f.before.records.goes)
+    (length-set m.run_state.takes i n ∙ f.kept.count)
 
 -- a reading, once all instants before it are done
-pub read_follows : (m : Seen) (es : List Event) (to : ℕ) → IsAccepted m.object → m.held.reading ≤ to → IsUpTo m es to → Follows (record m { held = at_reading to m.held }) (es ++ V.At to ∷ [])
+pub read_follows : (m : Seen) (es : List Event) (to : ℕ) → IsAccepted m.object → m.run_state.reading ≤ to → IsUpTo m es to → Follows (record m { run_state = at_reading to m.run_state }) (es ++ V.At to ∷ [])
 read_follows m es to accepted later f =
     let t = m.object.tables in
     let g =
-    whole_reading t m.object.ecode (schedules_of m.object) (accepted_is_loaded m.object accepted) accepted.spelled.code m.show es to m.standing m.held (counts_of m)
+    whole_reading t m.object.ecode (schedules_of m.object) (accepted_is_loaded m.object accepted) accepted.spelled.code m.show es to m.standing m.run_state (counts_of m)
     (listed_text_before t m.object.ecode (schedules_of m.object) es m.show to) f.kept.fresh (whole_of m es to accepted f.kept (omega (arith, f.kept.reading, later)) f.before) in
-    follows_of (record m { held = at_reading to m.held }) (es ++ V.At to ∷ []) _ accepted g
+    follows_of (record m { run_state = at_reading to m.run_state }) (es ++ V.At to ∷ []) _ accepted g
     (goes_alike t (schedules_of m.object) (accepted_is_loaded m.object accepted) es (es ++ V.At to ∷ []) f.kept.within (hyper t) to m.list (λ d u h. sym (sense_at t es to d u)) f.before.records.goes) f.kept.count
 
 -- the end of a run
-pub finished : (m : Seen) (es : List Event) (to : ℕ) → IsUpTo m es (suc to) → IsFinished (record m { held = record m.held { reading = to; spent = true } }) es to
+pub finished : (m : Seen) (es : List Event) (to : ℕ) → IsUpTo m es (suc to) → IsFinished (record m { run_state = record m.run_state { reading = to; spent = true } }) es to
 finished m es to f =
     record {
       spent = refl;
@@ -251,9 +251,9 @@ first_follows o show accepted safe shaped =
     let m = first_seen o show (first_content t) (first_standing t o.ecode) in
     let loaded = accepted_is_loaded o accepted in
     let f =
-    new_follows t (schedules_of o) m.held refl refl shaped.values (λ c below. initial_is c below) (λ i below. worst_is i below) refl shaped refl in
+    new_follows t (schedules_of o) m.run_state refl refl shaped.values (λ c below. initial_is c below) (λ i below. worst_is i below) refl shaped refl in
     let w =
-    whole_new t o.ecode (schedules_of o) loaded accepted.spelled.code show m.held (counts_of m) [] safe
+    whole_new t o.ecode (schedules_of o) loaded accepted.spelled.code show m.run_state (counts_of m) [] safe
     (record { follows = f; stands = record { up_to = f.up_to; totals = totals_start t o.ecode (schedules_of o) []; text = refl } }) in
     follows_of m [] [] accepted w (goes (hyper t)) (length-map t.invs _)
   where
@@ -279,19 +279,19 @@ new_follows_none o show t code w e same same_code accepted is shaped first safe 
     (subst (λ z. Follows (first_seen o show (first_content o.tables) z) []) (sym e_is) (first_follows o show accepted s h))
 
 -- a machine that is made stands at the beginning
-pub first_is : (o : Object) (show : Shown) (w : Content) (e : Standing) (shows : List ℤ) (takes : List ℕ) (desk : rounds.Round) (list : Option ListAt) → shows ≡ w.values → takes ≡ map (λ (x : Inv). task_worst o.tables x.task) o.tables.invs → desk ≡ rounds.no_round → list ≡ None
+pub first_is : (o : Object) (show : Shown) (w : Content) (e : Standing) (shows : List ℤ) (takes : List ℕ) (s_machine : rounds.Round) (list : Option ListAt) → shows ≡ w.values → takes ≡ map (λ (x : Inv). task_worst o.tables x.task) o.tables.invs → s_machine ≡ rounds.no_round → list ≡ None
     → ◌≡◌ {A = Seen} (record {
       object = o;
       show = show;
-      held = record { spent = false; reading = 0; shows = shows; takes = takes; world = w; desk = desk };
+      run_state = record { spent = false; reading = 0; shows = shows; takes = takes; world = w; s_machine = s_machine };
       standing = e;
       list = list;
       jobs = 0;
       e = 0;
       s = 0;
     }) (first_seen o show w e)
-first_is o show w e shows takes desk list a b d l =
+first_is o show w e shows takes s_machine list a b d l =
     let make : List ℤ → List ℕ → rounds.Round → Option ListAt → Seen =
-    λ shows takes desk list. record { object = o; show = show; held = record { spent = false; reading = 0; shows = shows; takes = takes; world = w; desk = desk }; standing = e; list = list; jobs = 0; e = 0; s = 0 } in
+    λ shows takes s_machine list. record { object = o; show = show; run_state = record { spent = false; reading = 0; shows = shows; takes = takes; world = w; s_machine = s_machine }; standing = e; list = list; jobs = 0; e = 0; s = 0 } in
     let worst = map (λ (x : Inv). task_worst o.tables x.task) o.tables.invs in
-    ap (λ z. make z takes desk list) a ∙ ap (λ z. make w.values z desk list) b ∙ ap (λ z. make w.values worst z list) d ∙ ap (make w.values worst rounds.no_round) l
+    ap (λ z. make z takes s_machine list) a ∙ ap (λ z. make w.values z s_machine list) b ∙ ap (λ z. make w.values worst z list) d ∙ ap (make w.values worst rounds.no_round) l

@@ -25,7 +25,7 @@ use Rattle.htl_console.specs.Lines.{instr_line}
 use Rattle.htl_console.specs.Shows.{shows_code}
 use Rattle.htl_machine.specs.declared.tally.Tally.{Tally}
 use Rattle.htl_machine.specs.Counts.{one_instr, with_instrs}
-use Rattle.htl_machine.specs.Readiness.{desk_does, desk_at, desk_replay}
+use Rattle.htl_machine.specs.Readiness.{s_machine_does, s_machine_at, s_machine_replay}
 use Rattle.htl_machine.specs.Doing.{instr_lines, path_lines, told_in_phase, IsDoing}
 use Rattle.htl_machine.specs.Texts.{e_line}
 use Rattle.htl_machine.proofs.Printing.{joined-append}
@@ -62,17 +62,17 @@ count_more : (k : ℕ) (n : Tally) → with_instrs (suc k) n ≡ one_instr (with
 count_more zero n = refl
 count_more (suc k) n = count_more k (one_instr n)
 
-release_more : (code : ECode) (ds : List Done) (d : Done) (r : Round) → desk_replay code (ds ++ d ∷ []) r ≡ desk_at (slice_get code.instrs d.address) (desk_replay code ds r)
+release_more : (code : ECode) (ds : List Done) (d : Done) (r : Round) → s_machine_replay code (ds ++ d ∷ []) r ≡ s_machine_at (slice_get code.instrs d.address) (s_machine_replay code ds r)
 release_more code [] d r = refl
-release_more code (x ∷ ds) d r = release_more code ds d (desk_at (slice_get code.instrs x.address) r)
+release_more code (x ∷ ds) d r = release_more code ds d (s_machine_at (slice_get code.instrs x.address) r)
 
 told_more : (phase : ℕ) (code : ECode) (ds : List Done) (d : EDone) (r : Round) → slice_get code.instrs d.address ≡ Some d.instr
-    → told_in_phase phase code (ds ++ done_of d ∷ []) r ≡ cond (eqb phase 3) (desk_does d.instr (told_in_phase phase code ds r)) (told_in_phase phase code ds r)
+    → told_in_phase phase code (ds ++ done_of d ∷ []) r ≡ cond (eqb phase 3) (s_machine_does d.instr (told_in_phase phase code ds r)) (told_in_phase phase code ds r)
 told_more phase code ds d r e = by_phase (eqb phase 3)
   where
-    by_phase : (b : Bool) → cond b (desk_replay code (ds ++ done_of d ∷ []) r) r ≡ cond b (desk_does d.instr (cond b (desk_replay code ds r) r)) (cond b (desk_replay code ds r) r)
+    by_phase : (b : Bool) → cond b (s_machine_replay code (ds ++ done_of d ∷ []) r) r ≡ cond b (s_machine_does d.instr (cond b (s_machine_replay code ds r) r)) (cond b (s_machine_replay code ds r) r)
     by_phase false = refl
-    by_phase true = release_more code ds (done_of d) r ∙ ap (λ o. desk_at o (desk_replay code ds r)) e
+    by_phase true = release_more code ds (done_of d) r ∙ ap (λ o. s_machine_at o (s_machine_replay code ds r)) e
 
 -- ---- the loop
 
@@ -91,16 +91,16 @@ doing_start t code es at phase show m w r w0 f0 n midway safe shaped =
       kept = refl;
       text = append_known-start w0 ∙ ap (append_known w0) (sym (no_lines t code show at));
       count = refl;
-      desk = told_none phase code r;
+      s_machine = told_none phase code r;
       stands = λ s st. st;
     }
 
 -- one instruction more
 pub doing_on : {T E : Type 0} (t : Tables) (code : ECode) (es : List Event) (at phase : ℕ) (show : Shown) (m next : Standing) (w after first : Content) (r0 r r1 : Round) (w0 w1 w2 : Option (List ℕ)) (f0 f g : ℕ) (n0 n n1 : Tally) (d : EDone) (x : T)
     → (h : IsDoing t code es at phase show m w first r0 r w0 w1 f0 f n0 n) → StandsSafely t code next → IsShaped t after → Onward t code es at phase next h.running.done h.running.rest (Some d) → after ≡ content_after t w (Some d)
-    → n1 ≡ one_instr n → r1 ≡ cond (eqb phase 3) (desk_does d.instr r) r → ((s : List SInstr) → rounds.Stands r s → rounds.Stands r1 s)
+    → n1 ≡ one_instr n → r1 ≡ cond (eqb phase 3) (s_machine_does d.instr r) r → ((s : List SInstr) → rounds.Stands r s → rounds.Stands r1 s)
     → Puts {T = T} {E = E} w1 w2 f g (instr_lines t show at d.address d.instr) (Ok x) → IsDoing t code es at phase show next after first r0 r1 w0 w2 f0 g n0 n1
-doing_on t code es at phase show m next w after first r0 r r1 w0 w1 w2 f0 f g n0 n n1 d x h safe shaped on is count desk stands puts =
+doing_on t code es at phase show m next w after first r0 r r1 w0 w1 w2 f0 f g n0 n n1 d x h safe shaped on is count s_machine stands puts =
     let done = h.running.done in
     let now : List Done = done ++ done_of d ∷ [] in
     let same = sym (running_done t code es at phase m next w after first d h.running safe shaped on is) in
@@ -115,8 +115,8 @@ doing_on t code es at phase show m next w after first r0 r r1 w0 w1 w2 f0 f g n0
           count ∙ ap one_instr h.count ∙ sym (count_more (length done) n0)
           ∙ ap (λ k. with_instrs k n0) (let z : suc (length done) ≡ length now = omega (arith, length-append done (done_of d ∷ [])) in z)
           ∙ ap (λ (ds : List Done). with_instrs (length ds) n0) same;
-      desk =
-          desk ∙ ap (λ z. cond (eqb phase 3) (desk_does d.instr z) z) h.desk ∙ sym (told_more phase code done d r0 on.2)
+      s_machine =
+          s_machine ∙ ap (λ z. cond (eqb phase 3) (s_machine_does d.instr z) z) h.s_machine ∙ sym (told_more phase code done d r0 on.2)
           ∙ ap (λ (ds : List Done). told_in_phase phase code ds r0) same;
       stands = λ s st. stands s (h.stands s st);
     }
@@ -154,4 +154,4 @@ doing_counted t code es at phase show m next w first r0 r w0 w1 f0 f n0 n h on =
 pub doing_told : (t : Tables) (code : ECode) (es : List Event) (at phase : ℕ) (show : Shown) (m next : Standing) (w first : Content) (r0 r : Round) (w0 w1 : Option (List ℕ)) (f0 f : ℕ) (n0 n : Tally)
     → (h : IsDoing t code es at phase show m w first r0 r w0 w1 f0 f n0 n) → Onward t code es at phase next h.running.done h.running.rest None → r ≡ told_in_phase phase code (phase_path t code es at phase) r0
 doing_told t code es at phase show m next w first r0 r w0 w1 f0 f n0 n h on =
-    h.desk ∙ ap (λ z. told_in_phase phase code z r0) (all_done t code es at phase m next w first h.running on)
+    h.s_machine ∙ ap (λ z. told_in_phase phase code z r0) (all_done t code es at phase m next w first h.running on)

@@ -18,7 +18,7 @@ use Rattle.htl_emach.specs.Contents.{Content}
 use Rattle.htl_machine.specs.Values.{InvStands, HasReadInputs, ValuesFollow, HasPlaces}
 use Rattle.htl_refine.specs.Records.{took, IsTookWithin, AreTookWithin}
 use Rattle.htl_machine.specs.Plans.{finished_before, next_world}
-use Rattle.htl_machine.specs.Follows.{Held, reading_of, DeskStands, DeskFollows, UpTo, HeldFollows, IsLoaded, at_reading, shown_as}
+use Rattle.htl_machine.specs.Follows.{RunState, reading_of, SMachineStands, SMachineFollows, UpTo, RunStateFollows, IsLoaded, at_reading, shown_as}
 use Rattle.htl_machine.specs.ListTurns.{Turn, left_before, turn_finished_by}
 use Rattle.htl_machine.specs.RunLists.{turn_by, turn_at}
 use Rattle.htl_machine.proofs.Shaping.{has_places}
@@ -45,10 +45,10 @@ module _ (t : Tables) (schedules : List (List SInstr)) (es fs : List Event) (now
   finished_alike zero i h = refl
   finished_alike (suc n) i h = ap (λ (u : Turn). turn_finished_by u (left_before u (suc n)) i) (turn_same n (omega (arith, h)))
 
-  desk_alike : (root : Option ℕ) (n : ℕ) (r : Round) → n ≤ now → DeskFollows (turn_at t schedules es) root n r → DeskFollows (turn_at t schedules fs) root n r
-  desk_alike None n r h f = f
-  desk_alike (Some period) zero r h f = f
-  desk_alike (Some period) (suc n) r h f = subst (λ (u : Turn). DeskStands u.plan u.frame (suc n) r) (turn_same n (omega (arith, h))) f
+  s_machine_alike : (root : Option ℕ) (n : ℕ) (r : Round) → n ≤ now → SMachineFollows (turn_at t schedules es) root n r → SMachineFollows (turn_at t schedules fs) root n r
+  s_machine_alike None n r h f = f
+  s_machine_alike (Some period) zero r h f = f
+  s_machine_alike (Some period) (suc n) r h f = subst (λ (u : Turn). SMachineStands u.plan u.frame (suc n) r) (turn_same n (omega (arith, h))) f
 
 -- ---- what a machine keeps of its values with other events
 
@@ -64,7 +64,7 @@ module _ (t : Tables) (schedules : List (List SInstr)) (loaded : IsLoaded t sche
       (values_alike t loaded.range loaded.kept es fs now (finished_before (turn_at t schedules es) now) w alike (λ i x s st fin. all_read now i x s st fin) f)
 
   -- a reading
-  pub read_follows : (to : ℕ) (m : Held) → m.spent ≡ false → UpTo t schedules es to m → HeldFollows t schedules (es ++ V.At to ∷ []) (at_reading to m)
+  pub read_follows : (to : ℕ) (m : RunState) → m.spent ≡ false → UpTo t schedules es to m → RunStateFollows t schedules (es ++ V.At to ∷ []) (at_reading to m)
   read_follows to m open_yet up =
       let fs = es ++ V.At to ∷ [] in
       let reading : reading_of 0 fs ≡ to = reading_more 0 es (V.At to) in
@@ -82,12 +82,12 @@ module _ (t : Tables) (schedules : List (List SInstr)) (loaded : IsLoaded t sche
               takes = λ i u k h. took_at t es to i u ∙ up.takes i u k (omega (arith, reading, up.later));
               values = values_same fs to m.world alike tooks up.values;
               shape = up.shape;
-              desk = desk_alike t schedules es fs to alike loaded within tooks (hyper t) to m.desk (omega arith) up.desk;
+              s_machine = s_machine_alike t schedules es fs to alike loaded within tooks (hyper t) to m.s_machine (omega arith) up.s_machine;
             };
       }
 
   -- a sensor that shows another value from now on
-  pub sense_follows : (d : ℕ) (y : ℤ) (m : Held) → d < length t.comms → IfSome (slice_get t.comms d) (λ x. FitsType x.ty y) → HeldFollows t schedules es m → HeldFollows t schedules (es ++ V.Sense d y ∷ []) (shown_as d y m)
+  pub sense_follows : (d : ℕ) (y : ℤ) (m : RunState) → d < length t.comms → IfSome (slice_get t.comms d) (λ x. FitsType x.ty y) → RunStateFollows t schedules es m → RunStateFollows t schedules (es ++ V.Sense d y ∷ []) (shown_as d y m)
   sense_follows d y m known fits f =
       let fs = es ++ V.Sense d y ∷ [] in
       let more : reading_of 0 fs ≡ reading_of 0 es = reading_more 0 es (V.Sense d y) in
@@ -105,7 +105,7 @@ module _ (t : Tables) (schedules : List (List SInstr)) (loaded : IsLoaded t sche
               takes = λ i u k h. took_sense t es d i u y ∙ f.up_to.takes i u k (omega (arith, more));
               values = values_same fs m.reading m.world alike tooks f.up_to.values;
               shape = f.up_to.shape;
-              desk = desk_alike t schedules es fs m.reading alike loaded within tooks (hyper t) m.reading m.desk (omega arith) f.up_to.desk;
+              s_machine = s_machine_alike t schedules es fs m.reading alike loaded within tooks (hyper t) m.reading m.s_machine (omega arith) f.up_to.s_machine;
             };
       }
     where
@@ -127,6 +127,6 @@ module _ (t : Tables) (schedules : List (List SInstr)) (loaded : IsLoaded t sche
       by_test c u k h false is = f.up_to.shows c u k h ∙ sym (get_or-set_other m.shows d c y (pos 0) (eqb-false c d is))
 
   -- an instant, as far as the values go
-  pub instant_values : (now : ℕ) (m : Held) → UpTo t schedules es now m
+  pub instant_values : (now : ℕ) (m : RunState) → UpTo t schedules es now m
       → ValuesFollow t es (suc now) (finished_before (turn_at t schedules es) (suc now)) (next_world t es (turn_at t schedules es) now m.world) × HasPlaces t (next_world t es (turn_at t schedules es) now m.world)
   instant_values now m up = values_carried t loaded.range loaded.kept es (turn_at t schedules es) (loaded_turns t schedules loaded es within) now m.world up.values (has_places t m.world loaded.range loaded.kept up.shape)

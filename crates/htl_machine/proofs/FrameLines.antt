@@ -23,8 +23,8 @@ use Rattle.htl_machine.proofs.JobLines.{none_first, begins_silent, joined-up_to}
 use Rattle.htl_machine.proofs.LineBytes.{both_true}
 use Rattle.htl_machine.proofs.Printing.{joined-append}
 use Rattle.htl_machine.proofs.RecordTimes.{nothing, joined_none, at_now, before_now, in_order}
-use Rattle.htl_machine.proofs.Telling.{up_to_none}
-use Rattle.htl_machine.proofs.TellingLists.{silent_at}
+use Rattle.htl_machine.proofs.InstantRecords.{up_to_none}
+use Rattle.htl_machine.proofs.ListRecords.{silent_at}
 use Rattle.htl_machine.proofs.WorkingRecords.{DoesWork}
 
 -- ---- numbers of frames

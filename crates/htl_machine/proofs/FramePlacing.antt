@@ -1,4 +1,4 @@
--- The jobs of who stands at the positions of a frame are cast.
+-- The jobs of who stands at the positions of a frame stand.
 use Rattle.std.proofs.Common.{◌≡◌, ℕ, zero, suc, ◌+◌, ◌≤◌, Bool, true, false, ◌&&◌, cond, eqb, List, [], ◌∷◌, slice_get, map, take, Option, Some, None, option_map, refl, sym, ap, ap₂, ◌∙◌, subst, arith, inl, inr}
 use Rattle.std.proofs.lemmas.Bool.{eq-eqb, cases_lt}
 use Rattle.std.proofs.lemmas.Option.{slice_get-map, get_or_from_slice_get}
@@ -17,14 +17,14 @@ use Rattle.htl_model.specs.declared.frame.Place.{Place}
 use Rattle.htl_walk.specs.PathJobs.{job_in, placed, placed_job, placed_jobs}
 use Rattle.htl_machine.specs.Turns.{later_or, position_from}
 use Rattle.htl_machine.specs.Values.{InvStands}
-use Rattle.htl_machine.specs.Casts.{IsJob, IsCast}
+use Rattle.htl_machine.specs.JobsSoFar.{IsJob, AreJobsSoFar}
 use Rattle.htl_refine.specs.FramePlaces.{place}
 use Rattle.htl_refine.proofs.Fronts.{front_there, take_map}
-use Rattle.htl_machine.specs.FramePlacing.{IsFramePlacing, CastOfPlacing}
+use Rattle.htl_machine.specs.FramePlacing.{IsFramePlacing, JobsOfPlacing}
 use Rattle.htl_walk.proofs.Finishes.{some_same}
 use Rattle.htl_refine.proofs.RecordOrder.{not_some}
 use Rattle.htl_machine.proofs.Outs.{writer_is}
-use Rattle.htl_machine.proofs.Casting.{job_is, position_some, position_none}
+use Rattle.htl_machine.proofs.JobWindows.{job_is, position_some, position_none}
 use Rattle.htl_machine.proofs.Placing.{fed}
 
 -- ---- the last position
@@ -161,8 +161,8 @@ module _ (t : Tables) (stays : List (Option Stay)) (frame n m : ℕ) (all : List
       none_there true = refl
       none_there false = refl
 
-  cast_so : IsCast t stays frame n jobs
-  cast_so =
+  jobs_so : AreJobsSoFar t stays frame n jobs
+  jobs_so =
       record {
         has = λ i x s st.
             let h = placing.has i x s st in
@@ -182,8 +182,8 @@ module _ (t : Tables) (stays : List (Option Stay)) (frame n m : ℕ) (all : List
         preds = preds_are;
       }
 
-  pub cast_of : IsCast t stays frame n (take m (placed_jobs t all))
-  cast_of = subst (IsCast t stays frame n) (sym (take_map (placed_job t all) m all)) cast_so
+  pub jobs_of : AreJobsSoFar t stays frame n (take m (placed_jobs t all))
+  jobs_of = subst (AreJobsSoFar t stays frame n) (sym (take_map (placed_job t all) m all)) jobs_so
 
-pub cast_of_placing : CastOfPlacing
-cast_of_placing t stays frame n m all placing = cast_of t stays frame n m all placing
+pub jobs_of_placing : JobsOfPlacing
+jobs_of_placing t stays frame n m all placing = jobs_of t stays frame n m all placing

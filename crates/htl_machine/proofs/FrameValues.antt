@@ -20,8 +20,8 @@ use Rattle.htl_machine.specs.Turns.{finished_in}
 use Rattle.htl_machine.specs.Values.{InvStands, ValuesFollow, HasPlaces, HasReadInputs, Ready, and_also}
 use Rattle.htl_machine.specs.Worlds.{effects, all_writes, with_sensors}
 use Rattle.htl_machine.proofs.Carrying.{follows_on, after_shape, holds_values}
-use Rattle.htl_machine.proofs.Casting.{job_is}
-use Rattle.htl_machine.proofs.Desking.{record_there, count_within}
+use Rattle.htl_machine.proofs.JobWindows.{job_is}
+use Rattle.htl_machine.proofs.SMachineInstants.{record_there, count_within}
 use Rattle.htl_machine.proofs.Finishing.{finish_follows, completed_shape}
 use Rattle.htl_machine.proofs.FramesGoOn.{finished_carried}
 use Rattle.htl_machine.proofs.Owing.{is_ready, reads_to, completes}
@@ -81,7 +81,7 @@ module _ (t : Tables) (range : AreInRange t) (kept : KeptApart t 12) (es : List 
         by_finish true e None pos =
             (subst (λ z. ValuesFollow t es (suc n) z w) (sym (same (λ p. ap (λ z. is_position z p && l.finished) pos))) f, shape)
         by_finish true e (Some p) pos =
-            let c = completes t range kept (state t es n).stays frame n jobs ls (frames.casts n) (frames.runs n) k p l at pos e fresh late in
+            let c = completes t range kept (state t es n).stays frame n jobs ls (frames.jobs_so_far n) (frames.runs n) k p l at pos e fresh late in
             let i : (job_at jobs p).inv ≡ c.number = ap (λ (j : Job). j.inv) (job_is jobs p c.job.job c.job.at) ∙ c.job.inv in
             let g : ValuesFollow t es (suc n) (and_also c.number (finished_by k)) (completed t c.number w) =
             finish_follows t range kept es (suc n) (finished_by k) w f c.number c.start c.inv c.stands c.unfinished c.read _ c.order shape in (
@@ -121,7 +121,7 @@ module _ (t : Tables) (range : AreInRange t) (kept : KeptApart t 12) (es : List 
   read_before zero i x s st fin = not_some (record { mode = x.mode; start = s }) st.in_round
   read_before (suc n) i x s st fin =
       let f = now n in
-      reads_to t range kept (state t es n).stays f.frame n f.jobs f.walk (frames.casts n) (frames.runs n) (suc n - f.frame) (suc n) i x s (omega (arith, frames.past n)) st fin
+      reads_to t range kept (state t es n).stays f.frame n f.jobs f.walk (frames.jobs_so_far n) (frames.runs n) (suc n - f.frame) (suc n) i x s (omega (arith, frames.past n)) st fin
 
   pub all_ready : (n : ℕ) → Ready t es n (finished_at now n)
   all_ready zero =
@@ -131,7 +131,7 @@ module _ (t : Tables) (range : AreInRange t) (kept : KeptApart t 12) (es : List 
       }
   all_ready (suc n) =
       let f = now n in
-      let r = is_ready t range kept (state t es n).stays f.frame n f.jobs f.walk (frames.casts n) (frames.runs n) es (suc n) refl (omega (arith, frames.past n)) in
+      let r = is_ready t range kept (state t es n).stays f.frame n f.jobs f.walk (frames.jobs_so_far n) (frames.runs n) es (suc n) refl (omega (arith, frames.past n)) in
       subst (λ (z : ℕ). Ready t es (suc n) (finished_in f.jobs (done_by f.walk (count_left_before z f.walk)))) (let e : suc (suc n - f.frame) ≡ suc (suc n) - f.frame = omega (arith, frames.past n) in e) r
 
   -- the value half is carried over the whole instant

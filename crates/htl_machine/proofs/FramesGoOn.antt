@@ -9,7 +9,7 @@ use Rattle.htl_model.specs.Meaning.{state}
 use Rattle.htl_machine.specs.Values.{InvStands}
 use Rattle.htl_refine.specs.RecordCounts.{count_left_before, done_by}
 use Rattle.htl_machine.specs.Turns.{last_position_done, finished_in}
-use Rattle.htl_machine.specs.Casts.{IsJob}
+use Rattle.htl_machine.specs.JobsSoFar.{IsJob}
 use Rattle.htl_machine.specs.FramesGoOn.{Now, present_finished, finished_at, AreFrames, FinishedCarried}
 use Rattle.htl_refine.proofs.RecordOrder.{not_some}
 use Rattle.htl_machine.proofs.Standing.{began_before}
@@ -20,18 +20,18 @@ module _ (t : Tables) (es : List Event) (now : ℕ → Now) (range : AreInRange 
   fresh_open : (n i : ℕ) (x : Inv) → InvStands t (state t es n).stays i x n → present_finished now (suc n) i ≡ false
   fresh_open n i x st =
       let f = now n in
-      not_yet t range kept (state t es n).stays f.frame n f.jobs f.walk (frames.casts n) (frames.runs n) (suc n - f.frame) i x n (omega (arith, frames.past n)) st
+      not_yet t range kept (state t es n).stays f.frame n f.jobs f.walk (frames.jobs_so_far n) (frames.runs n) (suc n - f.frame) i x n (omega (arith, frames.past n)) st
 
   -- who goes on has the same position
   kept_on : (n i : ℕ) (x : Inv) (s : ℕ) → InvStands t (state t es n).stays i x s → InvStands t (state t es (suc n)).stays i x s → present_finished now (suc (suc n)) i ≡ finished_at now (suc n) i
   kept_on n i x s st later = elim (frames.on n) [
     | inl begins ↦
-        let h = (frames.casts (suc n)).has i x s later in
+        let h = (frames.jobs_so_far (suc n)).has i x s later in
         let was : s < suc n = began_before t range es (suc n) (mode_module t x.mode) (record { mode = x.mode; start = s }) st.in_round in
         absurd (omega (arith, h.1.begun, begins, was))
     | inr on ↦
-        let a = (frames.casts n).has i x s st in
-        let b = (frames.casts (suc n)).has i x s later in
+        let a = (frames.jobs_so_far n).has i x s st in
+        let b = (frames.jobs_so_far (suc n)).has i x s later in
         let f = now n in
         let g = now (suc n) in
         let done : ℕ → Bool = done_by f.walk (count_left_before (suc (suc n) - f.frame) f.walk) in
@@ -45,7 +45,7 @@ module _ (t : Tables) (es : List Event) (now : ℕ → Now) (range : AreInRange 
           end = omega (arith, a.1.end, on.0);
           worst = a.1.worst;
         } in
-        let same : b.0 ≡ a.0 = (frames.casts (suc n)).once b.0 a.0 i s x b.1 job in
+        let same : b.0 ≡ a.0 = (frames.jobs_so_far (suc n)).once b.0 a.0 i s x b.1 job in
         ap (λ k. finished_in g.jobs (done_by g.walk (count_left_before (suc (suc n) - k) g.walk)) i) on.0
         ∙ ap (λ w. finished_in g.jobs (done_by w (count_left_before (suc (suc n) - f.frame) w)) i) on.1
         ∙ ap (last_position_done done) b.2 ∙ ap done same ∙ sym (ap (last_position_done done) a.2)

@@ -9,15 +9,15 @@ use Rattle.htl_smach.specs.Rounds as rounds
 use Rattle.htl_smach.specs.Rounds.{Round}
 use Rattle.htl_machine.specs.Worlds.{all_reads}
 use Rattle.htl_refine.specs.RecordCounts.{count_left_before}
-use Rattle.htl_machine.specs.Casts.{IsCast, HaveWindows}
+use Rattle.htl_machine.specs.JobsSoFar.{AreJobsSoFar, HaveWindows}
 use Rattle.htl_refine.specs.ListPlans.{ListPlan as Plan, list_walk}
-use Rattle.htl_machine.specs.Follows.{DeskStands, DeskAt}
+use Rattle.htl_machine.specs.Follows.{SMachineStands, SMachineAt}
 use Rattle.htl_machine.specs.ListTurns.{Turn, AreTurns, IsListed}
 use Rattle.htl_machine.specs.Leaving.{due_by, Leaves}
-use Rattle.htl_machine.specs.Tellings.{tell_all}
+use Rattle.htl_machine.specs.ReleaseFlags.{raise_all}
 use Rattle.htl_refine.proofs.Standing.{IsStanding, standing_at}
 use Rattle.htl_machine.proofs.FrameValues.{count_grows}
-use Rattle.htl_machine.proofs.Desking.{desk_opens, desk_closes, all_given}
+use Rattle.htl_machine.proofs.SMachineInstants.{s_machine_opens, s_machine_closes, all_given}
 use Rattle.htl_machine.proofs.Releasing.{flags_after}
 use Rattle.htl_machine.proofs.ServedWindows.{windows_of}
 
@@ -26,15 +26,15 @@ abbrev pub with_flags : Round → List Bool → Round
 with_flags r bs = record r { released = bs }
 
 -- before the instant it stands at the records before it; those of the instant are left
-pub desk_left : (p : Plan) (s now : ℕ) (r r1 : Round) → s ≤ now → DeskStands p s now r → Leaves r r1 p.schedule now → DeskAt p s (due_by p s now) (now - s) r1
-desk_left p s now r r1 past f leaves =
-    leaves p s (count_left_before (now - s) (list_walk p)) (now - s) refl past (count_grows (now - s) (suc now - s) (list_walk p) (omega arith)) (desk_opens p s now r f)
+pub s_machine_left : (p : Plan) (s now : ℕ) (r r1 : Round) → s ≤ now → SMachineStands p s now r → Leaves r r1 p.schedule now → SMachineAt p s (due_by p s now) (now - s) r1
+s_machine_left p s now r r1 past f leaves =
+    leaves p s (count_left_before (now - s) (list_walk p)) (now - s) refl past (count_grows (now - s) (suc now - s) (list_walk p) (omega arith)) (s_machine_opens p s now r f)
 
 -- the releases of the instant are told
-pub desk_told : (t : Tables) (stays : List (Option Stay)) (n : ℕ) (p : Plan) (s k now : ℕ) (r : Round) → IsStanding t stays n → n ≤ now → s ≤ now → IsCast t stays s now p.jobs → HaveWindows p.jobs → DeskAt p s k (now - s) r
-    → rounds.Stands (with_flags r (tell_all p.jobs (all_reads t now stays) r.released)) p.schedule
-    → DeskAt p s k (suc now - s) (with_flags r (tell_all p.jobs (all_reads t now stays) r.released))
-desk_told t stays n p s k now r standing past begun cast windows at st =
+pub s_machine_told : (t : Tables) (stays : List (Option Stay)) (n : ℕ) (p : Plan) (s k now : ℕ) (r : Round) → IsStanding t stays n → n ≤ now → s ≤ now → AreJobsSoFar t stays s now p.jobs → HaveWindows p.jobs → SMachineAt p s k (now - s) r
+    → rounds.Stands (with_flags r (raise_all p.jobs (all_reads t now stays) r.released)) p.schedule
+    → SMachineAt p s k (suc now - s) (with_flags r (raise_all p.jobs (all_reads t now stays) r.released))
+s_machine_told t stays n p s k now r standing past begun jobs_so_far windows at st =
     record {
       start = at.start;
       jobs = at.jobs;
@@ -42,7 +42,7 @@ desk_told t stays n p s k now r standing past begun cast windows at st =
       first = at.first;
       place = at.place;
       running = at.running;
-      released = ap (tell_all p.jobs (all_reads t now stays)) at.released ∙ flags_after t stays n now s p.jobs standing past begun cast windows;
+      released = ap (raise_all p.jobs (all_reads t now stays)) at.released ∙ flags_after t stays n now s p.jobs standing past begun jobs_so_far windows;
       stands = st;
     }
 
@@ -51,18 +51,18 @@ module _ (t : Tables) (range : AreInRange t) (es : List Event) (turn : ℕ → T
   windows n = windows_of (turn n).plan.jobs (turns.walk n) (turn n).frame n (turns.frames.runs n)
 
   -- the list that stands at an instant: once its records are left and its releases told, it stands before the next
-  pub desk_on : (now : ℕ) (r : Round) → DeskAt (turn now).plan (turn now).frame (due_by (turn now).plan (turn now).frame now) (now - (turn now).frame) r
-      → rounds.Stands (with_flags r (tell_all (turn now).plan.jobs (all_reads t now (state t es now).stays) r.released)) (turn now).plan.schedule
-      → DeskStands (turn now).plan (turn now).frame (suc now) (with_flags r (tell_all (turn now).plan.jobs (all_reads t now (state t es now).stays) r.released))
-  desk_on now r at st =
+  pub s_machine_on : (now : ℕ) (r : Round) → SMachineAt (turn now).plan (turn now).frame (due_by (turn now).plan (turn now).frame now) (now - (turn now).frame) r
+      → rounds.Stands (with_flags r (raise_all (turn now).plan.jobs (all_reads t now (state t es now).stays) r.released)) (turn now).plan.schedule
+      → SMachineStands (turn now).plan (turn now).frame (suc now) (with_flags r (raise_all (turn now).plan.jobs (all_reads t now (state t es now).stays) r.released))
+  s_machine_on now r at st =
       let u = turn now in
-      desk_closes u.plan u.frame now (with_flags r (tell_all u.plan.jobs (all_reads t now (state t es now).stays) r.released))
-      (desk_told t (state t es now).stays now u.plan u.frame (due_by u.plan u.frame now) now r (standing_at t range es now) (omega arith) (turns.frames.past now) (turns.frames.casts now) (windows now) at st)
+      s_machine_closes u.plan u.frame now (with_flags r (raise_all u.plan.jobs (all_reads t now (state t es now).stays) r.released))
+      (s_machine_told t (state t es now).stays now u.plan u.frame (due_by u.plan u.frame now) now r (standing_at t range es now) (omega arith) (turns.frames.past now) (turns.frames.jobs_so_far now) (windows now) at st)
 
   -- the list before is over where one begins
-  pub desk_ends : (n : ℕ) (r r1 : Round) → (turn n).frame + (turn n).to ≡ suc n → IsListed (turn n) → DeskStands (turn n).plan (turn n).frame (suc n) r → Leaves r r1 (turn n).plan.schedule (suc n)
-      → DeskAt (turn n).plan (turn n).frame (length (turn n).plan.schedule) (suc n - (turn n).frame) r1
-  desk_ends n r r1 ends listed f leaves =
+  pub s_machine_ends : (n : ℕ) (r r1 : Round) → (turn n).frame + (turn n).to ≡ suc n → IsListed (turn n) → SMachineStands (turn n).plan (turn n).frame (suc n) r → Leaves r r1 (turn n).plan.schedule (suc n)
+      → SMachineAt (turn n).plan (turn n).frame (length (turn n).plan.schedule) (suc n - (turn n).frame) r1
+  s_machine_ends n r r1 ends listed f leaves =
       let u = turn n in
-      subst (λ k. DeskAt u.plan u.frame k (suc n - u.frame) r1) (all_given u.plan u.frame (suc n) (length u.plan.jobs) u.to listed.form (omega (arith, listed.time, listed.order)) (sym ends))
-      (desk_left u.plan u.frame (suc n) r r1 (omega (arith, turns.frames.past n)) f leaves)
+      subst (λ k. SMachineAt u.plan u.frame k (suc n - u.frame) r1) (all_given u.plan u.frame (suc n) (length u.plan.jobs) u.to listed.form (omega (arith, listed.time, listed.order)) (sym ends))
+      (s_machine_left u.plan u.frame (suc n) r r1 (omega (arith, turns.frames.past n)) f leaves)

@@ -34,7 +34,7 @@ use Rattle.htl_machine.specs.JobLines.RunLine.{InstrLine, ChangeLine, StepLine, 
 use Rattle.htl_machine.proofs.LineBytes.{lines_found, jobs_found}
 use Rattle.htl_machine.proofs.Printing.{joined-append}
 use Rattle.htl_machine.proofs.RecordTimes.{joined_each}
-use Rattle.htl_machine.proofs.TellingLists.{silent_at}
+use Rattle.htl_machine.proofs.ListRecords.{silent_at}
 
 module _ (t : Tables) where
   -- ---- how texts are put together

@@ -9,7 +9,7 @@ use Rattle.htl_smach.specs.declared.state.PosState.TheVariants.{Pending}
 use Rattle.htl_smach.specs.Rounds.{Round, Stands, state_of, next_left, moved, walk_records, left_until}
 use Rattle.std.proofs.lemmas.Option.{slice_get_within}
 use Rattle.htl_machine.proofs.Distinct.{there}
-use Rattle.htl_smach.proofs.Telling.{pending_is, is_pending, next_point_is, length-told}
+use Rattle.htl_smach.proofs.RoundRecords.{pending_is, is_pending, next_point_is, length-told}
 use Rattle.htl_smach.proofs.Answering.{answer_is}
 use Rattle.htl_refine.proofs.RecordOrder.{not_some}
 

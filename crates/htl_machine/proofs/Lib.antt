@@ -5,7 +5,7 @@ pub mod Distinct
 pub mod Asked
 pub mod Moving
 pub mod Outs
-pub mod Casting
+pub mod JobWindows
 pub mod Going
 pub mod Short
 pub mod Due
@@ -13,7 +13,7 @@ pub mod Periods
 pub mod Valued
 pub mod Finishing
 pub mod Events
-pub mod Desking
+pub mod SMachineInstants
 pub mod Owing
 pub mod Leaving
 pub mod Recording
@@ -21,7 +21,7 @@ pub mod Readying
 pub mod Sensing
 pub mod Carrying
 pub mod Placing
-pub mod FrameCasts
+pub mod FramesHaveJobs
 pub mod FrameMembers
 pub mod RootModes
 pub mod FramePlaced
@@ -34,12 +34,12 @@ pub mod ListStarts
 pub mod RunLists
 pub mod RunsAgree
 pub mod TookLists
-pub mod TellingLists
+pub mod ListRecords
 pub mod Tops
 pub mod LoadedLists
 pub mod NextLists
 pub mod NextPoints
-pub mod NextDesks
+pub mod NextSMachines
 pub mod ListBegun
 pub mod ListAdded
 pub mod ListValues
@@ -52,7 +52,7 @@ pub mod Following
 pub mod Taking
 pub mod Counting
 pub mod Writing
-pub mod Retelling
+pub mod TextStays
 pub mod Showing
 pub mod Advancing
 pub mod Releasing
@@ -62,8 +62,8 @@ pub mod Meeting
 pub mod Waking
 pub mod Acting
 pub mod Timely
-pub mod Telling
-pub mod TellingText
+pub mod InstantRecords
+pub mod RecordTexts
 pub mod LineBytes
 pub mod JobLines
 pub mod RecordTimes
@@ -79,8 +79,8 @@ pub mod Passing
 pub mod Asking
 pub mod Viewing
 pub mod Ended
-pub mod TellingLoaded
-pub mod TellingLater
+pub mod LoadedRecords
+pub mod TextSoFar
 pub mod Wholly
 pub mod Premises
 pub mod Deciding

@@ -23,16 +23,16 @@ use Rattle.htl_refine.proofs.ListsFollow.{lists_follow, leg_from}
 use Rattle.htl_refine.proofs.NewJobs.{next_jobs}
 use Rattle.htl_refine.proofs.ServedFrames.{have_lengths, within_worst}
 use Rattle.htl_machine.specs.FramePlacing.{frame_start}
-use Rattle.htl_machine.specs.Follows.{DeskAt}
+use Rattle.htl_machine.specs.Follows.{SMachineAt}
 use Rattle.htl_machine.specs.ListBegun.{list_begun, CanStart, IsAtEnd, ListsAreBegun}
 use Rattle.htl_machine.specs.ListTurns.{Turn}
-use Rattle.htl_machine.specs.NextDesks.{more_jobs, more_lengths}
+use Rattle.htl_machine.specs.NextSMachines.{more_jobs, more_lengths}
 use Rattle.htl_machine.specs.RunLists.{turn_of, list_turn}
 use Rattle.htl_machine.specs.Starting.{kept_lengths}
-use Rattle.htl_machine.proofs.Casting.{get_map}
-use Rattle.htl_machine.proofs.ListBegun.{first_can, first_desk}
+use Rattle.htl_machine.proofs.JobWindows.{get_map}
+use Rattle.htl_machine.proofs.ListBegun.{first_can, first_s_machine}
 use Rattle.htl_machine.proofs.ListStarts.{leg_knows}
-use Rattle.htl_machine.proofs.NextDesks.{desks_go_on, even}
+use Rattle.htl_machine.proofs.NextSMachines.{s_machines_go_on, even}
 use Rattle.htl_machine.proofs.NextLists.{offset, later_next, same_frame}
 use Rattle.htl_machine.proofs.Plain.{apart}
 use Rattle.htl_machine.proofs.RunLists.{past, stands, from_is, length-jobs}
@@ -57,7 +57,7 @@ drop_map g (suc n) (x ∷ xs) = drop_map g n xs
 
 module _ (t : Tables) (lists : List (List SInstr)) (es : List Event) (run : IsFeasibleRun t lists es) (n : ℕ) (here : (list_turn t lists es (suc n)).frame + (list_turn t lists es (suc n)).from ≡ suc n) (more : suc n % frame_of t ≢ 0)
     (takes : List ℕ) (takes_are : (i u : ℕ) → suc n ≤ u → get_or takes i 0 ≡ took t es i u) (r : Round)
-    (ends : DeskAt (list_turn t lists es n).plan (list_turn t lists es n).frame (length (list_turn t lists es n).plan.schedule) (suc n - (list_turn t lists es n).frame) r) where
+    (ends : SMachineAt (list_turn t lists es n).plan (list_turn t lists es n).frame (length (list_turn t lists es n).plan.schedule) (suc n - (list_turn t lists es n).frame) r) where
   abbrev v : Turn
   v = list_turn t lists es n
 
@@ -98,9 +98,9 @@ module _ (t : Tables) (lists : List (List SInstr)) (es : List Event) (run : IsFe
   most : AreWithinWorst (frame_at t lists es (frame_start t n)).jobs (frame_at t lists es (frame_start t n)).lengths
   most = within_worst t (frame_modes t es f) es f run.range run.within (frame_places t (frame_modes t es f))
 
-  at_end : DeskAt (list_plan (frame_at t lists es (frame_start t n)) (list_turn t lists es n).list) (frame_start t n) (length (get_or (frame_at t lists es (frame_start t n)).lists (list_turn t lists es n).list []))
+  at_end : SMachineAt (list_plan (frame_at t lists es (frame_start t n)) (list_turn t lists es n).list) (frame_start t n) (length (get_or (frame_at t lists es (frame_start t n)).lists (list_turn t lists es n).list []))
       (leg_at (frame_at t lists es (frame_start t n)) (suc (list_turn t lists es n).list)).from r
-  at_end = subst (λ d. DeskAt (list_plan p j) f (length (get_or p.lists j [])) d r) (sym leg_is) ends
+  at_end = subst (λ d. SMachineAt (list_plan p j) f (length (get_or p.lists j [])) d r) (sym leg_is) ends
 
   instant_is : frame_start t n + (leg_at (frame_at t lists es (frame_start t n)) (suc (list_turn t lists es n).list)).from ≡ suc n
   instant_is = let z = past t lists es run n in omega (arith, leg_is, z)
@@ -127,11 +127,11 @@ module _ (t : Tables) (lists : List (List SInstr)) (es : List Event) (run : IsFe
       ap (drop (leg_at p j).known) (take_map g (leg_at p (suc j)).known p.jobs) ∙ drop_map g (leg_at p j).known (take (leg_at p (suc j)).known p.jobs)
 
   gone : CanBegin r (suc n - r.start) (more_jobs (frame_at t lists es (frame_start t n)) (list_turn t lists es n).list) (more_lengths (frame_at t lists es (frame_start t n)) (list_turn t lists es n).list)
-      × DeskAt (list_plan (frame_at t lists es (frame_start t n)) (suc (list_turn t lists es n).list)) (frame_start t n) 0 (leg_at (frame_at t lists es (frame_start t n)) (suc (list_turn t lists es n).list)).from
+      × SMachineAt (list_plan (frame_at t lists es (frame_start t n)) (suc (list_turn t lists es n).list)) (frame_start t n) 0 (leg_at (frame_at t lists es (frame_start t n)) (suc (list_turn t lists es n).list)).from
       (added r (suc n) (more_jobs (frame_at t lists es (frame_start t n)) (list_turn t lists es n).list) (more_lengths (frame_at t lists es (frame_start t n)) (list_turn t lists es n).list))
   gone =
-      subst (λ a. CanBegin r (a - r.start) (more_jobs p j) (more_lengths p j) × DeskAt (list_plan p (suc j)) f 0 (leg_at p (suc j)).from (added r a (more_jobs p j) (more_lengths p j))) instant_is
-      (desks_go_on p j f r followed least most at_end)
+      subst (λ a. CanBegin r (a - r.start) (more_jobs p j) (more_lengths p j) × SMachineAt (list_plan p (suc j)) f 0 (leg_at p (suc j)).from (added r a (more_jobs p j) (more_lengths p j))) instant_is
+      (s_machines_go_on p j f r followed least most at_end)
 
   kept_same : (q : ℕ) (k : Job) → slice_get (more_jobs (frame_at t lists es (frame_start t n)) (list_turn t lists es n).list) q ≡ Some k → k.present ≡ true
       → get_or (kept_lengths takes (more_jobs (frame_at t lists es (frame_start t n)) (list_turn t lists es n).list)) q 0 ≡ get_or (more_lengths (frame_at t lists es (frame_start t n)) (list_turn t lists es n).list) q 0
@@ -155,9 +155,9 @@ module _ (t : Tables) (lists : List (List SInstr)) (es : List Event) (run : IsFe
         most = λ q k at present. let z = kept_same q k at present in let y = c.most q k at present in omega (arith, z, y);
       }
 
-  desk : DeskAt (list_plan (frame_at t lists es (frame_start t n)) (suc (list_turn t lists es n).list)) (frame_start t n) 0 (leg_at (frame_at t lists es (frame_start t n)) (suc (list_turn t lists es n).list)).from
+  s_machine : SMachineAt (list_plan (frame_at t lists es (frame_start t n)) (suc (list_turn t lists es n).list)) (frame_start t n) 0 (leg_at (frame_at t lists es (frame_start t n)) (suc (list_turn t lists es n).list)).from
       (added r (suc n) (more_jobs (frame_at t lists es (frame_start t n)) (list_turn t lists es n).list) (kept_lengths takes (more_jobs (frame_at t lists es (frame_start t n)) (list_turn t lists es n).list)))
-  desk =
+  s_machine =
       let d = gone.1 in
       let ns = kept_lengths takes js in
       let make : List ℕ → Point = λ ws. record { time = suc n - r.start; left = r.point.left ++ ws } in
@@ -177,23 +177,23 @@ module _ (t : Tables) (lists : List (List SInstr)) (es : List Event) (run : IsFe
   later_can : (r.start ≤ suc n) × CanBegin r (suc n - r.start) (new_jobs t (modes_at t es (suc n)) (suc n % frame_of t) (length r.jobs)) (kept_lengths takes (new_jobs t (modes_at t es (suc n)) (suc n % frame_of t) (length r.jobs)))
   later_can = (let down = past t lists es run n in omega (arith, ends.start, down), subst (λ ks. CanBegin r (suc n - r.start) ks (kept_lengths takes ks)) jobs_are can)
 
-  later_desk : DeskAt (list_turn t lists es (suc n)).plan (list_turn t lists es (suc n)).frame 0 (suc n - (list_turn t lists es (suc n)).frame) (list_begun t (modes_at t es (suc n)) takes (suc n) r)
-  later_desk =
+  later_s_machine : SMachineAt (list_turn t lists es (suc n)).plan (list_turn t lists es (suc n)).frame 0 (suc n - (list_turn t lists es (suc n)).frame) (list_begun t (modes_at t es (suc n)) takes (suc n) r)
+  later_s_machine =
       let first = new_jobs t (modes_at t es (suc n)) (suc n % frame_of t) 0 in
       let new = new_jobs t (modes_at t es (suc n)) (suc n % frame_of t) (length r.jobs) in
       let own : added r (suc n) js (kept_lengths takes js) ≡ list_begun t (modes_at t es (suc n)) takes (suc n) r =
       ap (λ ks. added r (suc n) ks (kept_lengths takes ks)) jobs_are
       ∙ sym (ap (λ b. cond b (round_begun (suc n) first (kept_lengths takes first)) (added r (suc n) new (kept_lengths takes new))) (ne_eqb (suc n % frame_of t) 0 more)) in
       let next : list_turn t lists es (suc n) ≡ turn_of t lists es f (suc j) = ap₂ (turn_of t lists es) frame_is list_is in
-      subst (DeskAt (list_turn t lists es (suc n)).plan (list_turn t lists es (suc n)).frame 0 (suc n - (list_turn t lists es (suc n)).frame)) own
-      (subst (λ (w : Turn). DeskAt w.plan w.frame 0 (suc n - w.frame) (added r (suc n) js (kept_lengths takes js))) (sym next)
-      (subst (λ d. DeskAt (list_plan p (suc j)) f 0 d (added r (suc n) js (kept_lengths takes js))) leg_is desk))
+      subst (SMachineAt (list_turn t lists es (suc n)).plan (list_turn t lists es (suc n)).frame 0 (suc n - (list_turn t lists es (suc n)).frame)) own
+      (subst (λ (w : Turn). SMachineAt w.plan w.frame 0 (suc n - w.frame) (added r (suc n) js (kept_lengths takes js))) (sym next)
+      (subst (λ d. SMachineAt (list_plan p (suc j)) f 0 d (added r (suc n) js (kept_lengths takes js))) leg_is s_machine))
 
 pub lists_are_begun : ListsAreBegun
 lists_are_begun t lists es run at takes r here takes_are ends = elim (apart (at % frame_of t) 0) [
   | inl e ↦ (
     record { first = λ z. first_can t lists es run at here e takes takes_are; more = λ z. absurd (omega (arith, e, z)) },
-    first_desk t lists es run at here e takes takes_are r,
+    first_s_machine t lists es run at here e takes takes_are r,
   )
   | inr d ↦ behind at here takes_are ends d
 ]
@@ -203,10 +203,10 @@ lists_are_begun t lists es run at takes r here takes_are ends = elim (apart (at 
     some (suc a) d = omega arith
 
     behind : (at : ℕ) → (list_turn t lists es at).frame + (list_turn t lists es at).from ≡ at → ((i u : ℕ) → at ≤ u → get_or takes i 0 ≡ took t es i u) → IsAtEnd t lists es at r → at % frame_of t ≢ 0
-        → (let u = list_turn t lists es at in CanStart t (modes_at t es at) takes at r × DeskAt u.plan u.frame 0 (at - u.frame) (list_begun t (modes_at t es at) takes at r))
+        → (let u = list_turn t lists es at in CanStart t (modes_at t es at) takes at r × SMachineAt u.plan u.frame 0 (at - u.frame) (list_begun t (modes_at t es at) takes at r))
     behind zero here takes_are ends d = absurd (d (let z : 0 % frame_of t ≡ 0 = omega arith in z))
     behind (suc n) here takes_are ends d =
         let at_end = ends (some (suc n % frame_of t) d) in (
           record { first = λ z. absurd (d z); more = λ z. later_can t lists es run n here d takes takes_are r at_end },
-          later_desk t lists es run n here d takes takes_are r at_end,
+          later_s_machine t lists es run n here d takes takes_are r at_end,
         )

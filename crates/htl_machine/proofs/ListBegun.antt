@@ -13,7 +13,7 @@ use Rattle.htl_walk.specs.Paths as paths
 use Rattle.htl_walk.specs.Refinement.{HaveLengths, AreWithinWorst}
 use Rattle.htl_walk.specs.Walk.{Point, InForm, first_point}
 use Rattle.htl_smach.specs.Rounds.{Round, round_begun, added}
-use Rattle.htl_smach.proofs.Telling.{stands_begun}
+use Rattle.htl_smach.proofs.RoundRecords.{stands_begun}
 use Rattle.htl_refine.specs.BegunJobs.{new_jobs}
 use Rattle.htl_refine.specs.FrameRuns.{Frame, frame_modes, frame_places, frame_at}
 use Rattle.htl_refine.specs.ListPlans.{no_leg, leg_at, front_of, list_start}
@@ -22,12 +22,12 @@ use Rattle.htl_refine.specs.ServedFrames.{IsFeasibleRun}
 use Rattle.htl_refine.proofs.Fronts.{take_map, take_work}
 use Rattle.htl_refine.proofs.NewJobs.{first_jobs}
 use Rattle.htl_machine.specs.FramePlacing.{frame_start}
-use Rattle.htl_machine.specs.Follows.{DeskAt}
+use Rattle.htl_machine.specs.Follows.{SMachineAt}
 use Rattle.htl_machine.specs.ListBegun.{list_begun}
 use Rattle.htl_machine.specs.ListTurns.{Turn, IsListed}
 use Rattle.htl_machine.specs.RunLists.{list_turn}
 use Rattle.htl_machine.specs.Starting.{kept_lengths}
-use Rattle.htl_machine.proofs.Desking.{none_released}
+use Rattle.htl_machine.proofs.SMachineInstants.{none_released}
 use Rattle.htl_machine.proofs.ListStarts.{leg_knows}
 use Rattle.htl_machine.proofs.NextLists.{offset, first_next}
 use Rattle.htl_machine.proofs.RunLists.{past, serving, stands, there, from_is, are_listed}
@@ -116,15 +116,15 @@ module _ (t : Tables) (lists : List (List SInstr)) (es : List Event) (run : IsFe
       subst (λ ns. AreWithinWorst (new_jobs t (modes_at t es at) (at % frame_of t) 0) ns) (sym lengths_kept) (subst (λ js. AreWithinWorst js u.plan.lengths) jobs_are listed.most),
     )
 
-    pub first_desk : (r : Round) → DeskAt (list_turn t lists es at).plan (list_turn t lists es at).frame 0 (at - (list_turn t lists es at).frame) (list_begun t (modes_at t es at) takes at r)
-    first_desk r =
+    pub first_s_machine : (r : Round) → SMachineAt (list_turn t lists es at).plan (list_turn t lists es at).frame 0 (at - (list_turn t lists es at).frame) (list_begun t (modes_at t es at) takes at r)
+    first_s_machine r =
         let js = new_jobs t (modes_at t es at) (at % frame_of t) 0 in
         let own : round_begun u.frame u.plan.jobs u.plan.lengths ≡ list_begun t (modes_at t es at) takes at r =
         ap (λ s. round_begun s u.plan.jobs u.plan.lengths) starts_at ∙ ap₂ (round_begun at) jobs_are (sym lengths_kept)
         ∙ sym (ap (λ b. cond b (round_begun at js (kept_lengths takes js)) (added r at (new_jobs t (modes_at t es at) (at % frame_of t) (length r.jobs)) (kept_lengths takes (new_jobs t (modes_at t es at) (at % frame_of t) (length r.jobs))))) (eq-eqb (at % frame_of t) 0 zero_is)) in
         let none : at - u.frame ≡ 0 = omega (arith, starts_at) in
-        subst (DeskAt u.plan u.frame 0 (at - u.frame)) own
-        (subst (λ d. DeskAt u.plan u.frame 0 d (round_begun u.frame u.plan.jobs u.plan.lengths)) (sym none)
+        subst (SMachineAt u.plan u.frame 0 (at - u.frame)) own
+        (subst (λ d. SMachineAt u.plan u.frame 0 d (round_begun u.frame u.plan.jobs u.plan.lengths)) (sym none)
         (record {
           start = refl;
           jobs = refl;

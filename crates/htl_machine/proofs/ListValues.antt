@@ -21,7 +21,7 @@ use Rattle.htl_machine.specs.Turns.{finished_in}
 use Rattle.htl_machine.specs.Values.{InvStands, ValuesFollow, HasPlaces, HasReadInputs}
 use Rattle.htl_machine.specs.Worlds.{effects, all_writes, with_sensors}
 use Rattle.htl_machine.proofs.Carrying.{follows_on, after_shape, holds_values}
-use Rattle.htl_machine.proofs.Desking.{count_within}
+use Rattle.htl_machine.proofs.SMachineInstants.{count_within}
 use Rattle.htl_machine.proofs.FramesGoOn.{finished_carried}
 use Rattle.htl_machine.proofs.FrameValues.{all_ready, count_grows, records_follow}
 use Rattle.htl_machine.proofs.FrameValues as by_frames

@@ -9,7 +9,7 @@ use Rattle.htl_walk.specs.Walk as walks
 use Rattle.htl_walk.specs.Walk.{Point, finish}
 use Rattle.htl_smach.specs.declared.left.Left.{Left}
 use Rattle.htl_smach.specs.Rounds.{told_from}
-use Rattle.htl_smach.proofs.Telling.{told_from-take}
+use Rattle.htl_smach.proofs.RoundRecords.{told_from-take}
 use Rattle.htl_refine.specs.ListPlans.{ListPlan as Plan, list_walk}
 use Rattle.htl_refine.specs.RecordCounts.{count_left_before, done_by}
 use Rattle.htl_console.specs.declared.shown.Shown.{Shown}

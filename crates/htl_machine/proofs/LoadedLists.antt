@@ -13,7 +13,7 @@ use Rattle.htl_walk.specs.declared.schedule.SInstr.{SInstr}
 use Rattle.htl_refine.specs.Records.{AreTookWithin}
 use Rattle.htl_refine.specs.ServedFrames.{IsFeasibleRun}
 use Rattle.htl_refine.proofs.RootSelection.{roots_some}
-use Rattle.htl_machine.specs.Casts.{IsCast}
+use Rattle.htl_machine.specs.JobsSoFar.{AreJobsSoFar}
 use Rattle.htl_machine.specs.Follows.{IsLoaded}
 use Rattle.htl_machine.specs.ListTurns.{Turn, AreTurns, AreListed}
 use Rattle.htl_machine.specs.Recording.{AreOf}
@@ -72,8 +72,8 @@ module _ (t : Tables) (schedules : List (List SInstr)) (loaded : IsLoaded t sche
     loaded_run h e = run_of (some_roots t h e)
 
     -- nobody stands where there is no module
-    no_cast : t.modules ≡ [] → (n : ℕ) → IsCast t (state t es n).stays 0 n []
-    no_cast e n =
+    no_jobs_so_far : t.modules ≡ [] → (n : ℕ) → AreJobsSoFar t (state t es n).stays 0 n []
+    no_jobs_so_far e n =
         record {
           has = λ i x s st. absurd (let less = (standing_at t loaded.range es n).known _ _ st.in_round in omega (arith, less, ap (λ (us : List Module). length us) e));
           stands = λ p j at here late. not_some j at;
@@ -88,7 +88,7 @@ module _ (t : Tables) (schedules : List (List SInstr)) (loaded : IsLoaded t sche
           frames =
               record {
                 past = λ n. omega arith;
-                casts = λ n. no_cast e n;
+                jobs_so_far = λ n. no_jobs_so_far e n;
                 runs = λ n. record { rises = tt; meets = λ p j at here. not_some j at; late = λ p f less fin. absurd (omega (arith, less)); open_yet = λ k p l at o fin. not_some l at; known = λ k p l at o fin early. not_some l at };
                 on = λ n. inr (refl, refl, λ p j at. at);
               };

@@ -15,13 +15,13 @@ use Rattle.htl_machine.proofs.Tying.{replay}
 use Rattle.htl_refine.specs.Records.{AreTookWithin}
 use Rattle.htl_machine.specs.Plans.{with_records, next_world}
 use Rattle.htl_machine.specs.RunLists.{turn_at}
-use Rattle.htl_machine.specs.Follows.{Held, DeskStands, UpTo, IsLoaded}
+use Rattle.htl_machine.specs.Follows.{RunState, SMachineStands, UpTo, IsLoaded}
 use Rattle.htl_machine.specs.Leaving.{Leaves}
 use Rattle.htl_machine.specs.Recording.{Records}
 use Rattle.htl_machine.specs.ListTurns.{left_before, Turn, turn_walk}
 use Rattle.htl_emach.specs.Contents.{Content}
 use Rattle.htl_machine.proofs.Shaping.{has_places}
-use Rattle.htl_machine.proofs.Desking.{desk_opens}
+use Rattle.htl_machine.proofs.SMachineInstants.{s_machine_opens}
 use Rattle.htl_machine.proofs.Standing.{standing_before}
 use Rattle.htl_machine.proofs.FrameValues.{count_grows}
 use Rattle.htl_machine.proofs.ListValues.{values_now}
@@ -35,11 +35,11 @@ replay_same t code [] w = refl
 replay_same t code (d ∷ ds) w = replay_same t code ds (running.effect_at t (slice_get code.instrs d.address) w)
 
 -- the loop of records does what the list before owes
-pub records_are : (t : Tables) (turn : ℕ → Turn) (n : ℕ) (r0 r1 : Round) (w0 w1 : Content) → (turn n).frame ≤ suc n → DeskStands (turn n).plan (turn n).frame (suc n) r0
+pub records_are : (t : Tables) (turn : ℕ → Turn) (n : ℕ) (r0 r1 : Round) (w0 w1 : Content) → (turn n).frame ≤ suc n → SMachineStands (turn n).plan (turn n).frame (suc n) r0
     → Records t r0 w0 r1 w1 (turn n).plan.schedule (suc n) → w1 ≡ with_records t turn (suc n) w0
 records_are t turn n r0 r1 w0 w1 past f rec =
     let u = turn n in
-    (rec u.plan u.frame (left_before u (suc n)) (suc n - u.frame) refl past (count_grows (suc n - u.frame) (suc (suc n) - u.frame) (turn_walk u) (omega arith)) (desk_opens u.plan u.frame (suc n) r0 f)).1
+    (rec u.plan u.frame (left_before u (suc n)) (suc n - u.frame) refl past (count_grows (suc n - u.frame) (suc (suc n) - u.frame) (turn_walk u) (omega arith)) (s_machine_opens u.plan u.frame (suc n) r0 f)).1
 
 -- and it leaves the records
 pub records_leave : (t : Tables) (r0 r1 : Round) (w0 w1 : Content) (code : List SInstr) (at : ℕ) → Records t r0 w0 r1 w1 code at → Leaves r0 r1 code at
@@ -51,7 +51,7 @@ module _ (t : Tables) (code : ECode) (schedules : List (List SInstr)) (loaded : 
   turn = turn_at t schedules es
 
   -- the values that the switch phase asks for
-  pub switch_values : (m : Held) (w1 w2 w3 : Content) → UpTo t schedules es now m → w1 ≡ with_records t turn now m.world → w2 ≡ running.replay t code (phase_path t code es now 1) w1 → w3 ≡ with_sensors t (sense t es) now w2
+  pub switch_values : (m : RunState) (w1 w2 w3 : Content) → UpTo t schedules es now m → w1 ≡ with_records t turn now m.world → w2 ≡ running.replay t code (phase_path t code es now 1) w1 → w3 ≡ with_sensors t (sense t es) now w2
       → w3.values ≡ (state t es now).values
   switch_values m w1 w2 w3 up a b c =
       ap (λ (z : Content). z.values) c

@@ -27,12 +27,12 @@ use Rattle.htl_refine.specs.RecordCounts.{count_left_before}
 use Rattle.htl_refine.specs.Records.{AreTookWithin}
 use Rattle.htl_machine.specs.declared.numbering.ListAt.{ListAt}
 use Rattle.htl_machine.specs.Calls.{GoesBy}
-use Rattle.htl_machine.specs.Follows.{IsLoaded, DeskAt, DeskStands, DeskFollows}
+use Rattle.htl_machine.specs.Follows.{IsLoaded, SMachineAt, SMachineStands, SMachineFollows}
 use Rattle.htl_machine.specs.Leaving.{due_by, Leaves}
-use Rattle.htl_machine.specs.Readiness.{desk_replay, desk_at}
+use Rattle.htl_machine.specs.Readiness.{s_machine_replay, s_machine_at}
 use Rattle.htl_machine.specs.Recording.{Records}
 use Rattle.htl_machine.specs.Texts.{some_records, turn_old_records}
-use Rattle.htl_machine.specs.Tellings.{tell_all}
+use Rattle.htl_machine.specs.ReleaseFlags.{raise_all}
 use Rattle.htl_machine.specs.Timing.{some_round_begins}
 use Rattle.htl_machine.specs.Worlds.{all_reads}
 use Rattle.htl_machine.specs.ListTurns.{Turn, AreTurns, AreListed, turn_walk}
@@ -40,8 +40,8 @@ use Rattle.htl_machine.specs.RunLists.{turn_at, turn_by, list_turn}
 use Rattle.htl_machine.specs.ListBegun.{IsAtEnd}
 use Rattle.htl_machine.specs.StandingList.{turn_list}
 use Rattle.htl_machine.proofs.Alone.{stands_nowhere}
-use Rattle.htl_machine.proofs.Desking.{desk_closes, not_running}
-use Rattle.htl_machine.proofs.Instants.{with_flags, desk_left, desk_on, desk_ends}
+use Rattle.htl_machine.proofs.SMachineInstants.{s_machine_closes, not_running}
+use Rattle.htl_machine.proofs.Instants.{with_flags, s_machine_left, s_machine_on, s_machine_ends}
 use Rattle.htl_machine.proofs.Meeting.{records_leave}
 use Rattle.htl_machine.proofs.Periodic.{begins_never}
 use Rattle.htl_machine.proofs.Premises.{first_left, first_over}
@@ -57,11 +57,11 @@ IsScheduleOf turn (Some q) zero steps = steps ≡ []
 IsScheduleOf turn (Some q) (suc n) steps = steps ≡ (turn n).plan.schedule
 
 -- the S machine that stands nowhere is told nothing
-nowhere_told : (code : ECode) (ds : List Done) → desk_replay code ds no_round ≡ no_round
+nowhere_told : (code : ECode) (ds : List Done) → s_machine_replay code ds no_round ≡ no_round
 nowhere_told code [] = refl
-nowhere_told code (d ∷ ds) = ap (desk_replay code ds) (by_instr (slice_get code.instrs d.address)) ∙ nowhere_told code ds
+nowhere_told code (d ∷ ds) = ap (s_machine_replay code ds) (by_instr (slice_get code.instrs d.address)) ∙ nowhere_told code ds
   where
-    by_instr : (o : Option EInstr) → desk_at o no_round ≡ no_round
+    by_instr : (o : Option EInstr) → s_machine_at o no_round ≡ no_round
     by_instr None = refl
     by_instr (Some (I.Release a)) = refl
     by_instr (Some (I.CallWrite a b)) = refl
@@ -92,11 +92,11 @@ no_records : (p : Plan) (s k n : ℕ) → p.schedule ≡ [] → some_records p s
 no_records p s k n e = ap (λ (is : List SInstr). take n (drop k (told_from s 0 (walk_from p.jobs is p.first)))) e ∙ none_left s n k
 
 -- wherever the S machine is told to stand, it owes these
-pub owed_are : (turn : ℕ → Turn) (o : Option ℕ) (now : ℕ) (steps : List SInstr) (desk : Round) → DeskFollows turn o now desk → IsScheduleOf turn o now steps
-    → (p : Plan) (s k d : ℕ) → p.schedule ≡ steps → DeskAt p s k d desk → some_records p s k (due_by p s now - k) ≡ owed_before turn o now
-owed_are turn None now steps desk f own p s k d same at = no_records p s k (due_by p s now - k) (same ∙ own)
-owed_are turn (Some q) zero steps desk f own p s k d same at = no_records p s k (due_by p s 0 - k) (same ∙ own)
-owed_are turn (Some q) (suc n) steps desk f own p s k d same at =
+pub owed_are : (turn : ℕ → Turn) (o : Option ℕ) (now : ℕ) (steps : List SInstr) (s_machine : Round) → SMachineFollows turn o now s_machine → IsScheduleOf turn o now steps
+    → (p : Plan) (s k d : ℕ) → p.schedule ≡ steps → SMachineAt p s k d s_machine → some_records p s k (due_by p s now - k) ≡ owed_before turn o now
+owed_are turn None now steps s_machine f own p s k d same at = no_records p s k (due_by p s now - k) (same ∙ own)
+owed_are turn (Some q) zero steps s_machine f own p s k d same at = no_records p s k (due_by p s 0 - k) (same ∙ own)
+owed_are turn (Some q) (suc n) steps s_machine f own p s k d same at =
     let u = turn n in
     let text : List walks.Left → ℕ → ℕ → List Left = λ ls s k. take (count_left_before (suc (suc n) - s) ls - k) (drop k (told_from s 0 ls)) in
     let walked : list_walk p ≡ turn_walk u =
@@ -136,27 +136,27 @@ module _ (t : Tables) (code : ECode) (schedules : List (List SInstr)) (loaded : 
   never_first q root b = going q 0 root b (listed q root).first
 
   -- the S machine after an instant at which none begins
-  pub going_desk : (o : Option ℕ) → hyper t ≡ o → (now : ℕ) (steps : List SInstr) (desk d1 d2 : Round) (w0 w1 : Content) → some_round_begins t now ≡ false → DeskFollows (turn_at t schedules es) o now desk
-      → IsScheduleOf (turn_at t schedules es) o now steps → rounds.Stands desk steps → Records t desk w0 d1 w1 steps now → d2 ≡ desk_replay code (phase_path t code es now 3) d1 → rounds.Stands d2 steps
-      → DeskFollows (turn_at t schedules es) o (suc now) d2
-  going_desk None root now steps desk d1 d2 w0 w1 b f own st rec told st' =
+  pub going_s_machine : (o : Option ℕ) → hyper t ≡ o → (now : ℕ) (steps : List SInstr) (s_machine d1 d2 : Round) (w0 w1 : Content) → some_round_begins t now ≡ false → SMachineFollows (turn_at t schedules es) o now s_machine
+      → IsScheduleOf (turn_at t schedules es) o now steps → rounds.Stands s_machine steps → Records t s_machine w0 d1 w1 steps now → d2 ≡ s_machine_replay code (phase_path t code es now 3) d1 → rounds.Stands d2 steps
+      → SMachineFollows (turn_at t schedules es) o (suc now) d2
+  going_s_machine None root now steps s_machine d1 d2 w0 w1 b f own st rec told st' =
       told
-      ∙ ap (desk_replay code (phase_path t code es now 3))
-      (stands_nowhere 0 d1 (first_left t now desk d1 w0 w1 f (subst (rounds.Stands desk) own st) (subst (λ c. Records t desk w0 d1 w1 c now) own rec)))
+      ∙ ap (s_machine_replay code (phase_path t code es now 3))
+      (stands_nowhere 0 d1 (first_left t now s_machine d1 w0 w1 f (subst (rounds.Stands s_machine) own st) (subst (λ c. Records t s_machine w0 d1 w1 c now) own rec)))
       ∙ nowhere_told code (phase_path t code es now 3)
-  going_desk (Some q) root zero steps desk d1 d2 w0 w1 b f own st rec told st' = absurd (never_first q root b)
-  going_desk (Some q) root (suc n) steps desk d1 d2 w0 w1 b f own st rec told st' =
+  going_s_machine (Some q) root zero steps s_machine d1 d2 w0 w1 b f own st rec told st' = absurd (never_first q root b)
+  going_s_machine (Some q) root (suc n) steps s_machine d1 d2 w0 w1 b f own st rec told st' =
       let u = turn (suc n) in
       let same : turn (suc n) ≡ turn n = same_turn q n root b in
       let is : steps ≡ u.plan.schedule = own ∙ sym (ap (λ (z : Turn). z.plan.schedule) same) in
-      let here : DeskStands u.plan u.frame (suc n) desk = subst (λ (z : Turn). DeskStands z.plan z.frame (suc n) desk) (sym same) f in
+      let here : SMachineStands u.plan u.frame (suc n) s_machine = subst (λ (z : Turn). SMachineStands z.plan z.frame (suc n) s_machine) (sym same) f in
       let past : u.frame ≤ suc n = turns.frames.past (suc n) in
-      let leaves : Leaves desk d1 u.plan.schedule (suc n) = records_leave t desk d1 w0 w1 u.plan.schedule (suc n) (subst (λ c. Records t desk w0 d1 w1 c (suc n)) is rec) in
-      let at = desk_left u.plan u.frame (suc n) desk d1 past here leaves in
-      let flagged : d2 ≡ with_flags d1 (tell_all u.plan.jobs (all_reads t (suc n) (state t es (suc n)).stays) d1.released) =
+      let leaves : Leaves s_machine d1 u.plan.schedule (suc n) = records_leave t s_machine d1 w0 w1 u.plan.schedule (suc n) (subst (λ c. Records t s_machine w0 d1 w1 c (suc n)) is rec) in
+      let at = s_machine_left u.plan u.frame (suc n) s_machine d1 past here leaves in
+      let flagged : d2 ≡ with_flags d1 (raise_all u.plan.jobs (all_reads t (suc n) (state t es (suc n)).stays) d1.released) =
       told ∙ read_phase_tells t es turn turns (suc n) (due_by u.plan u.frame (suc n)) (suc n - u.frame) d1 ((listed q root).each (suc n)) at (omega arith) code loaded.range reads in
-      subst (DeskFollows turn (Some q) (suc (suc n))) (sym flagged)
-      (desk_on t loaded.range es turn turns (suc n) d1 at (subst (λ z. rounds.Stands z u.plan.schedule) flagged (subst (rounds.Stands d2) is st')))
+      subst (SMachineFollows turn (Some q) (suc (suc n))) (sym flagged)
+      (s_machine_on t loaded.range es turn turns (suc n) d1 at (subst (λ z. rounds.Stands z u.plan.schedule) flagged (subst (rounds.Stands d2) is st')))
 
   -- the same list stands
   pub going_on : (o : Option ℕ) → hyper t ≡ o → (now : ℕ) (last : Option ListAt) → some_round_begins t now ≡ false → GoesBy (turn_at t schedules es) o now last → GoesBy (turn_at t schedules es) o (suc now) last
@@ -167,36 +167,36 @@ module _ (t : Tables) (code : ECode) (schedules : List (List SInstr)) (loaded : 
   -- ---- where a list begins
 
   -- the list before is over
-  list_ends : (q n : ℕ) → hyper t ≡ Some q → (steps : List SInstr) (desk d1 : Round) (w0 w1 : Content) → some_round_begins t (suc n) ≡ true → DeskStands (turn_at t schedules es n).plan (turn_at t schedules es n).frame (suc n) desk
-      → steps ≡ (turn_at t schedules es n).plan.schedule → Records t desk w0 d1 w1 steps (suc n)
-      → DeskAt (turn_at t schedules es n).plan (turn_at t schedules es n).frame (length (turn_at t schedules es n).plan.schedule) (suc n - (turn_at t schedules es n).frame) d1
-  list_ends q n root steps desk d1 w0 w1 b f own rec =
+  list_ends : (q n : ℕ) → hyper t ≡ Some q → (steps : List SInstr) (s_machine d1 : Round) (w0 w1 : Content) → some_round_begins t (suc n) ≡ true → SMachineStands (turn_at t schedules es n).plan (turn_at t schedules es n).frame (suc n) s_machine
+      → steps ≡ (turn_at t schedules es n).plan.schedule → Records t s_machine w0 d1 w1 steps (suc n)
+      → SMachineAt (turn_at t schedules es n).plan (turn_at t schedules es n).frame (length (turn_at t schedules es n).plan.schedule) (suc n - (turn_at t schedules es n).frame) d1
+  list_ends q n root steps s_machine d1 w0 w1 b f own rec =
       elim ((listed q root).on n) [
         | inl same ↦
             let begun : (turn (suc n)).frame + (turn (suc n)).from ≡ suc n = eqb-true ((turn (suc n)).frame + (turn (suc n)).from) (suc n) (sym (loaded_begins t schedules loaded es within q root (suc n)) ∙ b) in
             absurd (omega (arith, begun, ap (λ (u : Turn). u.frame + u.from) same, (turns.each n).past))
         | inr next ↦
-            desk_ends t loaded.range es turn turns n desk d1 next.1 ((listed q root).each n) f
-            (records_leave t desk d1 w0 w1 (turn n).plan.schedule (suc n) (subst (λ c. Records t desk w0 d1 w1 c (suc n)) own rec))
+            s_machine_ends t loaded.range es turn turns n s_machine d1 next.1 ((listed q root).each n) f
+            (records_leave t s_machine d1 w0 w1 (turn n).plan.schedule (suc n) (subst (λ c. Records t s_machine w0 d1 w1 c (suc n)) own rec))
       ]
 
-  pub list_over : (o : Option ℕ) → hyper t ≡ o → (now : ℕ) (steps : List SInstr) (desk d1 : Round) (w0 w1 : Content) → some_round_begins t now ≡ true → DeskFollows (turn_at t schedules es) o now desk
-      → IsScheduleOf (turn_at t schedules es) o now steps → rounds.Stands desk steps → Records t desk w0 d1 w1 steps now → (d1.running ≡ false) × IsAtEnd t schedules es now d1
-  list_over None root now steps desk d1 w0 w1 b f own st rec = absurd (let h = beginning now b in let e : Some h.0 ≡ None = sym h.1 ∙ root in let y : ⊥ = cc in y)
-  list_over (Some q) root zero steps desk d1 w0 w1 b f own st rec =
-      (first_over t 0 desk d1 w0 w1 f (subst (rounds.Stands desk) own st) (subst (λ c. Records t desk w0 d1 w1 c 0) own rec), λ more. absurd (let z : 0 % frame_of t ≡ 0 = omega arith in omega (arith, z, more)))
-  list_over (Some q) root (suc n) steps desk d1 w0 w1 b f own st rec =
-      let at = list_ends q n root steps desk d1 w0 w1 b f own rec in
+  pub list_over : (o : Option ℕ) → hyper t ≡ o → (now : ℕ) (steps : List SInstr) (s_machine d1 : Round) (w0 w1 : Content) → some_round_begins t now ≡ true → SMachineFollows (turn_at t schedules es) o now s_machine
+      → IsScheduleOf (turn_at t schedules es) o now steps → rounds.Stands s_machine steps → Records t s_machine w0 d1 w1 steps now → (d1.running ≡ false) × IsAtEnd t schedules es now d1
+  list_over None root now steps s_machine d1 w0 w1 b f own st rec = absurd (let h = beginning now b in let e : Some h.0 ≡ None = sym h.1 ∙ root in let y : ⊥ = cc in y)
+  list_over (Some q) root zero steps s_machine d1 w0 w1 b f own st rec =
+      (first_over t 0 s_machine d1 w0 w1 f (subst (rounds.Stands s_machine) own st) (subst (λ c. Records t s_machine w0 d1 w1 c 0) own rec), λ more. absurd (let z : 0 % frame_of t ≡ 0 = omega arith in omega (arith, z, more)))
+  list_over (Some q) root (suc n) steps s_machine d1 w0 w1 b f own st rec =
+      let at = list_ends q n root steps s_machine d1 w0 w1 b f own rec in
       let v = turn n in
       let here : turn_at t schedules es n ≡ list_turn t schedules es n = ap (λ o. turn_by o t schedules es n) root in
-      (not_running v.plan v.frame (suc n - v.frame) d1 at, λ more. subst (λ (v : Turn). DeskAt v.plan v.frame (length v.plan.schedule) (suc n - v.frame) d1) here at)
+      (not_running v.plan v.frame (suc n - v.frame) d1 at, λ more. subst (λ (v : Turn). SMachineAt v.plan v.frame (length v.plan.schedule) (suc n - v.frame) d1) here at)
 
   -- the S machine after the instant
-  pub begun_desk : (now : ℕ) (d2 : Round) (q : ℕ) → hyper t ≡ Some q
-      → (let u = turn_at t schedules es now in DeskAt u.plan u.frame (due_by u.plan u.frame now) (suc now - u.frame) d2) → DeskFollows (turn_at t schedules es) (hyper t) (suc now) d2
-  begun_desk now d2 q root at =
+  pub begun_s_machine : (now : ℕ) (d2 : Round) (q : ℕ) → hyper t ≡ Some q
+      → (let u = turn_at t schedules es now in SMachineAt u.plan u.frame (due_by u.plan u.frame now) (suc now - u.frame) d2) → SMachineFollows (turn_at t schedules es) (hyper t) (suc now) d2
+  begun_s_machine now d2 q root at =
       let u = turn now in
-      subst (λ o. DeskFollows (turn_at t schedules es) o (suc now) d2) (sym root) (desk_closes u.plan u.frame now d2 at)
+      subst (λ o. SMachineFollows (turn_at t schedules es) o (suc now) d2) (sym root) (s_machine_closes u.plan u.frame now d2 at)
 
   -- the list that stands
   pub begun_goes : (now : ℕ) (list : Option ListAt) (q : ℕ) → hyper t ≡ Some q → list ≡ Some (turn_list (turn_at t schedules es now)) → GoesBy (turn_at t schedules es) (hyper t) (suc now) list

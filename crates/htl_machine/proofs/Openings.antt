@@ -36,11 +36,11 @@ opens_second t code es show sel old steps at w0 w1 w f0 f1 f u result h puts =
 
 pub opened : (t : Tables) (code : ECode) (es : List Event) (at : ℕ) (steps : List SInstr) (shows values : List ℤ) (r0 r1 n : Round) (w0 w1 w2 w3 : Content) → Records t r0 w0 r1 w1 steps at → n ≡ told_in_phase 1 code (phase_path t code es at 1) r1
     → w2 ≡ replay t code (phase_path t code es at 1) w1 → AreShown t shows values at w2 w3 → IsOpened t code es at steps shows values r0 w0 n w3
-opened t code es at steps shows values r0 r1 n w0 w1 w2 w3 records desk writes sensors =
+opened t code es at steps shows values r0 r1 n w0 w1 w2 w3 records s_machine writes sensors =
     record {
       w1 = w1;
       w2 = w2;
-      records = subst (λ z. Records t r0 w0 z w1 steps at) (sym desk) records;
+      records = subst (λ z. Records t r0 w0 z w1 steps at) (sym s_machine) records;
       writes = writes;
       sensors = sensors;
     }

@@ -50,7 +50,7 @@ passing_start m es from w faults b =
     }
 
 pub passing_on : {T E : Type 0} (m0 m m1 : Seen) (es : List Event) (from at : ℕ) (w0 w w1 : Option (List ℕ)) (f0 f f1 : ℕ) (x : T) → from ≤ at → IsPassing m0 m es from at w0 w f0 f
-    → Puts {T = T} {E = E} w w1 f f1 (lines_of m.object es m.show at) (Ok x) → IsUpTo m1 es (suc at) → IsSameRun m m1 → m1.held.reading ≡ m.held.reading → IsPassing m0 m1 es from (suc at) w0 w1 f0 f1
+    → Puts {T = T} {E = E} w w1 f f1 (lines_of m.object es m.show at) (Ok x) → IsUpTo m1 es (suc at) → IsSameRun m m1 → m1.run_state.reading ≡ m.run_state.reading → IsPassing m0 m1 es from (suc at) w0 w1 f0 f1
 passing_on m0 m m1 es from at w0 w w1 f0 f f1 x begun p puts next same read =
     let lines : lines_of m.object es m.show at ≡ lines_of m0.object es m0.show at =
     ap (λ o. lines_of o es m.show at) p.same.object ∙ ap (λ s. lines_of m0.object es s at) p.same.show in
@@ -83,7 +83,7 @@ passing_whole m0 m es from at to w0 w f0 f x all p =
     }
 
 -- a machine stands before the instant of its reading, however that is named
-pub up_to_reading : (m : Seen) (es : List Event) (n : ℕ) → n ≡ m.held.reading → Follows m es → IsUpTo m es n
+pub up_to_reading : (m : Seen) (es : List Event) (n : ℕ) → n ≡ m.run_state.reading → Follows m es → IsUpTo m es n
 up_to_reading m es n read f = subst (λ k. IsUpTo m es k) (sym read) (record { kept = f.kept; before = f.before })
 
 -- ---- for every list of events that the machine followed at first
@@ -93,7 +93,7 @@ all_start m from w faults = record { passing = λ es b. passing_start m es from 
 
 pub all_on : {T E : Type 0} (m0 m m1 : Seen) (from at : ℕ) (w0 w w1 : Option (List ℕ)) (f0 f f1 : ℕ) (x : T) → from ≤ at → ArePassing m0 m from at w0 w f0 f
     → ((es : List Event) → IsUpTo m es at → Puts {T = T} {E = E} w w1 f f1 (lines_of m.object es m.show at) (Ok x)) → ((es : List Event) → IsUpTo m es at → IsUpTo m1 es (suc at))
-    → IsSameRun m m1 → m1.held.reading ≡ m.held.reading → ArePassing m0 m1 from (suc at) w0 w1 f0 f1
+    → IsSameRun m m1 → m1.run_state.reading ≡ m.run_state.reading → ArePassing m0 m1 from (suc at) w0 w1 f0 f1
 all_on {T = T} {E = E} m0 m m1 from at w0 w w1 f0 f f1 x begun p puts next same read =
     record {
       passing = λ es b. (let q = p.passing es b in passing_on {T = T} {E = E} m0 m m1 es from at w0 w w1 f0 f f1 x begun q (puts es q.before) (next es q.before) same read);

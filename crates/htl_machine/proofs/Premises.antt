@@ -6,17 +6,17 @@ use Rattle.htl_walk.specs.Walk.{job_at}
 use Rattle.htl_walk.proofs.Work.{job_there}
 use Rattle.htl_smach.specs.Rounds as rounds
 use Rattle.htl_smach.specs.Rounds.{Round, IsTold, no_round}
-use Rattle.htl_smach.proofs.Telling.{pending_is}
+use Rattle.htl_smach.proofs.RoundRecords.{pending_is}
 use Rattle.htl_refine.specs.ListPlans.{ListPlan as Plan, list_walk}
 use Rattle.htl_refine.specs.RecordCounts.{count_left_before}
 use Rattle.htl_emach.specs.Contents.{Content}
-use Rattle.htl_machine.specs.Follows.{DeskStands, DeskAt}
+use Rattle.htl_machine.specs.Follows.{SMachineStands, SMachineAt}
 use Rattle.htl_machine.specs.Recording.{Records}
-use Rattle.htl_machine.proofs.Desking.{desk_opens}
+use Rattle.htl_machine.proofs.SMachineInstants.{s_machine_opens}
 use Rattle.htl_machine.proofs.Releasing.{flag_at}
 
 -- no release before the instant is left untold
-pub at_told : (p : Plan) (s k now : ℕ) (r : Round) → s ≤ now → DeskAt p s k (now - s) r → IsTold r now
+pub at_told : (p : Plan) (s k now : ℕ) (r : Round) → s ≤ now → SMachineAt p s k (now - s) r → IsTold r now
 at_told p s k now r past f q pend =
     let h = pending_is r q pend in
     let here : (job_at p.jobs q).present ≡ true = ap (λ js. (job_at js q).present) (sym f.jobs) ∙ h.present in
@@ -25,16 +25,16 @@ at_told p s k now r past f q pend =
     let late : now - s ≤ (job_at p.jobs q).release = ltb-false (job_at p.jobs q).release (now - s) (sym (ap (λ b. b && ltb (job_at p.jobs q).release (now - s)) here) ∙ flag) in
     omega (arith, late, f.start, ap (λ js. (job_at js q).release) f.jobs, past)
 
-pub stands_told : (p : Plan) (s now : ℕ) (r : Round) → s ≤ now → DeskStands p s now r → IsTold r now
-stands_told p s now r past f = at_told p s (count_left_before (now - s) (list_walk p)) now r past (desk_opens p s now r f)
+pub stands_told : (p : Plan) (s now : ℕ) (r : Round) → s ≤ now → SMachineStands p s now r → IsTold r now
+stands_told p s now r past f = at_told p s (count_left_before (now - s) (list_walk p)) now r past (s_machine_opens p s now r f)
 
 -- where there is no list
 abbrev pub no_list : Plan
 no_list = record { jobs = []; lengths = []; first = record { time = 0; left = [] }; schedule = [] }
 
 -- before the first instant there is none
-pub first_desk : (r : Round) → r ≡ no_round → rounds.Stands r [] → DeskAt no_list 0 0 0 r
-first_desk r none st =
+pub first_s_machine : (r : Round) → r ≡ no_round → rounds.Stands r [] → SMachineAt no_list 0 0 0 r
+first_s_machine r none st =
     record {
       start = ap (λ (z : Round). z.start) none;
       jobs = ap (λ (z : Round). z.jobs) none;
@@ -48,10 +48,10 @@ first_desk r none st =
 
 -- so no record is left, and the world stays
 pub first_recorded : (t : Tables) (at : ℕ) (r d : Round) (w v : Content) → r ≡ no_round → rounds.Stands r [] → Records t r w d v [] at → v ≡ w
-first_recorded t at r d w v none st rec = (rec no_list 0 0 0 refl (omega arith) (omega arith) (first_desk r none st)).1
+first_recorded t at r d w v none st rec = (rec no_list 0 0 0 refl (omega arith) (omega arith) (first_s_machine r none st)).1
 
-pub first_left : (t : Tables) (at : ℕ) (r d : Round) (w v : Content) → r ≡ no_round → rounds.Stands r [] → Records t r w d v [] at → DeskAt no_list 0 0 0 d
-first_left t at r d w v none st rec = (rec no_list 0 0 0 refl (omega arith) (omega arith) (first_desk r none st)).0
+pub first_left : (t : Tables) (at : ℕ) (r d : Round) (w v : Content) → r ≡ no_round → rounds.Stands r [] → Records t r w d v [] at → SMachineAt no_list 0 0 0 d
+first_left t at r d w v none st rec = (rec no_list 0 0 0 refl (omega arith) (omega arith) (first_s_machine r none st)).0
 
 pub first_over : (t : Tables) (at : ℕ) (r d : Round) (w v : Content) → r ≡ no_round → rounds.Stands r [] → Records t r w d v [] at → d.running ≡ false
 first_over t at r d w v none st rec = (first_left t at r d w v none st rec).running

@@ -17,7 +17,7 @@ use Rattle.htl_console.specs.Shows.{shows_jobs}
 use Rattle.htl_machine.specs.declared.tally.Tally.{Tally}
 use Rattle.htl_machine.specs.Counts.{one_record, with_records}
 use Rattle.htl_refine.specs.ListPlans.{ListPlan as Plan, list_walk}
-use Rattle.htl_machine.specs.Follows.{DeskAt}
+use Rattle.htl_machine.specs.Follows.{SMachineAt}
 use Rattle.htl_machine.specs.Leaving.{due_by}
 use Rattle.htl_machine.specs.Recording.{IsRecording}
 use Rattle.htl_machine.specs.Printing.{Prints, Counted, IsPrinting}
@@ -26,7 +26,7 @@ use Rattle.htl_machine.specs.RecordLines.{place_lines, job_lines, record_lines}
 use Rattle.htl_walk.proofs.Finishes.{some_same}
 use Rattle.htl_refine.proofs.RecordOrder.{not_some}
 use Rattle.htl_machine.proofs.Putting.{Puts-first}
-use Rattle.htl_machine.proofs.Desking.{next_some, next_none, told_get}
+use Rattle.htl_machine.proofs.SMachineInstants.{next_some, next_none, told_get}
 
 -- ---- the lines of one record
 
@@ -104,7 +104,7 @@ record IsNext (p : Plan) (s k at : ℕ) (r : Round) (l : Left) : Type 0 where
   past : k ≤ r.place
   there : slice_get (drop k (told_from s 0 (list_walk p))) (r.place - k) ≡ Some l
 
-next_is : (p : Plan) (s k m d at : ℕ) (r : Round) (code : List SInstr) (l : Left) → p.schedule ≡ code → s ≤ at → k ≤ m → m ≤ due_by p s at → DeskAt p s m d r → next_left r code at ≡ Some l → IsNext p s k at r l
+next_is : (p : Plan) (s k m d at : ℕ) (r : Round) (code : List SInstr) (l : Left) → p.schedule ≡ code → s ≤ at → k ≤ m → m ≤ due_by p s at → SMachineAt p s m d r → next_left r code at ≡ Some l → IsNext p s k at r l
 next_is p s k m d at r code l same past low few was e =
     let less : m < due_by p s at = not_all (order m (due_by p s at) few) in
     let x = next_some p s at d past m r was less in
@@ -129,7 +129,7 @@ next_is p s k m d at r code l same past low few was e =
     not_all (inr b) = not_some l (sym (next_none p s at d past m r was b) ∙ ap (λ c. next_left r c at) same ∙ e)
 
 -- none is left
-all_given : (p : Plan) (s m d at : ℕ) (r : Round) (code : List SInstr) → p.schedule ≡ code → s ≤ at → m ≤ due_by p s at → DeskAt p s m d r → next_left r code at ≡ None → r.place ≡ due_by p s at
+all_given : (p : Plan) (s m d at : ℕ) (r : Round) (code : List SInstr) → p.schedule ≡ code → s ≤ at → m ≤ due_by p s at → SMachineAt p s m d r → next_left r code at ≡ None → r.place ≡ due_by p s at
 all_given p s m d at r code same past few was e = elim (order m (due_by p s at) few) [
   | inr b ↦ was.place ∙ b
   | inl a ↦ let x = next_some p s at d past m r was a in not_some (told s m x.0) (sym e ∙ ap (λ c. next_left r c at) (sym same) ∙ x.2)

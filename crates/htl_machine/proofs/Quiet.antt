@@ -44,19 +44,19 @@ use Rattle.htl_machine.specs.Passing.{IsPassing, ArePassing, IsOnward}
 use Rattle.htl_machine.specs.Programs.{lines_of, schedules_of}
 use Rattle.htl_machine.specs.Recording.{Records}
 use Rattle.htl_machine.specs.Running.{replay}
-use Rattle.htl_machine.specs.Readiness.{desk_replay}
+use Rattle.htl_machine.specs.Readiness.{s_machine_replay}
 use Rattle.htl_machine.specs.Sensors.{AreShown, ShowsNothing}
 use Rattle.htl_machine.specs.Texts.{e_line, record_text, records_of, some_records}
 use Rattle.htl_machine.specs.Timing.{some_round_begins}
 use Rattle.htl_machine.proofs.Accepted.{accepted_is_loaded}
-use Rattle.htl_machine.proofs.After.{closed_values, desk_goes_on, lines_are_composed, next_up_to, passed_of, records_go_on, list_goes_on, text_goes_on}
+use Rattle.htl_machine.proofs.After.{closed_values, s_machine_goes_on, lines_are_composed, next_up_to, passed_of, records_go_on, list_goes_on, text_goes_on}
 use Rattle.htl_machine.proofs.Agreeing.{modes_open}
 use Rattle.htl_machine.proofs.Composing.{counts_after}
 use Rattle.htl_machine.proofs.Passing.{up_to_more}
 use Rattle.htl_machine.proofs.Ready.{ready}
 use Rattle.htl_machine.proofs.Recording.{recording_start, recording_end}
-use Rattle.htl_machine.proofs.Telling.{up_to_none}
-use Rattle.htl_machine.proofs.TellingLoaded.{loaded_records}
+use Rattle.htl_machine.proofs.InstantRecords.{up_to_none}
+use Rattle.htl_machine.proofs.LoadedRecords.{loaded_records}
 use Rattle.htl_machine.proofs.Wholly.{modes_read}
 use Rattle.htl_machine.specs.Quiet.{IsQuiet, AreQuiet, IsEmpty, PassOver}
 use Rattle.htl_refine.proofs.BeginningsEnd.{beginnings_end}
@@ -140,7 +140,7 @@ sensors_stay t shows at w long same =
 
 -- ---- where no trigger is due
 
-module _ (m : Seen) (es : List Event) (n : ℕ) (accepted : IsAccepted m.object) (read : m.held.reading ≤ suc n) (u : IsUpTo m es (suc n)) (q : IsQuiet m (suc n)) where
+module _ (m : Seen) (es : List Event) (n : ℕ) (accepted : IsAccepted m.object) (read : m.run_state.reading ≤ suc n) (u : IsUpTo m es (suc n)) (q : IsQuiet m (suc n)) where
   abbrev t : Tables
   t = m.object.tables
 
@@ -183,10 +183,10 @@ module _ (m : Seen) (es : List Event) (n : ℕ) (accepted : IsAccepted m.object)
   is_ready : IsReadyAt m es (suc n) (schedule_by m.object [] m.list)
   is_ready = ready m es (suc n) [] accepted u read refl
 
-  recorded : Records m.object.tables m.held.desk m.held.world m.held.desk m.held.world (schedule_by m.object [] m.list) (suc n)
+  recorded : Records m.object.tables m.run_state.s_machine m.run_state.world m.run_state.s_machine m.run_state.world (schedule_by m.object [] m.list) (suc n)
   recorded =
-      recording_end t m.held.desk m.held.desk m.held.desk m.held.world m.held.world m.held.desk.jobs steps (suc n)
-      (recording_start t m.held.desk m.held.world m.held.desk.jobs steps (suc n) is_ready.form is_ready.stands is_ready.told refl u.before.values.shaped) q.leaves refl
+      recording_end t m.run_state.s_machine m.run_state.s_machine m.run_state.s_machine m.run_state.world m.run_state.world m.run_state.s_machine.jobs steps (suc n)
+      (recording_start t m.run_state.s_machine m.run_state.world m.run_state.s_machine.jobs steps (suc n) is_ready.form is_ready.stands is_ready.told refl u.before.values.shaped) q.leaves refl
 
   -- no record is due
   none_due : due_by is_ready.plan is_ready.start (suc n) - is_ready.place ≡ 0
@@ -195,23 +195,23 @@ module _ (m : Seen) (es : List Event) (n : ℕ) (accepted : IsAccepted m.object)
       let one : is_ready.place ≡ due_by is_ready.plan is_ready.start (suc n) = sym is_ready.was.place ∙ all.place in
       omega (arith, one)
 
-  opened : IsOpened m.object.tables m.object.ecode es (suc n) (schedule_by m.object [] m.list) m.held.shows m.held.world.values m.held.desk m.held.world m.held.desk m.held.world
+  opened : IsOpened m.object.tables m.object.ecode es (suc n) (schedule_by m.object [] m.list) m.run_state.shows m.run_state.world.values m.run_state.s_machine m.run_state.world m.run_state.s_machine m.run_state.world
   opened =
       record {
-        w1 = m.held.world;
-        w2 = m.held.world;
+        w1 = m.run_state.world;
+        w2 = m.run_state.world;
         records = recorded;
-        writes = sym (ap (λ (ds : List Done). replay t code ds m.held.world) still.writes);
-        sensors = sensors_stay t m.held.shows (suc n) m.held.world u.before.values.shaped.values.count q.sensors;
+        writes = sym (ap (λ (ds : List Done). replay t code ds m.run_state.world) still.writes);
+        sensors = sensors_stay t m.run_state.shows (suc n) m.run_state.world u.before.values.shaped.values.count q.sensors;
       }
 
-  world_same : m.held.world
-      ≡ replay m.object.tables m.object.ecode (phase_path m.object.tables m.object.ecode es (suc n) 3) (replay m.object.tables m.object.ecode (phase_path m.object.tables m.object.ecode es (suc n) 2) m.held.world)
+  world_same : m.run_state.world
+      ≡ replay m.object.tables m.object.ecode (phase_path m.object.tables m.object.ecode es (suc n) 3) (replay m.object.tables m.object.ecode (phase_path m.object.tables m.object.ecode es (suc n) 2) m.run_state.world)
   world_same =
-      sym (ap (λ (ds : List Done). replay t code ds (replay t code (phase_path t code es (suc n) 2) m.held.world)) still.reads ∙ ap (λ (ds : List Done). replay t code ds m.held.world) still.switches)
+      sym (ap (λ (ds : List Done). replay t code ds (replay t code (phase_path t code es (suc n) 2) m.run_state.world)) still.reads ∙ ap (λ (ds : List Done). replay t code ds m.run_state.world) still.switches)
 
-  desk_same : m.held.desk ≡ desk_replay m.object.ecode (phase_path m.object.tables m.object.ecode es (suc n) 3) m.held.desk
-  desk_same = sym (ap (λ (ds : List Done). desk_replay code ds m.held.desk) still.reads)
+  s_machine_same : m.run_state.s_machine ≡ s_machine_replay m.object.ecode (phase_path m.object.tables m.object.ecode es (suc n) 3) m.run_state.s_machine
+  s_machine_same = sym (ap (λ (ds : List Done). s_machine_replay code ds m.run_state.s_machine) still.reads)
 
   abbrev tally : Tally
   tally = record { jobs = m.jobs; e = m.e; s = m.s }
@@ -223,9 +223,9 @@ module _ (m : Seen) (es : List Event) (n : ℕ) (accepted : IsAccepted m.object)
 
   pub goes_on_so : IsUpTo m es (suc (suc n))
   goes_on_so =
-      next_up_to m es (suc n) accepted read u m.held.world m.held.desk m.standing m.list [] [] tally tally
-      (passed_of m es (suc n) accepted read u steps is_ready m.held.world.values u.before.values.values.values m.held.desk m.held.world opened m.held.world m.standing world_same still.ends u.before.values.safe u.before.values.shaped)
-      (desk_goes_on m es (suc n) accepted read u steps [] refl refl is_ready m.held.desk m.held.desk m.held.world none_begins recorded desk_same is_ready.stands)
+      next_up_to m es (suc n) accepted read u m.run_state.world m.run_state.s_machine m.standing m.list [] [] tally tally
+      (passed_of m es (suc n) accepted read u steps is_ready m.run_state.world.values u.before.values.values.values m.run_state.s_machine m.run_state.world opened m.run_state.world m.standing world_same still.ends u.before.values.safe u.before.values.shaped)
+      (s_machine_goes_on m es (suc n) accepted read u steps [] refl refl is_ready m.run_state.s_machine m.run_state.s_machine m.run_state.world none_begins recorded s_machine_same is_ready.stands)
       (list_goes_on m es (suc n) accepted read u none_begins)
       none_left
       refl
@@ -241,7 +241,7 @@ module _ (m : Seen) (es : List Event) (n : ℕ) (accepted : IsAccepted m.object)
 
   values_same : (state m.object.tables es (suc n)).values ≡ (state m.object.tables es n).values
   values_same =
-      sym (closed_values m es (suc n) accepted read u steps is_ready m.held.world.values u.before.values.values.values m.held.desk m.held.world opened)
+      sym (closed_values m es (suc n) accepted read u steps is_ready m.run_state.world.values u.before.values.values.values m.run_state.s_machine m.run_state.world opened)
       ∙ ap (λ (w : Content). w.values) (sym world_same) ∙ u.before.values.values.values
 
   modes_same : (k : ℕ) → k < length m.object.tables.modules → mode_in_state (state m.object.tables es (suc n)) k ≡ mode_in_state (state m.object.tables es n) k
@@ -269,7 +269,7 @@ module _ (m : Seen) (es : List Event) (n : ℕ) (accepted : IsAccepted m.object)
 
 -- ---- one instant, and any number
 
-step : (m : Seen) (es : List Event) (now : ℕ) → IsAccepted m.object → m.held.reading ≤ now → IsUpTo m es now → IsQuiet m now → IsUpTo m es (suc now)
+step : (m : Seen) (es : List Event) (now : ℕ) → IsAccepted m.object → m.run_state.reading ≤ now → IsUpTo m es now → IsQuiet m now → IsUpTo m es (suc now)
 step m es zero accepted read u q = absurd (omega (arith, q.later))
 step m es (suc n) accepted read u q = goes_on_so m es n accepted read u q
 
@@ -280,7 +280,7 @@ shown_up_to m es now show u = record { kept = u.kept; before = record { values =
 shown_quiet : (m : Seen) (now : ℕ) (show : Shown) → IsQuiet m now → IsQuiet (record m { show = show }) now
 shown_quiet m now show q = record { later = q.later; triggers = q.triggers; leaves = q.leaves; sensors = q.sensors }
 
-nothing : (m : Seen) (es : List Event) (now : ℕ) → IsAccepted m.object → m.held.reading ≤ now → IsUpTo m es now → IsQuiet m now → IsEmpty m.object es now
+nothing : (m : Seen) (es : List Event) (now : ℕ) → IsAccepted m.object → m.run_state.reading ≤ now → IsUpTo m es now → IsQuiet m now → IsEmpty m.object es now
 nothing m es zero accepted read u q = absurd (omega (arith, q.later))
 nothing m es (suc n) accepted read u q =
     record {
@@ -289,7 +289,7 @@ nothing m es (suc n) accepted read u q =
       lines = λ show. no_text (record m { show = show }) es n accepted read (shown_up_to m es (suc n) show u) (shown_quiet m (suc n) show q);
     }
 
-pub pass_over : (m : Seen) (es : List Event) (from to : ℕ) → IsAccepted m.object → IsUpTo m es from → m.held.reading ≤ from → from ≤ to → AreQuiet m from to → PassOver m es from to
+pub pass_over : (m : Seen) (es : List Event) (from to : ℕ) → IsAccepted m.object → IsUpTo m es from → m.run_state.reading ≤ from → from ≤ to → AreQuiet m from to → PassOver m es from to
 pass_over m es from to accepted u read order q =
     record {
       follows = subst (IsUpTo m es) (let z : from + (to - from) ≡ to = omega (arith, order) in z) (follow (to - from) (omega (arith, order)));
@@ -311,8 +311,8 @@ pass_over m es from to accepted u read order q =
 -- ---- what the code knows
 
 -- from an instant on nothing is due up to the first trigger, the first instruction that is left and the first sensor that is shown another value
-pub quiet_from : (m : Seen) (from shown triggered due : ℕ) (e s : Option ℕ) → 0 < from → m.standing.running ≡ None → IsNext m.standing e → rounds.IsNextLeave m.held.desk (schedule_by m.object [] m.list) s
-    → ShowsNothing m.object.tables m.held.shows m.held.world.values (length m.object.tables.comms) from shown
+pub quiet_from : (m : Seen) (from shown triggered due : ℕ) (e s : Option ℕ) → 0 < from → m.standing.running ≡ None → IsNext m.standing e → rounds.IsNextLeave m.run_state.s_machine (schedule_by m.object [] m.list) s
+    → ShowsNothing m.object.tables m.run_state.shows m.run_state.world.values (length m.object.tables.comms) from shown
     → triggered ≤ shown → IfSome e (λ n. (at : ℕ) → from ≤ at → at < triggered → at < n) → due ≤ triggered → IfSome s (λ n. (at : ℕ) → from ≤ at → at < due → at < n) → AreQuiet m from due
 quiet_from m from shown triggered due e s some idle next leaves same sooner before_e soonest before_s = λ at past less.
     record {
@@ -328,8 +328,8 @@ quiet_from m from shown triggered due e s some idle next leaves same sooner befo
     triggers None None is h before at past less other due = absurd (h other due)
     triggers (Some n) None is h before at past less other due = omega (arith, before at past less, h.1 other due)
 
-    leaves_none : (s : Option ℕ) → rounds.IsNextLeave m.held.desk (schedule_by m.object [] m.list) s → IfSome s (λ n. (at : ℕ) → from ≤ at → at < due → at < n) → (at : ℕ) → from ≤ at → at < due
-        → next_left m.held.desk (schedule_by m.object [] m.list) at ≡ None
+    leaves_none : (s : Option ℕ) → rounds.IsNextLeave m.run_state.s_machine (schedule_by m.object [] m.list) s → IfSome s (λ n. (at : ℕ) → from ≤ at → at < due → at < n) → (at : ℕ) → from ≤ at → at < due
+        → next_left m.run_state.s_machine (schedule_by m.object [] m.list) at ≡ None
     leaves_none None h before at past less = h at
     leaves_none (Some n) h before at past less = h.1 at (before at past less)
 
@@ -338,11 +338,11 @@ pub nothing_due : (m : Seen) (from : ℕ) → AreQuiet m from 0
 nothing_due m from = λ at past less. absurd (omega (arith, less))
 
 -- the reading doesn't decide what is due
-pub quiet_then : (m : Seen) (to from due : ℕ) → AreQuiet m from due → AreQuiet (record m { held = record m.held { reading = to } }) from due
+pub quiet_then : (m : Seen) (to from due : ℕ) → AreQuiet m from due → AreQuiet (record m { run_state = record m.run_state { reading = to } }) from due
 quiet_then m to from due q = λ at past less. (let z = q at past less in record { later = z.later; triggers = z.triggers; leaves = z.leaves; sensors = z.sensors })
 
 -- what was written up to an instant is what is written up to a later one, where nothing is due between
-pub passing_quiet : (m0 m : Seen) (es : List Event) (from at to : ℕ) (w0 w : Option (List ℕ)) (f0 f : ℕ) → IsAccepted m.object → m.held.reading ≤ at → from ≤ at → at ≤ to → AreQuiet m at to
+pub passing_quiet : (m0 m : Seen) (es : List Event) (from at to : ℕ) (w0 w : Option (List ℕ)) (f0 f : ℕ) → IsAccepted m.object → m.run_state.reading ≤ at → from ≤ at → at ≤ to → AreQuiet m at to
     → IsPassing m0 m es from at w0 w f0 f → IsPassing m0 m es from to w0 w f0 f
 passing_quiet m0 m es from at to w0 w f0 f accepted read begun order q p =
     let over = pass_over m es at to accepted p.before read order q in
@@ -366,11 +366,11 @@ passing_quiet m0 m es from at to w0 w f0 f accepted read begun order q p =
         ∙ ap (λ (ls : List ℕ). up_to (λ n. lines_of m0.object es m0.show (from + n)) (at - from) ++ ls) (up_to_none (λ k. lines_of m0.object es m0.show (from + (at - from + k))) (to - at) (none over))
         ∙ append-nil (up_to (λ n. lines_of m0.object es m0.show (from + n)) (at - from))
 
-pub all_quiet : (m0 m : Seen) (from at to : ℕ) (w0 w : Option (List ℕ)) (f0 f : ℕ) → IsAccepted m.object → m.held.reading ≤ at → from ≤ at → at ≤ to → AreQuiet m at to
+pub all_quiet : (m0 m : Seen) (from at to : ℕ) (w0 w : Option (List ℕ)) (f0 f : ℕ) → IsAccepted m.object → m.run_state.reading ≤ at → from ≤ at → at ≤ to → AreQuiet m at to
     → ArePassing m0 m from at w0 w f0 f → ArePassing m0 m from to w0 w f0 f
 all_quiet m0 m from at to w0 w f0 f accepted read begun order q p =
     record { passing = λ es b. passing_quiet m0 m es from at to w0 w f0 f accepted read begun order q (p.passing es b); same = p.same; read = p.read }
 
-pub gone_to : (m0 m : Seen) (at due to until : ℕ) (w0 w : Option (List ℕ)) (f0 f : ℕ) → IsOnward m0 m at due to w0 w f0 f → at ≤ until → until ≤ due → ArePassing m0 m m0.held.reading until w0 w f0 f
+pub gone_to : (m0 m : Seen) (at due to until : ℕ) (w0 w : Option (List ℕ)) (f0 f : ℕ) → IsOnward m0 m at due to w0 w f0 f → at ≤ until → until ≤ due → ArePassing m0 m m0.run_state.reading until w0 w f0 f
 gone_to m0 m at due to until w0 w f0 f g later quiet =
-    all_quiet m0 m m0.held.reading at until w0 w f0 f g.accepted (omega (arith, g.done.read, g.begun)) g.begun later (λ n past less. g.quiet n past (omega (arith, less, quiet))) g.done
+    all_quiet m0 m m0.run_state.reading at until w0 w f0 f g.accepted (omega (arith, g.done.read, g.begun)) g.begun later (λ n past less. g.quiet n past (omega (arith, less, quiet))) g.done

@@ -19,7 +19,7 @@ use Rattle.htl_walk.specs.declared.schedule.Schedule.{Schedule}
 use Rattle.htl_walk.specs.Walk.{InForm}
 use Rattle.htl_machine.specs.declared.numbering.ListAt.{ListAt}
 use Rattle.htl_machine.specs.Calls.{Seen, IsUpTo, GoesBy, schedule_by}
-use Rattle.htl_machine.specs.Follows.{DeskFollows, DeskStands, IsLoaded}
+use Rattle.htl_machine.specs.Follows.{SMachineFollows, SMachineStands, IsLoaded}
 use Rattle.htl_machine.specs.Instant.{IsReadyAt}
 use Rattle.htl_machine.specs.Leaving.{due_by}
 use Rattle.htl_machine.specs.Plans.{with_records}
@@ -32,9 +32,9 @@ use Rattle.htl_machine.specs.StandingList.{node_by, turn_list}
 use Rattle.htl_machine.proofs.RunLists.{node_below}
 use Rattle.htl_machine.proofs.Accepted.{accepted_is_loaded}
 use Rattle.htl_machine.proofs.Alone.{records_nothing}
-use Rattle.htl_machine.proofs.Desking.{desk_opens}
+use Rattle.htl_machine.proofs.SMachineInstants.{s_machine_opens}
 use Rattle.htl_machine.proofs.Meeting.{records_are}
-use Rattle.htl_machine.proofs.Premises.{no_list, stands_told, first_desk, first_recorded}
+use Rattle.htl_machine.proofs.Premises.{no_list, stands_told, first_s_machine, first_recorded}
 use Rattle.htl_machine.proofs.LoadedLists.{loaded_listed, loaded_of, loaded_turns, loaded_code, loaded_run}
 use Rattle.htl_machine.proofs.FrameValues.{count_grows}
 use Rattle.htl_refine.proofs.RecordOrder.{not_some}
@@ -62,13 +62,13 @@ node_known o es n q accepted within e =
     omega (arith, below, ap (λ k. (turn_by k o.tables (schedules_of o) es n).node) e, accepted.spelled.formed.ranges.schedules)
 
 module _ (m : Seen) (es : List Event) (now : ℕ) where
-  ready_none : m.held.desk ≡ no_round
+  ready_none : m.run_state.s_machine ≡ no_round
       → ((w : Content) → w ≡ with_records m.object.tables (turn_at m.object.tables (schedules_of m.object) es) now w)
       → [] ≡ (list_texts m.object.tables (schedules_of m.object) es m.show (hyper m.object.tables) now).0
       → IsReadyAt m es now []
   ready_none none still text =
-      let stop : m.held.desk.running ≡ false = ap (λ (r : Round). r.running) none in
-      let st : Stands m.held.desk [] = subst (λ (r : Round). Stands r []) (sym none) stands_none in
+      let stop : m.run_state.s_machine.running ≡ false = ap (λ (r : Round). r.running) none in
+      let st : Stands m.run_state.s_machine [] = subst (λ (r : Round). Stands r []) (sym none) stands_none in
       record {
         plan = no_list;
         start = 0;
@@ -77,20 +77,20 @@ module _ (m : Seen) (es : List Event) (now : ℕ) where
         same = refl;
         past = omega arith;
         few = omega arith;
-        was = first_desk m.held.desk none st;
+        was = first_s_machine m.run_state.s_machine none st;
         of = subst (λ (r : Round). AreOf m.object.tables r.jobs) (sym none) (λ p j e f. not_some j e);
         form = λ runs. absurd (let z : ⊥ = cc in z);
         short = omega arith;
         stands = st;
         told = subst (λ (r : Round). IsTold r now) (sym none) (told_none now);
-        recorded = λ d v rec. first_recorded m.object.tables now m.held.desk d m.held.world v none st rec ∙ still m.held.world;
+        recorded = λ d v rec. first_recorded m.object.tables now m.run_state.s_machine d m.run_state.world v none st rec ∙ still m.run_state.world;
         lines = text;
       }
 
 -- ---- where one stands
 
 module _ (m : Seen) (es : List Event) (n q : ℕ) (accepted : IsAccepted m.object) (up : IsUpTo m es (suc n)) (root : hyper m.object.tables ≡ Some q)
-    (f : DeskStands (turn_at m.object.tables (schedules_of m.object) es n).plan (turn_at m.object.tables (schedules_of m.object) es n).frame (suc n) m.held.desk)
+    (f : SMachineStands (turn_at m.object.tables (schedules_of m.object) es n).plan (turn_at m.object.tables (schedules_of m.object) es n).frame (suc n) m.run_state.s_machine)
     (goes : m.list ≡ Some (turn_list (turn_at m.object.tables (schedules_of m.object) es n))) where
   abbrev t : Tables
   t = m.object.tables
@@ -129,36 +129,36 @@ module _ (m : Seen) (es : List Event) (n q : ℕ) (accepted : IsAccepted m.objec
         same = refl;
         past = past;
         few = count_grows (suc n - u.frame) (suc (suc n) - u.frame) (turn_walk u) (omega arith);
-        was = desk_opens u.plan u.frame (suc n) m.held.desk f;
+        was = s_machine_opens u.plan u.frame (suc n) m.run_state.s_machine f;
         of = subst (AreOf t) (sym f.jobs) (loaded_of t (schedules_of m.object) loaded es up.kept.within q root n);
         form = λ runs. (u.to, subst (λ (js : List Job). InForm (length js) u.to u.plan.schedule) (sym f.jobs) listed.form);
         short = short;
         stands = f.stands;
-        told = stands_told u.plan u.frame (suc n) m.held.desk past f;
-        recorded = λ d v rec. records_are t turn n m.held.desk d m.held.world v past f rec;
+        told = stands_told u.plan u.frame (suc n) m.run_state.s_machine past f;
+        recorded = λ d v rec. records_are t turn n m.run_state.s_machine d m.run_state.world v past f rec;
         lines =
             ap (λ o. joined (record_text t m.show u.plan (node_by o)) (some_records u.plan u.frame k (due_by u.plan u.frame (suc n) - k))) goes
             ∙ ap (λ o. (list_texts t (schedules_of m.object) es m.show o (suc n)).0) (sym root);
       }
 
-pub ready : (m : Seen) (es : List Event) (now : ℕ) (idle : List SInstr) → IsAccepted m.object → IsUpTo m es now → m.held.reading ≤ now → idle ≡ [] → IsReadyAt m es now (schedule_by m.object idle m.list)
+pub ready : (m : Seen) (es : List Event) (now : ℕ) (idle : List SInstr) → IsAccepted m.object → IsUpTo m es now → m.run_state.reading ≤ now → idle ≡ [] → IsReadyAt m es now (schedule_by m.object idle m.list)
 ready m es now idle accepted up later nothing =
-    by (hyper m.object.tables) refl now up up.before.records.desk up.before.records.goes
+    by (hyper m.object.tables) refl now up up.before.records.s_machine up.before.records.goes
   where
     none_is : m.list ≡ None → [] ≡ schedule_by m.object idle m.list
     none_is sel = sym (ap (schedule_by m.object idle) sel ∙ nothing)
 
-    by : (o : Option ℕ) → hyper m.object.tables ≡ o → (at : ℕ) → IsUpTo m es at → DeskFollows (turn_at m.object.tables (schedules_of m.object) es) o at m.held.desk → GoesBy (turn_at m.object.tables (schedules_of m.object) es) o at m.list
+    by : (o : Option ℕ) → hyper m.object.tables ≡ o → (at : ℕ) → IsUpTo m es at → SMachineFollows (turn_at m.object.tables (schedules_of m.object) es) o at m.run_state.s_machine → GoesBy (turn_at m.object.tables (schedules_of m.object) es) o at m.list
         → IsReadyAt m es at (schedule_by m.object idle m.list)
-    by None root at u desk goes =
+    by None root at u s_machine goes =
         subst (IsReadyAt m es at) (none_is goes)
-        (ready_none m es at desk (λ w. sym (records_nothing m.object.tables (schedules_of m.object) es root at w))
+        (ready_none m es at s_machine (λ w. sym (records_nothing m.object.tables (schedules_of m.object) es root at w))
         (ap (λ o. (list_texts m.object.tables (schedules_of m.object) es m.show o at).0) (sym root)))
-    by (Some q) root zero u desk goes =
+    by (Some q) root zero u s_machine goes =
         subst (IsReadyAt m es zero) (none_is goes)
-        (ready_none m es zero desk (λ w. refl) (ap (λ o. (list_texts m.object.tables (schedules_of m.object) es m.show o zero).0) (sym root)))
-    by (Some q) root (suc n) u desk goes =
-        subst (IsReadyAt m es (suc n)) (loaded_code m.object.tables (schedules_of m.object) (accepted_is_loaded m.object accepted) es u.kept.within q root n ∙ sym (ap (schedule_by m.object idle) goes)) (ready_list m es n q accepted u root desk goes)
+        (ready_none m es zero s_machine (λ w. refl) (ap (λ o. (list_texts m.object.tables (schedules_of m.object) es m.show o zero).0) (sym root)))
+    by (Some q) root (suc n) u s_machine goes =
+        subst (IsReadyAt m es (suc n)) (loaded_code m.object.tables (schedules_of m.object) (accepted_is_loaded m.object accepted) es u.kept.within q root n ∙ sym (ap (schedule_by m.object idle) goes)) (ready_list m es n q accepted u root s_machine goes)
 
 -- the node whose list stands has a schedule
 pub list_known : (m : Seen) (es : List Event) (now : ℕ) → IsAccepted m.object → IsUpTo m es now → IfSome m.list (λ l. l.node < length m.object.schedules)

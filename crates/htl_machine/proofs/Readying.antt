@@ -8,7 +8,7 @@ use Rattle.htl_ecode.specs.declared.instr.EInstr.{EInstr}
 use Rattle.htl_ecode.specs.declared.instr.EInstr.TheVariants as I
 use Rattle.htl_ecode.specs.Paths.{Done}
 use Rattle.htl_machine.specs.Turns.{position_from}
-use Rattle.htl_machine.specs.Readiness.{made_ready, released_to, desk_does, desk_at, desk_replay}
+use Rattle.htl_machine.specs.Readiness.{made_ready, released_to, s_machine_does, s_machine_at, s_machine_replay}
 
 -- but for flags the round stays
 ready_only : (s : PosState) (r : Round) (p : ℕ) → made_ready s r p ≡ record r { released = (made_ready s r p).released }
@@ -24,7 +24,7 @@ released_only i r = by_place (position_from 0 r.jobs i)
     by_place None = refl
     by_place (Some p) = ready_only (state_of r p) r p
 
-does_only : (i : EInstr) (r : Round) → desk_does i r ≡ record r { released = (desk_does i r).released }
+does_only : (i : EInstr) (r : Round) → s_machine_does i r ≡ record r { released = (s_machine_does i r).released }
 does_only (I.Release i) r = released_only i r
 does_only (I.CallWrite a b) r = refl
 does_only (I.CallRead a b) r = refl
@@ -37,16 +37,16 @@ does_only I.Leave r = refl
 does_only (I.Fork a) r = refl
 does_only I.Return r = refl
 
-pub does_jobs : (i : EInstr) (r : Round) → (desk_does i r).jobs ≡ r.jobs
+pub does_jobs : (i : EInstr) (r : Round) → (s_machine_does i r).jobs ≡ r.jobs
 does_jobs i r = ap (λ (z : Round). z.jobs) (does_only i r)
 
-at_only : (o : Option EInstr) (r : Round) → ((desk_at o r).jobs ≡ r.jobs) × ((desk_at o r).start ≡ r.start)
+at_only : (o : Option EInstr) (r : Round) → ((s_machine_at o r).jobs ≡ r.jobs) × ((s_machine_at o r).start ≡ r.start)
 at_only None r = (refl, refl)
 at_only (Some i) r = (does_jobs i r, ap (λ (z : Round). z.start) (does_only i r))
 
-pub replay_only : (code : ECode) (ds : List Done) (r : Round) → ((desk_replay code ds r).jobs ≡ r.jobs) × ((desk_replay code ds r).start ≡ r.start)
+pub replay_only : (code : ECode) (ds : List Done) (r : Round) → ((s_machine_replay code ds r).jobs ≡ r.jobs) × ((s_machine_replay code ds r).start ≡ r.start)
 replay_only code [] r = (refl, refl)
 replay_only code (d ∷ ds) r =
     let one = at_only (slice_get code.instrs d.address) r in
-    let rest = replay_only code ds (desk_at (slice_get code.instrs d.address) r) in
+    let rest = replay_only code ds (s_machine_at (slice_get code.instrs d.address) r) in
     (rest.0 ∙ one.0, rest.1 ∙ one.1)

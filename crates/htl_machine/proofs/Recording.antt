@@ -17,13 +17,13 @@ use Rattle.htl_emach.specs.Contents.{Content, completed}
 use Rattle.htl_emach.specs.Shapes.{IsShaped}
 use Rattle.htl_refine.specs.ListPlans.{ListPlan as Plan, list_walk}
 use Rattle.htl_machine.specs.Completing.{complete_at, complete_by, run_records}
-use Rattle.htl_machine.specs.Follows.{DeskAt}
+use Rattle.htl_machine.specs.Follows.{SMachineAt}
 use Rattle.htl_machine.specs.Leaving.{due_by}
 use Rattle.htl_machine.specs.Recording.{AreOf, IsJobOf, Records, IsRecording}
 use Rattle.htl_walk.proofs.Finishes.{some_same}
 use Rattle.htl_refine.proofs.RecordOrder.{not_some}
 use Rattle.htl_refine.proofs.FinishingRecords.{last_is}
-use Rattle.htl_machine.proofs.Desking.{next_some, next_none, moves_on, told_get}
+use Rattle.htl_machine.proofs.SMachineInstants.{next_some, next_none, moves_on, told_get}
 use Rattle.htl_machine.proofs.Leaving.{is_running, instr_there, still_pending}
 
 -- one record more, at the end
@@ -86,7 +86,7 @@ recording_step t r0 r n w0 w v jobs code at l h e f st shaped is =
             suc g.0,
             omega (arith, g.1),
             less,
-            subst (λ c. DeskAt p s (suc g.0) d (moved r c)) same (moves_on p s at d past g.0 r g.3 (subst (λ c. rounds.Stands (moved r c) c) (sym same) st')),
+            subst (λ c. SMachineAt p s (suc g.0) d (moved r c)) same (moves_on p s at d past g.0 r g.3 (subst (λ c. rounds.Stands (moved r c) c) (sym same) st')),
             is ∙ worlds p s g.0 k d same past less g.3 g.1 ∙ ap (λ z. complete_by t p.jobs (slice_get (list_walk p) g.0) z) g.4
                 ∙ ap (λ z. complete_by t p.jobs (slice_get (list_walk p) z) (run_records t p.jobs (list_walk p) (g.0 - k) k w0)) (let z : g.0 ≡ k + (g.0 - k) = omega (arith, g.1) in z)
                 ∙ sym (run_more t p.jobs (list_walk p) (g.0 - k) k w0)
@@ -100,7 +100,7 @@ recording_step t r0 r n w0 w v jobs code at l h e f st shaped is =
     i : (i : SInstr) × (slice_get code r.place ≡ Some i)
     i = instr_there r code at l e
 
-    not_all : (p : Plan) (s m d : ℕ) → p.schedule ≡ code → s ≤ at → m ≤ due_by p s at → DeskAt p s m d r → m < due_by p s at
+    not_all : (p : Plan) (s m d : ℕ) → p.schedule ≡ code → s ≤ at → m ≤ due_by p s at → SMachineAt p s m d r → m < due_by p s at
     not_all p s m d same past few was = elim (order m (due_by p s at) few) [
       | inl a ↦ a
       | inr b ↦ not_some l (sym (next_none p s at d past m r was b) ∙ ap (λ c. next_left r c at) same ∙ e)
@@ -110,7 +110,7 @@ recording_step t r0 r n w0 w v jobs code at l h e f st shaped is =
         order a b h = grind arith
 
     -- the answer is the plan's record
-    worlds : (p : Plan) (s m k d : ℕ) → p.schedule ≡ code → s ≤ at → m < due_by p s at → DeskAt p s m d r → k ≤ m → done_with t jobs l w ≡ complete_by t p.jobs (slice_get (list_walk p) m) w
+    worlds : (p : Plan) (s m k d : ℕ) → p.schedule ≡ code → s ≤ at → m < due_by p s at → SMachineAt p s m d r → k ≤ m → done_with t jobs l w ≡ complete_by t p.jobs (slice_get (list_walk p) m) w
     worlds p s m k d same past less was below =
         let x = next_some p s at d past m r was less in
         let one : l ≡ told s m x.0 = some_same _ _ (sym e ∙ ap (λ c. next_left r c at) (sym same) ∙ x.2) in
@@ -128,7 +128,7 @@ recording_end t r0 r n w0 w jobs code at h e f =
       | inr b ↦ b
       | inl a ↦ let x = next_some p s at d past g.0 r g.3 a in not_some (told s g.0 x.0) (sym e ∙ ap (λ c. next_left r c at) (sym same) ∙ x.2)
     ] in (
-      subst (λ z. DeskAt p s (due_by p s at) d z) (sym f) (subst (λ m. DeskAt p s m d r) all g.3),
+      subst (λ z. SMachineAt p s (due_by p s at) d z) (sym f) (subst (λ m. SMachineAt p s m d r) all g.3),
       g.4 ∙ ap (λ z. run_records t p.jobs (list_walk p) (z - k) k w0) all,
     )
   where

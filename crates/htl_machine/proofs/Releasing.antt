@@ -14,15 +14,15 @@ use Rattle.htl_ecode.specs.Chains.{Want, Does, Waits, Turns, Tests, Asks, Arrive
 use Rattle.htl_ecode.specs.Chains as C
 use Rattle.htl_machine.specs.Worlds.{wanted_reads, all_reads}
 use Rattle.htl_machine.specs.Values.{InvStands}
-use Rattle.htl_machine.specs.Casts.{IsCast, HaveWindows}
+use Rattle.htl_machine.specs.JobsSoFar.{AreJobsSoFar, HaveWindows}
 use Rattle.htl_machine.specs.Turns.{position_from}
 use Rattle.htl_machine.specs.Follows.{released_before}
-use Rattle.htl_machine.specs.Tellings.{tell_at, tell_want, tell_all}
+use Rattle.htl_machine.specs.ReleaseFlags.{raise_at, raise_want, raise_all}
 use Rattle.htl_refine.proofs.Standing.{IsStanding}
 use Rattle.htl_walk.proofs.Finishes.{some_same}
 use Rattle.htl_refine.proofs.RecordOrder.{not_some}
 use Rattle.htl_machine.proofs.Asked.{In, AsksFor, asks_left, do_right, asks_joined, joined_asks, asks_up_to, up_to_asks, numbered_in, in_numbered, copied, not_called, among_reads}
-use Rattle.htl_machine.proofs.Casting.{position_some, last_open}
+use Rattle.htl_machine.proofs.JobWindows.{position_some, last_open}
 use Rattle.htl_machine.proofs.Plain.{apart, both}
 
 -- ---- who is asked for
@@ -91,7 +91,7 @@ module _ (t : Tables) (stays : List (Option Stay)) (n now : ℕ) (standing : IsS
 
 data Kind (x : Want) : Type 1 where
   releases : (i : ℕ) → x ≡ Does (I.Release i) → Kind x
-  idles : ((jobs : List Job) (bs : List Bool) → tell_want jobs x bs ≡ bs) → ((i : ℕ) → x ≡ Does (I.Release i) → ⊥) → Kind x
+  idles : ((jobs : List Job) (bs : List Bool) → raise_want jobs x bs ≡ bs) → ((i : ℕ) → x ≡ Does (I.Release i) → ⊥) → Kind x
 
 kind_of : (x : Want) → Kind x
 kind_of (Does (I.Release a)) = releases a refl
@@ -111,29 +111,29 @@ kind_of (Tests k m x) = idles (λ js bs. refl) (λ i e. let z : ⊥ = cc in z)
 kind_of (Asks q) = idles (λ js bs. refl) (λ i e. let z : ⊥ = cc in z)
 kind_of (Arrives x) = idles (λ js bs. refl) (λ i e. let z : ⊥ = cc in z)
 
-tell_length : (o : Option ℕ) (bs : List Bool) → length (tell_at o bs) ≡ length bs
+tell_length : (o : Option ℕ) (bs : List Bool) → length (raise_at o bs) ≡ length bs
 tell_length None bs = refl
 tell_length (Some p) bs = length-set bs p true
 
-want_length : (jobs : List Job) (x : Want) (bs : List Bool) → Kind x → length (tell_want jobs x bs) ≡ length bs
-want_length jobs x bs (releases i e) = ap (λ z. length (tell_want jobs z bs)) e ∙ tell_length (position_from 0 jobs i) bs
+want_length : (jobs : List Job) (x : Want) (bs : List Bool) → Kind x → length (raise_want jobs x bs) ≡ length bs
+want_length jobs x bs (releases i e) = ap (λ z. length (raise_want jobs z bs)) e ∙ tell_length (position_from 0 jobs i) bs
 want_length jobs x bs (idles f g) = ap (λ (z : List Bool). length z) (f jobs bs)
 
-all_length : (jobs : List Job) (ws : List Want) (bs : List Bool) → length (tell_all jobs ws bs) ≡ length bs
+all_length : (jobs : List Job) (ws : List Want) (bs : List Bool) → length (raise_all jobs ws bs) ≡ length bs
 all_length jobs [] bs = refl
-all_length jobs (x ∷ xs) bs = all_length jobs xs (tell_want jobs x bs) ∙ want_length jobs x bs (kind_of x)
+all_length jobs (x ∷ xs) bs = all_length jobs xs (raise_want jobs x bs) ∙ want_length jobs x bs (kind_of x)
 
 -- a flag is that before, or true where the position's invocation is asked for
 abbrev pub Flagged : List Job → List Want → List Bool → ℕ → Type 0
 Flagged jobs ws bs p =
-    (((i : ℕ) → AsksFor (I.Release i) ws → position_from 0 jobs i ≡ Some p → ⊥) × (get_or (tell_all jobs ws bs) p false ≡ get_or bs p false))
-    ⊎ ((i : ℕ) × AsksFor (I.Release i) ws × (position_from 0 jobs i ≡ Some p) × (get_or (tell_all jobs ws bs) p false ≡ true))
+    (((i : ℕ) → AsksFor (I.Release i) ws → position_from 0 jobs i ≡ Some p → ⊥) × (get_or (raise_all jobs ws bs) p false ≡ get_or bs p false))
+    ⊎ ((i : ℕ) × AsksFor (I.Release i) ws × (position_from 0 jobs i ≡ Some p) × (get_or (raise_all jobs ws bs) p false ≡ true))
 
 pub are_flagged : (jobs : List Job) (ws : List Want) (bs : List Bool) (p : ℕ) → p < length bs → Flagged jobs ws bs p
 are_flagged jobs [] bs p h = inl (λ i a e. a, refl)
-are_flagged jobs (x ∷ xs) bs p h = by_kind (kind_of x) (are_flagged jobs xs (tell_want jobs x bs) p (omega (arith, want_length jobs x bs (kind_of x))))
+are_flagged jobs (x ∷ xs) bs p h = by_kind (kind_of x) (are_flagged jobs xs (raise_want jobs x bs) p (omega (arith, want_length jobs x bs (kind_of x))))
   where
-    by_kind : Kind x → Flagged jobs xs (tell_want jobs x bs) p → Flagged jobs (x ∷ xs) bs p
+    by_kind : Kind x → Flagged jobs xs (raise_want jobs x bs) p → Flagged jobs (x ∷ xs) bs p
     by_kind k (inr r) = inr (r.0, inr r.1, r.2, r.3)
     by_kind (idles f g) (inl r) =
         inl (λ i a e. elim a [ inl z ↦ g i z | inr z ↦ r.0 i z e ], r.1 ∙ ap (λ z. get_or z p false) (f jobs bs))
@@ -146,12 +146,12 @@ are_flagged jobs (x ∷ xs) bs p h = by_kind (kind_of x) (are_flagged jobs xs (t
             decide None = inr (λ e. not_some p e)
             decide (Some q) = elim (apart q p) [ inl g ↦ inl (ap (λ z. Some z) g) | inr n ↦ inr (λ e. n (some_same _ _ e)) ]
 
-            put : tell_want jobs x bs ≡ tell_at o bs
-            put = ap (λ z. tell_want jobs z bs) f ∙ ap (λ z. tell_at z bs) e
+            put : raise_want jobs x bs ≡ raise_at o bs
+            put = ap (λ z. raise_want jobs z bs) f ∙ ap (λ z. raise_at z bs) e
 
             by_same : (q : Option ℕ) → (o ≡ Some p) ⊎ (o ≢ Some p) → Flagged jobs (x ∷ xs) bs p
             by_same q (inl g) =
-                inr (i, inl f, e ∙ g, r.1 ∙ ap (λ z. get_or z p false) (put ∙ ap (λ z. tell_at z bs) g) ∙ get_or-set_same bs p true false h)
+                inr (i, inl f, e ∙ g, r.1 ∙ ap (λ z. get_or z p false) (put ∙ ap (λ z. raise_at z bs) g) ∙ get_or-set_same bs p true false h)
             by_same q (inr n) =
                 inl (
                   λ j a w. elim a [
@@ -161,7 +161,7 @@ are_flagged jobs (x ∷ xs) bs p h = by_kind (kind_of x) (are_flagged jobs xs (t
                   r.1 ∙ ap (λ z. get_or z p false) put ∙ kept o n,
                 )
               where
-                kept : (o : Option ℕ) → (o ≢ Some p) → get_or (tell_at o bs) p false ≡ get_or bs p false
+                kept : (o : Option ℕ) → (o ≢ Some p) → get_or (raise_at o bs) p false ≡ get_or bs p false
                 kept None n = refl
                 kept (Some a) n = get_or-set_other bs a p true false (λ g. n (ap (λ z. Some z) (sym g)))
 
@@ -183,14 +183,14 @@ job_there [] p h = absurd (omega arith)
 job_there (j ∷ js) zero h = (j, refl)
 job_there (j ∷ js) (suc p) h = job_there js p (omega arith)
 
-module _ (t : Tables) (stays : List (Option Stay)) (n now start : ℕ) (jobs : List Job) (standing : IsStanding t stays n) (past : n ≤ now) (begun : start ≤ now) (cast : IsCast t stays start now jobs)
+module _ (t : Tables) (stays : List (Option Stay)) (n now start : ℕ) (jobs : List Job) (standing : IsStanding t stays n) (past : n ≤ now) (begun : start ≤ now) (jobs_so_far : AreJobsSoFar t stays start now jobs)
     (windows : HaveWindows jobs) where
   -- after the read phase the releases of one offset more are told
-  pub flags_after : tell_all jobs (all_reads t now stays) (released_before (now - start) jobs) ≡ released_before (suc now - start) jobs
+  pub flags_after : raise_all jobs (all_reads t now stays) (released_before (now - start) jobs) ≡ released_before (suc now - start) jobs
   flags_after =
       let bs = released_before (now - start) jobs in
       let len : (d : ℕ) → length (released_before d jobs) ≡ length jobs = λ d. length-map jobs (λ j. j.present && ltb j.release d) in
-      same_bools (tell_all jobs (all_reads t now stays) bs) (released_before (suc now - start) jobs)
+      same_bools (raise_all jobs (all_reads t now stays) bs) (released_before (suc now - start) jobs)
       (all_length jobs (all_reads t now stays) bs ∙ len (now - start) ∙ sym (len (suc now - start)))
       (λ p h.
       let below : p < length jobs = omega (arith, len (suc now - start)) in
@@ -210,12 +210,12 @@ module _ (t : Tables) (stays : List (Option Stay)) (n now start : ℕ) (jobs : L
           order a b = grind arith
 
       by_flag : (p : ℕ) (j : Job) → slice_get jobs p ≡ Some j → Flagged jobs (all_reads t now stays) (released_before (now - start) jobs) p
-          → get_or (tell_all jobs (all_reads t now stays) (released_before (now - start) jobs)) p false ≡ get_or (released_before (suc now - start) jobs) p false
+          → get_or (raise_all jobs (all_reads t now stays) (released_before (now - start) jobs)) p false ≡ get_or (released_before (suc now - start) jobs) p false
       by_flag p j at (inr r) =
           let st = release_of t stays n now standing past r.0 r.1 in
           let w = position_some 0 jobs r.0 p r.2 in
           let one : w.2 ≡ j = some_same _ _ (sym w.3 ∙ ap (slice_get jobs) (let z : w.0 ≡ p = omega (arith, w.1) in z) ∙ at) in
-          let h = cast.has r.0 st.0 st.1 st.2 in
+          let h = jobs_so_far.has r.0 st.0 st.1 st.2 in
           let same : h.0 ≡ p = some_same _ _ (sym h.2 ∙ r.2) in
           let job : h.1.job ≡ j = some_same _ _ (sym h.1.at ∙ ap (slice_get jobs) same ∙ at) in
           let when : j.release < suc now - start = omega (arith, st.3, h.1.release, ap (λ (z : Job). z.release) job) in
@@ -225,7 +225,7 @@ module _ (t : Tables) (stays : List (Option Stay)) (n now start : ℕ) (jobs : L
           not_now : j.present ≡ true → start + j.release ≢ now
           not_now here e =
               let late : now < start + j.end = omega (arith, e, windows p j at here) in
-              let st = cast.stands p j at here late in
+              let st = jobs_so_far.stands p j at here late in
               let job : st.3.job ≡ j = some_same _ _ (sym st.3.at ∙ at) in
               let asked = release_asks t stays n now standing past j.inv st.1 st.0 st.2 (omega (arith, e, st.3.release, ap (λ (z : Job). z.release) job)) in
-              r.0 j.inv asked (last_open t stays start now jobs cast p j at here late)
+              r.0 j.inv asked (last_open t stays start now jobs jobs_so_far p j at here late)

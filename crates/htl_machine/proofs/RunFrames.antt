@@ -21,7 +21,7 @@ use Rattle.htl_refine.proofs.ServedSoFar.{front_served}
 use Rattle.htl_walk.proofs.Starts.{known_few}
 use Rattle.htl_machine.specs.FramePlacing.{frame_start, begun_by}
 use Rattle.htl_machine.specs.RunFrames.{now_of, RunFrames, FeasibleRuns, ValuesGoOn, RunReady}
-use Rattle.htl_machine.proofs.FrameCasts.{frame_cast}
+use Rattle.htl_machine.proofs.FramesHaveJobs.{frame_jobs_so_far}
 use Rattle.htl_machine.proofs.FramePlaced.{there_front}
 use Rattle.htl_machine.proofs.FrameValues.{all_ready, values_carried}
 use Rattle.htl_machine.proofs.Periods.{begins_or_not}
@@ -65,7 +65,7 @@ pub run_frames : RunFrames
 run_frames t lists es range kept some serving =
     record {
       past = past t lists es range kept some serving;
-      casts = λ n. frame_cast t es n (frame_start t n) range kept some refl;
+      jobs_so_far = λ n. frame_jobs_so_far t es n (frame_start t n) range kept some refl;
       runs =
           λ n. let f = frame_start t n in
           front_served (frame_at t lists es f) (frame_of t) f n (begun_by t es f n) (past t lists es range kept some serving n) (serving (n / frame_of t)) (few t lists es range kept some serving f n)

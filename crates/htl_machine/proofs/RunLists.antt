@@ -43,7 +43,7 @@ use Rattle.htl_machine.specs.FramesGoOn.{Now, AreFrames}
 use Rattle.htl_machine.specs.ListTurns.{Turn, turn_walk, records_so_far, AreTurns, IsTurn, IsListed, AreListed}
 use Rattle.htl_machine.specs.RunFrames.{now_of}
 use Rattle.htl_machine.specs.RunLists.{turn_of, begun_of, list_number, list_turn, RunsGoByLists}
-use Rattle.htl_machine.proofs.Desking.{length-walk}
+use Rattle.htl_machine.proofs.SMachineInstants.{length-walk}
 use Rattle.htl_refine.proofs.ListsFollow.{begins_by}
 use Rattle.htl_machine.proofs.FramePlaced.{at_place_is}
 use Rattle.htl_machine.proofs.ListStarts.{StandsAt, stands_at, some_begun, begun_next, ends_next, ends_within, leg_knows, known_same}

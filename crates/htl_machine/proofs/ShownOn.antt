@@ -14,7 +14,7 @@ use Rattle.htl_emach.specs.Following.{phase_path}
 use Rattle.htl_object.specs.Accepted.{IsAccepted}
 use Rattle.htl_machine.specs.Calls.{Seen, IsUpTo, GoesBy}
 use Rattle.htl_machine.specs.declared.numbering.ListAt.{ListAt}
-use Rattle.htl_machine.specs.Follows.{DeskFollows}
+use Rattle.htl_machine.specs.Follows.{SMachineFollows}
 use Rattle.htl_machine.specs.Marks.{is_marked}
 use Rattle.htl_machine.specs.Noting.{MarksChanges}
 use Rattle.htl_machine.specs.Programs.{schedules_of}
@@ -30,15 +30,15 @@ use Rattle.htl_machine.proofs.Calling.{counts_of}
 use Rattle.htl_machine.proofs.Composing.{counts_after}
 
 -- the machine before the next instant, with what its sensors are shown
-pub next_shown_up_to : (m : Seen) (es : List Event) (now : ℕ) (accepted : IsAccepted m.object) (read : m.held.reading ≤ now) (u : IsUpTo m es now) (shows : List ℤ) (world : Content) (desk : Round) (e1 : Standing) (last : Option ListAt) (old new : List Left)
-    (start n : Tally) → shows ≡ m.held.shows → Passed m.object.tables m.object.ecode (schedules_of m.object) es now m.held.world world e1
-    → DeskFollows (turn_at m.object.tables (schedules_of m.object) es) (hyper m.object.tables) (suc now) desk → GoesBy (turn_at m.object.tables (schedules_of m.object) es) (hyper m.object.tables) (suc now) last
+pub next_shown_up_to : (m : Seen) (es : List Event) (now : ℕ) (accepted : IsAccepted m.object) (read : m.run_state.reading ≤ now) (u : IsUpTo m es now) (shows : List ℤ) (world : Content) (s_machine : Round) (e1 : Standing) (last : Option ListAt) (old new : List Left)
+    (start n : Tally) → shows ≡ m.run_state.shows → Passed m.object.tables m.object.ecode (schedules_of m.object) es now m.run_state.world world e1
+    → SMachineFollows (turn_at m.object.tables (schedules_of m.object) es) (hyper m.object.tables) (suc now) s_machine → GoesBy (turn_at m.object.tables (schedules_of m.object) es) (hyper m.object.tables) (suc now) last
     → records_of m.object.tables (schedules_of m.object) es (hyper m.object.tables) now ≡ old ++ new → counts_of m ≡ record { jobs = start.jobs; e = start.e; s = start.s }
     → n ≡ counts_after old new (length (phase_path m.object.tables m.object.ecode es now 1)) (length (phase_path m.object.tables m.object.ecode es now 2)) (length (phase_path m.object.tables m.object.ecode es now 3)) start
-    → IsUpTo (record m { held = record m.held { shows = shows; world = world; desk = desk }; standing = e1; list = last; jobs = n.jobs; e = n.e; s = n.s }) es (suc now)
-next_shown_up_to m es now accepted read u shows world desk e1 last old new start n is passed follows goes are was counts =
-    subst (λ (xs : List ℤ). IsUpTo (record m { held = record m.held { shows = xs; world = world; desk = desk }; standing = e1; list = last; jobs = n.jobs; e = n.e; s = n.s }) es (suc now)) (sym is)
-    (next_up_to m es now accepted read u world desk e1 last old new start n passed follows goes are was counts)
+    → IsUpTo (record m { run_state = record m.run_state { shows = shows; world = world; s_machine = s_machine }; standing = e1; list = last; jobs = n.jobs; e = n.e; s = n.s }) es (suc now)
+next_shown_up_to m es now accepted read u shows world s_machine e1 last old new start n is passed follows goes are was counts =
+    subst (λ (xs : List ℤ). IsUpTo (record m { run_state = record m.run_state { shows = xs; world = world; s_machine = s_machine }; standing = e1; list = last; jobs = n.jobs; e = n.e; s = n.s }) es (suc now)) (sym is)
+    (next_up_to m es now accepted read u world s_machine e1 last old new start n passed follows goes are was counts)
 
 -- what is noted needs no mark
 pub noted_marks : (n : Noted) (values : List ℤ) (modes : List (Option ℕ)) → n.values ≡ values → n.modes ≡ modes → MarksChanges n values modes

@@ -15,12 +15,12 @@ use Rattle.htl_emach.specs.Contents.{Content}
 use Rattle.htl_machine.specs.Values.{ValuesFollow}
 use Rattle.htl_refine.specs.Records.{inv_worst, took, IsTookWithin, AreTookWithin}
 use Rattle.htl_machine.specs.Plans.{finished_before, next_world}
-use Rattle.htl_machine.specs.Follows.{Held, reading_of, DeskStands, DeskFollows, UpTo, HeldFollows, IsLoaded, desk_taking, taken_as}
+use Rattle.htl_machine.specs.Follows.{RunState, reading_of, SMachineStands, SMachineFollows, UpTo, RunStateFollows, IsLoaded, s_machine_taking, taken_as}
 use Rattle.htl_machine.specs.RunLists.{turn_by, turn_at, list_turn}
 use Rattle.htl_refine.proofs.RecordOrder.{not_some}
 use Rattle.htl_machine.proofs.Events.{Alike, values_alike, reading_more, sense_took, took_took}
 use Rattle.htl_machine.proofs.Following.{within_more, all_read, instant_values}
-use Rattle.htl_machine.proofs.TookLists.{took_so_far, took_desk}
+use Rattle.htl_machine.proofs.TookLists.{took_so_far, took_s_machine}
 use Rattle.htl_machine.proofs.ListsSoFar.{AreSoFar, finished_so_far}
 use Rattle.htl_machine.proofs.LoadedLists.{loaded_run, loaded_turns}
 
@@ -50,31 +50,31 @@ module _ (t : Tables) (schedules : List (List SInstr)) (loaded : IsLoaded t sche
       by_instant (suc k) e =
           finished_so_far (turn_at t schedules es k) (turn_at t schedules fs k) now (so_far k (omega (arith, e))) (suc k) (let past = (loaded_turns t schedules loaded es within).frames.past k in omega (arith, past)) (omega (arith, e))
 
-  desk_follows : (o : Option ℕ) → hyper t ≡ o → (r : Round) → DeskFollows (turn_at t schedules es) o now r → ((code : List SInstr) → rounds.Stands r code → rounds.Stands (desk_taking i n r) code)
-      → DeskFollows (turn_at t schedules fs) o now (desk_taking i n r)
-  desk_follows o e r f keeps = by_instant o e now refl f
+  s_machine_follows : (o : Option ℕ) → hyper t ≡ o → (r : Round) → SMachineFollows (turn_at t schedules es) o now r → ((code : List SInstr) → rounds.Stands r code → rounds.Stands (s_machine_taking i n r) code)
+      → SMachineFollows (turn_at t schedules fs) o now (s_machine_taking i n r)
+  s_machine_follows o e r f keeps = by_instant o e now refl f
     where
-      idle : r ≡ rounds.no_round → desk_taking i n r ≡ rounds.no_round
-      idle g = ap (desk_taking i n) g
+      idle : r ≡ rounds.no_round → s_machine_taking i n r ≡ rounds.no_round
+      idle g = ap (s_machine_taking i n) g
 
-      by_instant : (o : Option ℕ) → hyper t ≡ o → (k : ℕ) → now ≡ k → DeskFollows (turn_at t schedules es) o k r → DeskFollows (turn_at t schedules fs) o k (desk_taking i n r)
+      by_instant : (o : Option ℕ) → hyper t ≡ o → (k : ℕ) → now ≡ k → SMachineFollows (turn_at t schedules es) o k r → SMachineFollows (turn_at t schedules fs) o k (s_machine_taking i n r)
       by_instant None e k g f = idle f
       by_instant (Some h) e zero g f = idle f
       by_instant (Some h) e (suc k) g f =
-          subst (λ z. DeskStands (turn_at t schedules fs k).plan (turn_at t schedules fs k).frame z (desk_taking i n r)) g
-          (subst (λ o. DeskStands (turn_by o t schedules fs k).plan (turn_by o t schedules fs k).frame now (desk_taking i n r)) (sym e)
-          (took_desk t schedules es (loaded_run t schedules loaded es within h e) i n fits now reading k (omega (arith, g)) g r here (keeps (list_turn t schedules es k).plan.schedule here.stands)))
+          subst (λ z. SMachineStands (turn_at t schedules fs k).plan (turn_at t schedules fs k).frame z (s_machine_taking i n r)) g
+          (subst (λ o. SMachineStands (turn_by o t schedules fs k).plan (turn_by o t schedules fs k).frame now (s_machine_taking i n r)) (sym e)
+          (took_s_machine t schedules es (loaded_run t schedules loaded es within h e) i n fits now reading k (omega (arith, g)) g r here (keeps (list_turn t schedules es k).plan.schedule here.stands)))
         where
-          here : DeskStands (list_turn t schedules es k).plan (list_turn t schedules es k).frame now r
+          here : SMachineStands (list_turn t schedules es k).plan (list_turn t schedules es k).frame now r
           here =
-              subst (λ o. DeskStands (turn_by o t schedules es k).plan (turn_by o t schedules es k).frame now r) e
-              (subst (λ z. DeskStands (turn_at t schedules es k).plan (turn_at t schedules es k).frame z r) (sym g) f)
+              subst (λ o. SMachineStands (turn_by o t schedules es k).plan (turn_by o t schedules es k).frame now r) e
+              (subst (λ z. SMachineStands (turn_at t schedules es k).plan (turn_at t schedules es k).frame z r) (sym g) f)
 
 -- from the reading on the jobs of an invocation take so long
-pub took_follows : (t : Tables) (schedules : List (List SInstr)) (loaded : IsLoaded t schedules) (es : List Event) (within : AreTookWithin t es) (i n : ℕ) (m : Held)
+pub took_follows : (t : Tables) (schedules : List (List SInstr)) (loaded : IsLoaded t schedules) (es : List Event) (within : AreTookWithin t es) (i n : ℕ) (m : RunState)
     → IsTookWithin t (V.Took i n) → i < length t.invs → length m.takes ≡ length t.invs
-    → ((code : List SInstr) → rounds.Stands m.desk code → rounds.Stands (desk_taking i n m.desk) code)
-    → HeldFollows t schedules es m → HeldFollows t schedules (es ++ V.Took i n ∷ []) (taken_as i n m)
+    → ((code : List SInstr) → rounds.Stands m.s_machine code → rounds.Stands (s_machine_taking i n m.s_machine) code)
+    → RunStateFollows t schedules es m → RunStateFollows t schedules (es ++ V.Took i n ∷ []) (taken_as i n m)
 took_follows t schedules loaded es within i n m fits known long keeps f =
     let more : reading_of 0 (es ++ V.Took i n ∷ []) ≡ reading_of 0 es = reading_more 0 es (V.Took i n) in
     record {
@@ -89,7 +89,7 @@ took_follows t schedules loaded es within i n m fits known long keeps f =
             takes = λ j u k h. took_took t es i n j u ∙ by_test j u k (omega (arith, more)) (eqb j i) refl;
             values = values_taken t schedules loaded es within i n fits m.reading f.reading m.world f.up_to.values;
             shape = f.up_to.shape;
-            desk = desk_follows t schedules loaded es within i n fits m.reading f.reading (hyper t) refl m.desk f.up_to.desk keeps;
+            s_machine = s_machine_follows t schedules loaded es within i n fits m.reading f.reading (hyper t) refl m.s_machine f.up_to.s_machine keeps;
           };
     }
   where
@@ -100,10 +100,10 @@ took_follows t schedules loaded es within i n m fits known long keeps f =
     by_test j u k h false is = f.up_to.takes j u k h ∙ sym (get_or-set_other m.takes i j n 0 (eqb-false j i is))
 
 -- an instant: the world goes on, and the S machine stands before the next one
-pub instant_follows : (t : Tables) (schedules : List (List SInstr)) (loaded : IsLoaded t schedules) (es : List Event) (within : AreTookWithin t es) (now : ℕ) (m : Held) (r : Round)
-    → UpTo t schedules es now m → IsShaped t (next_world t es (turn_at t schedules es) now m.world) → DeskFollows (turn_at t schedules es) (hyper t) (suc now) r
-    → UpTo t schedules es (suc now) (record m { world = next_world t es (turn_at t schedules es) now m.world; desk = r })
-instant_follows t schedules loaded es within now m r up shape desk =
+pub instant_follows : (t : Tables) (schedules : List (List SInstr)) (loaded : IsLoaded t schedules) (es : List Event) (within : AreTookWithin t es) (now : ℕ) (m : RunState) (r : Round)
+    → UpTo t schedules es now m → IsShaped t (next_world t es (turn_at t schedules es) now m.world) → SMachineFollows (turn_at t schedules es) (hyper t) (suc now) r
+    → UpTo t schedules es (suc now) (record m { world = next_world t es (turn_at t schedules es) now m.world; s_machine = r })
+instant_follows t schedules loaded es within now m r up shape s_machine =
     let v = instant_values t schedules loaded es within now m up in
     record {
       within = within;
@@ -113,14 +113,14 @@ instant_follows t schedules loaded es within now m r up shape desk =
       takes = up.takes;
       values = v.0;
       shape = shape;
-      desk = desk;
+      s_machine = s_machine;
     }
 
 -- a new machine follows no events
-pub new_follows : (t : Tables) (schedules : List (List SInstr)) (m : Held) → m.spent ≡ false → m.reading ≡ 0 → HasValues t m.shows
+pub new_follows : (t : Tables) (schedules : List (List SInstr)) (m : RunState) → m.spent ≡ false → m.reading ≡ 0 → HasValues t m.shows
     → ((c : ℕ) → c < length t.comms → get_or m.shows c (pos 0) ≡ initial t c) → ((i : ℕ) → i < length t.invs → get_or m.takes i 0 ≡ inv_worst t i)
-    → m.world.values ≡ map (λ c. c.init) t.comms → IsShaped t m.world → m.desk ≡ rounds.no_round → HeldFollows t schedules [] m
-new_follows t schedules m open_yet reading fits shows takes values shape desk =
+    → m.world.values ≡ map (λ c. c.init) t.comms → IsShaped t m.world → m.s_machine ≡ rounds.no_round → RunStateFollows t schedules [] m
+new_follows t schedules m open_yet reading fits shows takes values shape s_machine =
     record {
       fresh = open_yet;
       reading = reading;
@@ -139,10 +139,10 @@ new_follows t schedules m open_yet reading fits shows takes values shape desk =
                   outputs = λ i x s k st fin h. not_some (record { mode = x.mode; start = s }) st.in_round;
                 };
             shape = shape;
-            desk = first (hyper t);
+            s_machine = first (hyper t);
           });
     }
   where
-    first : (o : Option ℕ) → DeskFollows (turn_at t schedules []) o 0 m.desk
-    first None = desk
-    first (Some p) = desk
+    first : (o : Option ℕ) → SMachineFollows (turn_at t schedules []) o 0 m.s_machine
+    first None = s_machine
+    first (Some p) = s_machine

@@ -20,16 +20,16 @@ use Rattle.htl_machine.specs.Worlds.{all_reads}
 use Rattle.htl_refine.specs.RecordCounts.{count_left_before, done_by}
 use Rattle.htl_machine.specs.ListTurns.{Turn, turn_walk, records_so_far, left_before, AreTurns, IsListed}
 use Rattle.htl_machine.specs.Turns.{position_from}
-use Rattle.htl_machine.specs.Follows.{DeskAt}
-use Rattle.htl_machine.specs.Tellings.{tell_at, tell_want, tell_all}
-use Rattle.htl_machine.specs.Readiness.{made_ready, released_to, desk_replay, desk_want, desk_all}
+use Rattle.htl_machine.specs.Follows.{SMachineAt}
+use Rattle.htl_machine.specs.ReleaseFlags.{raise_at, raise_want, raise_all}
+use Rattle.htl_machine.specs.Readiness.{made_ready, released_to, s_machine_replay, s_machine_want, s_machine_all}
 use Rattle.htl_refine.proofs.Standing.{standing_at}
 use Rattle.htl_walk.proofs.Finishes.{some_same}
 use Rattle.htl_refine.proofs.RecordOrder.{not_some}
 use Rattle.htl_refine.proofs.DoneRecords.{done_some}
 use Rattle.htl_refine.proofs.DoneRecords as records
-use Rattle.htl_machine.proofs.Casting.{job_is, position_some}
-use Rattle.htl_machine.proofs.Desking.{count_within, length-walk}
+use Rattle.htl_machine.proofs.JobWindows.{job_is, position_some}
+use Rattle.htl_machine.proofs.SMachineInstants.{count_within, length-walk}
 use Rattle.htl_machine.proofs.ListValues.{take_front}
 use Rattle.htl_machine.proofs.Asked.{AsksFor}
 use Rattle.htl_machine.proofs.Releasing.{release_of}
@@ -38,7 +38,7 @@ use Rattle.htl_machine.proofs.Acting.{read_phase_acts}
 
 -- ---- flags
 
-released_is : (i : ℕ) (r : Round) → ((q : ℕ) → position_from 0 r.jobs i ≡ Some q → state_of r q ≢ Finished) → released_to i r ≡ with_flags r (tell_at (position_from 0 r.jobs i) r.released)
+released_is : (i : ℕ) (r : Round) → ((q : ℕ) → position_from 0 r.jobs i ≡ Some q → state_of r q ≢ Finished) → released_to i r ≡ with_flags r (raise_at (position_from 0 r.jobs i) r.released)
 released_is i r open_yet = by_place (position_from 0 r.jobs i) refl
   where
     by_state : (p : ℕ) (a b c : Bool) → a ≡ true → get_or r.released p false ≡ c → (state_by a b c ≢ Finished) → made_ready (state_by a b c) r p ≡ with_flags r (set r.released p true)
@@ -47,14 +47,14 @@ released_is i r open_yet = by_place (position_from 0 r.jobs i) refl
     by_state p true false true e g f = sym (ap (λ bs. with_flags r bs) (ap (λ v. set r.released p v) (sym g) ∙ set-get_or r.released p false))
     by_state p true false false e g f = refl
 
-    by_place : (o : Option ℕ) → position_from 0 r.jobs i ≡ o → elim o as (λ _. Round) [ Some p ↦ made_ready (state_of r p) r p | None ↦ r ] ≡ with_flags r (tell_at o r.released)
+    by_place : (o : Option ℕ) → position_from 0 r.jobs i ≡ o → elim o as (λ _. Round) [ Some p ↦ made_ready (state_of r p) r p | None ↦ r ] ≡ with_flags r (raise_at o r.released)
     by_place None e = refl
     by_place (Some p) e =
         let w = position_some 0 r.jobs i p e in
         let at : slice_get r.jobs p ≡ Some w.2 = ap (slice_get r.jobs) (let z : p ≡ w.0 = omega (arith, w.1) in z) ∙ w.3 in
         by_state p (job_at r.jobs p).present (eqb (get_or r.point.left p 0) 0) (get_or r.released p false) (ap (λ (j : Job). j.present) (job_is r.jobs p w.2 at) ∙ w.4) refl (open_yet p e)
 
-want_is : (w : Want) (r : Round) → ((i q : ℕ) → w ≡ Does (I.Release i) → position_from 0 r.jobs i ≡ Some q → state_of r q ≢ Finished) → desk_want w r ≡ with_flags r (tell_want r.jobs w r.released)
+want_is : (w : Want) (r : Round) → ((i q : ℕ) → w ≡ Does (I.Release i) → position_from 0 r.jobs i ≡ Some q → state_of r q ≢ Finished) → s_machine_want w r ≡ with_flags r (raise_want r.jobs w r.released)
 want_is (Does (I.Release i)) r h = released_is i r (λ q e. h i q refl e)
 want_is (Does (I.CallWrite a b)) r h = refl
 want_is (Does (I.CallRead a b)) r h = refl
@@ -82,11 +82,11 @@ finished_by_work true true c d e = refl
 finished_by_work true false true d e = absurd (let z : ⊥ = cc in z)
 finished_by_work true false false d e = absurd (let z : ⊥ = cc in z)
 
-pub flags_are : (ws : List Want) (r : Round) → AreOpen ws r → desk_all ws r ≡ with_flags r (tell_all r.jobs ws r.released)
+pub flags_are : (ws : List Want) (r : Round) → AreOpen ws r → s_machine_all ws r ≡ with_flags r (raise_all r.jobs ws r.released)
 flags_are [] r h = refl
 flags_are (w ∷ ws) r h =
-    let bs = tell_want r.jobs w r.released in
-    ap (desk_all ws) (want_is w r (λ i q e at. h i q (inl e) at))
+    let bs = raise_want r.jobs w r.released in
+    ap (s_machine_all ws) (want_is w r (λ i q e at. h i q (inl e) at))
     ∙ flags_are ws (with_flags r bs)
     (λ i q asks at done. h i q (inr asks) at (finished_by_work (job_at r.jobs q).present (eqb (get_or r.point.left q 0) 0) (get_or bs q false) (get_or r.released q false) done))
 
@@ -103,7 +103,7 @@ front_more (l ∷ ls) (suc k) (suc m) q f h e = by_test (is_position l.position 
     by_test false g ih = ih g
 
 module _ (t : Tables) (es : List Event) (turn : ℕ → Turn) (turns : AreTurns t es turn) (now k d : ℕ) (r : Round) (listed : IsListed (turn now))
-    (at : DeskAt (turn now).plan (turn now).frame k d r) (few : k ≤ left_before (turn now) (suc now)) where
+    (at : SMachineAt (turn now).plan (turn now).frame k d r) (few : k ≤ left_before (turn now) (suc now)) where
   abbrev u : Turn
   u = turn now
 
@@ -140,11 +140,11 @@ module _ (t : Tables) (es : List Event) (turn : ℕ → Turn) (turns : AreTurns 
 
   -- the read phase tells the flags of the instant
   pub read_phase_tells : (code : ECode) → AreInRange t → ((m : ℕ) → m < length t.modes → ModeReads t code m)
-      → desk_replay code (phase_path t code es now 3) r ≡ with_flags r (tell_all u.plan.jobs (all_reads t now (state t es now).stays) r.released)
+      → s_machine_replay code (phase_path t code es now 3) r ≡ with_flags r (raise_all u.plan.jobs (all_reads t now (state t es now).stays) r.released)
   read_phase_tells code range reads =
       read_phase_acts t code reads range es now r
       ∙ flags_are (all_reads t now (state t es now).stays) r open_yet
-      ∙ ap (λ js. with_flags r (tell_all js (all_reads t now (state t es now).stays) r.released)) at.jobs
+      ∙ ap (λ js. with_flags r (raise_all js (all_reads t now (state t es now).stays) r.released)) at.jobs
     where
       open_yet : AreOpen (all_reads t now (state t es now).stays) r
       open_yet i q asks place =
@@ -153,7 +153,7 @@ module _ (t : Tables) (es : List Event) (turn : ℕ → Turn) (turns : AreTurns 
           let own : position_from 0 jobs i ≡ Some q = ap (λ js. position_from 0 js i) (sym at.jobs) ∙ place in
           let w = position_some 0 jobs i q own in
           let here : slice_get jobs q ≡ Some w.2 = ap (slice_get jobs) (let z : q ≡ w.0 = omega (arith, w.1) in z) ∙ w.3 in
-          let h = (turns.frames.casts now).has i st.0 st.1 st.2 in
+          let h = (turns.frames.jobs_so_far now).has i st.0 st.1 st.2 in
           let same : h.0 ≡ q = some_same _ _ (sym h.2 ∙ own) in
           let job : (job_at jobs q).release ≡ h.1.job.release = ap (λ (j : Job). j.release) (job_is jobs q h.1.job (ap (slice_get jobs) (sym same) ∙ h.1.at)) in
           not_done q (slice_get_within jobs q w.2 here) (omega (arith, job, h.1.release, st.3))

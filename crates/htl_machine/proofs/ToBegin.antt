@@ -27,16 +27,16 @@ use Rattle.htl_machine.specs.declared.numbering.ListAt.{ListAt}
 use Rattle.htl_machine.specs.Beginning.{IsToBegin}
 use Rattle.htl_machine.specs.Calls.{GoesBy}
 use Rattle.htl_machine.specs.FramePlacing.{frame_start}
-use Rattle.htl_machine.specs.Follows.{IsLoaded, DeskAt}
+use Rattle.htl_machine.specs.Follows.{IsLoaded, SMachineAt}
 use Rattle.htl_machine.specs.ListBegun.{list_begun, CanStart, IsAtEnd}
 use Rattle.htl_machine.specs.ListTurns.{Turn, AreTurns}
 use Rattle.htl_machine.specs.NextLists.{next_list, next_node}
-use Rattle.htl_machine.specs.Readiness.{desk_replay}
+use Rattle.htl_machine.specs.Readiness.{s_machine_replay}
 use Rattle.htl_machine.specs.RunLists.{turn_by, turn_at, list_turn}
 use Rattle.htl_machine.specs.StandingList.{turn_list, next_at}
-use Rattle.htl_machine.specs.Tellings.{tell_all}
+use Rattle.htl_machine.specs.ReleaseFlags.{raise_all}
 use Rattle.htl_machine.specs.Worlds.{all_reads}
-use Rattle.htl_machine.proofs.Instants.{with_flags, desk_told, windows}
+use Rattle.htl_machine.proofs.Instants.{with_flags, s_machine_told, windows}
 use Rattle.htl_machine.proofs.ListAdded.{lists_are_begun}
 use Rattle.htl_machine.proofs.LoadedLists.{loaded_code, loaded_listed, loaded_of, loaded_run, loaded_turns}
 use Rattle.htl_machine.proofs.NextLists.{lists_begin, at_is}
@@ -118,20 +118,20 @@ module _ (t : Tables) (code : ECode) (schedules : List (List SInstr)) (loaded : 
 
   module _ (takes : List ℕ) (takes_are : (i v : ℕ) → now ≤ v → get_or takes i 0 ≡ took t es i v) (r : Round) (ends : IsAtEnd t schedules es now r) where
     begun : CanStart t (modes_at t es now) takes now r
-        × DeskAt (turn_at t schedules es now).plan (turn_at t schedules es now).frame 0 (now - (turn_at t schedules es now).frame) (list_begun t (modes_at t es now) takes now r)
+        × SMachineAt (turn_at t schedules es now).plan (turn_at t schedules es now).frame 0 (now - (turn_at t schedules es now).frame) (list_begun t (modes_at t es now) takes now r)
     begun =
-        subst (λ (turn : ℕ → Turn). CanStart t (modes_at t es now) takes now r × DeskAt (turn now).plan (turn now).frame 0 (now - (turn now).frame) (list_begun t (modes_at t es now) takes now r)) (sym is)
+        subst (λ (turn : ℕ → Turn). CanStart t (modes_at t es now) takes now r × SMachineAt (turn now).plan (turn now).frame 0 (now - (turn now).frame) (list_begun t (modes_at t es now) takes now r)) (sym is)
         (lists_are_begun t schedules es run now takes r own_here takes_are ends)
 
     -- the releases of the instant
-    told : rounds.Stands (desk_replay code (phase_path t code es now 3) (list_begun t (modes_at t es now) takes now r)) (turn_at t schedules es now).plan.schedule
-        → DeskAt (turn_at t schedules es now).plan (turn_at t schedules es now).frame 0 (suc now - (turn_at t schedules es now).frame) (desk_replay code (phase_path t code es now 3) (list_begun t (modes_at t es now) takes now r))
+    told : rounds.Stands (s_machine_replay code (phase_path t code es now 3) (list_begun t (modes_at t es now) takes now r)) (turn_at t schedules es now).plan.schedule
+        → SMachineAt (turn_at t schedules es now).plan (turn_at t schedules es now).frame 0 (suc now - (turn_at t schedules es now).frame) (s_machine_replay code (phase_path t code es now 3) (list_begun t (modes_at t es now) takes now r))
     told st =
         let first = list_begun t (modes_at t es now) takes now r in
-        let flagged : desk_replay code (phase_path t code es now 3) first ≡ with_flags first (tell_all u.plan.jobs (all_reads t now (state t es now).stays) first.released) =
+        let flagged : s_machine_replay code (phase_path t code es now 3) first ≡ with_flags first (raise_all u.plan.jobs (all_reads t now (state t es now).stays) first.released) =
         read_phase_tells t es (turn_at t schedules es) turns now 0 (now - u.frame) first ((loaded_listed t schedules loaded es within q root).each now) begun.1 (omega arith) code loaded.range reads in
-        subst (DeskAt u.plan u.frame 0 (suc now - u.frame)) (sym flagged)
-        (desk_told t (state t es now).stays now u.plan u.frame 0 now first (standing_at t loaded.range es now) (omega arith) (turns.frames.past now) (turns.frames.casts now) (windows t loaded.range es (turn_at t schedules es) turns now) begun.1
+        subst (SMachineAt u.plan u.frame 0 (suc now - u.frame)) (sym flagged)
+        (s_machine_told t (state t es now).stays now u.plan u.frame 0 now first (standing_at t loaded.range es now) (omega arith) (turns.frames.past now) (turns.frames.jobs_so_far now) (windows t loaded.range es (turn_at t schedules es) turns now) begun.1
         (subst (λ z. rounds.Stands z u.plan.schedule) flagged st))
 
     pub is_to_begin : (last : Option ListAt) → GoesBy (turn_at t schedules es) (Some q) now last → (turn_at t schedules es now).node < length schedules → length schedules ≤ 32768

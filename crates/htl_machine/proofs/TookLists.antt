@@ -22,7 +22,7 @@ use Rattle.htl_walk.specs.Walk.{Point, Left, job_at, work, first_point}
 use Rattle.htl_walk.proofs.Work.{job_there, work_present}
 use Rattle.htl_smach.specs.Rounds as rounds
 use Rattle.htl_smach.specs.Rounds.{Round, state_of, state_by}
-use Rattle.htl_smach.proofs.Telling.{absent_idle}
+use Rattle.htl_smach.proofs.RoundRecords.{absent_idle}
 use Rattle.htl_refine.specs.FrameRuns.{Frame, frame_modes, frame_places, frame_jobs, frame_at, path_of, walks_of}
 use Rattle.htl_refine.specs.ListPlans.{leg_at, list_start, list_plan}
 use Rattle.htl_refine.specs.RecordCounts.{count_left_before}
@@ -35,19 +35,19 @@ use Rattle.htl_refine.proofs.LengthsLater.{lengths_later}
 use Rattle.htl_refine.proofs.RecordOrder.{walk_rises}
 use Rattle.htl_refine.proofs.ServedFrames.{have_lengths}
 use Rattle.htl_machine.specs.FramePlacing.{frame_start}
-use Rattle.htl_machine.specs.Follows.{reading_of, DeskAt, DeskStands, with_length, set_pending, desk_taking}
+use Rattle.htl_machine.specs.Follows.{reading_of, SMachineAt, SMachineStands, with_length, set_pending, s_machine_taking}
 use Rattle.htl_machine.specs.ListTurns.{Turn, turn_walk}
 use Rattle.htl_machine.specs.RunLists.{list_number, list_turn}
 use Rattle.htl_machine.specs.Turns.{position_from}
-use Rattle.htl_machine.proofs.Casting.{get_map, job_is, position_some, position_none}
-use Rattle.htl_machine.proofs.Desking.{desk_opens}
+use Rattle.htl_machine.proofs.JobWindows.{get_map, job_is, position_some, position_none}
+use Rattle.htl_machine.proofs.SMachineInstants.{s_machine_opens}
 use Rattle.htl_machine.proofs.Events.{state_same, sense_took, took_took, front_is, length-front}
 use Rattle.htl_machine.proofs.Following.{within_more}
 use Rattle.htl_machine.proofs.Instants.{windows}
 use Rattle.htl_machine.proofs.ListsSoFar.{AreSoFar}
 use Rattle.htl_machine.proofs.RunLists.{past, serving, stands, there, from_is, few, length-jobs, are_turns, are_listed}
 use Rattle.htl_walk.proofs.Finishes.{some_same}
-use Rattle.htl_machine.proofs.Telling.{none_before}
+use Rattle.htl_machine.proofs.InstantRecords.{none_before}
 use Rattle.htl_machine.proofs.Timely.{done_late}
 
 either : (a b : ℕ) → (a < b) ⊎ (b ≤ a)
@@ -284,14 +284,14 @@ module _ (t : Tables) (lists : List (List SInstr)) (es : List Event) (run : IsFe
         let at = job_there jobs q present' in
         let turns = are_turns t lists es run in
         let window = windows t run.range es (list_turn t lists es) turns m q (job_at jobs q) at present' in
-        let cast = turns.frames.casts m in
-        let st = cast.stands q (job_at jobs q) at present' (omega (arith, late, window, ap (λ (z : Job). z.release) front, next)) in
+        let jobs_so_far = turns.frames.jobs_so_far m in
+        let st = jobs_so_far.stands q (job_at jobs q) at present' (omega (arith, late, window, ap (λ (z : Job). z.release) front, next)) in
         let inv : (job_at jobs q).inv ≡ i = ap (λ (z : Job). z.inv) front ∙ mine in
-        let h = cast.has (job_at jobs q).inv st.0 st.1 st.2 in
-        sym (cast.once h.0 q (job_at jobs q).inv st.1 st.0 h.1 st.3) ∙ some_same _ _ (sym h.2 ∙ ap (position_from 0 jobs) inv ∙ last)
+        let h = jobs_so_far.has (job_at jobs q).inv st.0 st.1 st.2 in
+        sym (jobs_so_far.once h.0 q (job_at jobs q).inv st.1 st.0 h.1 st.3) ∙ some_same _ _ (sym h.2 ∙ ap (position_from 0 jobs) inv ∙ last)
 
-    desk_kept : (r : Round) → DeskStands u.plan f now r → u.plan.first ≡ v.plan.first → DeskStands v.plan f now r
-    desk_kept r s e =
+    s_machine_kept : (r : Round) → SMachineStands u.plan f now r → u.plan.first ≡ v.plan.first → SMachineStands v.plan f now r
+    s_machine_kept r s e =
         record {
           start = s.start;
           jobs = s.jobs;
@@ -303,9 +303,9 @@ module _ (t : Tables) (lists : List (List SInstr)) (es : List Event) (run : IsFe
           stands = s.stands;
         }
 
-    desk_set : (r : Round) (d : ℕ) → DeskStands u.plan f now r → point_of u.plan.first.time (set u.plan.first.left d n) ≡ v.plan.first → rounds.Stands (with_length r d n) u.plan.schedule
-        → DeskStands v.plan f now (with_length r d n)
-    desk_set r d s e st =
+    s_machine_set : (r : Round) (d : ℕ) → SMachineStands u.plan f now r → point_of u.plan.first.time (set u.plan.first.left d n) ≡ v.plan.first → rounds.Stands (with_length r d n) u.plan.schedule
+        → SMachineStands v.plan f now (with_length r d n)
+    s_machine_set r d s e st =
         record {
           start = s.start;
           jobs = s.jobs;
@@ -319,22 +319,22 @@ module _ (t : Tables) (lists : List (List SInstr)) (es : List Event) (run : IsFe
 
     module _ (next : now ≡ suc m) where
       -- who has no work left was released
-      done_before : (r : Round) (d : ℕ) (k : Job) → DeskStands u.plan f now r → slice_get jobs d ≡ Some k → k.present ≡ true → eqb (get_or r.point.left d 0) 0 ≡ true → f + k.release < now
+      done_before : (r : Round) (d : ℕ) (k : Job) → SMachineStands u.plan f now r → slice_get jobs d ≡ Some k → k.present ≡ true → eqb (get_or r.point.left d 0) 0 ≡ true → f + k.release < now
       done_before r d k s at present idle =
           let c = count_left_before (suc m - f) (turn_walk u) in
-          let there : DeskAt u.plan f c (suc m - f) r = subst (λ z. DeskAt u.plan f (count_left_before (z - f) (turn_walk u)) (z - f) r) next (desk_opens u.plan f now r s) in
+          let there : SMachineAt u.plan f c (suc m - f) r = subst (λ z. SMachineAt u.plan f (count_left_before (z - f) (turn_walk u)) (z - f) r) next (s_machine_opens u.plan f now r s) in
           let same : job_at jobs d ≡ k = job_is jobs d k at in
           let present' : (job_at r.jobs d).present ≡ true = ap (λ (js : List Job). (job_at js d).present) s.jobs ∙ ap (λ (z : Job). z.present) same ∙ present in
           let late = done_late t es (list_turn t lists es) (are_turns t lists es run) m c (suc m - f) r ((are_listed t lists es run).each m) there (omega arith) d (slice_get_within jobs d k at) present' idle in
           omega (arith, late, ap (λ (z : Job). z.release) same, started)
 
-      desk_from : (r : Round) → DeskStands u.plan f now r → rounds.Stands (desk_taking i n r) u.plan.schedule → DeskStands v.plan f now (desk_taking i n r)
-      desk_from r s st = by_position (position_from 0 r.jobs i) refl st
+      s_machine_from : (r : Round) → SMachineStands u.plan f now r → rounds.Stands (s_machine_taking i n r) u.plan.schedule → SMachineStands v.plan f now (s_machine_taking i n r)
+      s_machine_from r s st = by_position (position_from 0 r.jobs i) refl st
         where
           by_position : (o : Option ℕ) → position_from 0 r.jobs i ≡ o → rounds.Stands (elim o [ Some q ↦ set_pending (state_of r q) r q n | None ↦ r ]) u.plan.schedule
-              → DeskStands v.plan f now (elim o [ Some q ↦ set_pending (state_of r q) r q n | None ↦ r ])
+              → SMachineStands v.plan f now (elim o [ Some q ↦ set_pending (state_of r q) r q n | None ↦ r ])
           by_position None e st =
-              desk_kept r s
+              s_machine_kept r s
               (first_kept (λ q less present mine.
               let front : job_at jobs q ≡ job_at p.jobs q = job_front known p.jobs q less in
               let present' : (job_at jobs q).present ≡ true = ap (λ (z : Job). z.present) front ∙ present in
@@ -366,20 +366,20 @@ module _ (t : Tables) (lists : List (List SInstr)) (es : List Event) (run : IsFe
 
               by_state : (d : ℕ) (k : Job) → slice_get jobs d ≡ Some k → position_from 0 jobs i ≡ Some d → k.present ≡ true → k.inv ≡ i → get_or r.released d false ≡ (k.present && ltb k.release (now - f))
                   → (a : Bool) → a ≡ true → (b : Bool) → eqb (get_or r.point.left d 0) 0 ≡ b → (c : Bool) → get_or r.released d false ≡ c
-                  → rounds.Stands (set_pending (state_by a b c) r d n) u.plan.schedule → DeskStands v.plan f now (set_pending (state_by a b c) r d n)
+                  → rounds.Stands (set_pending (state_by a b c) r d n) u.plan.schedule → SMachineStands v.plan f now (set_pending (state_by a b c) r d n)
               by_state d k at last present mine told false x b eb c ec st = absurd (let z : ⊥ = cc in z)
-              by_state d k at last present mine told true x true eb c ec st = desk_kept r s (first_kept (all_early d k at last (done_before r d k s at present eb)))
+              by_state d k at last present mine told true x true eb c ec st = s_machine_kept r s (first_kept (all_early d k at last (done_before r d k s at present eb)))
               by_state d k at last present mine told true x false eb true ec st =
                   let early : (k.present && ltb k.release (now - f)) ≡ true = sym told ∙ ec in
-                  desk_kept r s (first_kept (all_early d k at last (let z : k.release < now - f = ltb-true k.release (now - f) (second k.present (ltb k.release (now - f)) early) in omega (arith, z))))
+                  s_machine_kept r s (first_kept (all_early d k at last (let z : k.release < now - f = ltb-true k.release (now - f) (second k.present (ltb k.release (now - f)) early) in omega (arith, z))))
               by_state d k at last present mine told true x false eb false ec st =
                   let late : ltb k.release (now - f) ≡ false = sym (ap (λ b. b && ltb k.release (now - f)) present) ∙ sym told ∙ ec in
                   let after : now ≤ f + k.release = (let z : now - f ≤ k.release = ltb-false k.release (now - f) late in omega (arith, z)) in
                   let own = job_of d k at in
-                  desk_set r d s
+                  s_machine_set r d s
                   (first_set d own.0 (ap (λ (z : Job). z.present) own.1 ∙ present) (ap (λ (z : Job). z.inv) own.1 ∙ mine) (omega (arith, after, ap (λ (z : Job). z.release) own.1))
                   (λ q less other present' mine'. elim (either (f + (job_at p.jobs q).release) now) [ inl before ↦ before | inr z ↦ absurd (other (only next d q last less present' mine' z)) ])) st
 
-      pub took_desk : (r : Round) → DeskStands (list_turn t lists es m).plan (list_turn t lists es m).frame now r → rounds.Stands (desk_taking i n r) (list_turn t lists es m).plan.schedule
-          → DeskStands (list_turn t lists (es ++ V.Took i n ∷ []) m).plan (list_turn t lists (es ++ V.Took i n ∷ []) m).frame now (desk_taking i n r)
-      took_desk r s st = subst (λ (w : Turn). DeskStands w.plan w.frame now (desk_taking i n r)) (sym later_is) (desk_from r s st)
+      pub took_s_machine : (r : Round) → SMachineStands (list_turn t lists es m).plan (list_turn t lists es m).frame now r → rounds.Stands (s_machine_taking i n r) (list_turn t lists es m).plan.schedule
+          → SMachineStands (list_turn t lists (es ++ V.Took i n ∷ []) m).plan (list_turn t lists (es ++ V.Took i n ∷ []) m).frame now (s_machine_taking i n r)
+      took_s_machine r s st = subst (λ (w : Turn). SMachineStands w.plan w.frame now (s_machine_taking i n r)) (sym later_is) (s_machine_from r s st)

@@ -28,7 +28,7 @@ use Rattle.htl_refine.specs.Records.{IsTookWithin}
 use Rattle.htl_emach.specs.Contents.{Content}
 use Rattle.htl_machine.specs.Plans.{next_world}
 use Rattle.htl_machine.specs.RunLists.{turn_at}
-use Rattle.htl_machine.specs.Follows.{Held, reading_of, DeskFollows, IsLoaded, at_reading, shown_as, desk_taking, taken_as}
+use Rattle.htl_machine.specs.Follows.{RunState, reading_of, SMachineFollows, IsLoaded, at_reading, shown_as, s_machine_taking, taken_as}
 use Rattle.htl_console.specs.declared.shown.Shown.{Shown}
 use Rattle.htl_machine.specs.Texts.{instant_text, records_of}
 use Rattle.htl_machine.specs.Machines.{Counts, RunStands, Followed}
@@ -52,22 +52,22 @@ module _ (t : Tables) (code : ECode) (schedules : List (List SInstr)) (loaded : 
   modes_read m inside = spelled_reads t code m ((spells_or_departs t code).0 spelled) inside
 
   -- one instant: what the calls of both machines say carries all that the machine is asked for
-  pub whole_instant : (es : List Event) (now : ℕ) (e e1 : Standing) (m : Held) (n : Counts) (written new : List ℕ) (w5 : Content) (r : Round) → Whole t code schedules show es now e m n written
-      → Passed t code schedules es now m.world w5 e1 → DeskFollows (turn_at t schedules es) (hyper t) (suc now) r → new ≡ written ++ instant_text t code schedules es show now
-      → Whole t code schedules show es (suc now) e1 (record m { world = w5; desk = r }) (counted t code schedules es now n) new
-  whole_instant es now e e1 m n written new w5 r f p desk text =
+  pub whole_instant : (es : List Event) (now : ℕ) (e e1 : Standing) (m : RunState) (n : Counts) (written new : List ℕ) (w5 : Content) (r : Round) → Whole t code schedules show es now e m n written
+      → Passed t code schedules es now m.world w5 e1 → SMachineFollows (turn_at t schedules es) (hyper t) (suc now) r → new ≡ written ++ instant_text t code schedules es show now
+      → Whole t code schedules show es (suc now) e1 (record m { world = w5; s_machine = r }) (counted t code schedules es now n) new
+  whole_instant es now e e1 m n written new w5 r f p s_machine text =
       let world : w5 ≡ next_world t es (turn_at t schedules es) now m.world =
       next_is t code schedules loaded modes_read es f.stands.up_to.within now m.world p.recorded p.wrote p.sensed p.switched w5 p.records p.writes p.sensors p.switches p.reads in
       record {
         triggers = reads_follows t code es now e1 (phase_path t code es now 3) [] (sound t code 12 (omega arith) loaded.range loaded.kept ((spells_or_departs t code).0 spelled)) p.ends;
         safe = p.safe;
         stands =
-            subst (λ w. RunStands t code schedules show es (suc now) (record m { world = w; desk = r }) (counted t code schedules es now n) new) (sym world)
-            (instant_stands t code schedules loaded show es now m n written new r f.stands (subst (IsShaped t) world p.shaped) desk text);
+            subst (λ w. RunStands t code schedules show es (suc now) (record m { world = w; s_machine = r }) (counted t code schedules es now n) new) (sym world)
+            (instant_stands t code schedules loaded show es now m n written new r f.stands (subst (IsShaped t) world p.shaped) s_machine text);
       }
 
   -- a reading, once all instants before it are done
-  pub whole_reading : (es : List Event) (to : ℕ) (e : Standing) (m : Held) (n : Counts) (written : List ℕ) → m.spent ≡ false → Whole t code schedules show es to e m n written
+  pub whole_reading : (es : List Event) (to : ℕ) (e : Standing) (m : RunState) (n : Counts) (written : List ℕ) → m.spent ≡ false → Whole t code schedules show es to e m n written
       → WholeFollowed t code schedules show (es ++ V.At to ∷ []) e (at_reading to m) n written
   whole_reading es to e m n written open_yet f =
       let g = read_stands t code schedules loaded show es to m n written open_yet f.stands in
@@ -82,7 +82,7 @@ module _ (t : Tables) (code : ECode) (schedules : List (List SInstr)) (loaded : 
       }
 
   -- a sensor
-  pub whole_sense : (es : List Event) (d : ℕ) (y : ℤ) (e : Standing) (m : Held) (n : Counts) (written : List ℕ) → d < length t.comms → IfSome (slice_get t.comms d) (λ x. FitsType x.ty y) → WholeFollowed t code schedules show es e m n written
+  pub whole_sense : (es : List Event) (d : ℕ) (y : ℤ) (e : Standing) (m : RunState) (n : Counts) (written : List ℕ) → d < length t.comms → IfSome (slice_get t.comms d) (λ x. FitsType x.ty y) → WholeFollowed t code schedules show es e m n written
       → WholeFollowed t code schedules show (es ++ V.Sense d y ∷ []) e (shown_as d y m) n written
   whole_sense es d y e m n written known fits f =
       let g = sense_stands t code schedules loaded show es d y m n written known fits (record { follows = f.follows; stands = f.whole.stands }) in
@@ -102,8 +102,8 @@ module _ (t : Tables) (code : ECode) (schedules : List (List SInstr)) (loaded : 
       early c u h = grind (arith, nat_tests)
 
   -- a length
-  pub whole_took : (es : List Event) (i k : ℕ) (e : Standing) (m : Held) (n : Counts) (written : List ℕ) → IsTookWithin t (V.Took i k) → i < length t.invs → length m.takes ≡ length t.invs
-      → ((c : List SInstr) → rounds.Stands m.desk c → rounds.Stands (desk_taking i k m.desk) c) → WholeFollowed t code schedules show es e m n written
+  pub whole_took : (es : List Event) (i k : ℕ) (e : Standing) (m : RunState) (n : Counts) (written : List ℕ) → IsTookWithin t (V.Took i k) → i < length t.invs → length m.takes ≡ length t.invs
+      → ((c : List SInstr) → rounds.Stands m.s_machine c → rounds.Stands (s_machine_taking i k m.s_machine) c) → WholeFollowed t code schedules show es e m n written
       → WholeFollowed t code schedules show (es ++ V.Took i k ∷ []) e (taken_as i k m) n written
   whole_took es i k e m n written fits known long keeps f =
       let g = took_stands t code schedules loaded show es i k m n written fits known long keeps (record { follows = f.follows; stands = f.whole.stands }) in
@@ -118,7 +118,7 @@ module _ (t : Tables) (code : ECode) (schedules : List (List SInstr)) (loaded : 
       }
 
   -- a new machine
-  pub whole_new : (m : Held) (n : Counts) (written : List ℕ) → StandsSafely t code (first_standing t code) → Followed t code schedules show [] m n written → WholeFollowed t code schedules show [] (first_standing t code) m n written
+  pub whole_new : (m : RunState) (n : Counts) (written : List ℕ) → StandsSafely t code (first_standing t code) → Followed t code schedules show [] m n written → WholeFollowed t code schedules show [] (first_standing t code) m n written
   whole_new m n written safe f =
       record {
         follows = f.follows;

@@ -88,4 +88,4 @@ AreToClose t code es at m = IsToClose t code es at m.emach m.works.world m.noted
 -- the same, where a list begins behind the last one
 abbrev pub AreToCloseAndBegin : Tables → ECode → List (List SInstr) → List Event → ℕ → List ℕ → Option ListAt → Machines → Type 0
 AreToCloseAndBegin t code schedules es at takes last m =
-    IsToCloseAndBegin t code schedules es at takes last m.works.desk m.emach m.works.world m.noted.values m.noted.modes
+    IsToCloseAndBegin t code schedules es at takes last m.works.s_machine m.emach m.works.world m.noted.values m.noted.modes

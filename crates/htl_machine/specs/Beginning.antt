@@ -9,9 +9,9 @@ use Rattle.htl_ecode.specs.declared.ecode.ECode.{ECode}
 use Rattle.htl_emach.specs.Following.{phase_path}
 use Rattle.htl_refine.specs.Records.{modes_at}
 use Rattle.htl_machine.specs.declared.numbering.ListAt.{ListAt}
-use Rattle.htl_machine.specs.Follows.{DeskAt}
+use Rattle.htl_machine.specs.Follows.{SMachineAt}
 use Rattle.htl_machine.specs.ListBegun.{list_begun, CanStart}
-use Rattle.htl_machine.specs.Readiness.{desk_replay}
+use Rattle.htl_machine.specs.Readiness.{s_machine_replay}
 use Rattle.htl_machine.specs.Recording.{AreOf}
 use Rattle.htl_machine.specs.RunLists.{turn_at}
 use Rattle.htl_machine.specs.StandingList.{turn_list, next_at}
@@ -37,6 +37,6 @@ pub record IsToBegin (t : Tables) (code : ECode) (schedules : List (List SInstr)
   pub form : (d : Round) → d.jobs ≡ (turn_at t schedules es at).plan.jobs → IsInForm d (turn_at t schedules es at).plan.schedule
   pub short : length (turn_at t schedules es at).plan.schedule ≤ 4294967295
   pub time : (turn_at t schedules es at).frame + (turn_at t schedules es at).plan.first.time ≡ at
-  pub begins : DeskAt (turn_at t schedules es at).plan (turn_at t schedules es at).frame 0 (at - (turn_at t schedules es at).frame) (list_begun t (modes_at t es at) takes at r)
-  pub told : Stands (desk_replay code (phase_path t code es at 3) (list_begun t (modes_at t es at) takes at r)) (turn_at t schedules es at).plan.schedule
-      → DeskAt (turn_at t schedules es at).plan (turn_at t schedules es at).frame 0 (suc at - (turn_at t schedules es at).frame) (desk_replay code (phase_path t code es at 3) (list_begun t (modes_at t es at) takes at r))
+  pub begins : SMachineAt (turn_at t schedules es at).plan (turn_at t schedules es at).frame 0 (at - (turn_at t schedules es at).frame) (list_begun t (modes_at t es at) takes at r)
+  pub told : Stands (s_machine_replay code (phase_path t code es at 3) (list_begun t (modes_at t es at) takes at r)) (turn_at t schedules es at).plan.schedule
+      → SMachineAt (turn_at t schedules es at).plan (turn_at t schedules es at).frame 0 (suc at - (turn_at t schedules es at).frame) (s_machine_replay code (phase_path t code es at 3) (list_begun t (modes_at t es at) takes at r))

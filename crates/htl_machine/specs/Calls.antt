@@ -26,7 +26,7 @@ use Rattle.htl_machine.specs.Plans.{finished_before}
 use Rattle.htl_machine.specs.RunLists.{turn_at}
 use Rattle.htl_machine.specs.StandingList.{instrs_by, turn_list}
 use Rattle.htl_machine.specs.Values.{ValuesFollow}
-use Rattle.htl_machine.specs.Follows.{Held, reading_of, DeskFollows}
+use Rattle.htl_machine.specs.Follows.{RunState, reading_of, SMachineFollows}
 use Rattle.htl_machine.specs.Lines.{e_done, jobs_done, s_done}
 
 -- what contracts see of a machine
@@ -34,7 +34,7 @@ pub record Seen : Type 0 where
   pub object : Object
   pub show : Shown
   -- what it keeps of the calls, its world, and the S machine
-  pub held : Held
+  pub run_state : RunState
   -- the E machine
   pub standing : Standing
   -- the list of the processor that stands: its node, and its number in the frame; none before the first
@@ -54,14 +54,14 @@ first_seen o show w m =
     record {
       object = o;
       show = show;
-      held =
+      run_state =
           record {
             spent = false;
             reading = 0;
             shows = w.values;
             takes = map (λ (x : Inv). task_worst o.tables x.task) o.tables.invs;
             world = w;
-            desk = no_round;
+            s_machine = no_round;
           };
       standing = m;
       list = None;
@@ -74,7 +74,7 @@ first_seen o show w m =
 
 -- what calls told it: it isn't spent, and keeps the last reading, what each sensor showed last, and how long the jobs of each
 -- invocation take that are released from now on
-pub record IsKept (t : Tables) (es : List Event) (m : Held) : Type 0 where
+pub record IsKept (t : Tables) (es : List Event) (m : RunState) : Type 0 where
   pub fresh : m.spent ≡ false
   pub reading : m.reading ≡ reading_of 0 es
   pub within : AreTookWithin t es
@@ -99,7 +99,7 @@ GoesBy turn (Some period) (suc n) list = list ≡ Some (turn_list (turn n))
 
 -- the list of the processor that began last before an instant
 pub record IsRecorded (t : Tables) (schedules : List (List SInstr)) (es : List Event) (now : ℕ) (r : Round) (list : Option ListAt) (jobs s : ℕ) : Type 0 where
-  pub desk : DeskFollows (turn_at t schedules es) (hyper t) now r
+  pub s_machine : SMachineFollows (turn_at t schedules es) (hyper t) now r
   pub goes : GoesBy (turn_at t schedules es) (hyper t) now list
   pub jobs_are : jobs ≡ jobs_done t schedules es now
   pub s_are : s ≡ s_done t schedules es now
@@ -108,18 +108,18 @@ pub record IsRecorded (t : Tables) (schedules : List (List SInstr)) (es : List E
 pub record IsBefore (m : Seen) (es : List Event) (now : ℕ) : Type 0 where
   pub values :
       IsValued m.object.tables m.object.ecode es now
-      (finished_before (turn_at m.object.tables (schedules_of m.object) es) now) m.held.world m.standing m.e
-  pub records : IsRecorded m.object.tables (schedules_of m.object) es now m.held.desk m.list m.jobs m.s
+      (finished_before (turn_at m.object.tables (schedules_of m.object) es) now) m.run_state.world m.standing m.e
+  pub records : IsRecorded m.object.tables (schedules_of m.object) es now m.run_state.s_machine m.list m.jobs m.s
 
 -- before an instant that is no earlier than the last reading
 pub record IsUpTo (m : Seen) (es : List Event) (now : ℕ) : Type 0 where
-  pub kept : IsKept m.object.tables es m.held
+  pub kept : IsKept m.object.tables es m.run_state
   pub before : IsBefore m es now
 
 -- a machine follows a list of events: all instants before the last reading are done
 pub record Follows (m : Seen) (es : List Event) : Type 0 where
-  pub kept : IsKept m.object.tables es m.held
-  pub before : IsBefore m es m.held.reading
+  pub kept : IsKept m.object.tables es m.run_state
+  pub before : IsBefore m es m.run_state.reading
 
 -- ---- what calls ask for
 
@@ -151,9 +151,9 @@ pub record IsSameRun (old new : Seen) : Type 0 where
 
 -- all instants up to `to` are done, and nothing more can be: the values are those of the meaning at `to`, the numbers those of the run
 pub record IsFinished (m : Seen) (es : List Event) (to : ℕ) : Type 0 where
-  pub spent : m.held.spent ≡ true
-  pub reading : m.held.reading ≡ to
-  pub values : m.held.world.values ≡ (state m.object.tables es to).values
+  pub spent : m.run_state.spent ≡ true
+  pub reading : m.run_state.reading ≡ to
+  pub values : m.run_state.world.values ≡ (state m.object.tables es to).values
   pub jobs : m.jobs ≡ jobs_done m.object.tables (schedules_of m.object) es (suc to)
   pub e : m.e ≡ e_done m.object.tables m.object.ecode es (suc to)
   pub s : m.s ≡ s_done m.object.tables (schedules_of m.object) es (suc to)

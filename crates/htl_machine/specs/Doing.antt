@@ -22,7 +22,7 @@ use Rattle.htl_console.specs.Lines.{instr_line}
 use Rattle.htl_console.specs.Shows.{shows_code}
 use Rattle.htl_machine.specs.declared.tally.Tally.{Tally}
 use Rattle.htl_machine.specs.Counts.{with_instrs}
-use Rattle.htl_machine.specs.Readiness.{desk_replay}
+use Rattle.htl_machine.specs.Readiness.{s_machine_replay}
 use Rattle.htl_machine.specs.Noting.{MarksChanges, KeepsNoted}
 use Rattle.htl_machine.specs.declared.noted.Noted.{Noted}
 use Rattle.htl_machine.specs.Texts.{e_line}
@@ -37,14 +37,14 @@ path_lines t code show at ds = cond (shows_code show) (joined (e_line t code at)
 
 -- the read phase alone tells releases
 abbrev pub told_in_phase : ℕ → ECode → List paths.Done → Round → Round
-told_in_phase phase code ds r = cond (eqb phase 3) (desk_replay code ds r) r
+told_in_phase phase code ds r = cond (eqb phase 3) (s_machine_replay code ds r) r
 
 pub record IsDoing (t : Tables) (code : ECode) (es : List Event) (at phase : ℕ) (show : Shown) (m : Standing) (w first : Content) (r0 r : Round) (w0 w1 : Option (List ℕ)) (f0 f : ℕ) (n0 n : Tally) : Type 0 where
   pub running : IsRunning t code es at phase m w first
   pub kept : f ≡ f0
   pub text : w1 ≡ append_known w0 (path_lines t code show at running.done)
   pub count : n ≡ with_instrs (length running.done) n0
-  pub desk : r ≡ told_in_phase phase code running.done r0
+  pub s_machine : r ≡ told_in_phase phase code running.done r0
   pub stands : (s : List SInstr) → rounds.Stands r0 s → rounds.Stands r s
 
 -- a phase begins, by the meaning of these events: no block runs, the calendar is that before its blocks, and in the switch phase the values are

@@ -20,7 +20,7 @@ seen_by o show spent reading sensors takes machines path =
     record {
       object = o;
       show = show;
-      held = record { spent = spent; reading = reading; shows = sensors.shows; takes = takes; world = machines.works.world; desk = machines.works.desk };
+      run_state = record { spent = spent; reading = reading; shows = sensors.shows; takes = takes; world = machines.works.world; s_machine = machines.works.s_machine };
       standing = machines.emach;
       list = path.list;
       jobs = machines.works.tally.jobs;
@@ -31,11 +31,11 @@ seen_by o show spent reading sensors takes machines path =
 pub record IsFitted (m : Seen) (sensors : Sensors) (noted : Noted) (path : Path) (due : ℕ) : Type 0 where
   pub accepted : IsAccepted m.object
   pub all_shows : length sensors.shows ≡ length m.object.tables.comms
-  pub all_takes : length m.held.takes ≡ length m.object.tables.invs
+  pub all_takes : length m.run_state.takes ≡ length m.object.tables.invs
   pub few : path.count ≤ 128
-  pub stands : m.held.spent ≡ false → IsPath m.object.tables path m.held.desk.jobs
+  pub stands : m.run_state.spent ≡ false → IsPath m.object.tables path m.run_state.s_machine.jobs
   -- outside the marks, what was noted is what the world and the E machine have, and a sensor has what it is shown
-  pub marked : m.held.spent ≡ false → MarksChanges noted m.held.world.values m.standing.calendar.modes
-  pub waiting : m.held.spent ≡ false → MarksWaiting m.object.tables sensors m.held.world.values
+  pub marked : m.run_state.spent ≡ false → MarksChanges noted m.run_state.world.values m.standing.calendar.modes
+  pub waiting : m.run_state.spent ≡ false → MarksWaiting m.object.tables sensors m.run_state.world.values
   pub empty : path.idle.instrs ≡ []
-  pub quiet : m.held.spent ≡ false → AreQuiet m m.held.reading due
+  pub quiet : m.run_state.spent ≡ false → AreQuiet m m.run_state.reading due

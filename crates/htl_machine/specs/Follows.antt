@@ -26,14 +26,14 @@ use Rattle.htl_machine.specs.Turns.{position_from}
 use Rattle.htl_machine.specs.RunLists.{turn_at}
 
 -- what contracts see of a machine, but for its triggers and totals
-pub record Held : Type 0 where
+pub record RunState : Type 0 where
   pub spent : Bool
   pub reading : ℕ
   -- what each sensor showed last, and how long the jobs of each invocation take that are released from now on
   pub shows : List ℤ
   pub takes : List ℕ
   pub world : Content
-  pub desk : Round
+  pub s_machine : Round
 
 -- the last reading, where the one before the events was r
 abbrev pub reading_of : ℕ → List Event → ℕ
@@ -50,7 +50,7 @@ abbrev pub released_before : ℕ → List Job → List Bool
 released_before d jobs = map (λ j. j.present && ltb j.release d) jobs
 
 -- the S machine stands in the list, of the frame from s, all records before `now` given
-pub record DeskStands (p : Plan) (s now : ℕ) (r : Round) : Type 0 where
+pub record SMachineStands (p : Plan) (s now : ℕ) (r : Round) : Type 0 where
   pub start : r.start ≡ s
   pub jobs : r.jobs ≡ p.jobs
   pub lengths : length r.lengths ≡ length r.jobs
@@ -62,15 +62,15 @@ pub record DeskStands (p : Plan) (s now : ℕ) (r : Round) : Type 0 where
   pub stands : rounds.Stands r p.schedule
 
 -- before an instant the S machine stands in the list that began last before it; without modules there is none
-abbrev pub DeskFollows : (ℕ → Turn) → Option ℕ → ℕ → Round → Type 0
-DeskFollows turn None now r = r ≡ no_round
-DeskFollows turn (Some period) zero r = r ≡ no_round
-DeskFollows turn (Some period) (suc n) r = DeskStands (turn n).plan (turn n).frame (suc n) r
+abbrev pub SMachineFollows : (ℕ → Turn) → Option ℕ → ℕ → Round → Type 0
+SMachineFollows turn None now r = r ≡ no_round
+SMachineFollows turn (Some period) zero r = r ≡ no_round
+SMachineFollows turn (Some period) (suc n) r = SMachineStands (turn n).plan (turn n).frame (suc n) r
 
 -- ---- the machine
 
 -- before the instant `now`, which is no earlier than the last reading
-pub record UpTo (t : Tables) (schedules : List (List SInstr)) (es : List Event) (now : ℕ) (m : Held) : Type 0 where
+pub record UpTo (t : Tables) (schedules : List (List SInstr)) (es : List Event) (now : ℕ) (m : RunState) : Type 0 where
   pub within : AreTookWithin t es
   pub later : reading_of 0 es ≤ now
   -- the values that sensors showed are of their types
@@ -80,10 +80,10 @@ pub record UpTo (t : Tables) (schedules : List (List SInstr)) (es : List Event) 
   pub values : ValuesFollow t es now (finished_before (turn_at t schedules es) now) m.world
   -- each value, input and output is of its type
   pub shape : IsShaped t m.world
-  pub desk : DeskFollows (turn_at t schedules es) (hyper t) now m.desk
+  pub s_machine : SMachineFollows (turn_at t schedules es) (hyper t) now m.s_machine
 
 -- at the last reading
-pub record HeldFollows (t : Tables) (schedules : List (List SInstr)) (es : List Event) (m : Held) : Type 0 where
+pub record RunStateFollows (t : Tables) (schedules : List (List SInstr)) (es : List Event) (m : RunState) : Type 0 where
   pub fresh : m.spent ≡ false
   pub reading : m.reading ≡ reading_of 0 es
   pub up_to : UpTo t schedules es m.reading m
@@ -91,7 +91,7 @@ pub record HeldFollows (t : Tables) (schedules : List (List SInstr)) (es : List 
 -- ---- inside an instant
 
 -- the S machine stands in the list, of the frame from s, k of its records given, the releases before an offset told
-pub record DeskAt (p : Plan) (s k d : ℕ) (r : Round) : Type 0 where
+pub record SMachineAt (p : Plan) (s k d : ℕ) (r : Round) : Type 0 where
   pub start : r.start ≡ s
   pub jobs : r.jobs ≡ p.jobs
   pub lengths : length r.lengths ≡ length r.jobs
@@ -111,10 +111,10 @@ pub record IsLoaded (t : Tables) (schedules : List (List SInstr)) : Type 0 where
 
 -- ---- what the calls of a machine do to what it keeps
 
-abbrev pub at_reading : ℕ → Held → Held
+abbrev pub at_reading : ℕ → RunState → RunState
 at_reading to m = record m { reading = to }
 
-abbrev pub shown_as : ℕ → ℤ → Held → Held
+abbrev pub shown_as : ℕ → ℤ → RunState → RunState
 shown_as c x m = record m { shows = set m.shows c x }
 
 abbrev pub with_length : Round → ℕ → ℕ → Round
@@ -128,8 +128,8 @@ set_pending Ready r p n = r
 set_pending Done r p n = r
 
 -- a pending job of the invocation takes so long
-abbrev pub desk_taking : ℕ → ℕ → Round → Round
-desk_taking i n r = elim (position_from 0 r.jobs i) [ Some p ↦ set_pending (state_of r p) r p n | None ↦ r ]
+abbrev pub s_machine_taking : ℕ → ℕ → Round → Round
+s_machine_taking i n r = elim (position_from 0 r.jobs i) [ Some p ↦ set_pending (state_of r p) r p n | None ↦ r ]
 
-abbrev pub taken_as : ℕ → ℕ → Held → Held
-taken_as i n m = record m { takes = set m.takes i n; desk = desk_taking i n m.desk }
+abbrev pub taken_as : ℕ → ℕ → RunState → RunState
+taken_as i n m = record m { takes = set m.takes i n; s_machine = s_machine_taking i n m.s_machine }

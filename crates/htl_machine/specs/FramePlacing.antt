@@ -12,7 +12,7 @@ use Rattle.htl_model.specs.Tables.{Tables, window_end}
 use Rattle.htl_walk.specs.PathJobs.{placed_jobs}
 use Rattle.htl_refine.specs.FramePlaces.{place, standing_places, AreOrdered}
 use Rattle.htl_refine.specs.FrameRuns.{frame_modes, frame_places, frame_jobs}
-use Rattle.htl_machine.specs.Casts.{IsCast}
+use Rattle.htl_machine.specs.JobsSoFar.{AreJobsSoFar}
 use Rattle.htl_machine.specs.Values.{InvStands}
 
 -- the positions so far of the frame from `frame`, where at n the modules are as `stays` says
@@ -28,10 +28,10 @@ pub record IsFramePlacing (t : Tables) (stays : List (Option Stay)) (frame n : �
   pub order : (p q : ℕ) (x y : Place) → p < q → slice_get places p ≡ Some x → slice_get places q ≡ Some y → x.at ≤ y.at
   pub once : (p q i a : ℕ) → slice_get places p ≡ Some (place i a) → slice_get places q ≡ Some (place i a) → p ≡ q
 
--- then the jobs at the first positions are cast
-abbrev pub CastOfPlacing : Type 0
-CastOfPlacing =
-    (t : Tables) (stays : List (Option Stay)) (frame n m : ℕ) (all : List Place) → IsFramePlacing t stays frame n (take m all) → IsCast t stays frame n (take m (placed_jobs t all))
+-- then the jobs at the first positions are those so far
+abbrev pub JobsOfPlacing : Type 0
+JobsOfPlacing =
+    (t : Tables) (stays : List (Option Stay)) (frame n m : ℕ) (all : List Place) → IsFramePlacing t stays frame n (take m all) → AreJobsSoFar t stays frame n (take m (placed_jobs t all))
 
 -- when the frame of an instant began
 abbrev pub frame_start : Tables → ℕ → ℕ
@@ -47,8 +47,8 @@ PlacedByModes =
     (t : Tables) (es : List Event) (n f m : ℕ) → AreInRange t → KeptApart t 16 → f ≡ frame_start t n → f ≤ n → n < f + frame_of t → AreOrdered (standing_places t es f) m (n - f)
     → IsFramePlacing t (state t es n).stays f n (take m (standing_places t es f))
 
--- at each instant the jobs of the frame so far are cast: in every run, from the form rules alone
-abbrev pub FrameCast : Type 0
-FrameCast =
+-- at each instant the jobs of the frame are those so far: in every run, from the form rules alone
+abbrev pub FrameJobsStand : Type 0
+FrameJobsStand =
     (t : Tables) (es : List Event) (n f : ℕ) → AreInRange t → KeptApart t 16 → 0 < frame_of t → f ≡ frame_start t n
-    → IsCast t (state t es n).stays f n (take (begun_by t es f n) (frame_jobs t (frame_modes t es f)))
+    → AreJobsSoFar t (state t es n).stays f n (take (begun_by t es f n) (frame_jobs t (frame_modes t es f)))

@@ -10,7 +10,7 @@ use Rattle.htl_walk.specs.Walk.{Left}
 use Rattle.htl_emach.specs.Contents.{Content}
 use Rattle.htl_refine.specs.RecordCounts.{count_left_before, done_by}
 use Rattle.htl_refine.specs.ServedSoFar.{IsServedSoFar}
-use Rattle.htl_machine.specs.Casts.{IsCast}
+use Rattle.htl_machine.specs.JobsSoFar.{AreJobsSoFar}
 use Rattle.htl_machine.specs.Completing.{run_records}
 use Rattle.htl_machine.specs.Turns.{finished_in}
 use Rattle.htl_machine.specs.Values.{AreCarried}
@@ -31,10 +31,10 @@ abbrev pub finished_at : (ℕ → Now) → ℕ → ℕ → Bool
 finished_at now zero i = false
 finished_at now (suc n) i = let f = now n in finished_in f.jobs (done_by f.walk (count_left_before (suc (suc n) - f.frame) f.walk)) i
 
--- at each instant the jobs so far are cast, and the records serve them; a frame goes on with further jobs, or the next begins
+-- at each instant the jobs are those so far, and the records serve them; a frame goes on with further jobs, or the next begins
 pub record AreFrames (t : Tables) (es : List Event) (now : ℕ → Now) : Type 0 where
   pub past : (n : ℕ) → (now n).frame ≤ n
-  pub casts : (n : ℕ) → IsCast t (state t es n).stays (now n).frame n (now n).jobs
+  pub jobs_so_far : (n : ℕ) → AreJobsSoFar t (state t es n).stays (now n).frame n (now n).jobs
   pub runs : (n : ℕ) → IsServedSoFar (now n).jobs (now n).walk (now n).frame n
   pub on : (n : ℕ) → ((now (suc n)).frame ≡ suc n)
       ⊎ (((now (suc n)).frame ≡ (now n).frame) × ((now (suc n)).walk ≡ (now n).walk) × ((p : ℕ) (j : Job) → slice_get (now n).jobs p ≡ Some j → slice_get (now (suc n)).jobs p ≡ Some j))

@@ -8,7 +8,7 @@ use Rattle.htl_smach.specs.Rounds.{Round, Stands, IsInForm, IsTold}
 use Rattle.htl_emach.specs.Contents.{Content}
 use Rattle.htl_refine.specs.ListPlans.{ListPlan as Plan}
 use Rattle.htl_machine.specs.Calls.{Seen}
-use Rattle.htl_machine.specs.Follows.{DeskAt}
+use Rattle.htl_machine.specs.Follows.{SMachineAt}
 use Rattle.htl_machine.specs.Leaving.{due_by}
 use Rattle.htl_machine.specs.Plans.{with_records}
 use Rattle.htl_machine.specs.Programs.{schedules_of}
@@ -26,14 +26,14 @@ pub record IsReadyAt (m : Seen) (es : List Event) (now : ℕ) (steps : List SIns
   pub same : plan.schedule ≡ steps
   pub past : start ≤ now
   pub few : place ≤ due_by plan start now
-  pub was : DeskAt plan start place offset m.held.desk
-  pub of : AreOf m.object.tables m.held.desk.jobs
-  pub form : m.held.desk.running ≡ true → IsInForm m.held.desk steps
+  pub was : SMachineAt plan start place offset m.run_state.s_machine
+  pub of : AreOf m.object.tables m.run_state.s_machine.jobs
+  pub form : m.run_state.s_machine.running ≡ true → IsInForm m.run_state.s_machine steps
   pub short : length steps ≤ 4294967295
-  pub stands : Stands m.held.desk steps
-  pub told : IsTold m.held.desk now
+  pub stands : Stands m.run_state.s_machine steps
+  pub told : IsTold m.run_state.s_machine now
   -- what its records do to the world, and what they show
-  pub recorded : (d : Round) (v : Content) → Records m.object.tables m.held.desk m.held.world d v steps now
-      → v ≡ with_records m.object.tables (turn_at m.object.tables (schedules_of m.object) es) now m.held.world
+  pub recorded : (d : Round) (v : Content) → Records m.object.tables m.run_state.s_machine m.run_state.world d v steps now
+      → v ≡ with_records m.object.tables (turn_at m.object.tables (schedules_of m.object) es) now m.run_state.world
   pub lines : joined (record_text m.object.tables m.show plan (node_by m.list)) (some_records plan start place (due_by plan start now - place))
       ≡ (list_texts m.object.tables (schedules_of m.object) es m.show (hyper m.object.tables) now).0

@@ -4,7 +4,7 @@ use Rattle.htl_walk.specs.declared.schedule.SInstr.{SInstr}
 use Rattle.htl_smach.specs.Rounds.{Round, Stands, IsInForm, IsTold}
 use Rattle.htl_refine.specs.RecordCounts.{count_left_before}
 use Rattle.htl_refine.specs.ListPlans.{ListPlan as Plan, list_walk}
-use Rattle.htl_machine.specs.Follows.{DeskAt}
+use Rattle.htl_machine.specs.Follows.{SMachineAt}
 
 -- the records of the list that are left at an instant or before, as a number
 abbrev pub due_by : Plan → ℕ → ℕ → ℕ
@@ -13,11 +13,11 @@ due_by p s at = count_left_before (suc at - s) (list_walk p)
 -- wherever it stood, it stands in the same list, no record past those that are due
 abbrev pub Goes : Round → Round → List SInstr → ℕ → Type 0
 Goes old now code at =
-    (p : Plan) (s k d : ℕ) → p.schedule ≡ code → s ≤ at → k ≤ due_by p s at → DeskAt p s k d old → (m : ℕ) × (k ≤ m) × (m ≤ due_by p s at) × DeskAt p s m d now
+    (p : Plan) (s k d : ℕ) → p.schedule ≡ code → s ≤ at → k ≤ due_by p s at → SMachineAt p s k d old → (m : ℕ) × (k ≤ m) × (m ≤ due_by p s at) × SMachineAt p s m d now
 
 -- and once no more is answered, all of them are given
 abbrev pub Leaves : Round → Round → List SInstr → ℕ → Type 0
-Leaves old now code at = (p : Plan) (s k d : ℕ) → p.schedule ≡ code → s ≤ at → k ≤ due_by p s at → DeskAt p s k d old → DeskAt p s (due_by p s at) d now
+Leaves old now code at = (p : Plan) (s k d : ℕ) → p.schedule ≡ code → s ≤ at → k ≤ due_by p s at → SMachineAt p s k d old → SMachineAt p s (due_by p s at) d now
 
 pub record IsLeaving (old now : Round) (code : List SInstr) (at : ℕ) : Type 0 where
   pub form : now.running ≡ true → IsInForm now code

@@ -1,7 +1,7 @@
 pub mod Worlds
 pub mod Values
 pub mod Turns
-pub mod Casts
+pub mod JobsSoFar
 pub mod Completing
 pub mod FramesGoOn
 pub mod ListTurns
@@ -18,7 +18,7 @@ pub mod Leaving
 pub mod Recording
 pub mod Sensors
 pub mod Readiness
-pub mod Tellings
+pub mod ReleaseFlags
 pub mod Lines
 pub mod Programs
 pub mod JobLines
@@ -41,7 +41,7 @@ pub mod NextLists
 pub mod Numbering
 pub mod StandingList
 pub mod Beginning
-pub mod NextDesks
+pub mod NextSMachines
 pub mod Instant
 pub mod Asking
 pub mod Marks

@@ -10,7 +10,7 @@ use Rattle.htl_smach.specs.Rounds.{Round, round_begun, added}
 use Rattle.htl_refine.specs.BegunJobs.{new_jobs}
 use Rattle.htl_refine.specs.Records.{modes_at, took}
 use Rattle.htl_refine.specs.ServedFrames.{IsFeasibleRun}
-use Rattle.htl_machine.specs.Follows.{DeskAt}
+use Rattle.htl_machine.specs.Follows.{SMachineAt}
 use Rattle.htl_machine.specs.RunLists.{list_turn}
 use Rattle.htl_machine.specs.Starting.{kept_lengths}
 
@@ -29,11 +29,11 @@ pub record CanStart (t : Tables) (modes : List (Option ℕ)) (takes : List ℕ) 
 
 -- behind a frame's start the S machine stands at the end of the list before, all releases before the instant told
 abbrev pub IsAtEnd : Tables → List (List SInstr) → List Event → ℕ → Round → Type 0
-IsAtEnd t lists es at r = 0 < at % frame_of t → let v = list_turn t lists es (pred at) in DeskAt v.plan v.frame (length v.plan.schedule) (at - v.frame) r
+IsAtEnd t lists es at r = 0 < at % frame_of t → let v = list_turn t lists es (pred at) in SMachineAt v.plan v.frame (length v.plan.schedule) (at - v.frame) r
 
 -- so it stands at the beginning of the list that begins
 abbrev pub ListsAreBegun : Type 0
 ListsAreBegun =
     (t : Tables) (lists : List (List SInstr)) (es : List Event) → IsFeasibleRun t lists es → (at : ℕ) (takes : List ℕ) (r : Round)
     → (list_turn t lists es at).frame + (list_turn t lists es at).from ≡ at → ((i u : ℕ) → at ≤ u → get_or takes i 0 ≡ took t es i u) → IsAtEnd t lists es at r
-    → (let u = list_turn t lists es at in CanStart t (modes_at t es at) takes at r × DeskAt u.plan u.frame 0 (at - u.frame) (list_begun t (modes_at t es at) takes at r))
+    → (let u = list_turn t lists es at in CanStart t (modes_at t es at) takes at r × SMachineAt u.plan u.frame 0 (at - u.frame) (list_begun t (modes_at t es at) takes at r))

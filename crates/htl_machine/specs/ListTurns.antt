@@ -52,7 +52,7 @@ pub record IsTurn (u : Turn) (walk : List Left) (n : ℕ) : Type 0 where
   -- and up to it
   pub upto : (p : ℕ) → done_by walk (count_left_before (suc (suc n) - u.frame) walk) p ≡ done_by walk (length u.earlier + left_before u (suc (suc n))) p
 
--- at each instant the jobs so far are cast, the records of the frame serve them, and those of the list that stands are among them
+-- at each instant the jobs are those so far, the records of the frame serve them, and those of the list that stands are among them
 pub record AreTurns (t : Tables) (es : List Event) (turn : ℕ → Turn) : Type 0 where
   pub walk : ℕ → List Left
   pub frames : AreFrames t es (λ n. record { frame = (turn n).frame; jobs = (turn n).plan.jobs; walk = walk n })

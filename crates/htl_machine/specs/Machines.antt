@@ -4,7 +4,7 @@ use Rattle.htl_model.specs.declared.event.Event.{Event}
 use Rattle.htl_model.specs.Tables.{Tables}
 use Rattle.htl_walk.specs.declared.schedule.SInstr.{SInstr}
 use Rattle.htl_ecode.specs.declared.ecode.ECode.{ECode}
-use Rattle.htl_machine.specs.Follows.{Held, UpTo, HeldFollows}
+use Rattle.htl_machine.specs.Follows.{RunState, UpTo, RunStateFollows}
 use Rattle.htl_console.specs.declared.shown.Shown.{Shown}
 use Rattle.htl_machine.specs.Texts.{listed_text_before, TotalsFollow}
 
@@ -15,12 +15,12 @@ pub record Counts : Type 0 where
   pub s : ℕ
 
 -- before an instant: what it keeps, what it counted, and what was written
-pub record RunStands (t : Tables) (code : ECode) (schedules : List (List SInstr)) (show : Shown) (es : List Event) (now : ℕ) (m : Held) (n : Counts) (written : List ℕ) : Type 0 where
+pub record RunStands (t : Tables) (code : ECode) (schedules : List (List SInstr)) (show : Shown) (es : List Event) (now : ℕ) (m : RunState) (n : Counts) (written : List ℕ) : Type 0 where
   pub up_to : UpTo t schedules es now m
   pub totals : TotalsFollow t code schedules es now n.jobs n.e n.s
   pub text : written ≡ listed_text_before t code schedules es show now
 
 -- it followed these events, and wrote all before the last reading
-pub record Followed (t : Tables) (code : ECode) (schedules : List (List SInstr)) (show : Shown) (es : List Event) (m : Held) (n : Counts) (written : List ℕ) : Type 0 where
-  pub follows : HeldFollows t schedules es m
+pub record Followed (t : Tables) (code : ECode) (schedules : List (List SInstr)) (show : Shown) (es : List Event) (m : RunState) (n : Counts) (written : List ℕ) : Type 0 where
+  pub follows : RunStateFollows t schedules es m
   pub stands : RunStands t code schedules show es m.reading m n written

@@ -19,7 +19,7 @@ use Rattle.htl_console.specs.Shows.{shows_values}
 use Rattle.htl_machine.specs.declared.tally.Tally.{Tally}
 use Rattle.htl_machine.specs.Counts.{with_records, with_instrs}
 use Rattle.htl_refine.specs.ListPlans.{ListPlan as Plan}
-use Rattle.htl_machine.specs.Follows.{DeskAt}
+use Rattle.htl_machine.specs.Follows.{SMachineAt}
 use Rattle.htl_machine.specs.Leaving.{due_by}
 use Rattle.htl_machine.specs.Recording.{Records}
 use Rattle.htl_machine.specs.RunLists.{turn_at}
@@ -30,13 +30,13 @@ use Rattle.htl_machine.specs.Texts.{record_text, some_records}
 -- the lines of the records that are due, wherever the S machine stood, and those of the writes
 abbrev pub Opens : {T E : Type 0} → Tables → ECode → List Event → Shown → ℕ → Round → List SInstr → ℕ → Option (List ℕ) → Option (List ℕ) → ℕ → ℕ → Result T E → Type 0
 Opens t code es show node old steps at w0 w f0 f result =
-    (p : Plan) (s k d : ℕ) → p.schedule ≡ steps → s ≤ at → k ≤ due_by p s at → DeskAt p s k d old
+    (p : Plan) (s k d : ℕ) → p.schedule ≡ steps → s ≤ at → k ≤ due_by p s at → SMachineAt p s k d old
     → Puts w0 w f0 f (joined (record_text t show p node) (some_records p s k (due_by p s at - k)) ++ path_lines t code show at (phase_path t code es at 1)) result
 
 -- and they are counted
 abbrev pub AreCounted : Tables → ECode → List Event → Round → List SInstr → ℕ → Tally → Tally → Type 0
 AreCounted t code es old steps at n0 n =
-    (p : Plan) (s k d : ℕ) → p.schedule ≡ steps → s ≤ at → k ≤ due_by p s at → DeskAt p s k d old
+    (p : Plan) (s k d : ℕ) → p.schedule ≡ steps → s ≤ at → k ≤ due_by p s at → SMachineAt p s k d old
     → n ≡ with_instrs (length (phase_path t code es at 1)) (with_records (some_records p s k (due_by p s at - k)) n0)
 
 -- the world after records, writes and sensors
@@ -52,7 +52,7 @@ pub record IsOpenedIdle (t : Tables) (code : ECode) (es : List Event) (at : ℕ)
   pub wrote : Content
   pub writes : wrote ≡ replay t code (phase_path t code es at 1) w0
   pub sensors : AreShown t shows values at wrote w3
-  pub desk : now ≡ old
+  pub s_machine : now ≡ old
   pub count : n ≡ with_instrs (length (phase_path t code es at 1)) n0
 
 -- the lines of the reads, and of what changed

@@ -10,7 +10,7 @@ use Rattle.htl_machine.specs.Quiet.{AreQuiet}
 pub record IsPassing (first now : Seen) (es : List Event) (from at : ℕ) (w0 w : Option (List ℕ)) (f0 f : ℕ) : Type 0 where
   pub before : IsUpTo now es at
   pub same : IsSameRun first now
-  pub read : now.held.reading ≡ first.held.reading
+  pub read : now.run_state.reading ≡ first.run_state.reading
   pub text : w ≡ append_known w0 (text_between first.object es first.show from at)
   pub kept : f ≡ f0
 
@@ -18,12 +18,12 @@ pub record IsPassing (first now : Seen) (es : List Event) (from at : ℕ) (w0 w 
 pub record ArePassing (first now : Seen) (from at : ℕ) (w0 w : Option (List ℕ)) (f0 f : ℕ) : Type 0 where
   pub passing : (es : List Event) → IsUpTo first es from → IsPassing first now es from at w0 w f0 f
   pub same : IsSameRun first now
-  pub read : now.held.reading ≡ first.held.reading
+  pub read : now.run_state.reading ≡ first.run_state.reading
 
 -- the same from the reading, and from there up to before another instant nothing is due
 pub record IsOnward (first now : Seen) (at due to : ℕ) (w0 w : Option (List ℕ)) (f0 f : ℕ) : Type 0 where
-  pub done : ArePassing first now first.held.reading at w0 w f0 f
-  pub begun : first.held.reading ≤ at
+  pub done : ArePassing first now first.run_state.reading at w0 w f0 f
+  pub begun : first.run_state.reading ≤ at
   pub within : at ≤ to
   pub order : at ≤ due
   pub quiet : AreQuiet now at due

@@ -29,30 +29,30 @@ abbrev pub released_to : ℕ → Round → Round
 released_to i r = elim (position_from 0 r.jobs i) [ Some p ↦ made_ready (state_of r p) r p | None ↦ r ]
 
 -- what an instruction does to the S machine
-abbrev pub desk_does : EInstr → Round → Round
-desk_does (I.Release i) r = released_to i r
-desk_does _ r = r
+abbrev pub s_machine_does : EInstr → Round → Round
+s_machine_does (I.Release i) r = released_to i r
+s_machine_does _ r = r
 
-abbrev pub desk_at : Option EInstr → Round → Round
-desk_at None r = r
-desk_at (Some i) r = desk_does i r
+abbrev pub s_machine_at : Option EInstr → Round → Round
+s_machine_at None r = r
+s_machine_at (Some i) r = s_machine_does i r
 
-abbrev pub desk_replay : ECode → List Done → Round → Round
-desk_replay code [] r = r
-desk_replay code (d ∷ ds) r = desk_replay code ds (desk_at (slice_get code.instrs d.address) r)
+abbrev pub s_machine_replay : ECode → List Done → Round → Round
+s_machine_replay code [] r = r
+s_machine_replay code (d ∷ ds) r = s_machine_replay code ds (s_machine_at (slice_get code.instrs d.address) r)
 
 -- what the instructions that a chain requires do to it
-abbrev pub desk_want : Want → Round → Round
-desk_want (Does j) r = desk_does j r
-desk_want _ r = r
+abbrev pub s_machine_want : Want → Round → Round
+s_machine_want (Does j) r = s_machine_does j r
+s_machine_want _ r = r
 
-abbrev pub desk_all : List Want → Round → Round
-desk_all [] r = r
-desk_all (w ∷ ws) r = desk_all ws (desk_want w r)
+abbrev pub s_machine_all : List Want → Round → Round
+s_machine_all [] r = r
+s_machine_all (w ∷ ws) r = s_machine_all ws (s_machine_want w r)
 
 -- the read phase is being done; what is done of it was told
-pub record IsReadying (t : Tables) (code : ECode) (es : List Event) (at : ℕ) (m : Standing) (w first : Content) (desk before : Round) (jobs : List Job) : Type 0 where
+pub record IsReadying (t : Tables) (code : ECode) (es : List Event) (at : ℕ) (m : Standing) (w first : Content) (s_machine before : Round) (jobs : List Job) : Type 0 where
   pub running : IsRunning t code es at 3 m w first
-  pub are : desk.jobs ≡ jobs
-  pub told : desk ≡ desk_replay code running.done before
-  pub stands : (s : List SInstr) → rounds.Stands before s → rounds.Stands desk s
+  pub are : s_machine.jobs ≡ jobs
+  pub told : s_machine ≡ s_machine_replay code running.done before
+  pub stands : (s : List SInstr) → rounds.Stands before s → rounds.Stands s_machine s

@@ -9,7 +9,7 @@ use Rattle.htl_emach.specs.Contents.{Content}
 use Rattle.htl_emach.specs.Shapes.{IsShaped}
 use Rattle.htl_refine.specs.ListPlans.{ListPlan as Plan, list_walk}
 use Rattle.htl_machine.specs.Completing.{run_records}
-use Rattle.htl_machine.specs.Follows.{DeskAt}
+use Rattle.htl_machine.specs.Follows.{SMachineAt}
 use Rattle.htl_machine.specs.Leaving.{due_by}
 
 -- each present job is of a concrete invocation
@@ -19,14 +19,14 @@ AreOf t jobs = (p : ℕ) (j : Job) → slice_get jobs p ≡ Some j → j.present
 -- wherever the S machine stood, it goes on in the same list, and the world has what these records do
 abbrev pub GoesWith : Tables → Round → Content → Round → Content → List SInstr → ℕ → Type 0
 GoesWith t old w0 now w code at =
-    (p : Plan) (s k d : ℕ) → p.schedule ≡ code → s ≤ at → k ≤ due_by p s at → DeskAt p s k d old
-    → (m : ℕ) × (k ≤ m) × (m ≤ due_by p s at) × DeskAt p s m d now × (w ≡ run_records t p.jobs (list_walk p) (m - k) k w0)
+    (p : Plan) (s k d : ℕ) → p.schedule ≡ code → s ≤ at → k ≤ due_by p s at → SMachineAt p s k d old
+    → (m : ℕ) × (k ≤ m) × (m ≤ due_by p s at) × SMachineAt p s m d now × (w ≡ run_records t p.jobs (list_walk p) (m - k) k w0)
 
 -- once no more is answered, all records that are due are given and done
 abbrev pub Records : Tables → Round → Content → Round → Content → List SInstr → ℕ → Type 0
 Records t old w0 now w code at =
-    (p : Plan) (s k d : ℕ) → p.schedule ≡ code → s ≤ at → k ≤ due_by p s at → DeskAt p s k d old
-    → DeskAt p s (due_by p s at) d now × (w ≡ run_records t p.jobs (list_walk p) (due_by p s at - k) k w0)
+    (p : Plan) (s k d : ℕ) → p.schedule ≡ code → s ≤ at → k ≤ due_by p s at → SMachineAt p s k d old
+    → SMachineAt p s (due_by p s at) d now × (w ≡ run_records t p.jobs (list_walk p) (due_by p s at - k) k w0)
 
 pub record IsRecording (t : Tables) (old : Round) (w0 : Content) (now : Round) (w : Content) (jobs : List Job) (code : List SInstr) (at : ℕ) : Type 0 where
   pub form : now.running ≡ true → IsInForm now code

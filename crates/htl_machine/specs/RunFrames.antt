@@ -19,7 +19,7 @@ now_of t lists es n =
     let f = frame_start t n in
     record { frame = f; jobs = take (begun_by t es f n) (frame_jobs t (frame_modes t es f)); walk = walk_of (frame_at t lists es f) }
 
--- where the lists serve each frame, a run's jobs are cast at each instant, the records serve them, and they go on from instant to instant
+-- where the lists serve each frame, at each instant a run's jobs are those so far, the records serve them, and they go on from instant to instant
 abbrev pub RunFrames : Type 0
 RunFrames =
     (t : Tables) (lists : List (List SInstr)) (es : List Event) → AreInRange t → KeptApart t 16 → 0 < frame_of t → ((k : ℕ) → IsServing (frame_at t lists es (frame_of t * k)) (frame_of t))

@@ -15,18 +15,18 @@ use Rattle.htl_machine.specs.Running.{replay}
 use Rattle.htl_machine.specs.Worlds.{with_sensors}
 use Rattle.htl_machine.specs.Plans.{with_records}
 use Rattle.htl_machine.specs.RunLists.{turn_at}
-use Rattle.htl_machine.specs.Follows.{Held, HeldFollows}
+use Rattle.htl_machine.specs.Follows.{RunState, RunStateFollows}
 use Rattle.htl_console.specs.declared.shown.Shown.{Shown}
 use Rattle.htl_machine.specs.Machines.{Counts, RunStands}
 
-pub record Whole (t : Tables) (code : ECode) (schedules : List (List SInstr)) (show : Shown) (es : List Event) (now : ℕ) (e : Standing) (m : Held) (n : Counts) (written : List ℕ) : Type 0 where
+pub record Whole (t : Tables) (code : ECode) (schedules : List (List SInstr)) (show : Shown) (es : List Event) (now : ℕ) (e : Standing) (m : RunState) (n : Counts) (written : List ℕ) : Type 0 where
   pub triggers : machines.FollowsCode t code es now e
   pub safe : StandsSafely t code e
   pub stands : RunStands t code schedules show es now m n written
 
 -- at the last reading
-pub record WholeFollowed (t : Tables) (code : ECode) (schedules : List (List SInstr)) (show : Shown) (es : List Event) (e : Standing) (m : Held) (n : Counts) (written : List ℕ) : Type 0 where
-  pub follows : HeldFollows t schedules es m
+pub record WholeFollowed (t : Tables) (code : ECode) (schedules : List (List SInstr)) (show : Shown) (es : List Event) (e : Standing) (m : RunState) (n : Counts) (written : List ℕ) : Type 0 where
+  pub follows : RunStateFollows t schedules es m
   pub whole : Whole t code schedules show es m.reading e m n written
 
 -- what the calls of an instant say: the records of the list before, each phase, and the sensors between

@@ -8,7 +8,7 @@ ghost use Rattle.htl_machine.specs.Numbering.{IsPath};
 ghost use Rattle.htl_machine.specs.Running.{replay};
 ghost use Rattle.htl_machine.specs.Asking.{IsSound, AreFitted, AreToCloseAndBegin};
 ghost use Rattle.htl_machine.specs.Counts.{with_instrs, with_records};
-ghost use Rattle.htl_machine.specs.Follows.{DeskAt};
+ghost use Rattle.htl_machine.specs.Follows.{SMachineAt};
 ghost use Rattle.htl_machine.specs.Leaving.{due_by};
 ghost use Rattle.htl_machine.specs.RunLists.{turn_at};
 ghost use Rattle.htl_machine.specs.StandingList.{turn_list};
@@ -16,9 +16,9 @@ ghost use Rattle.htl_machine.specs.Starting.{instrs_of};
 ghost use Rattle.htl_machine.specs.Opening.{closing_text, first_records, beginning_text};
 
 use crate::close::read_instant;
+use crate::instant_records::leave_records;
 use crate::path::Path;
 use crate::steps::do_instrs;
-use crate::tellings::tell_records;
 use crate::works::{Machines, Program, StandingList};
 use htl_base::Time;
 use htl_edge::{Failed, Sink};
@@ -37,16 +37,16 @@ pub fn close_and_begin<W: Sink>(
     requires sound { IsSound program.now.tables.now program.now.code.now }
     requires at { at ≤ 1000000000 }
     requires fitted { AreFitted program.now.tables.now program.now.code.now machines.old }
-    requires path { IsPath program.now.tables.now path.old machines.old.works.desk.jobs }
-    requires over { machines.old.works.desk.running ≡ false }
+    requires path { IsPath program.now.tables.now path.old machines.old.works.s_machine.jobs }
+    requires over { machines.old.works.s_machine.running ≡ false }
     requires begins { (es : List Event) × AreToCloseAndBegin program.now.tables.now program.now.code.now (instrs_of program.now.schedules.now) es at takes.now path.old.list machines.old }
     ensures text { (es : List Event) → AreToCloseAndBegin program.now.tables.now program.now.code.now (instrs_of program.now.schedules.now) es at takes.now path.old.list machines.old → Puts (W.written sink.old) (W.written sink.new) (W.faults sink.old) (W.faults sink.new) (closing_text program.now.tables.now program.now.code.now es program.now.show at ++ beginning_text program.now.tables.now (instrs_of program.now.schedules.now) es program.now.show at) result }
     ensures counts { (es : List Event) → AreToCloseAndBegin program.now.tables.now program.now.code.now (instrs_of program.now.schedules.now) es at takes.now path.old.list machines.old → OnOk result (machines.new.works.tally ≡ with_records (first_records program.now.tables.now (instrs_of program.now.schedules.now) es at) (with_instrs (length (phase_path program.now.tables.now program.now.code.now es at 3)) (with_instrs (length (phase_path program.now.tables.now program.now.code.now es at 2)) machines.old.works.tally))) }
     ensures world { (es : List Event) → AreToCloseAndBegin program.now.tables.now program.now.code.now (instrs_of program.now.schedules.now) es at takes.now path.old.list machines.old → OnOk result (machines.new.works.world ≡ replay program.now.tables.now program.now.code.now (phase_path program.now.tables.now program.now.code.now es at 3) (replay program.now.tables.now program.now.code.now (phase_path program.now.tables.now program.now.code.now es at 2) machines.old.works.world)) }
     ensures fitted { OnOk result (AreFitted program.now.tables.now program.now.code.now machines.new) }
     ensures sensors { OnOk result (SensorsStay program.now.tables.now machines.old.works.world.values machines.new.works.world.values) }
-    ensures desk { (es : List Event) → AreToCloseAndBegin program.now.tables.now program.now.code.now (instrs_of program.now.schedules.now) es at takes.now path.old.list machines.old → OnOk result (let u = turn_at program.now.tables.now (instrs_of program.now.schedules.now) es at in DeskAt u.plan u.frame (due_by u.plan u.frame at) (suc at - u.frame) machines.new.works.desk) }
-    ensures path { OnOk result (IsPath program.now.tables.now path.new machines.new.works.desk.jobs) }
+    ensures s_machine { (es : List Event) → AreToCloseAndBegin program.now.tables.now program.now.code.now (instrs_of program.now.schedules.now) es at takes.now path.old.list machines.old → OnOk result (let u = turn_at program.now.tables.now (instrs_of program.now.schedules.now) es at in SMachineAt u.plan u.frame (due_by u.plan u.frame at) (suc at - u.frame) machines.new.works.s_machine) }
+    ensures path { OnOk result (IsPath program.now.tables.now path.new machines.new.works.s_machine.jobs) }
     ensures few { path.new.count ≤ 128 }
     ensures list { (es : List Event) → AreToCloseAndBegin program.now.tables.now program.now.code.now (instrs_of program.now.schedules.now) es at takes.now path.old.list machines.old → OnOk result (path.new.list ≡ Some (turn_list (turn_at program.now.tables.now (instrs_of program.now.schedules.now) es at))) }
     ensures idle { path.new.idle ≡ path.old.idle }
@@ -57,7 +57,7 @@ pub fn close_and_begin<W: Sink>(
     if let Err(failed) = do_instrs(sink, machines, program, path.jobs(), 2, at) {
         return Err(failed);
     }
-    path.begin(&mut machines.works.desk, t, &machines.emach, takes, at);
+    path.begin(&mut machines.works.s_machine, t, &machines.emach, takes, at);
     if let Err(failed) = read_instant(sink, machines, program, path.jobs(), at) {
         return Err(failed);
     }
@@ -66,7 +66,7 @@ pub fn close_and_begin<W: Sink>(
         schedule: path.schedule(program.schedules),
         node: path.node(),
     };
-    if let Err(failed) = tell_records(sink, &mut machines.works, program, &list, at) {
+    if let Err(failed) = leave_records(sink, &mut machines.works, program, &list, at) {
         return Err(failed);
     }
     Ok(())

@@ -1,8 +1,8 @@
 //! The laws of a run, over the definitions alone. Each is a statement that the check has proved; there is nothing to run.
-ghost use Rattle.htl_machine.specs.FramePlacing.{FrameCast};
+ghost use Rattle.htl_machine.specs.FramePlacing.{FrameJobsStand};
 ghost use Rattle.htl_machine.specs.Laws.{AcceptedIsLoaded, EveryJobInTime, ValuesAreTheMeaning, SensorsDecide, LaterEventsLeaveText, JobLinesAreRecords, JobLinesAreFound, EveryJobToldInTime};
 ghost use Rattle.htl_machine.specs.ListBegun.{ListsAreBegun};
-ghost use Rattle.htl_machine.specs.NextDesks.{DesksGoOn};
+ghost use Rattle.htl_machine.specs.NextSMachines.{SMachinesGoOn};
 ghost use Rattle.htl_machine.specs.NextLists.{ListsBegin};
 ghost use Rattle.htl_machine.specs.Quiet.{QuietInstantsPass};
 ghost use Rattle.htl_machine.specs.RunFrames.{FeasibleRuns, ValuesGoOn, RunReady};
@@ -61,10 +61,10 @@ pub fn quiet_instants_pass()
     ensures { QuietInstantsPass }
 {}
 
-/// At each instant of a run the jobs that a frame has so far are cast, from the form rules alone and whatever periods root modules
+/// At each instant of a run a frame has the jobs so far, from the form rules alone and whatever periods root modules
 /// have: one for each invocation that stands, in its own module's round, with its window and its predecessors.
-pub fn jobs_are_cast()
-    ensures { FrameCast }
+pub fn frame_jobs_stand()
+    ensures { FrameJobsStand }
 {}
 
 /// Where the lists of the nodes are feasible for every path, whatever the events within the worst cases: at each instant the records of
@@ -97,8 +97,8 @@ pub fn lists_begin()
 
 /// Where all of a list is left, the S machine may go on with the positions that are new in the next list, and then stands at its
 /// beginning.
-pub fn desks_go_on()
-    ensures { DesksGoOn }
+pub fn s_machines_go_on()
+    ensures { SMachinesGoOn }
 {}
 
 /// So as a list of a run begins, the S machine that begins anew at a frame's start, and else goes on with the jobs of the rounds that

@@ -5,7 +5,7 @@ ghost use Rattle.htl_walk.specs.declared.schedule.SInstr.{SInstr as Instr};
 ghost use Rattle.htl_walk.specs.Walk.{job_at};
 ghost use Rattle.htl_smach.specs.Rounds.{Stands};
 ghost use Rattle.htl_machine.specs.Turns.{position_from};
-ghost use Rattle.htl_machine.specs.Follows.{desk_taking};
+ghost use Rattle.htl_machine.specs.Follows.{s_machine_taking};
 
 use htl_base::Time;
 use htl_smach::{PosState, SMach};
@@ -34,17 +34,17 @@ pub(crate) fn position(jobs: &[Job], inv: u16) -> Option<usize>
 }
 
 /// A job of the invocation that is pending takes so long: from 1 to its worst case.
-pub fn take(desk: &mut SMach, jobs: &[Job], inv: u16, ticks: Time)
-    requires jobs { desk.old.jobs ≡ jobs.now }
+pub fn take(s_machine: &mut SMach, jobs: &[Job], inv: u16, ticks: Time)
+    requires jobs { s_machine.old.jobs ≡ jobs.now }
     requires some { 1 ≤ ticks }
     requires worst { (p : ℕ) → position_from 0 jobs.now inv ≡ Some p → ticks ≤ (job_at jobs.now p).worst }
-    ensures desk { desk.new ≡ desk_taking inv ticks desk.old }
-    ensures jobs { desk.new.jobs ≡ desk.old.jobs }
-    ensures stands { (s : List Instr) → Stands desk.old s → Stands desk.new s }
+    ensures s_machine { s_machine.new ≡ s_machine_taking inv ticks s_machine.old }
+    ensures jobs { s_machine.new.jobs ≡ s_machine.old.jobs }
+    ensures stands { (s : List Instr) → Stands s_machine.old s → Stands s_machine.new s }
 {
     if let Some(p) = position(jobs, inv) {
-        match desk.state(p) {
-            PosState::Pending => desk.set_length(p, ticks),
+        match s_machine.state(p) {
+            PosState::Pending => s_machine.set_length(p, ticks),
             _ => {}
         }
     }

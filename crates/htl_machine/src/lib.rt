@@ -4,6 +4,7 @@
 mod beginning;
 mod changes;
 mod close;
+mod instant_records;
 pub mod laws;
 mod lengths;
 mod machine;
@@ -18,7 +19,6 @@ mod sensors;
 mod steps;
 mod tally;
 mod tell;
-mod tellings;
 mod works;
 
 pub use machine::{Machine, Totals};

@@ -136,7 +136,7 @@ impl<'a> Machine<'a> {
             machines: Machines {
                 emach,
                 works: Works {
-                    desk: SMach::new(),
+                    s_machine: SMach::new(),
                     world,
                     tally: Tally {
                         jobs: 0,
@@ -157,7 +157,7 @@ impl<'a> Machine<'a> {
         requires follows { (es : List Told) × Follows self.old es }
         requires sensor { IsSensorValue self.old.object.tables comm x }
         ensures follows { (es : List Told) → Follows self.old es → Follows self.new (es ++ event.Sense comm x ∷ []) }
-        ensures seen { self.new ≡ record self.old { held = shown_as comm x self.old.held } }
+        ensures seen { self.new ≡ record self.old { run_state = shown_as comm x self.old.run_state } }
     {
         self.due = 0;
         let has = self.machines.works.world.value(comm);
@@ -170,11 +170,16 @@ impl<'a> Machine<'a> {
         requires follows { (es : List Told) × Follows self.old es }
         requires length { IsLength self.old.object.tables inv length }
         ensures follows { (es : List Told) → Follows self.old es → Follows self.new (es ++ event.Took inv length ∷ []) }
-        ensures seen { self.new ≡ record self.old { held = taken_as inv length self.old.held } }
+        ensures seen { self.new ≡ record self.old { run_state = taken_as inv length self.old.run_state } }
     {
         self.due = 0;
         self.takes.set(inv as usize, length);
-        take(&mut self.machines.works.desk, self.path.jobs(), inv, length);
+        take(
+            &mut self.machines.works.s_machine,
+            self.path.jobs(),
+            inv,
+            length,
+        );
     }
 
     /// Does all instants before `to`, in ticks, writes their lines, and makes `to` the reading. The machine isn't spent, and `to` is
@@ -182,11 +187,11 @@ impl<'a> Machine<'a> {
     /// and the machine is spent.
     pub fn advance<W: Sink>(&mut self, to: Time, sink: &mut W) -> Result<(), Failed>
         requires follows { (es : List Told) × Follows self.old es }
-        requires order { self.old.held.reading ≤ to }
+        requires order { self.old.run_state.reading ≤ to }
         requires at { to ≤ limit.MAX_INSTANT }
-        ensures text { (es : List Told) → Follows self.old es → Puts (W.written sink.old) (W.written sink.new) (W.faults sink.old) (W.faults sink.new) (text_between self.old.object es self.old.show self.old.held.reading to) result }
+        ensures text { (es : List Told) → Follows self.old es → Puts (W.written sink.old) (W.written sink.new) (W.faults sink.old) (W.faults sink.new) (text_between self.old.object es self.old.show self.old.run_state.reading to) result }
         ensures follows { (es : List Told) → Follows self.old es → OnOk result (Follows self.new (es ++ event.At to ∷ [])) }
-        ensures spent { OnErr result (self.new.held.spent ≡ true) }
+        ensures spent { OnErr result (self.new.run_state.spent ≡ true) }
         ensures same { IsSameRun self.old self.new }
     {
         let due = match self.pass(to, sink) {
@@ -203,11 +208,11 @@ impl<'a> Machine<'a> {
     /// 1,000,000,000. `Failed` comes only where the sink's count rose: then a prefix of the lines was written; the machine is spent.
     pub fn finish<W: Sink>(&mut self, to: Time, sink: &mut W) -> Result<(), Failed>
         requires follows { (es : List Told) × Follows self.old es }
-        requires order { self.old.held.reading ≤ to }
+        requires order { self.old.run_state.reading ≤ to }
         requires at { to ≤ limit.MAX_INSTANT }
-        ensures text { (es : List Told) → Follows self.old es → Puts (W.written sink.old) (W.written sink.new) (W.faults sink.old) (W.faults sink.new) (text_between self.old.object es self.old.show self.old.held.reading (suc to)) result }
+        ensures text { (es : List Told) → Follows self.old es → Puts (W.written sink.old) (W.written sink.new) (W.faults sink.old) (W.faults sink.new) (text_between self.old.object es self.old.show self.old.run_state.reading (suc to)) result }
         ensures finished { (es : List Told) → Follows self.old es → OnOk result (IsFinished self.new es to) }
-        ensures spent { OnErr result (self.new.held.spent ≡ true) }
+        ensures spent { OnErr result (self.new.run_state.spent ≡ true) }
         ensures same { IsSameRun self.old self.new }
     {
         if let Err(failed) = self.pass(to + 1, sink) {
@@ -221,14 +226,14 @@ impl<'a> Machine<'a> {
     // Does the instants from the reading up to before `to`, and tells up to before which instant nothing is due from there on.
     fn pass<W: Sink>(&mut self, to: Time, sink: &mut W) -> Result<Time, Failed>
         requires follows { (es : List Told) × Follows self.old es }
-        requires order { self.old.held.reading ≤ to }
+        requires order { self.old.run_state.reading ≤ to }
         requires at { to ≤ limit.MAX_INSTANT + 1 }
-        ensures text { (es : List Told) → Follows self.old es → Puts (W.written sink.old) (W.written sink.new) (W.faults sink.old) (W.faults sink.new) (text_between self.old.object es self.old.show self.old.held.reading to) result }
+        ensures text { (es : List Told) → Follows self.old es → Puts (W.written sink.old) (W.written sink.new) (W.faults sink.old) (W.faults sink.new) (text_between self.old.object es self.old.show self.old.run_state.reading to) result }
         ensures before { (es : List Told) → Follows self.old es → OnOk result (IsUpTo self.new es to) }
         ensures quiet { IfOk result (λ due. AreQuiet self.new to due) }
-        ensures spent { OnErr result (self.new.held.spent ≡ true) }
+        ensures spent { OnErr result (self.new.run_state.spent ≡ true) }
         ensures same { IsSameRun self.old self.new }
-        ensures reading { self.new.held.reading ≡ self.old.held.reading }
+        ensures reading { self.new.run_state.reading ≡ self.old.run_state.reading }
     {
         let mut at = self.reading;
         let mut due = self.known_due();
@@ -245,9 +250,9 @@ impl<'a> Machine<'a> {
     // An instant before which nothing is due from the reading on: the one that is known, where it is no earlier.
     fn known_due(&self) -> Time
         requires follows { (es : List Told) × Follows self.now es }
-        requires at { self.now.held.reading ≤ limit.MAX_INSTANT + 1 }
-        ensures low { self.now.held.reading ≤ result }
-        ensures quiet { AreQuiet self.now self.now.held.reading result }
+        requires at { self.now.run_state.reading ≤ limit.MAX_INSTANT + 1 }
+        ensures low { self.now.run_state.reading ≤ result }
+        ensures quiet { AreQuiet self.now self.now.run_state.reading result }
         ensures accepted { IsAccepted self.now.object }
     {
         if self.reading <= self.due {
@@ -261,7 +266,7 @@ impl<'a> Machine<'a> {
     // sensor that is shown another value than it has; 1,000,000,001 where there is none.
     fn next_due(&self, from: Time) -> Time
         requires before { (es : List Told) × IsUpTo self.now es from }
-        requires read { self.now.held.reading ≤ from }
+        requires read { self.now.run_state.reading ≤ from }
         requires later { 0 < from }
         requires at { from ≤ limit.MAX_INSTANT + 1 }
         ensures low { from ≤ result }
@@ -277,20 +282,20 @@ impl<'a> Machine<'a> {
         );
         let triggered = sooner(machines.emach.next(), from, shown);
         let schedule = self.path.schedule(self.loaded.schedules());
-        sooner(machines.works.desk.next(schedule), from, triggered)
+        sooner(machines.works.s_machine.next(schedule), from, triggered)
     }
 
     // Does one instant: the records that are due, the writes and the sensors; then the switches, a list where one begins, the
     // reads with the releases, and what changed.
     fn instant<W: Sink>(&mut self, at: Time, sink: &mut W) -> Result<(), Failed>
         requires before { (es : List Told) × IsUpTo self.old es at }
-        requires read { self.old.held.reading ≤ at }
+        requires read { self.old.run_state.reading ≤ at }
         requires at { at ≤ limit.MAX_INSTANT }
         ensures text { (es : List Told) → IsUpTo self.old es at → Puts (W.written sink.old) (W.written sink.new) (W.faults sink.old) (W.faults sink.new) (lines_of self.old.object es self.old.show at) result }
         ensures before { (es : List Told) → IsUpTo self.old es at → OnOk result (IsUpTo self.new es (suc at)) }
-        ensures spent { OnErr result (self.new.held.spent ≡ true) }
+        ensures spent { OnErr result (self.new.run_state.spent ≡ true) }
         ensures same { IsSameRun self.old self.new }
-        ensures reading { self.new.held.reading ≡ self.old.held.reading }
+        ensures reading { self.new.run_state.reading ≡ self.old.run_state.reading }
     {
         self.due = 0;
         let l = self.loaded;
@@ -336,7 +341,7 @@ impl<'a> Machine<'a> {
 
     /// The numbers so far, and the reading.
     pub fn totals(&self) -> Totals
-        ensures at { result.at ≡ self.now.held.reading }
+        ensures at { result.at ≡ self.now.run_state.reading }
         ensures jobs { result.jobs ≡ self.now.jobs }
         ensures e { result.e ≡ self.now.e }
         ensures s { result.s ≡ self.now.s }
@@ -351,15 +356,15 @@ impl<'a> Machine<'a> {
 
     /// The value of a communicator, which is in range.
     pub fn value(&self, comm: u16) -> Value
-        requires { comm < length self.now.held.world.values }
-        ensures { result ≡ get_or self.now.held.world.values comm (pos 0) }
+        requires { comm < length self.now.run_state.world.values }
+        ensures { result ≡ get_or self.now.run_state.world.values comm (pos 0) }
     {
         self.machines.works.world.value(comm)
     }
 
     /// The last reading, in ticks; 0 before the first.
     pub fn reading(&self) -> Time
-        ensures { result ≡ self.now.held.reading }
+        ensures { result ≡ self.now.run_state.reading }
     {
         self.reading
     }
@@ -373,14 +378,14 @@ impl<'a> Machine<'a> {
 
     /// Whether the run has ended: `finish` was called, or a sink refused.
     pub fn is_spent(&self) -> bool
-        ensures { result ≡ self.now.held.spent }
+        ensures { result ≡ self.now.run_state.spent }
     {
         self.spent
     }
 
     /// The values and buffers: the machine has this one world.
     pub fn world(&self) -> &World
-        ensures { result.now ≡ self.now.held.world }
+        ensures { result.now ≡ self.now.run_state.world }
     {
         &self.machines.works.world
     }

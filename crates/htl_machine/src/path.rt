@@ -121,17 +121,17 @@ impl Path {
 
     /// A list begins, by the modes in which the modules are: the jobs of the rounds that begin take the lengths that are kept, in
     /// ticks. At a frame's start the S machine begins anew, else it goes on with those jobs. Takes no memory.
-    pub fn begin(&mut self, desk: &mut SMach, t: &Tables, m: &EMach, takes: &[Time], at: Time)
+    pub fn begin(&mut self, s_machine: &mut SMach, t: &Tables, m: &EMach, takes: &[Time], at: Time)
         requires form { KeptApart t.now 16 }
         requires limit { frame_limit t.now ≡ None }
-        requires path { IsPath t.now self.old desk.old.jobs }
+        requires path { IsPath t.now self.old s_machine.old.jobs }
         requires selection { IsSelection t.now m.now.calendar.modes }
-        requires over { desk.old.running ≡ false }
+        requires over { s_machine.old.running ≡ false }
         requires at { at ≤ 1000000000 }
-        requires follows { CanFollow t.now m.now.calendar.modes takes.now at self.old.list desk.old }
+        requires follows { CanFollow t.now m.now.calendar.modes takes.now at self.old.list s_machine.old }
         ensures list { self.new.list ≡ Some (next_at t.now m.now.calendar.modes at self.old.list) }
-        ensures path { IsPath t.now self.new desk.new.jobs }
-        ensures desk { desk.new ≡ list_begun t.now m.now.calendar.modes takes.now at desk.old }
+        ensures path { IsPath t.now self.new s_machine.new.jobs }
+        ensures s_machine { s_machine.new ≡ list_begun t.now m.now.calendar.modes takes.now at s_machine.old }
         ensures idle { self.new.idle ≡ self.old.idle }
     {
         t.keeps_ranges();
@@ -142,9 +142,9 @@ impl Path {
         self.turn(t, at, from, same);
         let jobs = &self.jobs[from..self.count];
         if offset == 0 {
-            start_jobs(desk, jobs, takes, at);
+            start_jobs(s_machine, jobs, takes, at);
         } else {
-            add_jobs(desk, jobs, takes, at);
+            add_jobs(s_machine, jobs, takes, at);
         }
     }
 
@@ -236,31 +236,31 @@ fn fill_lengths(jobs: &[Job], takes: &[Time], lengths: &mut [Time])
 }
 
 // The jobs of a frame's first list begin.
-fn start_jobs(desk: &mut SMach, jobs: &[Job], takes: &[Time], at: Time)
-    requires over { desk.old.running ≡ false }
+fn start_jobs(s_machine: &mut SMach, jobs: &[Job], takes: &[Time], at: Time)
+    requires over { s_machine.old.running ≡ false }
     requires at { at ≤ 1000000000 }
     requires few { length jobs.now ≤ 128 }
     requires lengths { HaveLengths jobs.now (kept_lengths takes.now jobs.now) }
     requires worst { AreWithinWorst jobs.now (kept_lengths takes.now jobs.now) }
-    ensures { desk.new ≡ round_begun at jobs.now (kept_lengths takes.now jobs.now) }
+    ensures { s_machine.new ≡ round_begun at jobs.now (kept_lengths takes.now jobs.now) }
 {
     let mut lengths = [0; MAX_POSITIONS];
     let taken = &mut lengths[..jobs.len()];
     fill_lengths(jobs, takes, taken);
-    desk.start(at, jobs, taken);
+    s_machine.start(at, jobs, taken);
 }
 
 // Those of a later list begin.
-fn add_jobs(desk: &mut SMach, jobs: &[Job], takes: &[Time], at: Time)
-    requires over { desk.old.running ≡ false }
-    requires later { desk.old.start ≤ at }
+fn add_jobs(s_machine: &mut SMach, jobs: &[Job], takes: &[Time], at: Time)
+    requires over { s_machine.old.running ≡ false }
+    requires later { s_machine.old.start ≤ at }
     requires at { at ≤ 1000000000 }
-    requires few { length desk.old.jobs + length jobs.now ≤ 128 }
-    requires can { CanBegin desk.old (at - desk.old.start) jobs.now (kept_lengths takes.now jobs.now) }
-    ensures { desk.new ≡ added desk.old at jobs.now (kept_lengths takes.now jobs.now) }
+    requires few { length s_machine.old.jobs + length jobs.now ≤ 128 }
+    requires can { CanBegin s_machine.old (at - s_machine.old.start) jobs.now (kept_lengths takes.now jobs.now) }
+    ensures { s_machine.new ≡ added s_machine.old at jobs.now (kept_lengths takes.now jobs.now) }
 {
     let mut lengths = [0; MAX_POSITIONS];
     let taken = &mut lengths[..jobs.len()];
     fill_lengths(jobs, takes, taken);
-    desk.add(at, jobs, taken);
+    s_machine.add(at, jobs, taken);
 }

@@ -9,7 +9,7 @@ ghost use Rattle.htl_emach.specs.Following.{Onward, phase_path};
 ghost use Rattle.htl_machine.specs.Asking.{IsSound, AreFitted, AreStarting};
 ghost use Rattle.htl_machine.specs.Running.{replay};
 ghost use Rattle.htl_machine.specs.Counts.{with_instrs};
-ghost use Rattle.htl_machine.specs.Readiness.{desk_does};
+ghost use Rattle.htl_machine.specs.Readiness.{s_machine_does};
 ghost use Rattle.htl_machine.specs.Doing.{instr_lines, path_lines, told_in_phase};
 ghost use Rattle.htl_machine.specs.Noting.{KeepsNoted};
 
@@ -42,16 +42,16 @@ fn tell_instr<W: Sink>(
 }
 
 // The release of an invocation whose position is pending is told.
-fn release(desk: &mut SMach, jobs: &[Job], instr: EInstr)
-    requires jobs { desk.old.jobs ≡ jobs.now }
-    ensures desk { desk.new ≡ desk_does instr desk.old }
-    ensures jobs { desk.new.jobs ≡ desk.old.jobs }
-    ensures stands { (s : List Instr) → Stands desk.old s → Stands desk.new s }
+fn release(s_machine: &mut SMach, jobs: &[Job], instr: EInstr)
+    requires jobs { s_machine.old.jobs ≡ jobs.now }
+    ensures s_machine { s_machine.new ≡ s_machine_does instr s_machine.old }
+    ensures jobs { s_machine.new.jobs ≡ s_machine.old.jobs }
+    ensures stands { (s : List Instr) → Stands s_machine.old s → Stands s_machine.new s }
 {
     if let EInstr::Release { inv } = instr {
         if let Some(p) = position(jobs, inv) {
-            match desk.state(p) {
-                PosState::Pending => desk.release(p),
+            match s_machine.state(p) {
+                PosState::Pending => s_machine.release(p),
                 _ => {}
             }
         }
@@ -59,14 +59,14 @@ fn release(desk: &mut SMach, jobs: &[Job], instr: EInstr)
 }
 
 // In the read phase releases are told.
-fn release_in(desk: &mut SMach, jobs: &[Job], phase: u8, instr: EInstr)
-    requires jobs { desk.old.jobs ≡ jobs.now }
-    ensures desk { desk.new ≡ cond (eqb phase 3) (desk_does instr desk.old) desk.old }
-    ensures jobs { desk.new.jobs ≡ desk.old.jobs }
-    ensures stands { (s : List Instr) → Stands desk.old s → Stands desk.new s }
+fn release_in(s_machine: &mut SMach, jobs: &[Job], phase: u8, instr: EInstr)
+    requires jobs { s_machine.old.jobs ≡ jobs.now }
+    ensures s_machine { s_machine.new ≡ cond (eqb phase 3) (s_machine_does instr s_machine.old) s_machine.old }
+    ensures jobs { s_machine.new.jobs ≡ s_machine.old.jobs }
+    ensures stands { (s : List Instr) → Stands s_machine.old s → Stands s_machine.new s }
 {
     if phase == 3 {
-        release(desk, jobs, instr);
+        release(s_machine, jobs, instr);
     }
 }
 
@@ -84,13 +84,13 @@ pub fn do_instrs<W: Sink>(
     requires phase { (1 ≤ phase) × (phase ≤ 3) }
     requires at { at ≤ 1000000000 }
     requires fitted { AreFitted program.now.tables.now program.now.code.now machines.old }
-    requires jobs { machines.old.works.desk.jobs ≡ jobs.now }
+    requires jobs { machines.old.works.s_machine.jobs ≡ jobs.now }
     requires starts { (es : List Event) × AreStarting program.now.tables.now program.now.code.now es at phase machines.old }
     ensures text { (es : List Event) → AreStarting program.now.tables.now program.now.code.now es at phase machines.old → Puts (W.written sink.old) (W.written sink.new) (W.faults sink.old) (W.faults sink.new) (path_lines program.now.tables.now program.now.code.now program.now.show at (phase_path program.now.tables.now program.now.code.now es at phase)) result }
     ensures counts { (es : List Event) → AreStarting program.now.tables.now program.now.code.now es at phase machines.old → OnOk result (machines.new.works.tally ≡ with_instrs (length (phase_path program.now.tables.now program.now.code.now es at phase)) machines.old.works.tally) }
-    ensures desk { (es : List Event) → AreStarting program.now.tables.now program.now.code.now es at phase machines.old → OnOk result (machines.new.works.desk ≡ told_in_phase phase program.now.code.now (phase_path program.now.tables.now program.now.code.now es at phase) machines.old.works.desk) }
-    ensures jobs { OnOk result (machines.new.works.desk.jobs ≡ machines.old.works.desk.jobs) }
-    ensures stands { OnOk result ((s : List Instr) → Stands machines.old.works.desk s → Stands machines.new.works.desk s) }
+    ensures s_machine { (es : List Event) → AreStarting program.now.tables.now program.now.code.now es at phase machines.old → OnOk result (machines.new.works.s_machine ≡ told_in_phase phase program.now.code.now (phase_path program.now.tables.now program.now.code.now es at phase) machines.old.works.s_machine) }
+    ensures jobs { OnOk result (machines.new.works.s_machine.jobs ≡ machines.old.works.s_machine.jobs) }
+    ensures stands { OnOk result ((s : List Instr) → Stands machines.old.works.s_machine s → Stands machines.new.works.s_machine s) }
     ensures fitted { OnOk result (AreFitted program.now.tables.now program.now.code.now machines.new) }
     ensures world { (es : List Event) → AreStarting program.now.tables.now program.now.code.now es at phase machines.old → OnOk result (machines.new.works.world ≡ replay program.now.tables.now program.now.code.now (phase_path program.now.tables.now program.now.code.now es at phase) machines.old.works.world) }
     ensures values { OnOk result (phase ≡ 2 → machines.new.works.world.values ≡ machines.old.works.world.values) }
@@ -108,7 +108,7 @@ pub fn do_instrs<W: Sink>(
             Some(done) => {
                 machines.works.tally.instr();
                 machines.noted.note(t, &done);
-                release_in(&mut machines.works.desk, jobs, phase, done.instr);
+                release_in(&mut machines.works.s_machine, jobs, phase, done.instr);
                 if let Err(failed) = tell_instr(
                     sink,
                     t,

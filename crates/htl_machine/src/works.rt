@@ -10,7 +10,7 @@ use htl_walk::{Job, Schedule};
 
 /// What the records of a list change: the S machine, the world and the counts.
 pub struct Works {
-    pub desk: SMach,
+    pub s_machine: SMach,
     pub world: World,
     pub tally: Tally,
 }
@@ -18,7 +18,7 @@ pub struct Works {
 impl Drop for Works {
     fn drop(self) {
         let Self {
-            desk: _,
+            s_machine: _,
             world: _,
             tally: _,
         } = self;

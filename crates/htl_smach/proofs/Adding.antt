@@ -10,7 +10,7 @@ use Rattle.htl_smach.specs.declared.state.PosState.TheVariants.{Pending}
 use Rattle.htl_smach.specs.Rounds.{Round, state_by, state_of, added, Stands}
 use Rattle.htl_smach.specs.Adding.{IsEven, CanBegin, StandsAdded}
 use Rattle.htl_smach.proofs.Joined.{job_left, job_right, get_left, get_right, both_parts}
-use Rattle.htl_smach.proofs.Telling.{IsPending, pending_is, is_pending}
+use Rattle.htl_smach.proofs.RoundRecords.{IsPending, pending_is, is_pending}
 
 -- the positions so far are in the states in which they were
 pub state_added : (r : Round) (at : ℕ) (jobs : List Job) (lengths : List ℕ) → IsEven r → (p : ℕ) → p < length r.jobs → state_of (added r at jobs lengths) p ≡ state_of r p

@@ -21,7 +21,7 @@ use Rattle.htl_smach.specs.declared.position_states.PositionStates.{PositionStat
 use Rattle.htl_smach.specs.Steps.{put_work, point_of}
 use Rattle.htl_smach.proofs.Flags.{flag_at, length-flags, flags_put, flags_more}
 use Rattle.htl_smach.proofs.Joined.{job_left, job_right, get_left, get_right, behind, job_taken}
-use Rattle.htl_smach.proofs.Telling.{with_length, with_release, absent_idle}
+use Rattle.htl_smach.proofs.RoundRecords.{with_length, with_release, absent_idle}
 
 pub below_count : {X : Type 0} (n : ℕ) (xs : List X) (p : ℕ) → p < length (take n xs) → p < n
 below_count n xs p h = omega (arith, length-take n xs)

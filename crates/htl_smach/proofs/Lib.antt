@@ -7,5 +7,5 @@ pub mod Going
 pub mod Holding
 pub mod Joined
 pub mod Lengths
-pub mod Telling
+pub mod RoundRecords
 pub mod Timely

@@ -10,7 +10,7 @@ use Rattle.htl_walk.proofs.Waiting.{time_rises_to}
 use Rattle.htl_smach.specs.declared.left.Left.{Left}
 use Rattle.htl_smach.specs.Rounds.{told, told_from, walk_records, left_until}
 use Rattle.htl_smach.specs.Order.{left_by_then, RecordsOfLengths, NoneLeftOut}
-use Rattle.htl_smach.proofs.Telling.{next_record_is}
+use Rattle.htl_smach.proofs.RoundRecords.{next_record_is}
 
 pub records_of_lengths : RecordsOfLengths
 records_of_lengths r s st first = ap (λ (x : Point). told_from r.start 0 (walk_from r.jobs s x)) first

@@ -79,16 +79,16 @@ module _ (o : Object) (accepted : IsAccepted o) (log : List Slice) where
 -- ---- what one call writes
 
 pub audit_text_at : {T E : Type 0} (a : Audit) (es : List Event) (e : Event) (to : ℕ) (w w1 : Option (List ℕ)) (f f1 : ℕ) (r : Result T E) → AuditFollows a es → e ≡ event.At to
-    → Puts w w1 f f1 (text_between a.machine.object es Values a.machine.held.reading to) r → Puts w w1 f f1 (text_more a.machine.object a.machine.show es e) r
+    → Puts w w1 f f1 (text_between a.machine.object es Values a.machine.run_state.reading to) r → Puts w w1 f f1 (text_more a.machine.object a.machine.show es e) r
 audit_text_at a es e to w w1 f f1 r follows is puts =
     streaming.text_at a.machine es e to w w1 f f1 r follows.machine is
-    (subst (λ (s : Shown). Puts w w1 f f1 (text_between a.machine.object es s a.machine.held.reading to) r) (sym follows.shown) puts)
+    (subst (λ (s : Shown). Puts w w1 f f1 (text_between a.machine.object es s a.machine.run_state.reading to) r) (sym follows.shown) puts)
 
 pub audit_text_last : {T E : Type 0} (a : Audit) (es : List Event) (e : Event) (to : ℕ) (w w1 : Option (List ℕ)) (f f1 : ℕ) (r : Result T E) → AuditFollows a es → e ≡ event.End to
-    → Puts w w1 f f1 (text_between a.machine.object es Values a.machine.held.reading (suc to)) r → Puts w w1 f f1 (text_more a.machine.object a.machine.show es e) r
+    → Puts w w1 f f1 (text_between a.machine.object es Values a.machine.run_state.reading (suc to)) r → Puts w w1 f f1 (text_more a.machine.object a.machine.show es e) r
 audit_text_last a es e to w w1 f f1 r follows is puts =
     streaming.text_last a.machine es e to w w1 f f1 r follows.machine is
-    (subst (λ (s : Shown). Puts w w1 f f1 (text_between a.machine.object es s a.machine.held.reading (suc to)) r) (sym follows.shown) puts)
+    (subst (λ (s : Shown). Puts w w1 f f1 (text_between a.machine.object es s a.machine.run_state.reading (suc to)) r) (sym follows.shown) puts)
 
 -- ---- the loop
 
@@ -210,22 +210,22 @@ module _ (t : Tables) (a0 a : Audit) (tables : t ≡ a0.machine.object.tables) (
 
 module _ (a0 a : Audit) (accepted : IsAccepted a0.machine.object) (shown : a0.machine.show ≡ Values) (old new : Streams) (w : Option (List ℕ)) (f : ℕ) (still : f ≡ old.write_faults)
     (h : IsAuditOver a0 a old.rest new.rest old.written w) where
-  reading_is : a.machine.held.reading ≡ h.over.end
+  reading_is : a.machine.run_state.reading ≡ h.over.end
   reading_is = h.audited.machine.reading
 
   -- the first fault is that of the whole script's run
-  fault_there : first_fault a.machine.object.tables h.front a.machine.held.reading a.log ≡ first_fault a0.machine.object.tables h.over.told h.over.end a0.log
+  fault_there : first_fault a.machine.object.tables h.front a.machine.run_state.reading a.log ≡ first_fault a0.machine.object.tables h.over.told h.over.end a0.log
   fault_there =
-      ap (λ (p : Object). first_fault p.tables h.front a.machine.held.reading a.log) h.over.same.object
+      ap (λ (p : Object). first_fault p.tables h.front a.machine.run_state.reading a.log) h.over.same.object
       ∙ ap (λ (n : ℕ). first_fault a0.machine.object.tables h.front n a.log) reading_is
       ∙ ap (λ (log : List Slice). first_fault a0.machine.object.tables h.front h.over.end log) h.log
       ∙ sym (fault_end a0.machine.object.tables h.front h.over.end a0.log)
       ∙ ap (λ (es : List Event). first_fault a0.machine.object.tables es h.over.end a0.log) (sym h.cut)
 
   -- and so are the numbers
-  text_there : audited_text a.machine.object.tables h.front a.machine.held.reading a.log ≡ audited_text a0.machine.object.tables h.over.told h.over.end a0.log
+  text_there : audited_text a.machine.object.tables h.front a.machine.run_state.reading a.log ≡ audited_text a0.machine.object.tables h.over.told h.over.end a0.log
   text_there =
-      ap (λ (p : Object). audited_text p.tables h.front a.machine.held.reading a.log) h.over.same.object
+      ap (λ (p : Object). audited_text p.tables h.front a.machine.run_state.reading a.log) h.over.same.object
       ∙ ap (λ (n : ℕ). audited_text a0.machine.object.tables h.front n a.log) reading_is
       ∙ ap (λ (log : List Slice). audited_text a0.machine.object.tables h.front h.over.end log) h.log
       ∙ sym (numbers_end a0.machine.object.tables h.front h.over.end a0.log)
@@ -236,7 +236,7 @@ module _ (a0 a : Audit) (accepted : IsAccepted a0.machine.object) (shown : a0.ma
       h.over.text ∙ ap (λ (x : Shown). append_known old.written (text_before_fault a0.machine.object x h.over.told)) shown
       ∙ ap (append_known old.written) (sym (whole_text a0.machine.object Values accepted h.over.told h.over.end h.over.last.last))
 
-  cut_line : first_fault a0.machine.object.tables h.over.told h.over.end a0.log ≡ None → AppendsPrefix w new.written (audited_text a.machine.object.tables h.front a.machine.held.reading a.log)
+  cut_line : first_fault a0.machine.object.tables h.over.told h.over.end a0.log ≡ None → AppendsPrefix w new.written (audited_text a.machine.object.tables h.front a.machine.run_state.reading a.log)
       → AppendsPrefix old.written new.written (audit_text a0.machine.object a0.log (Whole h.over.told h.over.end))
   cut_line none part =
       let o = a0.machine.object in
@@ -246,7 +246,7 @@ module _ (a0 a : Audit) (accepted : IsAccepted a0.machine.object) (shown : a0.ma
       ap (λ (bs : List ℕ). first ++ bs) (append-nil second ∙ sym (verdict_is o.tables h.over.told h.over.end a0.log none)) in
       subst (AppendsPrefix old.written new.written) whole (AppendsPrefix-more old.written w new.written first second [] lines (subst (AppendsPrefix w new.written) text_there part))
 
-  pub concluded : (outcome : Outcome) → IsConcluded a.machine.object.tables h.front a.machine.held.reading a.log w new.written f new.write_faults outcome → IsAuditRun a0.log a0.machine.object old new outcome
+  pub concluded : (outcome : Outcome) → IsConcluded a.machine.object.tables h.front a.machine.run_state.reading a.log w new.written f new.write_faults outcome → IsAuditRun a0.log a0.machine.object old new outcome
   concluded Done c = record {
     events = h.over.told;
     end = h.over.end;

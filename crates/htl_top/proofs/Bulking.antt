@@ -71,15 +71,15 @@ state_count t es (suc n) =
     let h = history t (sense t es) n in
     length-list_to (λ c. next_value t (sense t es) (past h) (newest h).stays (newest h).values (suc n) c (slice_get t.comms c)) (length t.comms)
 
-pub values_count : (m : Seen) (t : Tables) (es : List Event) (end : ℕ) → t ≡ m.object.tables → IsFinished m es end → length m.held.world.values ≡ length t.comms
+pub values_count : (m : Seen) (t : Tables) (es : List Event) (end : ℕ) → t ≡ m.object.tables → IsFinished m es end → length m.run_state.world.values ≡ length t.comms
 values_count m t es end tables done =
     ap (λ (vs : List ℤ). length vs) done.values ∙ state_count m.object.tables es end ∙ ap (λ (u : Tables). length u.comms) (sym tables)
 
 -- the line of a value
 pub value_put : {T E : Type 0} (t : Tables) (m : Seen) (c : ℕ) (w w1 : Option (List ℕ)) (f f1 : ℕ) (r : Result T E)
-    → Puts w w1 f f1 (line_text t (ValueLine m.held.reading c (get_or m.held.world.values c (pos 0)))) r → Puts w w1 f f1 (lines_text t (value_seen m c)) r
+    → Puts w w1 f f1 (line_text t (ValueLine m.run_state.reading c (get_or m.run_state.world.values c (pos 0)))) r → Puts w w1 f f1 (lines_text t (value_seen m c)) r
 value_put t m c w w1 f f1 r puts =
-    subst (λ (bs : List ℕ). Puts w w1 f f1 bs r) (sym (one_line t (ValueLine m.held.reading c (get_or m.held.world.values c (pos 0))))) puts
+    subst (λ (bs : List ℕ). Puts w w1 f f1 bs r) (sym (one_line t (ValueLine m.run_state.reading c (get_or m.run_state.world.values c (pos 0))))) puts
 
 -- ---- the object of a source
 

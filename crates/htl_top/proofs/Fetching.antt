@@ -4,7 +4,7 @@ use Rattle.htl_model.specs.Tables.{Tables}
 use Rattle.htl_top.specs.Answers.{Files}
 use Rattle.htl_top.specs.Fetching.{IsOfFetch, IsUnfetched}
 use Rattle.htl_top.specs.Objects.{IsStopped}
-use Rattle.htl_top.specs.Telling.{SpeaksOf}
+use Rattle.htl_top.specs.ErrorLines.{SpeaksOf}
 use Rattle.htl_top.specs.declared.outcome.Outcome.{Outcome}
 use Rattle.htl_top.specs.declared.outcome.Outcome.TheVariants.{Done, Usage, Source, IllFormed, Unschedulable, Platform, Task, Log, Patch, Object as Refused, Script, Shelf, Read, Write, Memory}
 

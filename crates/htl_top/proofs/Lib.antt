@@ -18,7 +18,7 @@ pub mod Going
 pub mod Inputs
 pub mod JobMeaning
 mod LineExamples
-pub mod LineTelling
+pub mod ErrorLineNames
 pub mod ListByList
 pub mod Meaning
 pub mod ObjectAnswering

@@ -3,7 +3,7 @@ use Rattle.std.proofs.Common.{arith, ◌≡◌, ◌≤◌, ◌<◌, ◌⊎◌, �
 use Rattle.htl_base.specs.declared.limits.TheConstants.{MAX_OBJECT}
 use Rattle.htl_edge.specs.Causes.{Rose}
 use Rattle.htl_edge.specs.Holdings.{Holdings}
-use Rattle.htl_load.proofs.Telling.{accepted_bytes, fault_told, bad_field_told}
+use Rattle.htl_load.proofs.OneAnswer.{accepted_bytes, fault_told, bad_field_told}
 use Rattle.htl_load.specs.Loading.{HasBytes, RefusesBytes, RefusesObject}
 use Rattle.htl_load.specs.declared.fault.ObjectFault.{ObjectFault}
 use Rattle.htl_load.specs.declared.fault.ObjectFault.TheVariants as fault

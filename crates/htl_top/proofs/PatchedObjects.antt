@@ -26,7 +26,7 @@ use Rattle.htl_top.specs.Causes.{IsOrMemory}
 use Rattle.htl_top.specs.Objects.{IsObjectFile}
 use Rattle.htl_top.specs.PatchedFiles.{HasPatchedTables, IsBadDonor, IsDonorFault, IsDonorTold, IsObjectPut, IsPatchedTables, RefusesDonor, SpeaksOfPatch}
 use Rattle.htl_top.specs.PatchStops.{new_tables, unpatched_as}
-use Rattle.htl_top.specs.Telling.{SpeaksOf}
+use Rattle.htl_top.specs.ErrorLines.{SpeaksOf}
 use Rattle.htl_top.specs.declared.outcome.Outcome.{Outcome}
 use Rattle.htl_top.specs.declared.outcome.Outcome.TheVariants.{Done, Usage, Source, IllFormed, Unschedulable, Platform, Task, Log, Patch, Object as Refused, Script, Shelf, Read, Write, Memory}
 

@@ -15,7 +15,7 @@ use Rattle.htl_patch.specs.United.{Graft}
 use Rattle.htl_patch.specs.declared.fault.PatchFault.{PatchFault}
 use Rattle.htl_platform.specs.declared.fault.PlatformFault.{PlatformFault}
 use Rattle.htl_top.proofs.GivenFiles as files
-use Rattle.htl_top.proofs.LineTelling.{SpeaksOfObject-file}
+use Rattle.htl_top.proofs.ErrorLineNames.{SpeaksOfObject-file}
 use Rattle.htl_top.proofs.ObjectAnswering.{IsAcceptedFile-map, one_of_bytes, one_refusal, accepted_or_refused}
 use Rattle.htl_top.proofs.PatchedObjects as objects
 use Rattle.htl_top.specs.Answers.{Files, Streams, IsBeforeRun}
@@ -26,7 +26,7 @@ use Rattle.htl_top.specs.Files.{IsFileOf, IsHad}
 use Rattle.htl_top.specs.PatchedFiles.{AreFilesOf, IsDonorFault, IsDonorTold, IsPatchOfFiles, IsPatching}
 use Rattle.htl_top.specs.PatchStops.{object_tables, unloaded_as}
 use Rattle.htl_top.specs.Sources.{answer_of}
-use Rattle.htl_top.specs.Telling.{SpeaksOf}
+use Rattle.htl_top.specs.ErrorLines.{SpeaksOf}
 use Rattle.htl_top.specs.declared.object.ObjectStop.{ObjectStop}
 use Rattle.htl_top.specs.declared.object.ObjectStop.TheVariants as load
 use Rattle.htl_top.specs.declared.outcome.Outcome.{Outcome}

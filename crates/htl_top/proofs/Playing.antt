@@ -5,7 +5,7 @@ use Rattle.std.proofs.lemmas.List.{append_assoc, append-nil}
 use Rattle.htl_console.specs.declared.shown.Shown.{Shown}
 use Rattle.htl_machine.proofs.Accepted.{accepted_is_loaded}
 use Rattle.htl_machine.proofs.Events.{reading_more}
-use Rattle.htl_machine.proofs.TellingLater.{later_leave}
+use Rattle.htl_machine.proofs.TextSoFar.{later_leave}
 use Rattle.htl_machine.specs.Calls.{text_between}
 use Rattle.htl_machine.specs.Follows.{reading_of}
 use Rattle.htl_machine.specs.Laws.{AreReadFrom}

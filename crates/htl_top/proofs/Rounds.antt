@@ -8,7 +8,7 @@ use Rattle.htl_console.specs.declared.shown.Shown.TheVariants.{Nothing}
 use Rattle.htl_ecode.specs.declared.ecode.ECode.{ECode}
 use Rattle.htl_edge.proofs.Puts.{append_known-start}
 use Rattle.htl_edge.specs.Content.{Puts}
-use Rattle.htl_machine.proofs.Telling.{up_to_none}
+use Rattle.htl_machine.proofs.InstantRecords.{up_to_none}
 use Rattle.htl_machine.specs.Calls.{Seen, Follows, IsSameRun, text_between}
 use Rattle.htl_machine.specs.Follows.{reading_of}
 use Rattle.htl_machine.specs.Lines.{record_lines, list_lines, old_lines, new_lines, lines}
@@ -70,7 +70,7 @@ in_order : (rounds : ℕ) → reading_of 0 (readings_of rounds) ≤ 1000 * round
 in_order zero = omega arith
 in_order (suc n) = omega (arith, reading_behind 0 (readings_of n) (round_readings n))
 
-pub still_in_order : (m : Seen) (rounds to : ℕ) → Follows m (readings_of rounds) → to ≡ 1000 * rounds → m.held.reading ≤ to
+pub still_in_order : (m : Seen) (rounds to : ℕ) → Follows m (readings_of rounds) → to ≡ 1000 * rounds → m.run_state.reading ≤ to
 still_in_order m rounds to follows is = omega (arith, is, follows.kept.reading, in_order rounds)
 
 -- ---- round by round

@@ -85,15 +85,15 @@ module _ (t : Tables) (m0 m : Seen) (tables : t ≡ m0.object.tables) (a b : Ahe
 
 -- the totals were written, or a part of them
 module _ (m0 m : Seen) (known left w0 w w1 : Option (List ℕ)) (f f1 : ℕ) (h : IsOver m0 m known left w0 w) where
-  text_put : {T : Type 0} (r : Result T Failed) → Puts w w1 f f1 (totals_line m.held.reading m.jobs m.e m.s) r → Puts w0 w1 f f1 (text_of_script m0.object m0.show (Whole h.told h.end)) r
+  text_put : {T : Type 0} (r : Result T Failed) → Puts w w1 f f1 (totals_line m.run_state.reading m.jobs m.e m.s) r → Puts w0 w1 f f1 (text_of_script m0.object m0.show (Whole h.told h.end)) r
   text_put r puts =
       let first : Puts {T = Unit {0}} {E = Failed} w0 w f f (text_before_fault m0.object m0.show h.told) (Ok tt) = record { whole = h.text; part = tt; cause = record { later = omega arith; kept = refl; refused = tt } } in
       run_put m0.object m0.show h.told {S = Unit {0}} m w0 w w1 f f f1 tt r h.same.object first h.done puts h.end h.last
 
-  pub over_done : {T : Type 0} (x : T) → Puts {T = T} {E = Failed} w w1 f f1 (totals_line m.held.reading m.jobs m.e m.s) (Ok x)
+  pub over_done : {T : Type 0} (x : T) → Puts {T = T} {E = Failed} w w1 f f1 (totals_line m.run_state.reading m.jobs m.e m.s) (Ok x)
       → IsWholeRun m0.show m0.object.tables m0.object known left w0 w1
   over_done x puts = record { events = h.told; end = h.end; script = h.script; read = h.read; written = (text_put (Ok x) puts).whole }
 
-  pub over_cut : {T : Type 0} (x : Failed) → Puts {T = T} {E = Failed} w w1 f f1 (totals_line m.held.reading m.jobs m.e m.s) (Err x)
+  pub over_cut : {T : Type 0} (x : Failed) → Puts {T = T} {E = Failed} w w1 f f1 (totals_line m.run_state.reading m.jobs m.e m.s) (Err x)
       → IsCutRun m0.show m0.object.tables m0.object known w0 w1
   over_cut {T = T} x puts = record { given = Whole h.told h.end; script = h.script; written = (text_put {T = T} (Err x) puts).part }

@@ -166,13 +166,13 @@ module _ (o : Object) (show : Shown) (accepted : IsAccepted o) where
 -- ---- what one call writes
 
 pub text_at : {T E : Type 0} (m : Seen) (es : List Event) (e : Event) (to : ℕ) (w w1 : Option (List ℕ)) (f f1 : ℕ) (r : Result T E) → Follows m es → e ≡ event.At to
-    → Puts w w1 f f1 (text_between m.object es m.show m.held.reading to) r → Puts w w1 f f1 (text_more m.object m.show es e) r
+    → Puts w w1 f f1 (text_between m.object es m.show m.run_state.reading to) r → Puts w w1 f f1 (text_more m.object m.show es e) r
 text_at m es e to w w1 f f1 r follows is puts =
     subst (λ (x : Event). Puts w w1 f f1 (text_more m.object m.show es x) r) (sym is)
     (subst (λ (from : ℕ). Puts w w1 f f1 (text_between m.object es m.show from to) r) follows.kept.reading puts)
 
 pub text_last : {T E : Type 0} (m : Seen) (es : List Event) (e : Event) (to : ℕ) (w w1 : Option (List ℕ)) (f f1 : ℕ) (r : Result T E) → Follows m es → e ≡ event.End to
-    → Puts w w1 f f1 (text_between m.object es m.show m.held.reading (suc to)) r → Puts w w1 f f1 (text_more m.object m.show es e) r
+    → Puts w w1 f f1 (text_between m.object es m.show m.run_state.reading (suc to)) r → Puts w w1 f f1 (text_more m.object m.show es e) r
 text_last m es e to w w1 f f1 r follows is puts =
     subst (λ (x : Event). Puts w w1 f f1 (text_more m.object m.show es x) r) (sym is)
     (subst (λ (from : ℕ). Puts w w1 f f1 (text_between m.object es m.show from (suc to)) r) follows.kept.reading puts)

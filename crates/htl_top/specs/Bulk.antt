@@ -63,10 +63,10 @@ object_text rounds o =
 
 -- the values of a machine, and its numbers
 abbrev pub value_seen : Seen → ℕ → List Line
-value_seen m c = ValueLine m.held.reading c (get_or m.held.world.values c (pos 0)) ∷ []
+value_seen m c = ValueLine m.run_state.reading c (get_or m.run_state.world.values c (pos 0)) ∷ []
 
 abbrev pub seen_text : Tables → Seen → List ℕ
-seen_text t m = lines_text t (up_to (value_seen m) (length t.comms)) ++ totals_line m.held.reading m.jobs m.e m.s
+seen_text t m = lines_text t (up_to (value_seen m) (length t.comms)) ++ totals_line m.run_state.reading m.jobs m.e m.s
 
 -- behind 100 rounds, at instant 100,000
 abbrev pub bulk_text : Tables → List ℕ

@@ -26,6 +26,6 @@ pub mod Slacked
 pub mod Sources
 pub mod SourcesOn
 pub mod Status
-pub mod Telling
+pub mod ErrorLines
 pub mod Texts
 pub mod Words

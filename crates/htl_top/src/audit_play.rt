@@ -74,8 +74,8 @@ fn tell<W: Sink>(auditor: &mut Auditor<'_>, event: Event, out: &mut W) -> Result
 
 // Writes the numbers of a legal log, or answers the first fault, once the run has ended.
 fn conclude<W: Sink>(auditor: &Auditor<'_>, out: &mut W) -> Outcome
-    requires { (es : List Told) × IsAudited auditor.now es auditor.now.machine.held.reading }
-    ensures answer { (es : List Told) → IsAudited auditor.now es auditor.now.machine.held.reading → IsConcluded auditor.now.machine.object.tables es auditor.now.machine.held.reading auditor.now.log (W.written out.old) (W.written out.new) (W.faults out.old) (W.faults out.new) result }
+    requires { (es : List Told) × IsAudited auditor.now es auditor.now.machine.run_state.reading }
+    ensures answer { (es : List Told) → IsAudited auditor.now es auditor.now.machine.run_state.reading → IsConcluded auditor.now.machine.object.tables es auditor.now.machine.run_state.reading auditor.now.log (W.written out.old) (W.written out.new) (W.faults out.old) (W.faults out.new) result }
     ensures write_count { (result ≡ Outcome.Write → ⊥) → W.faults out.new ≡ W.faults out.old }
 {
     match auditor.verdict() {

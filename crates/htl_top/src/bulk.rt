@@ -148,7 +148,7 @@ fn sense_round(machine: &mut Machine<'_>, round: Time)
 
 // Writes the values of a machine and its numbers.
 fn write_state<W: Sink>(machine: &Machine<'_>, t: &Tables, out: &mut W) -> Result<(), Failed>
-    requires { length machine.now.held.world.values ≡ length t.now.comms }
+    requires { length machine.now.run_state.world.values ≡ length t.now.comms }
     ensures { Puts (W.written out.old) (W.written out.new) (W.faults out.old) (W.faults out.new) (seen_text t.now machine.now) result }
 {
     if let Err(failed) = write_values(machine, t, out) {
@@ -159,7 +159,7 @@ fn write_state<W: Sink>(machine: &Machine<'_>, t: &Tables, out: &mut W) -> Resul
 
 // Writes the value of each communicator.
 fn write_values<W: Sink>(machine: &Machine<'_>, t: &Tables, out: &mut W) -> Result<(), Failed>
-    requires { length machine.now.held.world.values ≡ length t.now.comms }
+    requires { length machine.now.run_state.world.values ≡ length t.now.comms }
     ensures { Puts (W.written out.old) (W.written out.new) (W.faults out.old) (W.faults out.new) (lines_text t.now (up_to (value_seen machine.now) (length t.now.comms))) result }
 {
     t.keeps_ranges();
@@ -179,9 +179,9 @@ fn write_value<W: Sink>(
     out: &mut W,
 ) -> Result<(), Failed>
     requires known { comm < length t.now.comms }
-    requires value { comm < length machine.now.held.world.values }
+    requires value { comm < length machine.now.run_state.world.values }
     ensures { Puts (W.written out.old) (W.written out.new) (W.faults out.old) (W.faults out.new)
-        (line_text t.now (ValueLine machine.now.held.reading comm (get_or machine.now.held.world.values comm (pos 0)))) result }
+        (line_text t.now (ValueLine machine.now.run_state.reading comm (get_or machine.now.run_state.world.values comm (pos 0)))) result }
 {
     line_v(out, t, machine.reading(), comm, machine.value(comm))
 }

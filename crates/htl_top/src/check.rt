@@ -5,7 +5,7 @@ ghost use Rattle.htl_model.specs.Frames.{frame_limit};
 ghost use Rattle.htl_top.specs.Answers.{files, IsWritten};
 ghost use Rattle.htl_top.specs.Checked.{check_text};
 ghost use Rattle.htl_top.specs.Objects.{IsTextOnObject, IsObjectTables};
-ghost use Rattle.htl_top.specs.Telling.{SpeaksOf};
+ghost use Rattle.htl_top.specs.ErrorLines.{SpeaksOf};
 ghost use Rattle.htl_top.specs.declared.outcome.ShelfCause.TheVariants as cause;
 
 use crate::Outcome;

@@ -3,7 +3,7 @@ ghost use Rattle.std.specs.Prelude.{◌≡◌, ℕ, List, Some};
 ghost use Rattle.htl_script.specs.Reading.{LosesFront};
 ghost use Rattle.htl_top.specs.Answers.{files, streams};
 ghost use Rattle.htl_top.specs.Calls.{IsCall, HasSource, HasObject};
-ghost use Rattle.htl_top.specs.Telling.{SpeaksOf};
+ghost use Rattle.htl_top.specs.ErrorLines.{SpeaksOf};
 ghost use Rattle.htl_top.specs.Words.{asked_for, command_in, most_taken, with_file, AreFewModules};
 ghost use Rattle.htl_top.specs.declared.outcome.ShelfCause.TheVariants as cause;
 
@@ -24,7 +24,7 @@ use htl_console::Shown;
 use htl_edge::{Shelf, Sink, Source};
 use std::alloc::Global;
 
-/// Does what the words of a command line say, all but the telling of the answer.
+/// Does what the words of a command line say, all but the line that tells of the answer.
 pub fn answer_to<S: Shelf, R: Source, W: Sink>(
     alloc: Global,
     words: &[&str],

@@ -10,7 +10,7 @@ ghost use Rattle.htl_top.specs.Compiling.{IsCompiling, IsBytesCompiled};
 ghost use Rattle.htl_top.specs.CompilingOn.{IsCompilingOn, IsBytesCompiledOn};
 ghost use Rattle.htl_top.specs.Sources.{HasTypedTables, IsTypedInput};
 ghost use Rattle.htl_top.specs.SourcesOn.{HasTypedOn, IsTypedOn};
-ghost use Rattle.htl_top.specs.Telling.{SpeaksOf};
+ghost use Rattle.htl_top.specs.ErrorLines.{SpeaksOf};
 ghost use Rattle.htl_top.specs.declared.outcome.ShelfCause.TheVariants as cause;
 
 use crate::answer::Answer;

@@ -9,7 +9,7 @@ ghost use Rattle.htl_top.specs.Answers.{files, streams};
 ghost use Rattle.htl_top.specs.Going.{IsGoing, IsBytesGoing};
 ghost use Rattle.htl_top.specs.Runs.{IsRun};
 ghost use Rattle.htl_top.specs.Sources.{HasTypedTables, IsTypedProgram};
-ghost use Rattle.htl_top.specs.Telling.{SpeaksOf};
+ghost use Rattle.htl_top.specs.ErrorLines.{SpeaksOf};
 ghost use Rattle.htl_top.specs.declared.outcome.ShelfCause.TheVariants as cause;
 
 use crate::answer::Answer;

@@ -5,7 +5,7 @@ ghost use Rattle.htl_object.specs.Accepted.{IsAccepted};
 ghost use Rattle.htl_object.specs.Ranges.{IsInRange};
 ghost use Rattle.htl_top.specs.Answers.{files};
 ghost use Rattle.htl_top.specs.Objects.{IsObjectRead, IsAcceptedFile, IsObjectTables, IsStopped};
-ghost use Rattle.htl_top.specs.Telling.{SpeaksOf};
+ghost use Rattle.htl_top.specs.ErrorLines.{SpeaksOf};
 ghost use Rattle.htl_top.specs.declared.outcome.ShelfCause.TheVariants as cause;
 
 use crate::Outcome;

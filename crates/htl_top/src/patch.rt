@@ -7,7 +7,7 @@ ghost use Rattle.htl_top.specs.Answers.{Files, files};
 ghost use Rattle.htl_top.specs.Objects.{IsObjectFile, IsObjectTables};
 ghost use Rattle.htl_top.specs.PatchedFiles.{IsDonorTold, IsObjectPut, IsPatchOfFiles, IsPatchedTables, HasPatchedTables};
 ghost use Rattle.htl_top.specs.PatchStops.{unpatched_as, new_tables, unloaded_as, object_tables};
-ghost use Rattle.htl_top.specs.Telling.{SpeaksOf};
+ghost use Rattle.htl_top.specs.ErrorLines.{SpeaksOf};
 ghost use Rattle.htl_top.specs.declared.outcome.ShelfCause.TheVariants as cause;
 
 use crate::Outcome;

@@ -7,7 +7,7 @@ ghost use Rattle.htl_script.specs.Reading.{LosesFront};
 ghost use Rattle.htl_top.specs.Answers.{files, streams};
 ghost use Rattle.htl_top.specs.Objects.{IsOnObject, IsObjectTables};
 ghost use Rattle.htl_top.specs.Planned.{plan_text, IsPlanned};
-ghost use Rattle.htl_top.specs.Telling.{SpeaksOf};
+ghost use Rattle.htl_top.specs.ErrorLines.{SpeaksOf};
 ghost use Rattle.htl_top.specs.declared.outcome.ShelfCause.TheVariants as cause;
 
 use crate::Outcome;

@@ -80,7 +80,7 @@ fn tell<W: Sink>(machine: &mut Machine<'_>, event: Event, out: &mut W) -> Result
 
 /// Writes the numbers of a run so far.
 pub fn write_totals<W: Sink>(machine: &Machine<'_>, out: &mut W) -> Result<(), Failed>
-    ensures { Puts (W.written out.old) (W.written out.new) (W.faults out.old) (W.faults out.new) (totals_line machine.now.held.reading machine.now.jobs machine.now.e machine.now.s) result }
+    ensures { Puts (W.written out.old) (W.written out.new) (W.faults out.old) (W.faults out.new) (totals_line machine.now.run_state.reading machine.now.jobs machine.now.e machine.now.s) result }
 {
     let totals = machine.totals();
     line_end(out, totals.at, totals.jobs, totals.e, totals.s)

@@ -4,7 +4,7 @@ ghost use Rattle.htl_edge.specs.Content.{Puts};
 ghost use Rattle.htl_top.specs.Answers.{files, IsWritten};
 ghost use Rattle.htl_top.specs.Objects.{IsTextOnObject, IsObjectTables};
 ghost use Rattle.htl_top.specs.Shown.{show_text};
-ghost use Rattle.htl_top.specs.Telling.{SpeaksOf};
+ghost use Rattle.htl_top.specs.ErrorLines.{SpeaksOf};
 ghost use Rattle.htl_top.specs.declared.outcome.ShelfCause.TheVariants as cause;
 
 use crate::Outcome;

@@ -60,7 +60,7 @@ ghost use Rattle.htl_top.specs.Shown.{show_text};
 ghost use Rattle.htl_top.specs.Slacked.{HasSlack, IsRootNamed, NamesNoTask, IsTaskCause};
 ghost use Rattle.htl_top.specs.Sources.{HasTables, IsProgram, IsInputProgram, answer_of};
 ghost use Rattle.htl_top.specs.SourcesOn.{IsProgramOn, answer_on};
-ghost use Rattle.htl_top.specs.Telling.{IsLineTold};
+ghost use Rattle.htl_top.specs.ErrorLines.{IsLineTold};
 ghost use Rattle.htl_top.specs.Words.{Go, Compile, CompileWith, Run, Check, Plan, Show, Bulk, Slack, Audit, Patch, command_in, source_in, platform_word, object_word, second_in, most_taken, RunsObject};
 ghost use Rattle.htl_top.specs.declared.outcome.ShelfCause.{ShelfCause};
 ghost use Rattle.htl_top.specs.declared.outcome.ShelfCause.TheVariants as cause;

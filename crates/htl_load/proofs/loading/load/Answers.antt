@@ -1,6 +1,6 @@
 use Rattle.std.proofs.Common.{◌≡◌, Err, sym, subst}
 use Rattle.htl_load.proofs.Refusals.{accepted_is_not_refused}
-use Rattle.htl_load.proofs.Telling.{bad_field_told, accepted_bytes, fault_told}
+use Rattle.htl_load.proofs.OneAnswer.{bad_field_told, accepted_bytes, fault_told}
 use Rattle.htl_load.specs.Faults.{IsRefused}
 use Rattle.htl_load.specs.Loading.{HasBytes}
 use Rattle.htl_object.specs.Accepted.{IsAccepted}

@@ -2,7 +2,7 @@ use Rattle.std.proofs.Common.{length, ap, ◌∙◌}
 use Rattle.std.proofs.lemmas.Result.{on_ok_weaker}
 use Rattle.htl_emach.specs.Following.{phase_path}
 use Rattle.htl_machine.specs.Counts.{with_instrs}
-use Rattle.htl_machine.specs.Readiness.{desk_replay}
+use Rattle.htl_machine.specs.Readiness.{s_machine_replay}
 use Rattle.htl_machine.specs.Running.{replay}
 use Rattle.htl_machine.proofs.Closings.{switches_fail, reads_second, switches_start}
 use Rattle.htl_machine.proofs.Marking.{reads_next, sensors_then}
@@ -41,11 +41,11 @@ returns-clause-world g c = λ es q.
     let r = reads_next c.in_default.ensures.noted q (c.in_default.ensures.ends es s) (c.in_default.ensures.world es s) in
     on_ok_weaker c.read_instant.result (λ z. z ∙ ap (replay c.args.program.now.tables.now c.args.program.now.code.now (phase_path c.args.program.now.tables.now c.args.program.now.code.now es c.args.at 3)) (c.in_default.ensures.world es s)) (c.read_instant.ensures.world es r)
 
-pub returns-clause-desk : goal.returns-clause-desk
-returns-clause-desk g c = λ es q.
+pub returns-clause-s_machine : goal.returns-clause-s_machine
+returns-clause-s_machine g c = λ es q.
     let s = switches_start q in
     let r = reads_next c.in_default.ensures.noted q (c.in_default.ensures.ends es s) (c.in_default.ensures.world es s) in
-    on_ok_weaker c.read_instant.result (λ z. z ∙ ap (desk_replay c.args.program.now.code.now (phase_path c.args.program.now.tables.now c.args.program.now.code.now es c.args.at 3)) (c.in_default.ensures.desk es s)) (c.read_instant.ensures.desk es r)
+    on_ok_weaker c.read_instant.result (λ z. z ∙ ap (s_machine_replay c.args.program.now.code.now (phase_path c.args.program.now.tables.now c.args.program.now.code.now es c.args.at 3)) (c.in_default.ensures.s_machine es s)) (c.read_instant.ensures.s_machine es r)
 
 pub returns-clause-reads : goal.returns-clause-reads
 returns-clause-reads g c = λ es q.

@@ -37,10 +37,10 @@ returns-clause-world g c = λ es q.
     let s = reads_start q in
     on_ok_weaker c.put_changes.result (λ _. c.in_default.ensures.world es s) c.put_changes.ensures.whole
 
-pub returns-clause-desk : goal.returns-clause-desk
-returns-clause-desk g c = λ es q.
+pub returns-clause-s_machine : goal.returns-clause-s_machine
+returns-clause-s_machine g c = λ es q.
     let s = reads_start q in
-    on_ok_weaker c.put_changes.result (λ _. c.in_default.ensures.desk es s) c.put_changes.ensures.whole
+    on_ok_weaker c.put_changes.result (λ _. c.in_default.ensures.s_machine es s) c.put_changes.ensures.whole
 
 pub returns-clause-reads : goal.returns-clause-reads
 returns-clause-reads g c = λ es q.

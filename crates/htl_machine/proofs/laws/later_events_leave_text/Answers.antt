@@ -1,6 +1,6 @@
 use Rattle.htl_machine.specs.Programs.{schedules_of}
 use Rattle.htl_machine.proofs.Accepted.{accepted_is_loaded}
-use Rattle.htl_machine.proofs.TellingLater.{later_leave}
+use Rattle.htl_machine.proofs.TextSoFar.{later_leave}
 use Rattle.htl_machine.proofs.laws.later_events_leave_text.Goals as goal
 
 pub returns : goal.returns

@@ -16,7 +16,7 @@ use Rattle.htl_machine.proofs.open.open_instant.Goals as goal
 pub do_instrs-requires-clause-starts : goal.do_instrs-requires-clause-starts
 do_instrs-requires-clause-starts g c =
     let w = c.requires.follows in
-    (w.0, writes_start c.args.program.now.tables.now c.args.program.now.code.now w.0 c.args.at c.args.machines.now.emach c.tell_records.new.works.world w.1)
+    (w.0, writes_start c.args.program.now.tables.now c.args.program.now.code.now w.0 c.args.at c.args.machines.now.emach c.leave_records.new.works.world w.1)
 
 pub do_instrs-requires-clause-fitted : goal.do_instrs-requires-clause-fitted
 do_instrs-requires-clause-fitted g c = record {
@@ -35,14 +35,14 @@ show-requires-clause-shows g c = c.requires.shows.count
 
 pub show-requires-clause-waiting : goal.show-requires-clause-waiting
 show-requires-clause-waiting g c =
-    waiting_stays c.args.program.now.tables.now c.args.sensors.now c.tell_records.new.works.world.values c.do_instrs.new.machines.works.world.values
-    (waiting_same c.args.program.now.tables.now c.args.sensors.now c.args.machines.now.works.world.values c.tell_records.new.works.world.values c.requires.waiting c.in_default.ensures.values) c.in_default-do_instrs.ensures.sensors
+    waiting_stays c.args.program.now.tables.now c.args.sensors.now c.leave_records.new.works.world.values c.do_instrs.new.machines.works.world.values
+    (waiting_same c.args.program.now.tables.now c.args.sensors.now c.args.machines.now.works.world.values c.leave_records.new.works.world.values c.requires.waiting c.in_default.ensures.values) c.in_default-do_instrs.ensures.sensors
 
 pub show-requires-clause-before : goal.show-requires-clause-before
 show-requires-clause-before g c =
     let kept = c.in_default-do_instrs.ensures.noted.values ∙ c.requires.before in
-    sensors_then c.args.program.now.tables.now c.do_instrs.new.machines.noted.values c.tell_records.new.works.world.values c.do_instrs.new.machines.works.world.values
-    (sensors_same c.args.program.now.tables.now c.do_instrs.new.machines.noted.values c.tell_records.new.works.world.values (c.in_default.ensures.values ∙ sym kept)) c.in_default-do_instrs.ensures.sensors
+    sensors_then c.args.program.now.tables.now c.do_instrs.new.machines.noted.values c.leave_records.new.works.world.values c.do_instrs.new.machines.works.world.values
+    (sensors_same c.args.program.now.tables.now c.do_instrs.new.machines.noted.values c.leave_records.new.works.world.values (c.in_default.ensures.values ∙ sym kept)) c.in_default-do_instrs.ensures.sensors
 
 pub returns-clause-noted : goal.returns-clause-noted
 returns-clause-noted g c =
@@ -51,27 +51,27 @@ returns-clause-noted g c =
 
 pub returns-in-Err-clause-text : goal.returns-in-Err-clause-text
 returns-in-Err-clause-text g c = λ es q.
-    opens_failed c.args.program.now.tables.now c.args.program.now.code.now es c.args.program.now.show c.args.list.now.node c.args.machines.now.works.desk c.args.list.now.schedule.now.instrs c.args.at _ _ _ _ _ _ c.in-Err.ensures.text
+    opens_failed c.args.program.now.tables.now c.args.program.now.code.now es c.args.program.now.show c.args.list.now.node c.args.machines.now.works.s_machine c.args.list.now.schedule.now.instrs c.args.at _ _ _ _ _ _ c.in-Err.ensures.text
 
 pub returns-in-Err-do_instrs-clause-text : goal.returns-in-Err-do_instrs-clause-text
 returns-in-Err-do_instrs-clause-text g c = λ es q.
-    let starts = writes_start c.args.program.now.tables.now c.args.program.now.code.now es c.args.at c.args.machines.now.emach c.tell_records.new.works.world q in
-    opens_second c.args.program.now.tables.now c.args.program.now.code.now es c.args.program.now.show c.args.list.now.node c.args.machines.now.works.desk c.args.list.now.schedule.now.instrs c.args.at _ _ _ _ _ _ _ _ c.in_default.ensures.text (c.in-Err-do_instrs.ensures.text es starts)
+    let starts = writes_start c.args.program.now.tables.now c.args.program.now.code.now es c.args.at c.args.machines.now.emach c.leave_records.new.works.world q in
+    opens_second c.args.program.now.tables.now c.args.program.now.code.now es c.args.program.now.show c.args.list.now.node c.args.machines.now.works.s_machine c.args.list.now.schedule.now.instrs c.args.at _ _ _ _ _ _ _ _ c.in_default.ensures.text (c.in-Err-do_instrs.ensures.text es starts)
 
 pub returns-clause-text : goal.returns-clause-text
 returns-clause-text g c = λ es q.
-    let starts = writes_start c.args.program.now.tables.now c.args.program.now.code.now es c.args.at c.args.machines.now.emach c.tell_records.new.works.world q in
-    opens_second c.args.program.now.tables.now c.args.program.now.code.now es c.args.program.now.show c.args.list.now.node c.args.machines.now.works.desk c.args.list.now.schedule.now.instrs c.args.at _ _ _ _ _ _ _ _ c.in_default.ensures.text (c.in_default-do_instrs.ensures.text es starts)
+    let starts = writes_start c.args.program.now.tables.now c.args.program.now.code.now es c.args.at c.args.machines.now.emach c.leave_records.new.works.world q in
+    opens_second c.args.program.now.tables.now c.args.program.now.code.now es c.args.program.now.show c.args.list.now.node c.args.machines.now.works.s_machine c.args.list.now.schedule.now.instrs c.args.at _ _ _ _ _ _ _ _ c.in_default.ensures.text (c.in_default-do_instrs.ensures.text es starts)
 
 pub returns-clause-world : goal.returns-clause-world
 returns-clause-world g c = λ es q.
-    let starts = writes_start c.args.program.now.tables.now c.args.program.now.code.now es c.args.at c.args.machines.now.emach c.tell_records.new.works.world q in
-    opened c.args.program.now.tables.now c.args.program.now.code.now es c.args.at c.args.list.now.schedule.now.instrs c.args.sensors.now.shows c.args.machines.now.noted.values c.args.machines.now.works.desk c.tell_records.new.works.desk c.do_instrs.new.machines.works.desk c.args.machines.now.works.world c.tell_records.new.works.world c.do_instrs.new.machines.works.world c.show.new.world
-    c.in_default.ensures.records (c.in_default-do_instrs.ensures.desk es starts) (c.in_default-do_instrs.ensures.world es starts) (subst (λ (xs : List ℤ). AreShown c.args.program.now.tables.now c.args.sensors.now.shows xs c.args.at c.do_instrs.new.machines.works.world c.show.new.world) c.in_default-do_instrs.ensures.noted.values c.show.ensures.shown)
+    let starts = writes_start c.args.program.now.tables.now c.args.program.now.code.now es c.args.at c.args.machines.now.emach c.leave_records.new.works.world q in
+    opened c.args.program.now.tables.now c.args.program.now.code.now es c.args.at c.args.list.now.schedule.now.instrs c.args.sensors.now.shows c.args.machines.now.noted.values c.args.machines.now.works.s_machine c.leave_records.new.works.s_machine c.do_instrs.new.machines.works.s_machine c.args.machines.now.works.world c.leave_records.new.works.world c.do_instrs.new.machines.works.world c.show.new.world
+    c.in_default.ensures.records (c.in_default-do_instrs.ensures.s_machine es starts) (c.in_default-do_instrs.ensures.world es starts) (subst (λ (xs : List ℤ). AreShown c.args.program.now.tables.now c.args.sensors.now.shows xs c.args.at c.do_instrs.new.machines.works.world c.show.new.world) c.in_default-do_instrs.ensures.noted.values c.show.ensures.shown)
 
 pub returns-clause-counts : goal.returns-clause-counts
 returns-clause-counts g c = λ es q p s k d same past few was.
-    let starts = writes_start c.args.program.now.tables.now c.args.program.now.code.now es c.args.at c.args.machines.now.emach c.tell_records.new.works.world q in
+    let starts = writes_start c.args.program.now.tables.now c.args.program.now.code.now es c.args.at c.args.machines.now.emach c.leave_records.new.works.world q in
     (c.in_default-do_instrs.ensures.counts es starts) ∙ ap (with_instrs (length (phase_path c.args.program.now.tables.now c.args.program.now.code.now es c.args.at 1))) (c.in_default.ensures.counts p s k d same past few was)
 
 pub returns-in-Err-clause-idle_text : goal.returns-in-Err-clause-idle_text
@@ -80,30 +80,30 @@ returns-in-Err-clause-idle_text g c = λ es q over.
 
 pub returns-in-Err-do_instrs-clause-idle_text : goal.returns-in-Err-do_instrs-clause-idle_text
 returns-in-Err-do_instrs-clause-idle_text g c = λ es q over.
-    let starts = writes_start c.args.program.now.tables.now c.args.program.now.code.now es c.args.at c.args.machines.now.emach c.tell_records.new.works.world q in
+    let starts = writes_start c.args.program.now.tables.now c.args.program.now.code.now es c.args.at c.args.machines.now.emach c.leave_records.new.works.world q in
     let first = c.in_default.ensures.idle_text over in Puts-second _ _ _ _ _ _ [] _ _ first.whole first.cause.kept (c.in-Err-do_instrs.ensures.text es starts)
 
 pub returns-clause-idle_text : goal.returns-clause-idle_text
 returns-clause-idle_text g c = λ es q over.
-    let starts = writes_start c.args.program.now.tables.now c.args.program.now.code.now es c.args.at c.args.machines.now.emach c.tell_records.new.works.world q in
+    let starts = writes_start c.args.program.now.tables.now c.args.program.now.code.now es c.args.at c.args.machines.now.emach c.leave_records.new.works.world q in
     let first = c.in_default.ensures.idle_text over in Puts-second _ _ _ _ _ _ [] _ _ first.whole first.cause.kept (c.in_default-do_instrs.ensures.text es starts)
 
 pub returns-clause-idle : goal.returns-clause-idle
 returns-clause-idle g c = λ es q over.
-    let starts = writes_start c.args.program.now.tables.now c.args.program.now.code.now es c.args.at c.args.machines.now.emach c.tell_records.new.works.world q in
+    let starts = writes_start c.args.program.now.tables.now c.args.program.now.code.now es c.args.at c.args.machines.now.emach c.leave_records.new.works.world q in
     let i = c.in_default.ensures.idle over in
     let path = phase_path c.args.program.now.tables.now c.args.program.now.code.now es c.args.at 1 in
     record {
       wrote = c.do_instrs.new.machines.works.world;
       writes = (c.in_default-do_instrs.ensures.world es starts) ∙ ap (replay c.args.program.now.tables.now c.args.program.now.code.now path) i.1;
       sensors = subst (λ (xs : List ℤ). AreShown c.args.program.now.tables.now c.args.sensors.now.shows xs c.args.at c.do_instrs.new.machines.works.world c.show.new.world) c.in_default-do_instrs.ensures.noted.values c.show.ensures.shown;
-      desk = (c.in_default-do_instrs.ensures.desk es starts) ∙ i.0;
+      s_machine = (c.in_default-do_instrs.ensures.s_machine es starts) ∙ i.0;
       count = (c.in_default-do_instrs.ensures.counts es starts) ∙ ap (with_instrs (length path)) i.2;
     }
 
 pub returns-clause-writes : goal.returns-clause-writes
 returns-clause-writes g c = λ es q.
-    c.in_default-do_instrs.ensures.ends es (writes_start c.args.program.now.tables.now c.args.program.now.code.now es c.args.at c.args.machines.now.emach c.tell_records.new.works.world q)
+    c.in_default-do_instrs.ensures.ends es (writes_start c.args.program.now.tables.now c.args.program.now.code.now es c.args.at c.args.machines.now.emach c.leave_records.new.works.world q)
 
 pub do_instrs-requires-clause-jobs : goal.do_instrs-requires-clause-jobs
 do_instrs-requires-clause-jobs g c = c.in_default.ensures.jobs ∙ c.requires.jobs

@@ -8,7 +8,7 @@ use Rattle.htl_machine.proofs.steps.do_instrs.Goals as goal
 
 pub loop-done-init : goal.loop-done-init
 loop-done-init g c = record {
-  doing = λ es s. doing_start c.args.program.now.tables.now c.args.program.now.code.now es c.args.at c.args.phase c.args.program.now.show c.args.machines.now.emach c.args.machines.now.works.world c.args.machines.now.works.desk _ _ _ (midway_start c.args.program.now.tables.now c.args.program.now.code.now es c.args.at c.args.phase c.args.machines.now.emach s.idle s.calendar) c.requires.fitted.safe c.requires.fitted.shaped;
+  doing = λ es s. doing_start c.args.program.now.tables.now c.args.program.now.code.now es c.args.at c.args.phase c.args.program.now.show c.args.machines.now.emach c.args.machines.now.works.world c.args.machines.now.works.s_machine _ _ _ (midway_start c.args.program.now.tables.now c.args.program.now.code.now es c.args.at c.args.phase c.args.machines.now.emach s.idle s.calendar) c.requires.fitted.safe c.requires.fitted.shaped;
   safe = c.requires.fitted.safe;
   shaped = c.requires.fitted.shaped;
   values = λ two. refl;
@@ -35,7 +35,7 @@ note-requires g c =
 pub returns-in-Err-clause-text : goal.returns-in-Err-clause-text
 returns-in-Err-clause-text g c = λ es s.
     let here = c.loop-done.invariant.doing es s in
-    doing_cut c.args.program.now.tables.now c.args.program.now.code.now es c.args.at c.args.phase c.args.program.now.show c.loop-done.machines.emach c.instant.new.self c.loop-done.machines.works.world c.args.machines.now.works.world c.args.machines.now.works.desk c.loop-done.machines.works.desk _ _ _ _ _ _ _ _ c.in-Some.done _ _ here
+    doing_cut c.args.program.now.tables.now c.args.program.now.code.now es c.args.at c.args.phase c.args.program.now.show c.loop-done.machines.emach c.instant.new.self c.loop-done.machines.works.world c.args.machines.now.works.world c.args.machines.now.works.s_machine c.loop-done.machines.works.s_machine _ _ _ _ _ _ _ _ c.in-Some.done _ _ here
     (c.in-Some.ensures.onward es here.running.done here.running.rest (λ two. here.running.values two ∙ s.values two) here.running.midway) c.in-Err.ensures
 
 pub loop-done-smaller : goal.loop-done-smaller
@@ -50,17 +50,17 @@ pub loop-done-preserved : goal.loop-done-preserved
 loop-done-preserved g c =
     let w = c.requires.starts in
     let now = c.loop-done.invariant.doing w.0 w.1 in
-    let one = doing_on c.args.program.now.tables.now c.args.program.now.code.now w.0 c.args.at c.args.phase c.args.program.now.show c.loop-done.machines.emach c.instant.new.self c.loop-done.machines.works.world c.instant.new.world c.args.machines.now.works.world c.args.machines.now.works.desk c.loop-done.machines.works.desk c.release_in.new.desk _ _ _ _ _ _ _ _ _
+    let one = doing_on c.args.program.now.tables.now c.args.program.now.code.now w.0 c.args.at c.args.phase c.args.program.now.show c.loop-done.machines.emach c.instant.new.self c.loop-done.machines.works.world c.instant.new.world c.args.machines.now.works.world c.args.machines.now.works.s_machine c.loop-done.machines.works.s_machine c.release_in.new.s_machine _ _ _ _ _ _ _ _ _
     c.in-Some.done _ now c.in-Some.ensures.safe c.in-Some.ensures.shaped
     (c.in-Some.ensures.onward w.0 now.running.done now.running.rest (λ two. now.running.values two ∙ w.1.values two) now.running.midway) c.in-Some.ensures.world
-    c.instr.ensures c.release_in.ensures.desk c.release_in.ensures.stands c.in_default.ensures in
+    c.instr.ensures c.release_in.ensures.s_machine c.release_in.ensures.stands c.in_default.ensures in
     record {
       doing = λ es s.
           let here = c.loop-done.invariant.doing es s in
-          doing_on c.args.program.now.tables.now c.args.program.now.code.now es c.args.at c.args.phase c.args.program.now.show c.loop-done.machines.emach c.instant.new.self c.loop-done.machines.works.world c.instant.new.world c.args.machines.now.works.world c.args.machines.now.works.desk c.loop-done.machines.works.desk c.release_in.new.desk _ _ _ _ _ _ _ _ _
+          doing_on c.args.program.now.tables.now c.args.program.now.code.now es c.args.at c.args.phase c.args.program.now.show c.loop-done.machines.emach c.instant.new.self c.loop-done.machines.works.world c.instant.new.world c.args.machines.now.works.world c.args.machines.now.works.s_machine c.loop-done.machines.works.s_machine c.release_in.new.s_machine _ _ _ _ _ _ _ _ _
           c.in-Some.done _ here c.in-Some.ensures.safe c.in-Some.ensures.shaped
           (c.in-Some.ensures.onward es here.running.done here.running.rest (λ two. here.running.values two ∙ s.values two) here.running.midway) c.in-Some.ensures.world
-          c.instr.ensures c.release_in.ensures.desk c.release_in.ensures.stands c.in_default.ensures;
+          c.instr.ensures c.release_in.ensures.s_machine c.release_in.ensures.stands c.in_default.ensures;
       safe = c.in-Some.ensures.safe;
       shaped = c.in-Some.ensures.shaped;
       values = one.running.values;
@@ -82,19 +82,19 @@ returns-in-None-clause-ends g c = λ es s.
 pub returns-in-None-clause-text : goal.returns-in-None-clause-text
 returns-in-None-clause-text g c = λ es s.
     let here = c.loop-done.invariant.doing es s in
-    doing_end c.args.program.now.tables.now c.args.program.now.code.now es c.args.at c.args.phase c.args.program.now.show c.loop-done.machines.emach c.instant.new.self c.loop-done.machines.works.world c.args.machines.now.works.world c.args.machines.now.works.desk c.loop-done.machines.works.desk _ _ _ _ _ _ _ here
+    doing_end c.args.program.now.tables.now c.args.program.now.code.now es c.args.at c.args.phase c.args.program.now.show c.loop-done.machines.emach c.instant.new.self c.loop-done.machines.works.world c.args.machines.now.works.world c.args.machines.now.works.s_machine c.loop-done.machines.works.s_machine _ _ _ _ _ _ _ here
     (c.in-None.ensures.onward es here.running.done here.running.rest (λ two. here.running.values two ∙ s.values two) here.running.midway)
 
 pub returns-in-None-clause-counts : goal.returns-in-None-clause-counts
 returns-in-None-clause-counts g c = λ es s.
     let here = c.loop-done.invariant.doing es s in
-    doing_counted c.args.program.now.tables.now c.args.program.now.code.now es c.args.at c.args.phase c.args.program.now.show c.loop-done.machines.emach c.instant.new.self c.loop-done.machines.works.world c.args.machines.now.works.world c.args.machines.now.works.desk c.loop-done.machines.works.desk _ _ _ _ _ _ here
+    doing_counted c.args.program.now.tables.now c.args.program.now.code.now es c.args.at c.args.phase c.args.program.now.show c.loop-done.machines.emach c.instant.new.self c.loop-done.machines.works.world c.args.machines.now.works.world c.args.machines.now.works.s_machine c.loop-done.machines.works.s_machine _ _ _ _ _ _ here
     (c.in-None.ensures.onward es here.running.done here.running.rest (λ two. here.running.values two ∙ s.values two) here.running.midway)
 
-pub returns-in-None-clause-desk : goal.returns-in-None-clause-desk
-returns-in-None-clause-desk g c = λ es s.
+pub returns-in-None-clause-s_machine : goal.returns-in-None-clause-s_machine
+returns-in-None-clause-s_machine g c = λ es s.
     let here = c.loop-done.invariant.doing es s in
-    doing_told c.args.program.now.tables.now c.args.program.now.code.now es c.args.at c.args.phase c.args.program.now.show c.loop-done.machines.emach c.instant.new.self c.loop-done.machines.works.world c.args.machines.now.works.world c.args.machines.now.works.desk c.loop-done.machines.works.desk _ _ _ _ _ _ here
+    doing_told c.args.program.now.tables.now c.args.program.now.code.now es c.args.at c.args.phase c.args.program.now.show c.loop-done.machines.emach c.instant.new.self c.loop-done.machines.works.world c.args.machines.now.works.world c.args.machines.now.works.s_machine c.loop-done.machines.works.s_machine _ _ _ _ _ _ here
     (c.in-None.ensures.onward es here.running.done here.running.rest (λ two. here.running.values two ∙ s.values two) here.running.midway)
 
 pub returns-in-None-clause-world : goal.returns-in-None-clause-world

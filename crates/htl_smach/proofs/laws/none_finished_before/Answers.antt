@@ -1,4 +1,4 @@
-use Rattle.htl_smach.proofs.Telling.{none_before}
+use Rattle.htl_smach.proofs.RoundRecords.{none_before}
 use Rattle.htl_smach.proofs.laws.none_finished_before.Goals as goal
 
 pub returns : goal.returns

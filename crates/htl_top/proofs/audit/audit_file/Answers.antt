@@ -5,7 +5,7 @@ use Rattle.htl_top.proofs.Fetching.{fetching_speaks}
 use Rattle.htl_top.specs.Answers.{files, streams}
 use Rattle.htl_top.specs.Audited.{IsAuditOf}
 use Rattle.htl_top.specs.Objects.{IsObjectTables}
-use Rattle.htl_top.specs.Telling.{SpeaksOf}
+use Rattle.htl_top.specs.ErrorLines.{SpeaksOf}
 use Rattle.htl_top.specs.declared.outcome.Outcome.{Outcome}
 use Rattle.htl_top.proofs.audit.audit_file.Goals as goal
 

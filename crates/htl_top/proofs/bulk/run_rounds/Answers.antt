@@ -17,7 +17,7 @@ pub returns-in-Err-clause-text : goal.returns-in-Err-clause-text
 returns-in-Err-clause-text g c =
     let k = c.loop-round.round in
     put_nothing c.args.machine.now c.loop-round.machine c.advance.new.self k (1000 * k) (g.W.Sink.written c.args.out.now) (g.W.Sink.written c.loop-round.out) (g.W.Sink.written c.advance.new.sink)
-    (g.W.Sink.faults c.args.out.now) (g.W.Sink.faults c.loop-round.out) (g.W.Sink.faults c.advance.new.sink) c.requires.show c.loop-round.invariant c.loop-round.machine.held.reading
+    (g.W.Sink.faults c.args.out.now) (g.W.Sink.faults c.loop-round.out) (g.W.Sink.faults c.advance.new.sink) c.requires.show c.loop-round.invariant c.loop-round.machine.run_state.reading
     (Err c.in-Err.failed) (c.in-Err.ensures.text (readings_of k) c.loop-round.invariant.follows)
 
 pub loop-round-preserved : goal.loop-round-preserved
@@ -26,7 +26,7 @@ loop-round-preserved g c =
     let told = c.in_default.ensures.follows (readings_of k) c.loop-round.invariant.follows in
     rw add-one (
     running_on c.args.machine.now c.loop-round.machine c.advance.new.self k (1000 * k) (g.W.Sink.written c.args.out.now) (g.W.Sink.written c.loop-round.out) (g.W.Sink.written c.advance.new.sink)
-    (g.W.Sink.faults c.args.out.now) (g.W.Sink.faults c.loop-round.out) (g.W.Sink.faults c.advance.new.sink) c.requires.show c.loop-round.invariant c.loop-round.machine.held.reading
+    (g.W.Sink.faults c.args.out.now) (g.W.Sink.faults c.loop-round.out) (g.W.Sink.faults c.advance.new.sink) c.requires.show c.loop-round.invariant c.loop-round.machine.run_state.reading
     c.in_default.field-0 c.sense_round.new.machine (c.in_default.ensures.text (readings_of k) c.loop-round.invariant.follows) c.advance.ensures.same
     c.sense_round.ensures.same.object c.sense_round.ensures.same.show refl
     (c.sense_round.ensures.follows (readings_of k ++ event.At (1000 * k) ∷ []) told)
@@ -44,4 +44,4 @@ returns-clause-text g c =
     let k = c.loop-round.round in
     put_nothing c.args.machine.now c.loop-round.machine c.finish.new.self k (suc (1000 * c.args.rounds)) (g.W.Sink.written c.args.out.now) (g.W.Sink.written c.loop-round.out)
     (g.W.Sink.written c.finish.new.sink) (g.W.Sink.faults c.args.out.now) (g.W.Sink.faults c.loop-round.out) (g.W.Sink.faults c.finish.new.sink) c.requires.show c.loop-round.invariant
-    c.loop-round.machine.held.reading c.finish.result (c.finish.ensures.text (readings_of k) c.loop-round.invariant.follows)
+    c.loop-round.machine.run_state.reading c.finish.result (c.finish.ensures.text (readings_of k) c.loop-round.invariant.follows)

@@ -1,5 +1,5 @@
 use Rattle.std.proofs.Common.{inl, Some}
-use Rattle.htl_top.proofs.LineTelling.{SpeaksOf-donor}
+use Rattle.htl_top.proofs.ErrorLineNames.{SpeaksOf-donor}
 use Rattle.htl_top.proofs.PatchedObjects.{in_both_files}
 use Rattle.htl_top.proofs.Patching.{IsPatchOfFiles-stop, SpeaksOf-unloaded}
 use Rattle.htl_top.specs.Objects.{IsObjectTables}

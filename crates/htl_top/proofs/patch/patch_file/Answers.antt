@@ -3,7 +3,7 @@ use Rattle.htl_top.proofs.Fetching.{fetching_speaks}
 use Rattle.htl_top.specs.Answers.{files}
 use Rattle.htl_top.specs.Objects.{IsObjectFile, IsObjectTables}
 use Rattle.htl_top.specs.PatchedFiles.{IsPatchedTables}
-use Rattle.htl_top.specs.Telling.{SpeaksOf}
+use Rattle.htl_top.specs.ErrorLines.{SpeaksOf}
 use Rattle.htl_top.specs.declared.outcome.Outcome.{Outcome}
 use Rattle.htl_top.proofs.patch.patch_file.Goals as goal
 

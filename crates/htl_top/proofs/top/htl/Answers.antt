@@ -1,7 +1,7 @@
 use Rattle.htl_top.proofs.AuditCalling as audits
 use Rattle.htl_top.proofs.Calling as calling
 use Rattle.htl_top.proofs.Counts as counts
-use Rattle.htl_top.proofs.LineTelling as telling
+use Rattle.htl_top.proofs.ErrorLineNames as line_names
 use Rattle.htl_top.proofs.ObjectCalling as objects
 use Rattle.htl_top.proofs.PatchCalling as patches
 use Rattle.htl_top.proofs.SlackCalling as slacks
@@ -114,7 +114,7 @@ returns g c =
       counts = counts.kept_unless shelf old new outcome c.answer_to-answer.ensures.shelf_count c.answer_to-answer.ensures.read_count c.answer_to-answer.ensures.write_count;
       kept = λ e. counts.kept_done shelf old new outcome e c.answer_to-answer.ensures.shelf_count c.answer_to-answer.ensures.read_count c.answer_to-answer.ensures.write_count;
       told =
-          telling.IsLineTold-report command shelf.holds old.rest
+          line_names.IsLineTold-report command shelf.holds old.rest
           (Tells (g.E.Sink.written c.args.err.now) (g.E.Sink.written c.report.new.err) (g.E.Sink.faults c.args.err.now) (g.E.Sink.faults c.report.new.err))
           c.answer_to-answer.result.tables outcome c.answer_to-answer.ensures.tables (rw c.as_ref.ensures.value at c.report.ensures.told);
       quiet = c.report.ensures.quiet;

@@ -13,7 +13,7 @@ pub step-requires-clause-follows : goal.step-requires-clause-follows
 step-requires-clause-follows g c =
     let w = c.requires.follows in
     let st = c.in_default.ensures.stopped w.0 (stop_first c.args.self.now w.0 c.stop.ensures.accepted w.1) in
-    let gs = w.0 ++ V.At c.go.new.self.machine.held.reading ∷ [] in
+    let gs = w.0 ++ V.At c.go.new.self.machine.run_state.reading ∷ [] in
     (gs, subst (λ (z : Audit). machines.Follows z.machine gs) (sym c.pass.ensures.kept) st.machine)
 
 pub returns-in-Err-clause-text : goal.returns-in-Err-clause-text

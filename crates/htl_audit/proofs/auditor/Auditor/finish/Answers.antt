@@ -13,14 +13,14 @@ pub last-requires-clause-follows : goal.last-requires-clause-follows
 last-requires-clause-follows g c =
     let w = c.requires.follows in
     let st = c.in_default.ensures.stopped w.0 (stop_first c.args.self.now w.0 c.stop.ensures.accepted w.1) in
-    let gs = w.0 ++ V.At c.go.new.self.machine.held.reading ∷ [] in
+    let gs = w.0 ++ V.At c.go.new.self.machine.run_state.reading ∷ [] in
     (gs, subst (λ (z : Audit). machines.Follows z.machine gs) (sym c.pass.ensures.kept) st.machine)
 
 pub returns-in-Err-clause-text : goal.returns-in-Err-clause-text
 returns-in-Err-clause-text g c = λ es f.
     let first = stop_first c.args.self.now es c.stop.ensures.accepted f in
     let order : c.args.to ≤ suc c.args.to = omega arith in
-    let same : c.args.self.now.machine.held.reading ≤ c.args.self.now.machine.held.reading = omega arith in
+    let same : c.args.self.now.machine.run_state.reading ≤ c.args.self.now.machine.run_state.reading = omega arith in
     going_failed c.args.self.now c.args.self.now es c.args.to (suc c.args.to) (g.W.Sink.written c.args.sink.now) (g.W.Sink.written c.args.sink.now) (g.W.Sink.written c.go.new.sink) (g.W.Sink.faults c.args.sink.now) (g.W.Sink.faults c.args.sink.now) (g.W.Sink.faults c.go.new.sink)
     c.in-Err.failed c.in-Err.failed same c.requires.order order (record { object = refl; show = refl }) (going_start c.args.self.now es (g.W.Sink.written c.args.sink.now) (g.W.Sink.faults c.args.sink.now) first) (c.in-Err.ensures.text es first)
 
@@ -31,7 +31,7 @@ returns-clause-text g c = λ es f.
     let so_far = going_gone c.args.self.now c.go.new.self es (g.W.Sink.written c.args.sink.now) (g.W.Sink.written c.go.new.sink) (g.W.Sink.faults c.args.sink.now) (g.W.Sink.faults c.go.new.sink) c.in_default.field-0 (c.in_default.ensures.text es first) st in
     let rest = turn_text c.go.new.self c.pass.new.self es (passed c.go.new.self.machine.object.tables (c.args.to + 1) (drop c.go.new.self.kept.place c.go.new.self.log) c.go.new.self.kept) (suc c.args.to) (suc c.args.to) (g.W.Sink.written c.go.new.sink) (g.W.Sink.written c.last.new.sink)
     (g.W.Sink.faults c.go.new.sink) (g.W.Sink.faults c.last.new.sink) c.last.result c.pass.ensures.accepted c.pass.ensures.kept refl st c.last.ensures.text in
-    let high : c.go.new.self.machine.held.reading ≤ suc c.args.to = omega (arith, c.in_default.ensures.high) in
+    let high : c.go.new.self.machine.run_state.reading ≤ suc c.args.to = omega (arith, c.in_default.ensures.high) in
     going_text c.args.self.now c.go.new.self es (suc c.args.to) (g.W.Sink.written c.args.sink.now) (g.W.Sink.written c.go.new.sink) (g.W.Sink.written c.last.new.sink) (g.W.Sink.faults c.args.sink.now) (g.W.Sink.faults c.go.new.sink) (g.W.Sink.faults c.last.new.sink)
     c.last.result c.in_default.ensures.low high c.in_default.ensures.same.run so_far rest
 

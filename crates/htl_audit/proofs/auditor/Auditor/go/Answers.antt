@@ -8,7 +8,7 @@ returns-in-Err-clause-text g c = λ es f.
     let at = c.next_stop-at.result in
     let so_far = here.invariant.0 es f in
     let less : suc at ≤ c.args.to = omega (arith, c.next_stop-at.ensures.high, c.if-at-to.false) in
-    let behind : here.self.machine.held.reading ≤ suc at = omega (arith, c.next_stop-at.ensures.low) in
+    let behind : here.self.machine.run_state.reading ≤ suc at = omega (arith, c.next_stop-at.ensures.low) in
     going_failed c.args.self.now here.self es (suc at) c.args.to (g.W.Sink.written c.args.sink.now) (g.W.Sink.written here.sink) (g.W.Sink.written c.turn.new.sink) (g.W.Sink.faults c.args.sink.now) (g.W.Sink.faults here.sink) (g.W.Sink.faults c.turn.new.sink)
     c.in-Err.failed c.in-Err.failed here.invariant.1 behind less here.invariant.3.run so_far (c.in-Err.ensures.text es so_far.stopped)
 
@@ -17,7 +17,7 @@ starts-preserved g c =
     let here = c.starts in
     let at = c.next_stop-at.result in
     let less : suc at ≤ c.args.to = omega (arith, c.next_stop-at.ensures.high, c.if-at-to.false) in
-    let behind : here.self.machine.held.reading ≤ suc at = omega (arith, c.next_stop-at.ensures.low) in (
+    let behind : here.self.machine.run_state.reading ≤ suc at = omega (arith, c.next_stop-at.ensures.low) in (
       λ es f.
           let so_far = here.invariant.0 es f in
           going_on c.args.self.now here.self c.turn.new.self es at (g.W.Sink.written c.args.sink.now) (g.W.Sink.written here.sink) (g.W.Sink.written c.turn.new.sink) (g.W.Sink.faults c.args.sink.now) (g.W.Sink.faults here.sink) (g.W.Sink.faults c.turn.new.sink)

@@ -8,5 +8,5 @@ use Rattle.htl_audit.proofs.auditor.Auditor.last.Goals as goal
 
 pub returns-clause-text : goal.returns-clause-text
 returns-clause-text g c = λ es f.
-    subst (λ (z : Audit). Puts (g.W.Sink.written c.args.sink.now) (g.W.Sink.written c.finish.new.sink) (g.W.Sink.faults c.args.sink.now) (g.W.Sink.faults c.finish.new.sink) (text_between z.machine.object es z.machine.show z.machine.held.reading (suc c.args.to)) c.finish.result) c.self.view_is
+    subst (λ (z : Audit). Puts (g.W.Sink.written c.args.sink.now) (g.W.Sink.written c.finish.new.sink) (g.W.Sink.faults c.args.sink.now) (g.W.Sink.faults c.finish.new.sink) (text_between z.machine.object es z.machine.show z.machine.run_state.reading (suc c.args.to)) c.finish.result) c.self.view_is
     (c.finish.ensures.text es (subst (λ (z : Audit). machines.Follows z.machine es) (sym c.self.view_is) f))

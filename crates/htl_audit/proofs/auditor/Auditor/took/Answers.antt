@@ -61,8 +61,8 @@ returns-clause-follows c = λ es f.
     let rows : c.args.inv < length c.self.inside.ledger.roster.lengths = omega (arith, known, c.self.invariant.0.lengths, ap (λ (o : Object). length o.tables.invs) c.self.invariant.0.object) in
     let accepted : IsAccepted c.self.inside.machine.object = subst IsAccepted (sym c.self.invariant.0.object) c.tables-t.ensures.accepted in
     let made = took_follows inner es c.args.inv c.args.ticks c.took.new.self accepted len room rows c.took.ensures.seen (c.took.ensures.follows es g.machine) g in
-    let kept : c.take.new.self ≡ inv_takes c.self.inside.machine.object.tables c.self.inside.machine.held.reading c.args.inv c.args.ticks c.self.inside.ledger =
+    let kept : c.take.new.self ≡ inv_takes c.self.inside.machine.object.tables c.self.inside.machine.run_state.reading c.args.inv c.args.ticks c.self.inside.ledger =
     c.take.ensures ∙ ap (λ t. inv_takes t c.reading-now.result c.args.inv c.args.ticks c.self.inside.ledger) (sym same)
     ∙ ap (λ now. inv_takes c.self.inside.machine.object.tables now c.args.inv c.args.ticks c.self.inside.ledger) c.reading-now.ensures in
     subst (λ z. AuditFollows (record { machine = c.took.new.self; log = c.self.inside.log.now; takes = c.set.new.self; kept = z }) (es ++ V.Took c.args.inv c.args.ticks ∷ [])) (sym kept)
-    (subst (λ z. AuditFollows (record { machine = c.took.new.self; log = c.self.inside.log.now; takes = z; kept = inv_takes c.self.inside.machine.object.tables c.self.inside.machine.held.reading c.args.inv c.args.ticks c.self.inside.ledger }) (es ++ V.Took c.args.inv c.args.ticks ∷ [])) (sym c.set.ensures) made)
+    (subst (λ z. AuditFollows (record { machine = c.took.new.self; log = c.self.inside.log.now; takes = z; kept = inv_takes c.self.inside.machine.object.tables c.self.inside.machine.run_state.reading c.args.inv c.args.ticks c.self.inside.ledger }) (es ++ V.Took c.args.inv c.args.ticks ∷ [])) (sym c.set.ensures) made)

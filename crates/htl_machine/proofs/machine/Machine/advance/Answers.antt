@@ -15,7 +15,7 @@ returns-clause-text g c = λ es f. ends_so _ _ _ _ _ _ _ (c.in-Ok.ensures.text e
 
 pub returns-clause-follows : goal.returns-clause-follows
 returns-clause-follows g c = λ es f.
-    let later = subst (λ (n : ℕ). n ≤ c.args.to) (sym (ap (λ (z : Seen). z.held.reading) c.self.view_is ∙ c.in-Ok.ensures.reading)) c.requires.order in
+    let later = subst (λ (n : ℕ). n ≤ c.args.to) (sym (ap (λ (z : Seen). z.run_state.reading) c.self.view_is ∙ c.in-Ok.ensures.reading)) c.requires.order in
     read_follows (seen_in c.self.inside) es c.args.to c.self.invariant.accepted later (subst (λ (z : Seen). IsUpTo z es c.args.to) (sym c.self.view_is) (c.in-Ok.ensures.before es f))
 
 pub invariant_of-self : goal.invariant_of-self

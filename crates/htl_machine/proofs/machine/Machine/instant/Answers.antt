@@ -16,7 +16,7 @@ use Rattle.htl_machine.specs.Timing.{some_round_begins}
 use Rattle.htl_model.specs.declared.event.Event.{Event}
 use Rattle.htl_machine.specs.Programs.{lines_of, schedules_of}
 use Rattle.htl_machine.specs.declared.tally.Tally.{Tally}
-use Rattle.htl_machine.proofs.After.{passed_of, desk_goes_on, list_goes_on, over, desk_begins_so, list_begins, records_go_on, records_begin}
+use Rattle.htl_machine.proofs.After.{passed_of, s_machine_goes_on, list_goes_on, over, s_machine_begins_so, list_begins, records_go_on, records_begin}
 use Rattle.htl_machine.proofs.Asking.{sound_of, noted_of, begun_at, stood_at, counts_at}
 use Rattle.htl_machine.proofs.Beginnings.{ends_so, fails_so}
 use Rattle.htl_machine.proofs.Ended.{open_failed, going_closed, begun_closed_at}
@@ -43,7 +43,7 @@ given_here g c {es} before =
 
 opened_here : (g : here.Over) (c : In_default g) {es : List Event} → IsGiven (seen_in c.self.inside) es c.args.at c.tables-t.result.now c.ecode-code.result.now c.self.inside.path.idle.instrs
     → (let m = seen_in c.self.inside in
-    IsOpened m.object.tables m.object.ecode es c.args.at (schedule_by m.object c.self.inside.path.idle.instrs m.list) m.held.shows c.settle.new.self.values m.held.desk m.held.world c.open_instant.new.machines.works.desk
+    IsOpened m.object.tables m.object.ecode es c.args.at (schedule_by m.object c.self.inside.path.idle.instrs m.list) m.run_state.shows c.settle.new.self.values m.run_state.s_machine m.run_state.world c.open_instant.new.machines.works.s_machine
     c.open_instant.new.machines.works.world)
 opened_here g c {es} k = rw (c.tables-t.ensures.value, c.ecode-code.ensures, c.schedule.ensures, c.schedules-schedules.ensures) at (c.in_default.ensures.world es k.follows)
 
@@ -56,7 +56,7 @@ closes_here g c {es} k =
 -- whether a round begins is what the code found
 begins_told : (g : here.Over) (c : After-round_begins g) → some_round_begins (seen_in c.self.inside).object.tables c.args.at ≡ c.round_begins.result
 begins_told g c =
-    let fresh = ap (λ (z : Seen). z.held.spent) c.self.view_is ∙ c.requires.before.1.kept.fresh in
+    let fresh = ap (λ (z : Seen). z.run_state.spent) c.self.view_is ∙ c.requires.before.1.kept.fresh in
     begins_so (seen_in c.self.inside).object c.self.inside.path.numbering c.args.at c.round_begins.result c.self.invariant.accepted (c.self.invariant.stands fresh).numbering c.round_begins.ensures
 
 begins_here : (g : here.Over) (c : After-as_slice-takes g) {es : List Event} → IsGiven (seen_in c.self.inside) es c.args.at c.tables-t.result.now c.ecode-code.result.now c.self.inside.path.idle.instrs
@@ -80,7 +80,7 @@ settle-requires-clause-modules g c =
     omega (arith, u.before.values.triggers.calendar.sized.modes, c.self.invariant.accepted.spelled.formed.ranges.tables.few_modules)
 
 pub settle-requires-clause-marked : goal.settle-requires-clause-marked
-settle-requires-clause-marked g c = c.self.invariant.marked (ap (λ (z : Seen). z.held.spent) c.self.view_is ∙ c.requires.before.1.kept.fresh)
+settle-requires-clause-marked g c = c.self.invariant.marked (ap (λ (z : Seen). z.run_state.spent) c.self.view_is ∙ c.requires.before.1.kept.fresh)
 
 pub open_instant-requires-clause-fitted : goal.open_instant-requires-clause-fitted
 open_instant-requires-clause-fitted g c =
@@ -96,7 +96,7 @@ open_instant-requires-clause-fitted g c =
     }
 
 pub open_instant-requires-clause-waiting : goal.open_instant-requires-clause-waiting
-open_instant-requires-clause-waiting g c = waiting_at c.tables-t.result.now c.self.inside.loaded.now.tables c.self.inside.sensors _ c.tables-t.ensures.value (c.self.invariant.waiting (ap (λ (z : Seen). z.held.spent) c.self.view_is ∙ c.requires.before.1.kept.fresh))
+open_instant-requires-clause-waiting g c = waiting_at c.tables-t.result.now c.self.inside.loaded.now.tables c.self.inside.sensors _ c.tables-t.ensures.value (c.self.invariant.waiting (ap (λ (z : Seen). z.run_state.spent) c.self.view_is ∙ c.requires.before.1.kept.fresh))
 
 pub schedule-requires : goal.schedule-requires
 schedule-requires g c =
@@ -108,14 +108,14 @@ open_instant-requires-clause-sound g c = sound_of (seen_in c.self.inside) c.tabl
 
 pub open_instant-requires-clause-jobs : goal.open_instant-requires-clause-jobs
 open_instant-requires-clause-jobs g c =
-    let fresh = ap (λ (z : Seen). z.held.spent) c.self.view_is ∙ c.requires.before.1.kept.fresh in sym (c.jobs.ensures ∙ (c.self.invariant.stands fresh).are)
+    let fresh = ap (λ (z : Seen). z.run_state.spent) c.self.view_is ∙ c.requires.before.1.kept.fresh in sym (c.jobs.ensures ∙ (c.self.invariant.stands fresh).are)
 
 pub open_instant-requires-clause-of : goal.open_instant-requires-clause-of
 open_instant-requires-clause-of g c =
     let w = c.requires.before in
     let m = seen_in c.self.inside in
     let k = given_here g (goal.at.open_instant-requires-clause-of g c).After-ecode-code w.1 in
-    let fresh = ap (λ (z : Seen). z.held.spent) c.self.view_is ∙ w.1.kept.fresh in
+    let fresh = ap (λ (z : Seen). z.run_state.spent) c.self.view_is ∙ w.1.kept.fresh in
     rw c.tables-t.ensures.value (subst (AreOf m.object.tables) (sym (c.jobs.ensures ∙ (c.self.invariant.stands fresh).are)) k.ready.of)
 
 pub open_instant-requires-clause-round : goal.open_instant-requires-clause-round
@@ -170,7 +170,7 @@ returns-in-Err-clause-text g c = λ es before.
 
 pub round_begins-requires : goal.round_begins-requires
 round_begins-requires g c =
-    let n = (c.self.invariant.stands (ap (λ (z : Seen). z.held.spent) c.self.view_is ∙ (c.requires.before).1.kept.fresh)).numbering in
+    let n = (c.self.invariant.stands (ap (λ (z : Seen). z.run_state.spent) c.self.view_is ∙ (c.requires.before).1.kept.fresh)).numbering in
     omega (arith, n.starts_many, n.few)
 
 pub close_and_begin-requires-clause-sound : goal.close_and_begin-requires-clause-sound
@@ -188,8 +188,8 @@ close_and_begin-requires-clause-over g c =
 
 pub close_and_begin-requires-clause-path : goal.close_and_begin-requires-clause-path
 close_and_begin-requires-clause-path g c =
-    let fresh = ap (λ (z : Seen). z.held.spent) c.self.view_is ∙ c.requires.before.1.kept.fresh in
-    subst (λ t. IsPath t c.self.inside.path c.open_instant.new.machines.works.desk.jobs) (sym c.tables-t.ensures.value) (subst (IsPath c.self.inside.loaded.now.tables c.self.inside.path) (sym c.in_default.ensures.jobs) (c.self.invariant.stands fresh))
+    let fresh = ap (λ (z : Seen). z.run_state.spent) c.self.view_is ∙ c.requires.before.1.kept.fresh in
+    subst (λ t. IsPath t c.self.inside.path c.open_instant.new.machines.works.s_machine.jobs) (sym c.tables-t.ensures.value) (subst (IsPath c.self.inside.loaded.now.tables c.self.inside.path) (sym c.in_default.ensures.jobs) (c.self.invariant.stands fresh))
 
 pub close_and_begin-requires-clause-begins : goal.close_and_begin-requires-clause-begins
 close_and_begin-requires-clause-begins g c =
@@ -204,7 +204,7 @@ close_instant-requires-clause-sound g c = sound_of (seen_in c.self.inside) c.tab
 
 pub close_instant-requires-clause-jobs : goal.close_instant-requires-clause-jobs
 close_instant-requires-clause-jobs g c =
-    let fresh = ap (λ (z : Seen). z.held.spent) c.self.view_is ∙ c.requires.before.1.kept.fresh in
+    let fresh = ap (λ (z : Seen). z.run_state.spent) c.self.view_is ∙ c.requires.before.1.kept.fresh in
     c.in_default.ensures.jobs ∙ sym (c.jobs-else-round_begins.ensures ∙ (c.self.invariant.stands fresh).are)
 
 pub close_instant-requires-clause-closes : goal.close_instant-requires-clause-closes
@@ -234,7 +234,7 @@ invariant_of-self-in_default-close_instant g c =
     let k = given_here g at.After-ecode-code w.1 in
     let q = closes_here g at.In_default k in
     let kept = c.self.invariant in
-    let desk = c.in_default-close_instant.ensures.desk w.0 q in
+    let s_machine = c.in_default-close_instant.ensures.s_machine w.0 q in
     record {
       accepted = kept.accepted;
       all_shows = ap length c.in_default.ensures.shows ∙ kept.all_shows;
@@ -242,7 +242,7 @@ invariant_of-self-in_default-close_instant g c =
       few = kept.few;
       stands = λ free.
           subst (IsPath m.object.tables c.self.inside.path)
-          (sym (ap (λ (z : Round). z.jobs) desk ∙ (replay_only c.ecode-code.result.now (phase_path c.tables-t.result.now c.ecode-code.result.now w.0 c.args.at 3) c.open_instant.new.machines.works.desk).0 ∙ c.in_default.ensures.jobs)) (kept.stands free);
+          (sym (ap (λ (z : Round). z.jobs) s_machine ∙ (replay_only c.ecode-code.result.now (phase_path c.tables-t.result.now c.ecode-code.result.now w.0 c.args.at 3) c.open_instant.new.machines.works.s_machine).0 ∙ c.in_default.ensures.jobs)) (kept.stands free);
       marked = λ free. c.in_default-close_instant.ensures.fitted.marked;
       waiting = λ free.
           waiting_at m.object.tables c.tables-t.result.now c.open_instant.new.sensors c.close_instant.new.machines.works.world.values (sym c.tables-t.ensures.value)
@@ -260,7 +260,7 @@ invariant_of-self-in_default-close_and_begin g c =
       all_shows = ap length c.in_default.ensures.shows ∙ kept.all_shows;
       all_takes = kept.all_takes;
       few = c.in_default-close_and_begin.ensures.few;
-      stands = λ free. subst (λ t. IsPath t c.close_and_begin.new.path c.close_and_begin.new.machines.works.desk.jobs) c.tables-t.ensures.value c.in_default-close_and_begin.ensures.path;
+      stands = λ free. subst (λ t. IsPath t c.close_and_begin.new.path c.close_and_begin.new.machines.works.s_machine.jobs) c.tables-t.ensures.value c.in_default-close_and_begin.ensures.path;
       marked = λ free. c.in_default-close_and_begin.ensures.fitted.marked;
       waiting = λ free.
           waiting_at m.object.tables c.tables-t.result.now c.open_instant.new.sensors c.close_and_begin.new.machines.works.world.values (sym c.tables-t.ensures.value)
@@ -295,12 +295,12 @@ returns-in_default-close_and_begin-clause-before g c = λ es before.
     let safe = rw (c.tables-t.ensures.value, c.ecode-code.ensures) at c.in_default-close_and_begin.ensures.fitted.safe in
     let shaped = rw c.tables-t.ensures.value at c.in_default-close_and_begin.ensures.fitted.shaped in
     let reads = rw (c.tables-t.ensures.value, c.ecode-code.ensures) at (c.in_default-close_and_begin.ensures.reads es q) in
-    let desk = begun_at m.object es c.args.at c.tables-t.result.now c.schedules-schedules.result.now c.close_and_begin.new.machines.works.desk c.tables-t.ensures.value c.schedules-schedules.ensures (c.in_default-close_and_begin.ensures.desk es q) in
+    let s_machine = begun_at m.object es c.args.at c.tables-t.result.now c.schedules-schedules.result.now c.close_and_begin.new.machines.works.s_machine c.tables-t.ensures.value c.schedules-schedules.ensures (c.in_default-close_and_begin.ensures.s_machine es q) in
     let stood = stood_at m.object es c.args.at c.tables-t.result.now c.schedules-schedules.result.now c.close_and_begin.new.path.list c.tables-t.ensures.value c.schedules-schedules.ensures (c.in_default-close_and_begin.ensures.list es q) in
     let tail : Tally → Tally = λ n. with_records (first_records m.object.tables (schedules_of m.object) es c.args.at) (with_instrs (length (phase_path m.object.tables m.object.ecode es c.args.at 3)) (with_instrs (length (phase_path m.object.tables m.object.ecode es c.args.at 2)) n)) in
-    next_shown_up_to m es c.args.at k.accepted k.later k.up c.open_instant.new.sensors.shows c.close_and_begin.new.machines.works.world c.close_and_begin.new.machines.works.desk c.close_and_begin.new.machines.emach _ _ (first_records m.object.tables (schedules_of m.object) es c.args.at) c.self.inside.machines.works.tally c.close_and_begin.new.machines.works.tally c.in_default.ensures.shows
+    next_shown_up_to m es c.args.at k.accepted k.later k.up c.open_instant.new.sensors.shows c.close_and_begin.new.machines.works.world c.close_and_begin.new.machines.works.s_machine c.close_and_begin.new.machines.emach _ _ (first_records m.object.tables (schedules_of m.object) es c.args.at) c.self.inside.machines.works.tally c.close_and_begin.new.machines.works.tally c.in_default.ensures.shows
     (passed_of m es c.args.at k.accepted k.later k.up _ k.ready c.settle.new.self.values same _ _ opened _ _ world reads safe shaped)
-    (desk_begins_so m es c.args.at k.accepted k.later k.up _ b desk)
+    (s_machine_begins_so m es c.args.at k.accepted k.later k.up _ b s_machine)
     (list_begins m es c.args.at k.accepted k.later k.up _ b stood)
     (records_begin m es c.args.at k.accepted k.later k.up _ c.self.inside.path.idle.instrs refl c.self.invariant.empty k.ready b)
     refl
@@ -344,12 +344,12 @@ returns-in_default-close_instant-clause-before g c = λ es before.
     let safe = rw (c.tables-t.ensures.value, c.ecode-code.ensures) at c.in_default-close_instant.ensures.fitted.safe in
     let shaped = rw c.tables-t.ensures.value at c.in_default-close_instant.ensures.fitted.shaped in
     let reads = rw (c.tables-t.ensures.value, c.ecode-code.ensures) at (c.in_default-close_instant.ensures.reads es q) in
-    let desk = rw (c.tables-t.ensures.value, c.ecode-code.ensures) at (c.in_default-close_instant.ensures.desk es q) in
+    let s_machine = rw (c.tables-t.ensures.value, c.ecode-code.ensures) at (c.in_default-close_instant.ensures.s_machine es q) in
     let stands = c.in_default-close_instant.ensures.stands _ (rw (c.schedule.ensures, c.schedules-schedules.ensures) at c.in_default.ensures.stands) in
     let tail : Tally → Tally = λ n. with_instrs (length (phase_path m.object.tables m.object.ecode es c.args.at 3)) (with_instrs (length (phase_path m.object.tables m.object.ecode es c.args.at 2)) n) in
-    next_shown_up_to m es c.args.at k.accepted k.later k.up c.open_instant.new.sensors.shows c.close_instant.new.machines.works.world c.close_instant.new.machines.works.desk c.close_instant.new.machines.emach _ _ [] c.self.inside.machines.works.tally c.close_instant.new.machines.works.tally c.in_default.ensures.shows
+    next_shown_up_to m es c.args.at k.accepted k.later k.up c.open_instant.new.sensors.shows c.close_instant.new.machines.works.world c.close_instant.new.machines.works.s_machine c.close_instant.new.machines.emach _ _ [] c.self.inside.machines.works.tally c.close_instant.new.machines.works.tally c.in_default.ensures.shows
     (passed_of m es c.args.at k.accepted k.later k.up _ k.ready c.settle.new.self.values same _ _ opened _ _ world reads safe shaped)
-    (desk_goes_on m es c.args.at k.accepted k.later k.up _ c.self.inside.path.idle.instrs refl c.self.invariant.empty k.ready _ _ _ b opened.records desk stands)
+    (s_machine_goes_on m es c.args.at k.accepted k.later k.up _ c.self.inside.path.idle.instrs refl c.self.invariant.empty k.ready _ _ _ b opened.records s_machine stands)
     (list_goes_on m es c.args.at k.accepted k.later k.up b)
     (records_go_on m es c.args.at k.accepted k.later k.up _ c.self.inside.path.idle.instrs refl c.self.invariant.empty k.ready b)
     refl

@@ -57,4 +57,4 @@ sense-requires-clause-known c =
 pub returns-clause-seen : goal.returns-clause-seen
 returns-clause-seen c =
     let e : c.sense.new.self.shows ≡ set c.self.inside.sensors.shows c.args.comm c.args.x = search rules in
-    rw e (ap (λ (z : Seen). record z { held = shown_as c.args.comm c.args.x z.held }) c.self.view_is)
+    rw e (ap (λ (z : Seen). record z { run_state = shown_as c.args.comm c.args.x z.run_state }) c.self.view_is)

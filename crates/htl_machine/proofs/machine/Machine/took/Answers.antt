@@ -12,7 +12,7 @@ use Rattle.htl_machine.proofs.machine.Machine.took.Goals as goal
 pub take-requires-clause-worst : goal.take-requires-clause-worst
 take-requires-clause-worst c =
     let w = c.requires.follows in
-    subst (λ (js : List Job). (p : ℕ) → position_from 0 js c.args.inv ≡ Some p → c.args.length ≤ (job_at js p).worst) (sym (c.jobs.ensures ∙ (c.self.invariant.stands (ap (λ (z : Seen). z.held.spent) c.self.view_is ∙ w.1.kept.fresh)).are))
+    subst (λ (js : List Job). (p : ℕ) → position_from 0 js c.args.inv ≡ Some p → c.args.length ≤ (job_at js p).worst) (sym (c.jobs.ensures ∙ (c.self.invariant.stands (ap (λ (z : Seen). z.run_state.spent) c.self.view_is ∙ w.1.kept.fresh)).are))
     (λ p found.
     position_worst _ w.0 c.args.inv c.args.length p c.self.invariant.accepted
     (subst (λ (z : Seen). IsLength z.object.tables c.args.inv c.args.length) (sym c.self.view_is) c.requires.length)
@@ -20,10 +20,10 @@ take-requires-clause-worst c =
 
 pub returns-clause-follows : goal.returns-clause-follows
 returns-clause-follows c = λ es f.
-    rw (c.set.ensures, c.take.ensures.desk)
+    rw (c.set.ensures, c.take.ensures.s_machine)
     (took_follows _ es c.args.inv c.args.length c.self.invariant.accepted
     (subst (λ (z : Seen). IsLength z.object.tables c.args.inv c.args.length) (sym c.self.view_is) c.requires.length)
-    (λ s h. subst (λ (r : Round). Stands r s) c.take.ensures.desk (c.take.ensures.stands s h))
+    (λ s h. subst (λ (r : Round). Stands r s) c.take.ensures.s_machine (c.take.ensures.stands s h))
     (subst (λ (z : Seen). Follows z es) (sym c.self.view_is) f))
 
 pub invariant_of-self : goal.invariant_of-self

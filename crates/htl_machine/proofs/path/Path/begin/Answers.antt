@@ -37,25 +37,25 @@ turn-requires-clause-early c =
 
 pub add_jobs-requires-clause-can : goal.add_jobs-requires-clause-can
 add_jobs-requires-clause-can c =
-    (later_can c.args.t.now c.args.m.now.calendar.modes c.note_modes.new.modes.modes c.args.takes.now c.args.at c.args.self.now.numbering.frame c.args.self.now.count c.kept_positions-from.result c.turn.new.self.count c.args.self.now.jobs c.turn.new.self.jobs c.args.desk.now
+    (later_can c.args.t.now c.args.m.now.calendar.modes c.note_modes.new.modes.modes c.args.takes.now c.args.at c.args.self.now.numbering.frame c.args.self.now.count c.kept_positions-from.result c.turn.new.self.count c.args.self.now.jobs c.turn.new.self.jobs c.args.s_machine.now
     c.note_modes.ensures c.requires.path.numbering.frame (ne_eqb _ 0 c.if-offset-eq0.false) c.requires.path.many c.requires.path.are c.kept_positions-from.ensures c.turn.ensures.count c.turn.ensures.jobs c.requires.follows.can).1
 
 pub returns-else-offset-eq0-clause-path : goal.returns-else-offset-eq0-clause-path
 returns-else-offset-eq0-clause-path c =
     let all =
-    later_all c.args.t.now c.args.m.now.calendar.modes c.note_modes.new.modes.modes c.args.takes.now c.args.at c.args.self.now.numbering.frame c.args.self.now.count c.kept_positions-from.result c.turn.new.self.count c.args.self.now.jobs c.turn.new.self.jobs c.args.desk.now
-    c.note_modes.ensures c.requires.path.numbering.frame (ne_eqb _ 0 c.if-offset-eq0.false) c.requires.path.many c.requires.path.are c.kept_positions-from.ensures c.turn.ensures.count c.turn.ensures.jobs c.add_jobs.new.desk c.add_jobs.ensures in
+    later_all c.args.t.now c.args.m.now.calendar.modes c.note_modes.new.modes.modes c.args.takes.now c.args.at c.args.self.now.numbering.frame c.args.self.now.count c.kept_positions-from.result c.turn.new.self.count c.args.self.now.jobs c.turn.new.self.jobs c.args.s_machine.now
+    c.note_modes.ensures c.requires.path.numbering.frame (ne_eqb _ 0 c.if-offset-eq0.false) c.requires.path.many c.requires.path.are c.kept_positions-from.ensures c.turn.ensures.count c.turn.ensures.jobs c.add_jobs.new.s_machine c.add_jobs.ensures in
     let begun =
-    later_begun c.args.t.now c.args.m.now.calendar.modes c.note_modes.new.modes.modes c.args.takes.now c.args.at c.args.self.now.numbering.frame c.args.self.now.count c.kept_positions-from.result c.turn.new.self.count c.args.self.now.jobs c.turn.new.self.jobs c.args.desk.now
-    c.note_modes.ensures c.requires.path.numbering.frame (ne_eqb _ 0 c.if-offset-eq0.false) c.requires.path.many c.requires.path.are c.kept_positions-from.ensures c.turn.ensures.count c.turn.ensures.jobs c.add_jobs.new.desk c.add_jobs.ensures in
-    stands_on c.args.t.now c.turn.new.self c.add_jobs.new.desk.jobs (subst (IsNumbering c.args.t.now) (sym c.turn.ensures.numbering) c.requires.path.numbering)
+    later_begun c.args.t.now c.args.m.now.calendar.modes c.note_modes.new.modes.modes c.args.takes.now c.args.at c.args.self.now.numbering.frame c.args.self.now.count c.kept_positions-from.result c.turn.new.self.count c.args.self.now.jobs c.turn.new.self.jobs c.args.s_machine.now
+    c.note_modes.ensures c.requires.path.numbering.frame (ne_eqb _ 0 c.if-offset-eq0.false) c.requires.path.many c.requires.path.are c.kept_positions-from.ensures c.turn.ensures.count c.turn.ensures.jobs c.add_jobs.new.s_machine c.add_jobs.ensures in
+    stands_on c.args.t.now c.turn.new.self c.add_jobs.new.s_machine.jobs (subst (IsNumbering c.args.t.now) (sym c.turn.ensures.numbering) c.requires.path.numbering)
     (ap (λ (s : Selection). length s.modes) c.turn.ensures.modes ∙ ap length c.note_modes.ensures ∙ c.requires.selection.same)
     (subst (λ (d : Round). length d.jobs ≤ 128) (sym begun) c.requires.follows.few) all c.turn.ensures.first
 
-pub returns-else-offset-eq0-clause-desk : goal.returns-else-offset-eq0-clause-desk
-returns-else-offset-eq0-clause-desk c =
-    later_begun c.args.t.now c.args.m.now.calendar.modes c.note_modes.new.modes.modes c.args.takes.now c.args.at c.args.self.now.numbering.frame c.args.self.now.count c.kept_positions-from.result c.turn.new.self.count c.args.self.now.jobs c.turn.new.self.jobs c.args.desk.now
-    c.note_modes.ensures c.requires.path.numbering.frame (ne_eqb _ 0 c.if-offset-eq0.false) c.requires.path.many c.requires.path.are c.kept_positions-from.ensures c.turn.ensures.count c.turn.ensures.jobs c.add_jobs.new.desk c.add_jobs.ensures
+pub returns-else-offset-eq0-clause-s_machine : goal.returns-else-offset-eq0-clause-s_machine
+returns-else-offset-eq0-clause-s_machine c =
+    later_begun c.args.t.now c.args.m.now.calendar.modes c.note_modes.new.modes.modes c.args.takes.now c.args.at c.args.self.now.numbering.frame c.args.self.now.count c.kept_positions-from.result c.turn.new.self.count c.args.self.now.jobs c.turn.new.self.jobs c.args.s_machine.now
+    c.note_modes.ensures c.requires.path.numbering.frame (ne_eqb _ 0 c.if-offset-eq0.false) c.requires.path.many c.requires.path.are c.kept_positions-from.ensures c.turn.ensures.count c.turn.ensures.jobs c.add_jobs.new.s_machine c.add_jobs.ensures
 
 pub turn-requires-clause-there : goal.turn-requires-clause-there
 turn-requires-clause-there c = c.requires.follows.there
@@ -66,35 +66,35 @@ turn-requires-clause-few c =
 
 pub turn-requires-clause-room : goal.turn-requires-clause-room
 turn-requires-clause-room c =
-    room_there c.args.t.now c.args.m.now.calendar.modes c.note_modes.new.modes.modes c.args.takes.now c.args.at c.args.self.now.numbering.frame c.args.self.now.count c.kept_positions-from.result c.args.desk.now
+    room_there c.args.t.now c.args.m.now.calendar.modes c.note_modes.new.modes.modes c.args.takes.now c.args.at c.args.self.now.numbering.frame c.args.self.now.count c.kept_positions-from.result c.args.s_machine.now
     c.note_modes.ensures c.requires.path.numbering.frame c.requires.path.many c.kept_positions-from.ensures c.requires.follows.few
 
 pub start_jobs-requires-clause-lengths : goal.start_jobs-requires-clause-lengths
 start_jobs-requires-clause-lengths c =
-    (first_can c.args.t.now c.args.m.now.calendar.modes c.note_modes.new.modes.modes c.args.takes.now c.args.at c.args.self.now.numbering.frame c.args.self.now.count c.kept_positions-from.result c.turn.new.self.count c.args.self.now.jobs c.turn.new.self.jobs c.args.desk.now
+    (first_can c.args.t.now c.args.m.now.calendar.modes c.note_modes.new.modes.modes c.args.takes.now c.args.at c.args.self.now.numbering.frame c.args.self.now.count c.kept_positions-from.result c.turn.new.self.count c.args.self.now.jobs c.turn.new.self.jobs c.args.s_machine.now
     c.note_modes.ensures c.requires.path.numbering.frame c.if-offset-eq0.true c.kept_positions-from.ensures c.turn.ensures.count c.turn.ensures.jobs c.requires.follows.can).0
 
 pub start_jobs-requires-clause-worst : goal.start_jobs-requires-clause-worst
 start_jobs-requires-clause-worst c =
-    (first_can c.args.t.now c.args.m.now.calendar.modes c.note_modes.new.modes.modes c.args.takes.now c.args.at c.args.self.now.numbering.frame c.args.self.now.count c.kept_positions-from.result c.turn.new.self.count c.args.self.now.jobs c.turn.new.self.jobs c.args.desk.now
+    (first_can c.args.t.now c.args.m.now.calendar.modes c.note_modes.new.modes.modes c.args.takes.now c.args.at c.args.self.now.numbering.frame c.args.self.now.count c.kept_positions-from.result c.turn.new.self.count c.args.self.now.jobs c.turn.new.self.jobs c.args.s_machine.now
     c.note_modes.ensures c.requires.path.numbering.frame c.if-offset-eq0.true c.kept_positions-from.ensures c.turn.ensures.count c.turn.ensures.jobs c.requires.follows.can).1
 
 pub returns-then-offset-eq0-clause-path : goal.returns-then-offset-eq0-clause-path
 returns-then-offset-eq0-clause-path c =
     let all =
-    first_all c.args.t.now c.args.m.now.calendar.modes c.note_modes.new.modes.modes c.args.takes.now c.args.at c.args.self.now.numbering.frame c.args.self.now.count c.kept_positions-from.result c.turn.new.self.count c.args.self.now.jobs c.turn.new.self.jobs c.args.desk.now
-    c.note_modes.ensures c.requires.path.numbering.frame c.if-offset-eq0.true c.kept_positions-from.ensures c.turn.ensures.count c.turn.ensures.jobs c.start_jobs.new.desk c.start_jobs.ensures in
+    first_all c.args.t.now c.args.m.now.calendar.modes c.note_modes.new.modes.modes c.args.takes.now c.args.at c.args.self.now.numbering.frame c.args.self.now.count c.kept_positions-from.result c.turn.new.self.count c.args.self.now.jobs c.turn.new.self.jobs c.args.s_machine.now
+    c.note_modes.ensures c.requires.path.numbering.frame c.if-offset-eq0.true c.kept_positions-from.ensures c.turn.ensures.count c.turn.ensures.jobs c.start_jobs.new.s_machine c.start_jobs.ensures in
     let begun =
-    first_begun c.args.t.now c.args.m.now.calendar.modes c.note_modes.new.modes.modes c.args.takes.now c.args.at c.args.self.now.numbering.frame c.args.self.now.count c.kept_positions-from.result c.turn.new.self.count c.args.self.now.jobs c.turn.new.self.jobs c.args.desk.now
-    c.note_modes.ensures c.requires.path.numbering.frame c.if-offset-eq0.true c.kept_positions-from.ensures c.turn.ensures.count c.turn.ensures.jobs c.start_jobs.new.desk c.start_jobs.ensures in
-    stands_on c.args.t.now c.turn.new.self c.start_jobs.new.desk.jobs (subst (IsNumbering c.args.t.now) (sym c.turn.ensures.numbering) c.requires.path.numbering)
+    first_begun c.args.t.now c.args.m.now.calendar.modes c.note_modes.new.modes.modes c.args.takes.now c.args.at c.args.self.now.numbering.frame c.args.self.now.count c.kept_positions-from.result c.turn.new.self.count c.args.self.now.jobs c.turn.new.self.jobs c.args.s_machine.now
+    c.note_modes.ensures c.requires.path.numbering.frame c.if-offset-eq0.true c.kept_positions-from.ensures c.turn.ensures.count c.turn.ensures.jobs c.start_jobs.new.s_machine c.start_jobs.ensures in
+    stands_on c.args.t.now c.turn.new.self c.start_jobs.new.s_machine.jobs (subst (IsNumbering c.args.t.now) (sym c.turn.ensures.numbering) c.requires.path.numbering)
     (ap (λ (s : Selection). length s.modes) c.turn.ensures.modes ∙ ap length c.note_modes.ensures ∙ c.requires.selection.same)
     (subst (λ (d : Round). length d.jobs ≤ 128) (sym begun) c.requires.follows.few) all c.turn.ensures.first
 
-pub returns-then-offset-eq0-clause-desk : goal.returns-then-offset-eq0-clause-desk
-returns-then-offset-eq0-clause-desk c =
-    first_begun c.args.t.now c.args.m.now.calendar.modes c.note_modes.new.modes.modes c.args.takes.now c.args.at c.args.self.now.numbering.frame c.args.self.now.count c.kept_positions-from.result c.turn.new.self.count c.args.self.now.jobs c.turn.new.self.jobs c.args.desk.now
-    c.note_modes.ensures c.requires.path.numbering.frame c.if-offset-eq0.true c.kept_positions-from.ensures c.turn.ensures.count c.turn.ensures.jobs c.start_jobs.new.desk c.start_jobs.ensures
+pub returns-then-offset-eq0-clause-s_machine : goal.returns-then-offset-eq0-clause-s_machine
+returns-then-offset-eq0-clause-s_machine c =
+    first_begun c.args.t.now c.args.m.now.calendar.modes c.note_modes.new.modes.modes c.args.takes.now c.args.at c.args.self.now.numbering.frame c.args.self.now.count c.kept_positions-from.result c.turn.new.self.count c.args.self.now.jobs c.turn.new.self.jobs c.args.s_machine.now
+    c.note_modes.ensures c.requires.path.numbering.frame c.if-offset-eq0.true c.kept_positions-from.ensures c.turn.ensures.count c.turn.ensures.jobs c.start_jobs.new.s_machine c.start_jobs.ensures
 
 pub returns-then-offset-eq0-clause-list : goal.returns-then-offset-eq0-clause-list
 returns-then-offset-eq0-clause-list c =

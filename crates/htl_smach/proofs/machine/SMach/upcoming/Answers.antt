@@ -8,7 +8,7 @@ use Rattle.htl_walk.proofs.Following.{known_at}
 use Rattle.htl_smach.specs.Rounds.{Round, Stands, IsInForm, walk_records, left_until, next_left}
 use Rattle.htl_smach.specs.Fields.{inside_round}
 use Rattle.htl_smach.specs.Upcoming.{IsUpcoming}
-use Rattle.htl_smach.proofs.Telling.{none_past}
+use Rattle.htl_smach.proofs.RoundRecords.{none_past}
 use Rattle.htl_smach.proofs.machine.SMach.upcoming.Goals as goal
 
 pub returns-then-not-self-clause-none : goal.returns-then-not-self-clause-none

@@ -1,19 +1,19 @@
--- At each instant the jobs of the frame so far are cast.
+-- At each instant the jobs of the frame are those so far.
 use Rattle.std.proofs.Common.{◌≡◌, ◌+◌, ◌-◌, ◌*◌, ◌/◌, ◌%◌, ◌<◌, arith}
 use Rattle.std.proofs.Math.Nat.{div-add-mod, mod-lt}
 use Rattle.htl_model.specs.Frames.{frame_of}
 use Rattle.htl_model.specs.Meaning.{state}
 use Rattle.htl_refine.specs.FramePlaces.{standing_places}
 use Rattle.htl_refine.proofs.PlaceOrder.{places_ordered}
-use Rattle.htl_machine.specs.FramePlacing.{begun_by, FrameCast}
+use Rattle.htl_machine.specs.FramePlacing.{begun_by, FrameJobsStand}
 use Rattle.htl_machine.proofs.FramePlaced.{placed_by_modes}
-use Rattle.htl_machine.proofs.FramePlacing.{cast_of_placing}
+use Rattle.htl_machine.proofs.FramePlacing.{jobs_of_placing}
 
-pub frame_cast : FrameCast
-frame_cast t es n f range kept some at_frame =
+pub frame_jobs_so_far : FrameJobsStand
+frame_jobs_so_far t es n f range kept some at_frame =
     let h = frame_of t in
     let whole : h * (n / h) + n % h ≡ n = div-add-mod n h in
     let rest : n % h < h = mod-lt n some in
     let m = begun_by t es f n in
-    cast_of_placing t (state t es n).stays f n m (standing_places t es f)
+    jobs_of_placing t (state t es n).stays f n m (standing_places t es f)
     (placed_by_modes t es n f m range kept at_frame (omega (arith, at_frame, whole)) (omega (arith, at_frame, whole, rest)) (places_ordered t es f (n - f) range kept))

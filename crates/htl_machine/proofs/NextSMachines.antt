@@ -12,15 +12,15 @@ use Rattle.htl_smach.specs.Adding.{CanBegin, IsEven}
 use Rattle.htl_smach.specs.declared.state.PosState.TheVariants.{Pending}
 use Rattle.htl_smach.specs.Rounds.{Round, added, state_of}
 use Rattle.htl_smach.proofs.Adding.{stands_added}
-use Rattle.htl_smach.proofs.Telling.{pending_is}
+use Rattle.htl_smach.proofs.RoundRecords.{pending_is}
 use Rattle.htl_refine.specs.FrameRuns.{Frame}
 use Rattle.htl_refine.specs.ListLaws.{IsFollowed}
 use Rattle.htl_refine.specs.ListPlans.{leg_at, front_of, list_start, list_plan}
 use Rattle.htl_refine.proofs.FrontPlans.{same_lists, point_long, length-work}
 use Rattle.htl_refine.proofs.Fronts.{take_work, get_front}
 use Rattle.htl_refine.proofs.ListWalks.{front_agrees, point_agrees, form_at}
-use Rattle.htl_machine.specs.Follows.{released_before, DeskAt}
-use Rattle.htl_machine.specs.NextDesks.{more_jobs, more_lengths, DesksGoOn}
+use Rattle.htl_machine.specs.Follows.{released_before, SMachineAt}
+use Rattle.htl_machine.specs.NextSMachines.{more_jobs, more_lengths, SMachinesGoOn}
 use Rattle.htl_machine.proofs.NextPoints.{front_more, take_all, drop_work, get_behind, same_length, point_next, point_untouched}
 
 -- ---- releases
@@ -66,7 +66,7 @@ later_below (suc n) (suc m) (j ∷ js) p k e = let r : n + p < m = later_below n
 
 -- ---- the next list
 
-module _ (f : Frame) (j s : ℕ) (r : Round) (g : IsFollowed f j) (at : DeskAt (list_plan f j) s (length (get_or f.lists j [])) (leg_at f (suc j)).from r) where
+module _ (f : Frame) (j s : ℕ) (r : Round) (g : IsFollowed f j) (at : SMachineAt (list_plan f j) s (length (get_or f.lists j [])) (leg_at f (suc j)).from r) where
   -- the point at which the list before ends, of the positions so far
   ended : r.point ≡ last_point (take (leg_at f j).known f.jobs) (get_or f.lists j []) (front_of (leg_at f j).known (list_start f j))
   ended =
@@ -182,8 +182,8 @@ module _ (f : Frame) (j s : ℕ) (r : Round) (g : IsFollowed f j) (at : DeskAt (
         left = left ∙ sym jobs;
       }
 
-pub desks_go_on : DesksGoOn
-desks_go_on f j s r g least most at =
+pub s_machines_go_on : SMachinesGoOn
+s_machines_go_on f j s r g least most at =
     let at' = s + (leg_at f (suc j)).from in
     let can = can_begin f j s r g at at' refl least most in
     let next = added r at' (more_jobs f j) (more_lengths f j) in (

@@ -12,9 +12,9 @@ use Rattle.htl_console.specs.declared.shown.Shown.{Shown}
 use Rattle.htl_machine.specs.Follows.{IsLoaded}
 use Rattle.htl_machine.specs.Texts as texts
 use Rattle.htl_machine.specs.Lines as runs
-use Rattle.htl_machine.proofs.Telling.{as_told}
+use Rattle.htl_machine.proofs.InstantRecords.{as_told}
 use Rattle.htl_machine.proofs.LoadedLists.{loaded_run}
-use Rattle.htl_machine.proofs.TellingText.{records_are, jobs_are, e_are, s_are, lines_are, before_is}
+use Rattle.htl_machine.proofs.RecordTexts.{records_are, jobs_are, e_are, s_are, lines_are, before_is}
 
 module _ (t : Tables) (schedules : List (List SInstr)) (es : List Event) (loaded : IsLoaded t schedules) (within : AreTookWithin t es) where
   runs_so : (h : ℕ) → hyper t ≡ Some h → IsFeasibleRun t schedules es

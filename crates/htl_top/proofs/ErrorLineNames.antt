@@ -22,7 +22,7 @@ use Rattle.htl_top.specs.Runs.{IsRun}
 use Rattle.htl_top.specs.Sources.{HasTypedTables, IsInput, IsNotCompiled, IsTypedInput, IsTypedProgram, outcome_of, tables_of_stop}
 use Rattle.htl_top.specs.SourcesOn.{HasTypedOn, IsTypedOn, IsNotCompiledOn}
 use Rattle.htl_top.specs.Status.{fault_line}
-use Rattle.htl_top.specs.Telling.{SpeaksOf, IsFaultTold, IsPatchFaultTold, IsLineTold}
+use Rattle.htl_top.specs.ErrorLines.{SpeaksOf, IsFaultTold, IsPatchFaultTold, IsLineTold}
 use Rattle.htl_top.specs.Words.{Command, Go, Compile, CompileWith, Run, Check, Plan, Show, Bulk, Slack, Audit, Patch}
 use Rattle.htl_top.specs.declared.outcome.Outcome.{Outcome}
 use Rattle.htl_top.specs.declared.outcome.Outcome.TheVariants.{Done, Usage, Source, IllFormed, Unschedulable, Platform, Task, Log, Patch as Unpatched, Object, Script, Shelf, Read, Write, Memory}

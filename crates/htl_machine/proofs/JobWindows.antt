@@ -7,7 +7,7 @@ use Rattle.htl_model.specs.declared.state.Stay.{Stay}
 use Rattle.htl_model.specs.Tables.{Tables, comm_period, offsets, greatest, least_or}
 use Rattle.htl_walk.specs.declared.job.Job.{Job}
 use Rattle.htl_walk.specs.Walk.{job_at}
-use Rattle.htl_machine.specs.Casts.{IsCast}
+use Rattle.htl_machine.specs.JobsSoFar.{AreJobsSoFar}
 use Rattle.htl_machine.specs.Turns.{later_or, position_from, last_position_done, finished_in}
 use Rattle.htl_walk.proofs.Finishes.{some_same}
 use Rattle.htl_refine.proofs.RecordOrder.{not_some}
@@ -123,12 +123,12 @@ finished_is jobs done i e = by_place (position_from 0 jobs i) refl e
 pub is_finished : (jobs : List Job) (done : ℕ → Bool) (i p : ℕ) → position_from 0 jobs i ≡ Some p → done p ≡ true → finished_in jobs done i ≡ true
 is_finished jobs done i p at h = ap (last_position_done done) at ∙ h
 
--- ---- jobs that are cast
+-- ---- jobs that stand
 
 -- a job whose window hasn't ended is at the last position of its invocation
-pub last_open : (t : Tables) (stays : List (Option Stay)) (frame n : ℕ) (jobs : List Job) → IsCast t stays frame n jobs → (p : ℕ) (j : Job) → slice_get jobs p ≡ Some j → j.present ≡ true → n < frame + j.end
+pub last_open : (t : Tables) (stays : List (Option Stay)) (frame n : ℕ) (jobs : List Job) → AreJobsSoFar t stays frame n jobs → (p : ℕ) (j : Job) → slice_get jobs p ≡ Some j → j.present ≡ true → n < frame + j.end
     → position_from 0 jobs j.inv ≡ Some p
-last_open t stays frame n jobs cast p j at here late =
-    let st = cast.stands p j at here late in
-    let h = cast.has j.inv st.0 st.1 st.2 in
-    h.2 ∙ ap (λ (q : ℕ). Some q) (cast.once h.0 p j.inv st.1 st.0 h.1 st.3)
+last_open t stays frame n jobs jobs_so_far p j at here late =
+    let st = jobs_so_far.stands p j at here late in
+    let h = jobs_so_far.has j.inv st.0 st.1 st.2 in
+    h.2 ∙ ap (λ (q : ℕ). Some q) (jobs_so_far.once h.0 p j.inv st.1 st.0 h.1 st.3)

@@ -16,8 +16,8 @@ use Rattle.htl_machine.specs.Laws.{AreReadFrom}
 use Rattle.htl_machine.specs.Lines as runs
 use Rattle.htl_machine.specs.Texts.{instant_text, listed_text_before}
 use Rattle.htl_machine.proofs.Events.{reading_more, sense_at, sense_end, sense_sense, took_at, took_end, took_sense}
-use Rattle.htl_machine.proofs.Retelling.{instant_same}
-use Rattle.htl_machine.proofs.TellingLoaded.{loaded_before}
+use Rattle.htl_machine.proofs.TextStays.{instant_same}
+use Rattle.htl_machine.proofs.LoadedRecords.{loaded_before}
 use Rattle.htl_machine.proofs.Writing.{before_stays}
 
 and_false : (a b : Bool) → b ≡ false → (a && b) ≡ false

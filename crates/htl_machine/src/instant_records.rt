@@ -16,7 +16,7 @@ use htl_edge::{Failed, Sink};
 
 /// Leaves the instructions of the list that are left at an instant or before, puts out what the jobs do that they
 /// finish, and writes and counts them; nothing where none runs. After `Failed` a prefix of the lines was written.
-pub fn tell_records<W: Sink>(
+pub fn leave_records<W: Sink>(
     sink: &mut W,
     works: &mut Works,
     program: &Program<'_>,
@@ -26,23 +26,23 @@ pub fn tell_records<W: Sink>(
     requires kept { KeptApart program.now.tables.now 12 }
     requires functions { FitPlaces program.now.tables.now }
     requires shaped { IsShaped program.now.tables.now works.old.world }
-    requires jobs { works.old.desk.jobs ≡ list.now.jobs.now }
+    requires jobs { works.old.s_machine.jobs ≡ list.now.jobs.now }
     requires of { AreOf program.now.tables.now list.now.jobs.now }
-    requires form { works.old.desk.running ≡ true → IsInForm works.old.desk list.now.schedule.now.instrs }
+    requires form { works.old.s_machine.running ≡ true → IsInForm works.old.s_machine list.now.schedule.now.instrs }
     requires instrs { length list.now.schedule.now.instrs ≤ 4294967295 }
-    requires stands { Stands works.old.desk list.now.schedule.now.instrs }
-    requires told { IsTold works.old.desk at }
-    ensures text { Prints program.now.tables.now program.now.show list.now.node works.old.desk list.now.schedule.now.instrs at (W.written sink.old) (W.written sink.new) (W.faults sink.old) (W.faults sink.new) result }
-    ensures idle_text { works.old.desk.running ≡ false → Puts (W.written sink.old) (W.written sink.new) (W.faults sink.old) (W.faults sink.new) [] result }
-    ensures idle { OnOk result (works.old.desk.running ≡ false → (works.new.desk ≡ works.old.desk) × (works.new.world ≡ works.old.world) × (works.new.tally ≡ works.old.tally)) }
-    ensures counts { OnOk result (Counted works.old.desk list.now.schedule.now.instrs at works.old.tally works.new.tally) }
-    ensures records { OnOk result (Records program.now.tables.now works.old.desk works.old.world works.new.desk works.new.world list.now.schedule.now.instrs at) }
-    ensures jobs { OnOk result (works.new.desk.jobs ≡ works.old.desk.jobs) }
+    requires stands { Stands works.old.s_machine list.now.schedule.now.instrs }
+    requires told { IsTold works.old.s_machine at }
+    ensures text { Prints program.now.tables.now program.now.show list.now.node works.old.s_machine list.now.schedule.now.instrs at (W.written sink.old) (W.written sink.new) (W.faults sink.old) (W.faults sink.new) result }
+    ensures idle_text { works.old.s_machine.running ≡ false → Puts (W.written sink.old) (W.written sink.new) (W.faults sink.old) (W.faults sink.new) [] result }
+    ensures idle { OnOk result (works.old.s_machine.running ≡ false → (works.new.s_machine ≡ works.old.s_machine) × (works.new.world ≡ works.old.world) × (works.new.tally ≡ works.old.tally)) }
+    ensures counts { OnOk result (Counted works.old.s_machine list.now.schedule.now.instrs at works.old.tally works.new.tally) }
+    ensures records { OnOk result (Records program.now.tables.now works.old.s_machine works.old.world works.new.s_machine works.new.world list.now.schedule.now.instrs at) }
+    ensures jobs { OnOk result (works.new.s_machine.jobs ≡ works.old.s_machine.jobs) }
     ensures values { OnOk result (works.new.world.values ≡ works.old.world.values) }
     ensures shaped { OnOk result (IsShaped program.now.tables.now works.new.world) }
-    ensures stands { OnOk result (Stands works.new.desk list.now.schedule.now.instrs) }
+    ensures stands { OnOk result (Stands works.new.s_machine list.now.schedule.now.instrs) }
 {
-    while let Some(left) = works.desk.run_to(list.schedule, at) {
+    while let Some(left) = works.s_machine.run_to(list.schedule, at) {
         put_out(
             &mut works.world,
             program.tables,

@@ -7,7 +7,7 @@ use Rattle.htl_smach.specs.Rounds.{Round, added}
 use Rattle.htl_refine.specs.FrameRuns.{Frame}
 use Rattle.htl_refine.specs.ListLaws.{IsFollowed}
 use Rattle.htl_refine.specs.ListPlans.{leg_at, list_plan}
-use Rattle.htl_machine.specs.Follows.{DeskAt}
+use Rattle.htl_machine.specs.Follows.{SMachineAt}
 
 -- the positions that are new in list j + 1, and how long they take
 abbrev pub more_jobs : Frame → ℕ → List Job
@@ -18,9 +18,9 @@ more_lengths f j = drop (leg_at f j).known (take (leg_at f (suc j)).known f.leng
 
 -- where all of a list is left, and all releases before the next list are told, these may begin, and with them the S machine stands at the
 -- beginning of the next list
-abbrev pub DesksGoOn : Type 0
-DesksGoOn =
+abbrev pub SMachinesGoOn : Type 0
+SMachinesGoOn =
     (f : Frame) (j s : ℕ) (r : Round) → IsFollowed f j → HaveLengths f.jobs f.lengths → AreWithinWorst f.jobs f.lengths
     → (let at = s + (leg_at f (suc j)).from in
-    DeskAt (list_plan f j) s (length (get_or f.lists j [])) (leg_at f (suc j)).from r
-    → CanBegin r (at - r.start) (more_jobs f j) (more_lengths f j) × DeskAt (list_plan f (suc j)) s 0 (leg_at f (suc j)).from (added r at (more_jobs f j) (more_lengths f j)))
+    SMachineAt (list_plan f j) s (length (get_or f.lists j [])) (leg_at f (suc j)).from r
+    → CanBegin r (at - r.start) (more_jobs f j) (more_lengths f j) × SMachineAt (list_plan f (suc j)) s 0 (leg_at f (suc j)).from (added r at (more_jobs f j) (more_lengths f j)))

@@ -36,7 +36,7 @@ use Rattle.htl_machine.specs.Texts.{inv_at, slice_lines, record_text, some_recor
 use Rattle.htl_machine.proofs.ListStarts.{ends_next}
 use Rattle.htl_machine.proofs.RunLists.{rise, past, stands, from_is, length-jobs, are_listed}
 use Rattle.htl_walk.proofs.Finishes.{some_same}
-use Rattle.htl_machine.proofs.Telling.{as_told, left_then, none_before, piece}
+use Rattle.htl_machine.proofs.InstantRecords.{as_told, left_then, none_before, piece}
 
 -- ---- nothing runs at the point at which a list begins
 

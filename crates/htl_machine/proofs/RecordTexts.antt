@@ -23,8 +23,8 @@ use Rattle.htl_machine.specs.Lines.{old_lines, e_lines, change_lines, new_lines,
 use Rattle.htl_machine.specs.Lines as runs
 use Rattle.htl_machine.specs.RunLists.{turn_by, turn_at, list_turn}
 use Rattle.htl_machine.proofs.Counting.{sum_same}
-use Rattle.htl_machine.proofs.Telling.{as_told}
-use Rattle.htl_machine.proofs.TellingLists.{list_records, old_list_text, new_list_text}
+use Rattle.htl_machine.proofs.InstantRecords.{as_told}
+use Rattle.htl_machine.proofs.ListRecords.{list_records, old_list_text, new_list_text}
 
 -- ---- lists
 

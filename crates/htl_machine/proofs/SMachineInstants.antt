@@ -10,7 +10,7 @@ use Rattle.htl_smach.specs.Rounds as rounds
 use Rattle.htl_smach.specs.Rounds.{Round, told, told_from, walk_records, next_left, left_until, moved}
 use Rattle.htl_refine.specs.RecordCounts.{count_left_before}
 use Rattle.htl_refine.specs.ListPlans.{ListPlan as Plan, list_walk}
-use Rattle.htl_machine.specs.Follows.{released_before, DeskStands, DeskAt}
+use Rattle.htl_machine.specs.Follows.{released_before, SMachineStands, SMachineAt}
 use Rattle.htl_walk.proofs.Finishes.{some_same}
 use Rattle.htl_refine.proofs.RecordOrder.{not_some}
 use Rattle.htl_machine.proofs.Turning.{at_count, before_count}
@@ -41,7 +41,7 @@ module _ (p : Plan) (s now d : ℕ) (past : s ≤ now) where
   abbrev pub ls : List Left
   ls = list_walk p
 
-  record_of : (k : ℕ) (r : Round) → DeskAt p s k d r → slice_get (walk_records r p.schedule) r.place ≡ option_map (told s k) (slice_get ls k)
+  record_of : (k : ℕ) (r : Round) → SMachineAt p s k d r → slice_get (walk_records r p.schedule) r.place ≡ option_map (told s k) (slice_get ls k)
   record_of k r at =
       ap₂ (λ (js : List Job) (x : Point). slice_get (told_from r.start 0 (walk_from js p.schedule x)) r.place) at.jobs at.first
       ∙ told_get r.start 0 ls r.place
@@ -49,7 +49,7 @@ module _ (p : Plan) (s now d : ℕ) (past : s ≤ now) where
       ∙ ap (λ z. option_map (told s z) (slice_get ls k)) (let e : 0 + k ≡ k = omega arith in e)
 
   -- while records are left up to the instant, the next is answered
-  pub next_some : (k : ℕ) (r : Round) → DeskAt p s k d r → k < count_left_before (suc now - s) ls → (l : Left) × (slice_get ls k ≡ Some l) × (next_left r p.schedule now ≡ Some (told s k l))
+  pub next_some : (k : ℕ) (r : Round) → SMachineAt p s k d r → k < count_left_before (suc now - s) ls → (l : Left) × (slice_get ls k ≡ Some l) × (next_left r p.schedule now ≡ Some (told s k l))
   next_some k r at h =
       let few : k < length ls = omega (arith, count_within (suc now - s) ls) in
       let l = record_there ls k few in
@@ -63,7 +63,7 @@ module _ (p : Plan) (s now d : ℕ) (past : s ≤ now) where
       )
 
   -- and then none
-  pub next_none : (k : ℕ) (r : Round) → DeskAt p s k d r → k ≡ count_left_before (suc now - s) ls → next_left r p.schedule now ≡ None
+  pub next_none : (k : ℕ) (r : Round) → SMachineAt p s k d r → k ≡ count_left_before (suc now - s) ls → next_left r p.schedule now ≡ None
   next_none k r at e =
       ap (λ o. cond r.running (left_until now o) None) (record_of k r at) ∙ by_record (slice_get ls k) refl r.running
     where
@@ -78,7 +78,7 @@ module _ (p : Plan) (s now d : ℕ) (past : s ≤ now) where
           late_test a b h = grind (arith, nat_tests)
 
   -- a record that was answered moves it on
-  pub moves_on : (k : ℕ) (r : Round) → DeskAt p s k d r → rounds.Stands (moved r p.schedule) p.schedule → DeskAt p s (suc k) d (moved r p.schedule)
+  pub moves_on : (k : ℕ) (r : Round) → SMachineAt p s k d r → rounds.Stands (moved r p.schedule) p.schedule → SMachineAt p s (suc k) d (moved r p.schedule)
   moves_on k r at st =
       record {
         start = at.start;
@@ -92,8 +92,8 @@ module _ (p : Plan) (s now d : ℕ) (past : s ≤ now) where
       }
 
 -- before the instant it stands at the records before it
-pub desk_opens : (p : Plan) (s now : ℕ) (r : Round) → DeskStands p s now r → DeskAt p s (count_left_before (now - s) (list_walk p)) (now - s) r
-desk_opens p s now r f =
+pub s_machine_opens : (p : Plan) (s now : ℕ) (r : Round) → SMachineStands p s now r → SMachineAt p s (count_left_before (now - s) (list_walk p)) (now - s) r
+s_machine_opens p s now r f =
     record {
       start = f.start;
       jobs = f.jobs;
@@ -106,8 +106,8 @@ desk_opens p s now r f =
     }
 
 -- and once all records of it are given and all releases told, it stands before the next
-pub desk_closes : (p : Plan) (s now : ℕ) (r : Round) → DeskAt p s (count_left_before (suc now - s) (list_walk p)) (suc now - s) r → DeskStands p s (suc now) r
-desk_closes p s now r at =
+pub s_machine_closes : (p : Plan) (s now : ℕ) (r : Round) → SMachineAt p s (count_left_before (suc now - s) (list_walk p)) (suc now - s) r → SMachineStands p s (suc now) r
+s_machine_closes p s now r at =
     record {
       start = at.start;
       jobs = at.jobs;
@@ -148,7 +148,7 @@ all_given p s now count period form early e =
     (λ k l g. let z : l.at ≤ period = times_within p.jobs count period p.schedule p.first form early k l g in omega arith)
     ∙ length-walk p.jobs p.schedule p.first
 
-pub not_running : (p : Plan) (s d : ℕ) (r : Round) → DeskAt p s (length p.schedule) d r → r.running ≡ false
+pub not_running : (p : Plan) (s d : ℕ) (r : Round) → SMachineAt p s (length p.schedule) d r → r.running ≡ false
 not_running p s d r at = at.running ∙ le-ltb (length p.schedule) (length p.schedule) (omega arith)
 
 -- ---- a frame begins
