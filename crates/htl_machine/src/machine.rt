@@ -46,8 +46,7 @@ pub struct Totals {
 }
 
 /// Both machines on one accepted object. It follows a list of events: what sensors show, how long jobs take, and how far the clock
-/// has come. Contracts see the object, what is shown, what the machine keeps of the calls, its world and S machine, its E machine, the
-/// list that stands and its numbers.
+/// has come. Contracts see the object, what is shown, the state of the run, the E machine, the list that stands and the numbers.
 pub struct Machine<'a> {
     loaded: &'a Loaded,
     show: Shown,
@@ -174,12 +173,8 @@ impl<'a> Machine<'a> {
     {
         self.due = 0;
         self.takes.set(inv as usize, length);
-        take(
-            &mut self.machines.works.s_machine,
-            self.path.jobs(),
-            inv,
-            length,
-        );
+        let jobs = self.path.jobs();
+        take(&mut self.machines.works.s_machine, jobs, inv, length);
     }
 
     /// Does all instants before `to`, in ticks, writes their lines, and makes `to` the reading. The machine isn't spent, and `to` is

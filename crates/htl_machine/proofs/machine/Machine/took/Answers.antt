@@ -12,7 +12,7 @@ use Rattle.htl_machine.proofs.machine.Machine.took.Goals as goal
 pub take-requires-clause-worst : goal.take-requires-clause-worst
 take-requires-clause-worst c =
     let w = c.requires.follows in
-    subst (λ (js : List Job). (p : ℕ) → position_from 0 js c.args.inv ≡ Some p → c.args.length ≤ (job_at js p).worst) (sym (c.jobs.ensures ∙ (c.self.invariant.stands (ap (λ (z : Seen). z.run_state.spent) c.self.view_is ∙ w.1.kept.fresh)).are))
+    subst (λ (js : List Job). (p : ℕ) → position_from 0 js c.args.inv ≡ Some p → c.args.length ≤ (job_at js p).worst) (sym (c.jobs-jobs.ensures ∙ (c.self.invariant.stands (ap (λ (z : Seen). z.run_state.spent) c.self.view_is ∙ w.1.kept.fresh)).are))
     (λ p found.
     position_worst _ w.0 c.args.inv c.args.length p c.self.invariant.accepted
     (subst (λ (z : Seen). IsLength z.object.tables c.args.inv c.args.length) (sym c.self.view_is) c.requires.length)
