@@ -41,7 +41,7 @@ use Rattle.htl_names.proofs.Members.{In, in_next, in_second, in_part_at, All-fro
 use Rattle.htl_names.proofs.NameUses.{known, used_in_invoke, comm_period_span, initial_fits, used_in_switch, parent_stands}
 use Rattle.htl_names.proofs.Places.{program_of_module, order_of, part_in_source}
 use Rattle.htl_names.proofs.Ordering.{kept_limit, names-ordered, instances}
-use Rattle.htl_names.proofs.ListLaws.{few_reads, all_of, all_distinct, none_distinct, distinct_apart, among_at}
+use Rattle.htl_names.proofs.ListLaws.{few_reads, read_of, distinct_once, distinct_apart, among_at}
 
 -- items differ by what they are called, where those called alike stand at one place
 apart_by : {B N : Type 0} (called : B → N) (ys : List B) → ((j k : ℕ) (y z : B) → slice_get ys j ≡ Some y → slice_get ys k ≡ Some z → called y ≡ called z → j ≡ k) → AreApart (map called ys)
@@ -263,7 +263,7 @@ module _ (ps : List PlainProgram) (small : MeetsBounds ps) (right : AreNamesRigh
         owner = within;
         target = target;
         reads = reads;
-        different = different_numbers (comms_in (layout ps) w.cond) (distinct_apart (comms_in (layout ps) w.cond) (all_distinct [] (map number_of (names_of w.cond)) none_distinct));
+        different = different_numbers (comms_in (layout ps) w.cond) (distinct_apart (comms_in (layout ps) w.cond) (distinct_once (map (λ (id : Id). meaning (layout ps) (comm_key id.name)) (names_of w.cond))));
         few_reads = omega (arith, few_reads ps w.cond, (switch_small ps small a j w at).names);
       }
     where
@@ -276,19 +276,14 @@ module _ (ps : List PlainProgram) (small : MeetsBounds ps) (right : AreNamesRigh
           subst (λ (q : ℕ). IsModeThat (tables_of_tree ps) is_own (modes_before (layout ps) ps q + meaning (layout ps) use_of.key)) (sym number)
           (its_mode ps k (meaning (layout ps) use_of.key) s y.0 is_own (sym owner) there y.1)
 
-      number_of : Id → ℕ
-      number_of id = meaning (layout ps) (comm_key id.name)
-
       is_comm : ℕ → Type 0
       is_comm c = c < length (comm_items ps)
 
       reads : All is_comm (comms_in (layout ps) w.cond)
       reads =
           All-from_places is_comm (comms_in (layout ps) w.cond) (λ q c e.
-          all_of is_comm [] (map number_of (names_of w.cond)) (λ y none. cc) (λ y i.
-          let id = of_map number_of (names_of w.cond) i.0 y i.1 in
-          subst is_comm id.2 (comm_below ps right id.0 (used_in_switch ps _ a j w at (in_first _ _ (in_mapped comm_use (names_of w.cond) i.0 id.0 id.1)))))
-          c (among_at (comms_in (layout ps) w.cond) q c e))
+          let id = read_of (layout ps) w.cond c (among_at (comms_in (layout ps) w.cond) q c e) in
+          subst is_comm id.2 (comm_below ps right id.0 (used_in_switch ps _ a j w at (in_first _ _ (in_mapped comm_use (names_of w.cond) id.1.0 id.0 id.1.1)))))
 
 -- ---- all of them
 

@@ -2,7 +2,10 @@
 use Rattle.std.proofs.Common.{◌≡◌, ◌⊎◌, inl, inr, ℕ, zero, suc, Bool, true, false, cond, ◌||◌, eqb, List, [], ◌∷◌, ◌++◌, slice_get, Some, fold, refl, sym, ◌∙◌, ap, ap₂, subst, eq-eqb, eqb-true, ◌≤◌, ◌<◌, map, length, arith, length-append, ◌≢◌, ◌+◌, max, get_or, set, sum_by, sum, length-set, get_or-set_other, Option, IsSomeAnd}
 use Rattle.std.proofs.lemmas.Slice.Zip.{AllZip-left}
 use Rattle.std.specs.List.{All, AllZip, IsDistinct, list_any, flat_map, count_by}
-use Rattle.std.proofs.Math.Bool.{or-false}
+use Rattle.std.proofs.Math.Bool.{or-false, or_assoc}
+use Rattle.std.specs.Set.{distinct_count, unique_keys, is_member}
+use Rattle.std.proofs.lemmas.Bool.Decides.{nat_tests}
+use Rattle.std.proofs.lemmas.Map.Made.{length-from_keys}
 use Rattle.std.proofs.lemmas.Bool.{or_cases, or_left, or_right, cond_both, cond-true, false≢true}
 use Rattle.std.proofs.lemmas.Cmp.{nat_eq_equiv}
 use Rattle.std.proofs.lemmas.List.Elements.{All-nil, All-cons}
@@ -19,8 +22,7 @@ use Rattle.htl_text.specs.Bounds.{names_of}
 use Rattle.htl_text.specs.Expressions.{Expr}
 use Rattle.htl_text.specs.Nodes.{PlainProgram}
 use Rattle.htl_text.specs.declared.tree.Id.{Id}
-use Rattle.htl_names.specs.Lists.{flat_map_at, with_new, place_in}
-use Rattle.htl_names.specs.Conditions.{with_new_name, different_names}
+use Rattle.htl_names.specs.Lists.{flat_map_at, with_new, distinct, place_in}
 use Rattle.htl_names.specs.Flat.{layout, meaning, comms_in, Layout, read_place}
 use Rattle.htl_names.specs.Keys.{comm_key}
 use Rattle.htl_names.specs.declared.key.Key.{Key}
@@ -33,47 +35,27 @@ is_among xs x = list_any (eqb x) xs
 pub any_end : {A : Type 0} (p : A → Bool) (xs : List A) (x : A) → list_any p (xs ++ x ∷ []) ≡ (list_any p xs || p x)
 any_end p xs x = list_any-append p xs (x ∷ []) ∙ ap (λ b. list_any p xs || b) (or-false (p x))
 
--- ---- one more
+-- ---- the different numbers of a list
 
-pub new_kept : (x y : ℕ) (acc : List ℕ) → is_among acc x ≡ true → is_among (with_new acc y) x ≡ true
-new_kept x y acc h = cond_both (is_among acc y) acc (acc ++ y ∷ []) (λ ys. is_among ys x ≡ true) (λ old. h) (λ new. any_end (eqb x) acc y ∙ or_left _ _ h)
+-- they are its numbers
+pub distinct_has : (q : ℕ) (acc xs : List ℕ) → is_among (fold with_new acc xs) q ≡ (is_among acc q || is_among xs q)
+distinct_has q acc [] = sym (or-false _)
+distinct_has q acc (x ∷ xs) =
+    distinct_has q (with_new acc x) xs ∙ ap (λ b. b || is_among xs q) one ∙ or_assoc (is_among acc q) (eqb q x) (is_among xs q)
+  where
+    one : is_among (with_new acc x) q ≡ (is_among acc q || eqb q x)
+    one = cond_both (is_among acc x) acc (acc ++ x ∷ []) (λ ys. is_among ys q ≡ (is_among acc q || eqb q x)) (λ old. grind (arith, nat_tests)) (λ new. any_end (eqb q) acc x)
 
-pub new_in : (x : ℕ) (acc : List ℕ) → is_among (with_new acc x) x ≡ true
-new_in x acc = cond_both (is_among acc x) acc (acc ++ x ∷ []) (λ ys. is_among ys x ≡ true) (λ old. old) (λ new. any_end (eqb x) acc x ∙ or_right _ _ (eq-eqb x x refl))
-
-pub new_from : (x y : ℕ) (acc : List ℕ) → is_among (with_new acc y) x ≡ true → (is_among acc x ≡ true) ⊎ (x ≡ y)
-new_from x y acc =
-    cond_both (is_among acc y) acc (acc ++ y ∷ []) (λ ys. is_among ys x ≡ true → (is_among acc x ≡ true) ⊎ (x ≡ y)) (λ old h. inl h) (λ new h.
-    elim (or_cases (is_among acc x) (eqb x y) (sym (any_end (eqb x) acc y) ∙ h)) [ inl a ↦ inl a | inr b ↦ inr (eqb-true x y b) ])
-
-pub new_distinct : (x : ℕ) (acc : List ℕ) → IsDistinct eqb acc → IsDistinct eqb (with_new acc x)
-new_distinct x acc d = cond_both (is_among acc x) acc (acc ++ x ∷ []) (λ ys. IsDistinct eqb ys) (λ old. d) (λ new. IsDistinct-push nat_eq_equiv acc x d new)
-
--- ---- all of a list
-
-pub all_kept : (x : ℕ) (acc xs : List ℕ) → is_among acc x ≡ true → is_among (fold with_new acc xs) x ≡ true
-all_kept x acc [] h = h
-all_kept x acc (y ∷ xs) h = all_kept x (with_new acc y) xs (new_kept x y acc h)
-
-pub all_in : (x : ℕ) (acc xs : List ℕ) (i : ℕ) → slice_get xs i ≡ Some x → is_among (fold with_new acc xs) x ≡ true
-all_in x acc [] i e = absurd (none-some x e)
-all_in x acc (y ∷ xs) zero e = all_kept x (with_new acc y) xs (subst (λ z. is_among (with_new acc z) x ≡ true) (sym (same_Some y x e)) (new_in x acc))
-all_in x acc (y ∷ xs) (suc i) e = all_in x (with_new acc y) xs i e
-
-pub all_of : (P : ℕ → Type 0) (acc xs : List ℕ) → ((x : ℕ) → is_among acc x ≡ true → P x) → ((x : ℕ) → In x xs → P x) → (y : ℕ) → is_among (fold with_new acc xs) y ≡ true → P y
-all_of P acc [] a b y at = a y at
-all_of P acc (x ∷ xs) a b y at =
-    all_of P (with_new acc x) xs (λ z h. elim (new_from z x acc h) [ inl old ↦ a z old | inr is ↦ subst P (sym is) (b x (0, refl)) ]) (λ z i. b z (suc i.0, i.1)) y at
-
-pub all_distinct : (acc xs : List ℕ) → IsDistinct eqb acc → IsDistinct eqb (fold with_new acc xs)
+all_distinct : (acc xs : List ℕ) → IsDistinct eqb acc → IsDistinct eqb (fold with_new acc xs)
 all_distinct acc [] d = d
-all_distinct acc (x ∷ xs) d = all_distinct (with_new acc x) xs (new_distinct x acc d)
+all_distinct acc (x ∷ xs) d =
+    all_distinct (with_new acc x) xs
+    (cond_both (is_among acc x) acc (acc ++ x ∷ []) (λ ys. IsDistinct eqb ys) (λ old. d) (λ new. IsDistinct-push nat_eq_equiv acc x d new))
 
--- ---- by places
-
-pub none_distinct : IsDistinct eqb []
+-- each stands once
+pub distinct_once : (xs : List ℕ) → IsDistinct eqb (distinct xs)
 unfolding IsDistinct
-none_distinct = tt
+distinct_once xs = all_distinct [] xs tt
 
 pub distinct_apart : (xs : List ℕ) → IsDistinct eqb xs → AreApart xs
 distinct_apart xs d j k y less p q =
@@ -84,42 +66,29 @@ distinct_apart xs d j k y less p q =
 pub among_at : (xs : List ℕ) (k x : ℕ) → slice_get xs k ≡ Some x → is_among xs x ≡ true
 among_at xs k x e = any_passes_from_place (eqb x) xs k x e (eq-eqb x x refl)
 
--- ---- there are no more different numbers than different names
+pub among_place : (xs : List ℕ) (x : ℕ) → is_among xs x ≡ true → In x xs
+among_place [] x h = absurd cc
+among_place (y ∷ xs) x h = elim (or_cases (eqb x y) _ h) [ inl is ↦ (0, ap Some (sym (eqb-true x y is))) | inr later ↦ let at = among_place xs x later in (suc at.0, at.1) ]
 
--- each name met has its number
-abbrev AreMet : (List ℕ → ℕ) → List (List ℕ) → List ℕ → Type 0
-AreMet g names numbers = (n : List ℕ) → list_any (bytes_eq n) names ≡ true → is_among numbers (g n) ≡ true
+-- ---- a condition reads no more communicators than it has names
 
-few_by : (g : List ℕ → ℕ) (ids : List Id) (names : List (List ℕ)) (numbers : List ℕ) → AreMet g names numbers → length numbers ≤ length names
-    → length (fold with_new numbers (map (λ (id : Id). g id.name) ids)) ≤ length (fold with_new_name names (map (λ (id : Id). id.name) ids))
-few_by g [] names numbers met few = few
-few_by g (id ∷ ids) names numbers met few = few_by g ids (with_new_name names n) (with_new numbers (g n)) met_more fewer
-  where
-    n : List ℕ
-    n = id.name
+met : (g : List ℕ → ℕ) (n : List ℕ) (ids : List Id) → list_any (bytes_eq n) (map (λ (id : Id). id.name) ids) ≡ true → is_among (map (λ (id : Id). g id.name) ids) (g n) ≡ true
+met g n [] h = absurd cc
+met g n (id ∷ ids) h =
+    elim (or_cases (bytes_eq n id.name) _ h) [
+      | inl is ↦ or_left _ _ (eq-eqb (g n) (g id.name) (ap g ((bytes_eq-Decides n id.name).0 is)))
+      | inr later ↦ or_right _ _ (met g n ids later)
+    ]
 
-    met_more : AreMet g (with_new_name names n) (with_new numbers (g n))
-    met_more m =
-        cond_both (list_any (bytes_eq n) names) names (names ++ n ∷ []) (λ ns. list_any (bytes_eq m) ns ≡ true → is_among (with_new numbers (g n)) (g m) ≡ true)
-        (λ old h. new_kept (g m) (g n) numbers (met m h)) (λ new h.
-        elim (or_cases (list_any (bytes_eq m) names) (bytes_eq m n) (sym (any_end (bytes_eq m) names n) ∙ h)) [
-          | inl a ↦ new_kept (g m) (g n) numbers (met m a)
-          | inr b ↦ subst (λ k. is_among (with_new numbers (g n)) (g k) ≡ true) (sym ((bytes_eq-Decides m n).0 b)) (new_in (g n) numbers)
-        ])
+few_by : (g : List ℕ → ℕ) (ids : List Id) → distinct_count eqb (map (λ (id : Id). g id.name) ids) ≤ distinct_count bytes_eq (map (λ (id : Id). id.name) ids)
+few_by g [] = omega arith
+few_by g (id ∷ ids) = let rest = few_by g ids in let again = met g id.name ids in grind arith
 
-    one_more : length (with_new numbers (g n)) ≤ suc (length numbers)
-    one_more =
-        cond_both (is_among numbers (g n)) numbers (numbers ++ g n ∷ []) (λ ks. length ks ≤ suc (length numbers)) (λ old. omega arith)
-        (λ new. let size = length-append numbers (g n ∷ []) in omega (arith, size))
-
-    fewer : length (with_new numbers (g n)) ≤ length (with_new_name names n)
-    fewer =
-        cond_both (list_any (bytes_eq n) names) names (names ++ n ∷ []) (λ ns. length (with_new numbers (g n)) ≤ length ns)
-        (λ old. let same = ap length (cond-true (is_among numbers (g n)) numbers (numbers ++ g n ∷ []) (met n old)) in omega (arith, few, same))
-        (λ new. let size = length-append names (n ∷ []) in omega (arith, few, one_more, size))
-
-pub few_reads : (ps : List PlainProgram) (e : Expr) → length (comms_in (layout ps) e) ≤ length (different_names (names_of e))
-few_reads ps e = few_by (λ n. meaning (layout ps) (comm_key n)) (names_of e) [] [] (λ n h. absurd (let e : false ≡ true = h in cc)) (omega arith)
+pub few_reads : (ps : List PlainProgram) (e : Expr) → length (comms_in (layout ps) e) ≤ distinct_count bytes_eq (map (λ (id : Id). id.name) (names_of e))
+few_reads ps e =
+    let g : List ℕ → ℕ = λ n. meaning (layout ps) (comm_key n) in
+    let numbers = map (λ (id : Id). g id.name) (names_of e) in
+    omega (arith, few_by g (names_of e), length-from_keys nat_eq_equiv (comms_in (layout ps) e) numbers (distinct_once numbers) (λ q. distinct_has q [] numbers))
 
 -- ---- they are few, where they are below a bound
 
@@ -136,11 +105,18 @@ place_found {A} p (x ∷ xs) h =
     cond_both (p x) 0 (suc (place_in p xs)) (λ n. (y : A) × (slice_get (x ∷ xs) n ≡ Some y) × (p y ≡ true)) (λ passed. (x, refl, passed))
     (λ failed. place_found p xs (sym (ap (λ b. b || list_any p xs) failed) ∙ h))
 
+-- a communicator that is read is what a name means
+pub read_of : (l : Layout) (e : Expr) (q : ℕ) → is_among (comms_in l e) q ≡ true → (id : Id) × In id (names_of e) × (meaning l (comm_key id.name) ≡ q)
+read_of l e q h =
+    let f : Id → ℕ = λ id. meaning l (comm_key id.name) in
+    let at = among_place (map f (names_of e)) q (sym (distinct_has q [] (map f (names_of e))) ∙ h) in
+    let id = of_map f (names_of e) at.0 q at.1 in
+    (id.0, (at.0, id.1), id.2)
+
 few_comms : (l : Layout) → ((key : Key) → meaning l key ≤ 4096) → (e : Expr) → length (comms_in l e) ≤ 4097
 few_comms l low e =
-    let f : Id → ℕ = λ id. meaning l (comm_key id.name) in
-    length-le_from_distinct_below (comms_in l e) 4097 (all_distinct [] (map f (names_of e)) none_distinct)
-    (all_of (λ q. q < 4097) [] (map f (names_of e)) (λ q none. cc) (λ q i. let id = of_map f (names_of e) i.0 q i.1 in omega (arith, low (comm_key id.0.name), id.2)))
+    length-le_from_distinct_below (comms_in l e) 4097 (distinct_once (map (λ (id : Id). meaning l (comm_key id.name)) (names_of e)))
+    (λ q h. let id = read_of l e q h in omega (arith, low (comm_key id.0.name), id.2))
 
 -- so is each place among them
 pub read_place-le : (l : Layout) → ((key : Key) → meaning l key ≤ 4096) → (e : Expr) (id : Id) → read_place l (comms_in l e) id ≤ 4097

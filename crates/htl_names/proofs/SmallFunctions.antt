@@ -26,7 +26,7 @@ use Rattle.htl_names.specs.Order.{tasks_at, switches_at}
 use Rattle.htl_names.specs.Uses.{input_use, output_uses, outputs_uses}
 use Rattle.htl_names.specs.declared.place.ModeAt.{ModeAt}
 use Rattle.htl_names.specs.declared.place.ModuleAt.{ModuleAt}
-use Rattle.htl_names.proofs.ListLaws.{zip_append, zip_map, zip_parts, zip_at, zip_all, all_in, place_found, few_reads}
+use Rattle.htl_names.proofs.ListLaws.{zip_append, zip_map, zip_parts, zip_at, zip_all, distinct_has, among_at, place_found, few_reads}
 use Rattle.htl_names.proofs.FlatMaps.{flat_map_is, flat_map_parts}
 use Rattle.htl_names.proofs.Members.{In, in_first, in_second, in_part, in_mapped, at_place, All-at, map_flat_map_at}
 use Rattle.htl_names.proofs.Numbered.{task_small, switch_small, tasks_in}
@@ -105,7 +105,8 @@ module _ (ps : List PlainProgram) (small : MeetsBounds ps) (right : AreNamesRigh
 read_below : (l : Layout) (e : Expr) (id : Id) → In id (names_of e) → read_place l (comms_in l e) id < length (comms_in l e)
 read_below l e id at =
     let f : Id → ℕ = λ x. meaning l (comm_key x.name) in
-    slice_get_within (comms_in l e) _ _ (place_found (eqb (f id)) (comms_in l e) (all_in (f id) [] (map f (names_of e)) at.0 (get_mapped f (names_of e) at.0 id at.1))).1
+    let among = distinct_has (f id) [] (map f (names_of e)) ∙ among_at (map f (names_of e)) at.0 (f id) (get_mapped f (names_of e) at.0 id at.1) in
+    slice_get_within (comms_in l e) _ _ (place_found (eqb (f id)) (comms_in l e) among).1
 
 -- ---- switches
 

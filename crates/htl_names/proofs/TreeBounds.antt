@@ -3,24 +3,15 @@ use Rattle.std.proofs.Common.{◌≤◌, ℕ, ◌+◌, List, [], ◌∷◌, leng
 use Rattle.std.specs.List.{flat_map}
 use Rattle.std.proofs.lemmas.List.{length-map}
 use Rattle.std.proofs.lemmas.List.Elements.{All-weaker}
-use Rattle.htl_names.proofs.Members.{Each, each_flat_map, each_weaker, each_all, each_of_all}
-use Rattle.htl_names.specs.Conditions.{with_new_name, different_names, MeetsTaskBounds, MeetsInvokeBounds, MeetsSwitchBounds, MeetsBounds}
+use Rattle.htl_names.proofs.FlatMaps.{flat_part}
+use Rattle.htl_names.proofs.Members.{All-from_places, All-at}
+use Rattle.std.proofs.lemmas.Map.Made.{distinct_count-le}
+use Rattle.std.specs.Str.{bytes_eq}
+use Rattle.htl_names.specs.Conditions.{MeetsTaskBounds, MeetsInvokeBounds, MeetsSwitchBounds, MeetsBounds}
 use Rattle.htl_text.specs.Bounds.{names_of, modules_of, modes_of, IsBoundedTask, IsBoundedInvoke, IsBoundedSwitch, IsBoundedMode, IsBoundedModule, IsBoundedProgram, IsBounded}
 use Rattle.htl_text.specs.Nodes.{PlainProgram, PlainTask, PlainSwitch}
 use Rattle.htl_text.specs.declared.tree.Id.{Id}
 use Rattle.htl_text.specs.declared.tree.InvokeNode.{InvokeNode}
-
--- ---- different names are no more than names
-
-with_one : (ns : List (List ℕ)) (n : List ℕ) → length (with_new_name ns n) ≤ length ns + 1
-with_one ns n = grind (arith, length-append ns (n ∷ []))
-
-with_more : (ns more : List (List ℕ)) → length (fold with_new_name ns more) ≤ length ns + length more
-with_more ns [] = omega arith
-with_more ns (n ∷ more) = omega (arith, with_more (with_new_name ns n) more, with_one ns n)
-
-few_names : (ids : List Id) → length (different_names ids) ≤ length ids
-few_names ids = omega (arith, with_more [] (map (λ (id : Id). id.name) ids), length-map ids (λ (id : Id). id.name))
 
 -- ---- the parts
 
@@ -36,12 +27,14 @@ bounded_invoke : (i : InvokeNode) → IsBoundedInvoke i → MeetsInvokeBounds i
 bounded_invoke i b = record { reads = b.few_reads; writes = b.few_writes }
 
 bounded_switch : (s : PlainSwitch) → IsBoundedSwitch s → MeetsSwitchBounds s
-bounded_switch s b = record { cond = b.cond.few_nodes; names = omega (arith, few_names (names_of s.cond), b.few_names) }
+bounded_switch s b = record { cond = b.cond.few_nodes; names = omega (arith, distinct_count-le bytes_eq (map (λ (id : Id). id.name) (names_of s.cond)), length-map (names_of s.cond) (λ (id : Id). id.name), b.few_names) }
 
 -- what holds of the parts of each item holds of all of them
 all_parts : {A B : Type 0} (P : A → Type 0) (Q : B → Type 0) (parts : A → List B) → ((x : A) → P x → All Q (parts x)) → (xs : List A) → All P xs → All Q (flat_map parts xs)
 all_parts P Q parts f xs all =
-    each_all Q (flat_map parts xs) (each_flat_map Q parts xs (each_weaker P (λ x. Each Q (parts x)) (λ x h. each_of_all Q (parts x) (f x h)) xs (each_of_all P xs all)))
+    All-from_places Q (flat_map parts xs) (λ n y e.
+    let p = flat_part parts xs n y e in
+    All-at Q (parts p.owner) p.place y (f p.owner (All-at P xs p.part p.owner all p.there)) p.item)
 
 -- ---- the tree
 

@@ -1,19 +1,10 @@
 -- What is asked of a tree whose names are resolved. Each tree of a source keeps it.
-use Rattle.std.specs.Prelude.{ℕ, cond, ◌≤◌, ◌∷◌, ◌++◌, List, [], All, length, map, fold}
-use Rattle.std.specs.List.{list_any}
+use Rattle.std.specs.Prelude.{◌≤◌, List, All, length, map}
+use Rattle.std.specs.Set.{distinct_count}
 use Rattle.std.specs.Str.{bytes_eq}
 use Rattle.htl_text.specs.Bounds.{tree_nodes, names_of, out_params, out_values, modules_of, modes_of, tasks_of, invokes_of, switches_of, IsBounded}
 use Rattle.htl_text.specs.Nodes.{PlainProgram, PlainTask, PlainSwitch}
-use Rattle.htl_text.specs.declared.tree.Id.{Id}
 use Rattle.htl_text.specs.declared.tree.InvokeNode.{InvokeNode}
-
--- the list with the name behind it, unless it is there
-abbrev pub with_new_name : List (List ℕ) → List ℕ → List (List ℕ)
-with_new_name ns n = cond (list_any (bytes_eq n) ns) ns (ns ++ n ∷ [])
-
--- the different names among some
-abbrev pub different_names : List Id → List (List ℕ)
-different_names ids = fold with_new_name [] (map (λ id. id.name) ids)
 
 pub record MeetsTaskBounds (t : PlainTask) : Type 0 where
   pub inputs : length t.inputs ≤ 256
@@ -26,7 +17,7 @@ pub record MeetsInvokeBounds (i : InvokeNode) : Type 0 where
 
 pub record MeetsSwitchBounds (s : PlainSwitch) : Type 0 where
   pub cond : tree_nodes s.cond ≤ 512
-  pub names : length (different_names (names_of s.cond)) ≤ 256
+  pub names : distinct_count bytes_eq (map (λ id. id.name) (names_of s.cond)) ≤ 256
 
 -- The tree has at most 1,048,576 programs, each list of parameters or ends at most 256 items, each expression at most
 -- 512 nodes, and each condition of a switch at most 256 different names.
