@@ -1,217 +1,198 @@
 -- In a tree of programs each module stands once in the order, so the modules in order have no more of a kind than the source.
-use Rattle.std.proofs.Common.{◌≡◌, ℕ, zero, suc, ◌+◌, ◌≤◌, ◌<◌, List, [], ◌∷◌, length, take, slice_get, Option, Some, None, refl, sym, ◌∙◌, ap, subst, arith, ◌≢◌, map, get_or}
-use Rattle.std.specs.List.{flat_map}
-use Rattle.std.proofs.lemmas.Option.{none-some, same_Some, slice_get_within, get_or_from_slice_get}
+use Rattle.std.proofs.Common.{◌≡◌, ◌⊎◌, inl, inr, ℕ, zero, suc, ◌+◌, ◌≤◌, ◌<◌, Bool, true, false, cond, eqb, List, [], ◌∷◌, length, take, slice_get, Option, Some, None, refl, sym, ◌∙◌, ap, ap₂, subst, arith, ◌≢◌, map, get_or, set, sum, sum_by, length-set, get_or-set_other}
+use Rattle.std.specs.List.{flat_map, count_by}
+use Rattle.std.specs.Prelude.{ltb}
+use Rattle.std.proofs.lemmas.Bool.{cases_eq, ne_eqb}
+use Rattle.std.proofs.lemmas.Bool.Decides.{nat_tests}
+use Rattle.std.proofs.lemmas.Option.{slice_get_within, get_or_from_slice_get, slice_get-get_or}
+use Rattle.std.proofs.lemmas.List.{length-map}
+use Rattle.std.proofs.lemmas.List.Concat.{length-flat_map, flat_map_single}
+use Rattle.std.proofs.lemmas.List.Sums.{sum-map, sum_by-cons, sum_by-append, sum_by_push, sum_by-set, sum_by_more_le, get_or-le-sum_by}
 use Rattle.htl_model.specs.Lists.{list_to}
+use Rattle.htl_model.proofs.Listed.{length-list_to}
+use Rattle.htl_model.proofs.PlaceLaws.{get_mapped}
+use Rattle.htl_text.specs.Bounds.{modules_of, modes_of, tasks_of}
 use Rattle.htl_text.specs.Nodes.{PlainProgram, PlainMode, PlainModule, PlainTask}
+use Rattle.htl_text.specs.declared.tree.InvokeNode.{InvokeNode}
 use Rattle.htl_names.specs.declared.key.Key.{Key}
 use Rattle.htl_names.specs.declared.place.ModeAt.{ModeAt}
 use Rattle.htl_names.specs.declared.place.ModuleAt.{ModuleAt}
-use Rattle.htl_names.specs.Lists.{flat_map_at}
-use Rattle.htl_names.specs.Order.{modules_at, modes_at, modules_in, mode_kids, kids, below, order, module_at, mode_at, tasks_at, invokes_at, module_modes, mode_order}
-use Rattle.htl_names.specs.Programs.{named_program, naming, refined_by, level}
-use Rattle.htl_names.specs.Nth.{nth_module, mode_in}
-use Rattle.htl_names.proofs.Members.{Each, each_at, each_weaker, each_of_places}
-use Rattle.htl_names.proofs.TreeLevels.{IsTree, refined_at, level_step}
-use Rattle.htl_names.proofs.ModulePlaces.{IsKid, placed_within, placed_names, placed_root, mode_kids_are, each_below, each_below_kids, each_kid, each_root}
-use Rattle.std.proofs.lemmas.List.{length-map}
-use Rattle.std.proofs.lemmas.List.Concat.{length-flat_map, flat_map_single}
-use Rattle.std.proofs.lemmas.List.Sums.{sum-map}
-use Rattle.htl_model.proofs.Listed.{length-list_to}
-use Rattle.htl_text.specs.Bounds.{modules_of, modes_of, tasks_of}
-use Rattle.htl_text.specs.declared.tree.InvokeNode.{InvokeNode}
+use Rattle.htl_names.specs.Flat.{is_module}
 use Rattle.htl_names.specs.Limits.{most_invokes}
+use Rattle.htl_names.specs.Lists.{flat_map_at}
+use Rattle.htl_names.specs.Narrow.{refined_place}
+use Rattle.htl_names.specs.Nth.{nth_module, mode_in}
+use Rattle.htl_names.specs.Order.{modules_at, modes_at, modules_in, mode_kids, kids, below, order, module_at, mode_at, tasks_at, invokes_at, module_modes, mode_order}
 use Rattle.htl_names.specs.Ordered.{Exists}
-use Rattle.htl_names.proofs.ListLaws.{Differ, sum_by_same, sum_at_places, flat_map_flat_map, flat_map_places, greatest_at}
-use Rattle.htl_names.proofs.FlatMaps.{at_flat, at_part, flat_map_is, list_to_at, of_list_to, part_of, same_length}
-use Rattle.htl_model.proofs.PlaceLaws.{get_mapped}
-use Rattle.htl_names.proofs.Places.{program_of_module, modes_there, mode_in_source}
+use Rattle.htl_names.specs.Programs.{named_program, refined_by}
+use Rattle.htl_names.proofs.FlatMaps.{at_front, at_part, same_part, flat_map_is, most_in_part}
+use Rattle.htl_names.proofs.ListLaws.{flat_map_flat_map, flat_map_places, greatest_at}
+use Rattle.htl_names.proofs.Members.{each_at, at_place}
+use Rattle.htl_names.proofs.ModulePlaces.{IsPlaced, modules_placed, placed_within, placed_names, placed_root, parents_before}
+use Rattle.htl_names.proofs.Places.{order_of, program_of_module, modes_there, mode_in_source}
+use Rattle.htl_names.proofs.TreeLevels.{IsTree, refined_at, root_unnamed, root_not_named}
+use Rattle.htl_names.proofs.Naming.{Names, refined_none}
 
--- ---- at most one item
-
--- P holds of at most one item
-abbrev Once : {A : Type 0} → (A → Type 0) → List A → Type 0
-Once {A} P xs = (j k : ℕ) (x y : A) → slice_get xs j ≡ Some x → slice_get xs k ≡ Some y → P x → P y → j ≡ k
-
-once_cons : {A : Type 0} (P : A → Type 0) (x : A) (xs : List A) → ((k : ℕ) (y : A) → slice_get xs k ≡ Some y → P x → P y → ⊥) → Once P xs → Once P (x ∷ xs)
-once_cons P x xs other once zero zero y z a b p q = refl
-once_cons P x xs other once zero (suc k) y z a b p q = absurd (other k z b (subst P (sym (same_Some x y a)) p) q)
-once_cons P x xs other once (suc j) zero y z a b p q = absurd (other j y a (subst P (sym (same_Some x z b)) q) p)
-once_cons P x xs other once (suc j) (suc k) y z a b p q = ap suc (once j k y z a b p q)
-
--- Q holds of at most one part, that of any such item
-once_parts : {A B : Type 0} (f : ℕ → A → List B) (P : B → Type 0) (Q : ℕ → A → Type 0) (xs : List A)
-    → ((i : ℕ) (x : A) → slice_get xs i ≡ Some x → ((j : ℕ) (y : B) → slice_get (f i x) j ≡ Some y → P y → Q i x) × Once P (f i x))
-    → ((i j : ℕ) (x y : A) → slice_get xs i ≡ Some x → slice_get xs j ≡ Some y → Q i x → Q j y → i ≡ j) → Once P (flat_map_at f 0 xs)
-once_parts {A} f P Q xs its one m n y z a b p q =
-    let u = part_of f xs m y a in
-    let v = part_of f xs n z b in
-    let parts = one u.part v.part u.owner v.owner u.there v.there ((its u.part u.owner u.there).0 u.place y u.item p) ((its v.part v.owner v.there).0 v.place z v.item q) in
-    let owners = same_Some u.owner v.owner (sym u.there ∙ ap (slice_get xs) parts ∙ v.there) in
-    let item : slice_get (f u.part u.owner) v.place ≡ Some z = ap (λ (i : ℕ). slice_get (f i u.owner) v.place) parts ∙ ap (λ (x : A). slice_get (f v.part x) v.place) owners ∙ v.item in
-    let places = (its u.part u.owner u.there).1 u.place v.place y z u.item item p q in
-    u.number ∙ ap (λ (i : ℕ). length (flat_map_at f 0 (take i xs)) + u.place) parts ∙ ap (λ (i : ℕ). length (flat_map_at f 0 (take v.part xs)) + i) places ∙ sym v.number
+-- no two items pass, where at most one is counted
+passes_once : {A : Type 0} (test : A → Bool) (xs : List A) → count_by test xs ≤ 1 → (j k : ℕ) (x y : A) → slice_get xs j ≡ Some x → slice_get xs k ≡ Some y
+    → test x ≡ true → test y ≡ true → j ≡ k
+passes_once {A} test xs few j k x y a b p q =
+    elim (order_of j k) [ inl less ↦ absurd (twice j k x y a b p q less) | inr r ↦ elim r [ inl more ↦ absurd (twice k j y x b a q p more) | inr is ↦ is ] ]
+  where
+    twice : (j k : ℕ) (x y : A) → slice_get xs j ≡ Some x → slice_get xs k ≡ Some y → test x ≡ true → test y ≡ true → j < k → ⊥
+    twice j k x y a b p q less =
+        let counts : A → ℕ = λ z. cond (test z) 1 0 in
+        let inside = slice_get_within (take k xs) j x (at_front xs k j x less a) in
+        let front = get_or-le-sum_by counts (take k xs) j x inside in
+        let one : counts (get_or (take k xs) j x) ≡ 1 = ap counts (get_or_from_slice_get (take k xs) j x x (at_front xs k j x less a)) ∙ ap (λ c. cond c 1 0) p in
+        let two : counts (get_or xs k y) ≡ 1 = ap counts (get_or_from_slice_get xs k y y b) ∙ ap (λ c. cond c 1 0) q in
+        omega (arith, few, front, one, two, sum_by_more_le counts xs k y (slice_get_within xs k y b))
 
 -- ---- each module stands once
-
-abbrev Spot : Type 0
-Spot = ℕ × ℕ
-
-abbrev spot : ModuleAt → Spot
-spot s = (s.program, s.«module»)
-
--- at most one of them is the module of this program and number
-abbrev OnceAt : Spot → List ModuleAt → Type 0
-OnceAt z xs = Once (λ (s : ModuleAt). spot s ≡ z) xs
 
 -- no module stands twice
 abbrev pub Apart : List ModuleAt → Type 0
 Apart xs = (j k : ℕ) (s r : ModuleAt) → slice_get xs j ≡ Some s → slice_get xs k ≡ Some r → s.program ≡ r.program → s.«module» ≡ r.«module» → j ≡ k
 
+-- once at most among the modules of its program
+in_program : (p u q : ℕ) (parent : Option ModeAt) (n : ℕ) → count_by (is_module p u) (list_to (nth_module q parent) n) ≤ cond (eqb q p) (cond (ltb u n) 1 0) 0
+in_program p u q parent zero = omega arith
+in_program p u q parent (suc n) =
+    let both = sum_by_push (λ s. cond (is_module p u s) 1 0) (list_to (nth_module q parent) n) (nth_module q parent n) in
+    let front = in_program p u q parent n in
+    grind (arith, nat_tests)
+
+-- the module of this mode
+abbrev is_over : Option ModeAt → ModuleAt → Bool
+is_over None s = false
+is_over (Some a) s = is_module a.program a.«module» s
+
+none_over : (xs : List ModuleAt) → count_by (is_over None) xs ≡ 0
+none_over [] = refl
+none_over (s ∷ xs) = omega (arith, sum_by-cons (λ r. cond (is_over None r) 1 0) s xs, none_over xs)
+
 module _ (symbols : List (Key × ℕ)) (ps : List PlainProgram) (tree : IsTree symbols ps) where
-  abbrev depth : Spot → ℕ
-  depth z = level (naming symbols ps) (length ps) z.0
-
-  -- the module of the mode that a module's program refines
-  abbrev over : Spot → Spot
-  over z = elim (refined_by symbols ps z.0) [ Some a ↦ (a.program, a.«module») | None ↦ z ]
-
-  abbrev up : ℕ → Spot → Spot
-  up zero z = z
-  up (suc k) z = up k (over z)
-
-  -- the module z stands below s or is s
-  record IsUnder (s : ModuleAt) (z : Spot) : Type 0 where
-    steps : ℕ
-    climb : up steps z ≡ spot s
-    depths : depth z ≡ steps + depth (spot s)
-
-  kid_refines : (t r : ModuleAt) (k : IsKid symbols ps t r) → refined_by symbols ps r.program ≡ Some (mode_in t k.mode)
-  kid_refines t r k = refined_at symbols ps tree (mode_in t k.mode) r.program (placed_within symbols ps r k.placed) (placed_names symbols ps r (mode_in t k.mode) k.placed k.parent)
-
-  kid_depth : (t r : ModuleAt) → IsKid symbols ps t r → depth (spot r) ≡ suc (depth (spot t))
-  kid_depth t r k = level_step symbols ps tree r.program (mode_in t k.mode) (placed_within symbols ps r k.placed) (placed_names symbols ps r (mode_in t k.mode) k.placed k.parent)
-
-  under_kid : (s t r : ModuleAt) → IsKid symbols ps t r → IsUnder s (spot t) → IsUnder s (spot r)
-  under_kid s t r k h =
-      let over_is : over (spot r) ≡ spot t = ap (λ (o : Option ModeAt). elim o as (λ _. Spot) [ Some a ↦ (a.program, a.«module») | None ↦ spot r ]) (kid_refines t r k) in
-      let own = kid_depth t r k in
-      let depths = h.depths in
-      record { steps = suc h.steps; climb = ap (up h.steps) over_is ∙ h.climb; depths = omega (arith, own, depths) }
-
-  under_below : (n : ℕ) (s : ModuleAt) → Each (λ r. IsUnder s (spot r)) (below n symbols ps s)
-  under_below n s = each_below symbols ps (λ r. IsUnder s (spot r)) (λ t r k h. under_kid s t r k h) n s (record { steps = 0; climb = refl; depths = omega arith })
-
-  modules_once : (program : ℕ) (parent : Option ModeAt) (n : ℕ) (z : Spot) → OnceAt z (list_to (nth_module program parent) n)
-  modules_once program parent n z j k s r a b p q =
-      let one = ap (λ (y : ModuleAt). y.«module») (of_list_to (nth_module program parent) n j s a).1 in
-      let two = ap (λ (y : ModuleAt). y.«module») (of_list_to (nth_module program parent) n k r b).1 in
-      one ∙ ap (λ (y : Spot). y.1) (p ∙ sym q) ∙ sym two
-
-  kids_once : (t : ModuleAt) (z : Spot) → OnceAt z (kids symbols ps t)
-  kids_once t z =
-      once_parts (mode_kids symbols ps t.program t.«module») (λ (s : ModuleAt). spot s ≡ z) (λ m x. refined_by symbols ps z.0 ≡ Some (mode_in t m)) (modes_at ps t.program t.«module»)
-      (λ m x at. (refines m x at, by m (named_program symbols x)))
-      (λ m n x y a b p q. ap (λ (c : ModeAt). c.mode) (same_Some (mode_in t m) (mode_in t n) (sym p ∙ q)))
+  -- a module stands once at most among those below the modes of one, and only below the one that its program refines
+  kids_few : (p u : ℕ) → p < length ps → (s : ModuleAt) → count_by (is_module p u) (kids symbols ps s) ≤ cond (is_over (refined_by symbols ps p) s) 1 0
+  kids_few p u lt s =
+      most_in_part (is_module p u) (mode_kids symbols ps s.program s.«module») (refined_place (refined_by symbols ps p)) (cond (is_over (refined_by symbols ps p) s) 1 0)
+      (modes_at ps s.program s.«module») (λ i x there. by i x there (named_program symbols x) refl)
     where
-      refines : (m : ℕ) (x : PlainMode) → slice_get (modes_at ps t.program t.«module») m ≡ Some x → (j : ℕ) (r : ModuleAt)
-          → slice_get (mode_kids symbols ps t.program t.«module» m x) j ≡ Some r → spot r ≡ z → refined_by symbols ps z.0 ≡ Some (mode_in t m)
-      refines m x at j r e is =
-          let k = each_at (λ r. (k : IsKid symbols ps t r) × (k.mode ≡ m)) (mode_kids symbols ps t.program t.«module» m x) j r (mode_kids_are symbols ps t m x at) e in
-          ap (λ (y : Spot). refined_by symbols ps y.0) (sym is) ∙ kid_refines t r k.0 ∙ ap (λ (i : ℕ). Some (mode_in t i)) k.1
+      by : (i : ℕ) (x : PlainMode) → slice_get (modes_at ps s.program s.«module») i ≡ Some x → (o : Option ℕ) → named_program symbols x ≡ o
+          → count_by (is_module p u) (elim o [ Some q ↦ modules_in ps (Some (mode_in s i)) q | None ↦ [] ])
+          ≤ cond (eqb i (refined_place (refined_by symbols ps p))) (cond (is_over (refined_by symbols ps p) s) 1 0) 0
+      by i x there None e = omega arith
+      by i x there (Some q) e =
+          let few = in_program p u q (Some (mode_in s i)) (length (modules_at ps q)) in
+          elim (cases_eq q p) [
+            | inl is ↦
+                let refined = refined_at symbols ps tree (mode_in s i) p lt (record { mode = x; there = there; named = e ∙ ap Some is }) in
+                subst (λ (o : Option ModeAt). count_by (is_module p u) (modules_in ps (Some (mode_in s i)) q) ≤ cond (eqb i (refined_place o)) (cond (is_over o s) 1 0) 0) (sym refined)
+                (grind (arith, nat_tests))
+            | inr other ↦ let no = ne_eqb q p other in grind (arith, nat_tests)
+          ]
 
-      by : (m : ℕ) (o : Option ℕ) → OnceAt z (elim o [ Some q ↦ modules_in ps (Some (mode_in t m)) q | None ↦ [] ])
-      by m None = λ j k s r a. absurd (none-some s a)
-      by m (Some q) = modules_once q (Some (mode_in t m)) (length (modules_at ps q)) z
+  -- so it stands no more often than that one, but for the modules from which the order starts
+  module _ (test over : ModuleAt → Bool) (few : (s : ModuleAt) → count_by test (kids symbols ps s) ≤ cond (over s) 1 0) where
+    flat_few : (f : ModuleAt → List ModuleAt) → ((s : ModuleAt) → count_by test (f s) ≤ cond (test s) 1 0 + count_by over (f s)) → (xs : List ModuleAt)
+        → count_by test (flat_map f xs) ≤ count_by test xs + count_by over (flat_map f xs)
+    flat_few f own [] = omega arith
+    flat_few f own (s ∷ xs) =
+        omega (arith, sum_by-append (λ r. cond (test r) 1 0) (f s) (flat_map f xs), sum_by-append (λ r. cond (over r) 1 0) (f s) (flat_map f xs),
+        sum_by-cons (λ r. cond (test r) 1 0) s xs, own s, flat_few f own xs)
 
-  -- below modules of one depth of which none stands twice
-  once_over : (n d : ℕ) (xs : List ModuleAt) → Each (λ x. depth (spot x) ≡ d) xs → ((z : Spot) → OnceAt z xs) → ((x : ModuleAt) (z : Spot) → OnceAt z (below n symbols ps x))
-      → (z : Spot) → OnceAt z (flat_map (below n symbols ps) xs)
-  once_over n d xs deep apart each z =
-      subst (OnceAt z) (flat_map_is (below n symbols ps) 0 xs)
-      (once_parts (λ i x. below n symbols ps x) (λ (s : ModuleAt). spot s ≡ z) (λ i x. IsUnder x z) xs
-      (λ i x at. (λ j r e is. subst (IsUnder x) is (each_at (λ r. IsUnder x (spot r)) (below n symbols ps x) j r (under_below n x) e), each x z)) one)
+    below_few : (n : ℕ) (s : ModuleAt) → count_by test (below n symbols ps s) ≤ cond (test s) 1 0 + count_by over (below n symbols ps s)
+    below_few zero s = omega arith
+    below_few (suc n) s =
+        let rest = flat_map (below n symbols ps) (kids symbols ps s) in
+        omega (arith, sum_by-cons (λ r. cond (test r) 1 0) s rest, sum_by-cons (λ r. cond (over r) 1 0) s rest,
+        flat_few (below n symbols ps) (below_few n) (kids symbols ps s), few s)
+
+  once : (n k : ℕ) (s : ModuleAt) → k < n → slice_get (order symbols ps) k ≡ Some s → count_by (is_module s.program s.«module») (order symbols ps) ≤ 1
+  once zero k s less e = absurd (omega (arith, less))
+  once (suc n) k s less e = by s.parent refl (λ j r lower there. once n j r (omega (arith, lower, less)) there)
     where
-      one : (i j : ℕ) (x y : ModuleAt) → slice_get xs i ≡ Some x → slice_get xs j ≡ Some y → IsUnder x z → IsUnder y z → i ≡ j
-      one i j x y a b u v =
-          let first = each_at (λ x. depth (spot x) ≡ d) xs i x deep a in
-          let second = each_at (λ x. depth (spot x) ≡ d) xs j y deep b in
-          let under = u.depths in
-          let too = v.depths in
-          let steps : u.steps ≡ v.steps = omega (arith, first, second, under, too) in
-          apart (spot y) i j x y a b (sym u.climb ∙ ap (λ k. up k z) steps ∙ v.climb) refl
+      test : ModuleAt → Bool
+      test = is_module s.program s.«module»
 
-  once_below : (n : ℕ) (s : ModuleAt) (z : Spot) → OnceAt z (below n symbols ps s)
-  once_below zero s z = once_cons (λ (r : ModuleAt). spot r ≡ z) s [] (λ k r e. absurd (none-some r e)) (λ j k r q a. absurd (none-some r a))
-  once_below (suc n) s z =
-      once_cons (λ (r : ModuleAt). spot r ≡ z) s (flat_map (below n symbols ps) (kids symbols ps s)) lower
-      (once_over n (suc (depth (spot s))) (kids symbols ps s) (each_kid symbols ps (λ r. depth (spot r) ≡ suc (depth (spot s))) s (kid_depth s))
-      (kids_once s) (once_below n) z)
-    where
-      Deeper : ModuleAt → Type 0
-      Deeper r = depth (spot s) < depth (spot r)
+      placed : IsPlaced symbols ps s
+      placed = each_at (IsPlaced symbols ps) (order symbols ps) k s (modules_placed symbols ps) e
 
-      lower : (k : ℕ) (r : ModuleAt) → slice_get (flat_map (below n symbols ps) (kids symbols ps s)) k ≡ Some r → spot s ≡ z → spot r ≡ z → ⊥
-      lower k r e p q =
-          let deep = each_below_kids symbols ps Deeper (λ t r k lt. let one = kid_depth t r k in omega (arith, one, lt)) n s (λ t k. let one = kid_depth s t k in omega (arith, one)) in
-          let below_s = each_at Deeper (flat_map (below n symbols ps) (kids symbols ps s)) k r deep e in
-          let same = ap depth (p ∙ sym q) in
-          omega (arith, below_s, same)
+      within : s.program < length ps
+      within = placed_within symbols ps s placed
+
+      all : (o : Option ModeAt) → refined_by symbols ps s.program ≡ o → count_by test (order symbols ps) ≤ cond (eqb 0 s.program) 1 0 + count_by (is_over o) (order symbols ps)
+      all o refined =
+          let few = subst (λ (o : Option ModeAt). (t : ModuleAt) → count_by test (kids symbols ps t) ≤ cond (is_over o t) 1 0) refined (kids_few s.program s.«module» within) in
+          let along = flat_few test (is_over o) few (below (length ps) symbols ps) (below_few test (is_over o) few (length ps)) (modules_in ps None 0) in
+          let roots = in_program s.program s.«module» 0 None (length (modules_at ps 0)) in
+          grind (arith, nat_tests)
+
+      by : (o : Option ModeAt) → s.parent ≡ o
+          → ((j : ℕ) (r : ModuleAt) → j < k → slice_get (order symbols ps) j ≡ Some r → count_by (is_module r.program r.«module») (order symbols ps) ≤ 1) → count_by test (order symbols ps) ≤ 1
+      by None none before =
+          let top = placed_root symbols ps s placed none in
+          let few = all None (ap (refined_by symbols ps) top ∙ refined_none symbols ps 0 (root_unnamed symbols ps tree (omega (arith, within, top)))) in
+          grind (arith, nat_tests, none_over (order symbols ps))
+      by (Some a) some before =
+          let b = parents_before symbols ps k s a e some in
+          let one = before b.place b.«module» b.lower b.there in
+          let same = ap₂ (λ p u. count_by (is_module p u) (order symbols ps)) b.program b.number in
+          let names = placed_names symbols ps s a placed some in
+          let few = all (Some a) (refined_at symbols ps tree a s.program within names) in
+          let no_root = ne_eqb 0 s.program (λ is. root_not_named symbols ps tree (omega (arith, within)) a (subst (Names symbols ps a) (sym is) names)) in
+          grind (arith, nat_tests)
 
   pub order_apart : Apart (order symbols ps)
-  order_apart j k s r a b p u =
-      once_over (length ps) (depth (0, 0)) (modules_in ps None 0)
-      (each_root symbols ps (λ x. depth (spot x) ≡ depth (0, 0)) (λ x placed top. ap (level (naming symbols ps) (length ps)) (placed_root symbols ps x placed top)))
-      (modules_once 0 None (length (modules_at ps 0))) (once_below (length ps)) (spot r) j k s r a b (cc) refl
+  order_apart j k s r a b p u = passes_once (is_module r.program r.«module») (order symbols ps) (once (suc k) k r (omega arith) b) j k s r a b (grind (arith, nat_tests)) (grind (arith, nat_tests))
 
 -- ---- the modules in order have no more of a kind than the source
+
+-- a sum over items of different places is at most the sum over all places
+sum_few : {A : Type 0} (at f : A → ℕ) (ws : List ℕ) (xs : List A) → ((k : ℕ) (x : A) → slice_get xs k ≡ Some x → slice_get ws (at x) ≡ Some (f x))
+    → ((j k : ℕ) (x y : A) → slice_get xs j ≡ Some x → slice_get xs k ≡ Some y → at x ≡ at y → j ≡ k) → sum_by f xs ≤ sum ws
+sum_few at f ws [] has apart = omega arith
+sum_few at f ws (x ∷ xs) has apart =
+    let within = slice_get_within ws (at x) (f x) (has 0 x refl) in
+    let rest = sum_few at f (set ws (at x) 0) xs
+    (λ k y e.
+    let there = has (suc k) y e in
+    let apart_places : at y ≢ at x = λ same. omega (arith, apart (suc k) 0 y x e refl same) in
+    slice_get-get_or (set ws (at x) 0) (at y) (f y) (omega (arith, slice_get_within ws (at y) (f y) there, length-set ws (at x) 0))
+    ∙ ap (λ (n : ℕ). Some n) (get_or-set_other ws (at x) (at y) 0 (f y) apart_places ∙ get_or_from_slice_get ws (at y) (f y) (f y) there))
+    (λ j k y z p q same. omega (arith, apart (suc j) (suc k) y z p q same)) in
+    omega (arith, rest, sum_by-set (λ n. n) ws (at x) 0 0 within, sum_by-cons f x xs, get_or_from_slice_get ws (at x) (f x) 0 (has 0 x refl))
 
 module _ (ps : List PlainProgram) where
   -- the number of a module among all modules of the source
   abbrev number : ModuleAt → ℕ
-  number s = length (flat_map (λ (x : PlainProgram). x.modules) (take s.program ps)) + s.«module»
+  number s = length (flat_map_at (λ k (x : PlainProgram). x.modules) 0 (take s.program ps)) + s.«module»
 
   there : (s : ModuleAt) (h : Exists ps s) → slice_get (modules_of ps) (number s) ≡ Some h.0
-  there s h = let x = program_of_module ps s.program s.«module» h.0 h.1 in at_flat (λ (x : PlainProgram). x.modules) ps s.program s.«module» x.0 h.0 x.1 x.2
-
-  -- the modules of a program, by program and number
-  abbrev spots : ℕ → PlainProgram → List Spot
-  spots p x = list_to (λ u. (p, u)) (length x.modules)
-
-  spot_there : (s : ModuleAt) → Exists ps s → slice_get (flat_map_at spots 0 ps) (number s) ≡ Some (spot s)
-  spot_there s h =
+  there s h =
       let x = program_of_module ps s.program s.«module» h.0 h.1 in
-      ap (λ n. slice_get (flat_map_at spots 0 ps) (n + s.«module»)) (sym (same_length spots (λ (x : PlainProgram). x.modules) (λ k x. length-list_to (λ u. (k, u)) (length x.modules)) 0 (take s.program ps)))
-      ∙ at_part spots 0 ps s.program s.«module» s.program x.0 (spot s) (omega arith) x.1
-      (list_to_at (λ u. (s.program, u)) (length x.0.modules) s.«module» (slice_get_within x.0.modules s.«module» h.0 x.2))
+      ap (λ ys. slice_get ys (number s)) (sym (flat_map_is (λ (x : PlainProgram). x.modules) 0 ps))
+      ∙ at_part (λ k (x : PlainProgram). x.modules) 0 ps s.program s.«module» s.program x.0 h.0 (omega arith) x.1 x.2
 
-  differ : (modules : List ModuleAt) → Each (Exists ps) modules → Apart modules → Differ number modules
-  differ [] h d = tt
-  differ (s ∷ modules) h d = (
-    each_of_places (λ r. number r ≢ number s) modules (λ k r e same.
-        let spots_are = same_Some (spot r) (spot s) (sym (spot_there r (each_at (Exists ps) modules k r h.1 e)) ∙ ap (slice_get (flat_map_at spots 0 ps)) same ∙ spot_there s h.0) in
-        let places = d (suc k) 0 r s e refl (ap (λ (z : Spot). z.0) spots_are) (ap (λ (z : Spot). z.1) spots_are) in
-        omega (arith, places)),
-    differ modules h.1 (λ j k s r a b p u. let places = d (suc j) (suc k) s r a b p u in omega (arith, places)),
-  )
+  -- no other has it
+  own_number : (s r : ModuleAt) → Exists ps s → Exists ps r → number s ≡ number r → (s.program ≡ r.program) × (s.«module» ≡ r.«module»)
+  own_number s r h g same =
+      let x = program_of_module ps s.program s.«module» h.0 h.1 in
+      let y = program_of_module ps r.program r.«module» g.0 g.1 in
+      let part = same_part (λ k (x : PlainProgram). x.modules) ps s.program r.program s.«module» r.«module» x.0 y.0 x.1 y.1
+      (slice_get_within x.0.modules s.«module» h.0 x.2) (slice_get_within y.0.modules r.«module» g.0 y.2) same in
+      (part, omega (arith, same, ap (λ (p : ℕ). length (flat_map_at (λ k (x : PlainProgram). x.modules) 0 (take p ps))) part))
 
-  module _ (modules : List ModuleAt) (h : Each (Exists ps) modules) (d : Apart modules) where
+  module _ (modules : List ModuleAt) (h : (k : ℕ) (s : ModuleAt) → slice_get modules k ≡ Some s → Exists ps s) (d : Apart modules) where
     -- what the modules in order have, the source has
     pub few : {B C : Type 0} (at : ModuleAt → List B) (part : PlainModule → List C) → ((s : ModuleAt) (y : PlainModule) → module_at ps s.program s.«module» ≡ Some y → length (at s) ≡ length (part y))
         → length (flat_map at modules) ≤ length (flat_map part (modules_of ps))
     few at part same =
         let size : PlainModule → ℕ = λ y. length (part y) in
-        let ws = map size (modules_of ps) in
-        let inside = each_weaker (Exists ps) (λ s. number s < length ws)
-        (λ s e. omega (arith, slice_get_within (modules_of ps) (number s) e.0 (there s e), length-map (modules_of ps) size)) modules h in
-        let each = each_weaker (Exists ps) (λ s. length (at s) ≡ get_or ws (number s) 0)
-        (λ s e. same s e.0 e.1 ∙ sym (get_or_from_slice_get ws (number s) (size e.0) 0 (get_mapped size (modules_of ps) (number s) e.0 (there s e)))) modules h in
-        let one = length-flat_map at modules in
-        let two = sum_by_same (λ s. length (at s)) (λ s. get_or ws (number s) 0) modules each in
-        let three = sum_at_places number ws modules (differ modules h d) inside in
-        let four = sum-map size (modules_of ps) in
-        let five = length-flat_map part (modules_of ps) in
-        omega (arith, one, two, three, four, five)
+        let total = sum_few number (λ s. length (at s)) (map size (modules_of ps)) modules
+        (λ k s e. let x = h k s e in get_mapped size (modules_of ps) (number s) x.0 (there s x) ∙ ap (λ (n : ℕ). Some n) (sym (same s x.0 x.1)))
+        (λ j k s r e f is. let own = own_number s r (h j s e) (h k r f) is in d j k s r e f own.0 own.1) in
+        omega (arith, total, length-flat_map at modules, sum-map size (modules_of ps), length-flat_map part (modules_of ps))
 
     pub few_modules_than : length modules ≤ length (modules_of ps)
     few_modules_than = simp (flat_map_single, length-map) at (few (λ (s : ModuleAt). s ∷ []) (λ (y : PlainModule). y ∷ []) (λ s y e. refl))

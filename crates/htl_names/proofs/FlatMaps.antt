@@ -1,10 +1,11 @@
 -- Where the items of lists and of their parts stand, and whose they are.
-use Rattle.std.proofs.Common.{◌≡◌, ℕ, zero, suc, ◌+◌, ◌<◌, ◌≤◌, ◌⊎◌, inl, inr, List, [], ◌∷◌, ◌++◌, length, take, slice_get, Some, None, refl, sym, ◌∙◌, ap, ap₂, subst, arith, length-append, drop, take-append-drop, add-one, append_assoc, get_or, map, cond, Bool, true, false, eqb, Option, eq-eqb, flat_map, count_by}
+use Rattle.std.proofs.Common.{◌≡◌, ℕ, zero, suc, ◌+◌, ◌<◌, ◌≤◌, ◌⊎◌, inl, inr, List, [], ◌∷◌, ◌++◌, length, take, slice_get, Some, None, refl, sym, ◌∙◌, ap, ap₂, subst, arith, length-append, drop, take-append-drop, add-one, append_assoc, get_or, map, cond, Bool, true, false, eqb, leb, Option, eq-eqb, flat_map, count_by}
 use Rattle.std.proofs.lemmas.List.{drop_more, length-map, length-take, get_or-take}
 use Rattle.std.proofs.lemmas.Option.{slice_get_within, same_Some, none-some, slice_get-get_or, get_or_from_slice_get}
 use Rattle.std.proofs.lemmas.Grind.{flat_map-append}
 use Rattle.std.specs.List.Sorted.{IsNonDecreasing}
-use Rattle.std.proofs.lemmas.Bool.{cases_lt, ne_eqb}
+use Rattle.std.proofs.lemmas.Bool.{cases_lt, cases_eq, ne_eqb}
+use Rattle.std.proofs.lemmas.Bool.Decides.{nat_tests}
 use Rattle.std.proofs.lemmas.List.Sums.{sum_by-cons, sum_by-append}
 use Rattle.htl_model.specs.Lists.{list_to}
 use Rattle.htl_model.proofs.Listed.{length-list_to, get_list_to}
@@ -95,6 +96,14 @@ part_before f k (z ∷ xs) zero (suc j) n x is less there =
 part_before f k (z ∷ xs) (suc i) (suc j) n x is less there =
     let later = part_before f (suc k) xs i j n x (omega (arith, is)) (omega (arith, less)) there in
     omega (arith, later, length-append (f k z) (flat_map_at f (suc k) (take i xs)), length-append (f k z) (flat_map_at f (suc k) (take j xs)))
+
+-- a place is in one part
+pub same_part : {A B : Type 0} (f : ℕ → A → List B) (xs : List A) (i j m n : ℕ) (x y : A) → slice_get xs i ≡ Some x → slice_get xs j ≡ Some y → m < length (f i x) → n < length (f j y)
+    → length (flat_map_at f 0 (take i xs)) + m ≡ length (flat_map_at f 0 (take j xs)) + n → i ≡ j
+same_part f xs i j m n x y a b p q same =
+    let one = λ (less : i < j). part_before f 0 xs i j i x (omega arith) less a in
+    let two = λ (less : j < i). part_before f 0 xs j i j y (omega arith) less b in
+    grind arith
 
 -- where an item stands: in which part, at which place of it, and behind how many items
 pub record Part {A B : Type 0} (f : ℕ → A → List B) (before : ℕ → ℕ) (xs : List A) (n : ℕ) (y : B) : Type 0 where
@@ -192,44 +201,23 @@ of_map f [] k y e = absurd cc
 of_map f (x ∷ xs) zero y e = (x, refl, cc)
 of_map f (x ∷ xs) (suc k) y e = of_map f xs k y e
 
--- ---- how many items an owner has
+-- ---- how many items pass a test
 
--- each item has the place of its part as owner
-abbrev pub IsOwned : {A B : Type 0} → (ℕ → A → List B) → (B → ℕ) → Type 0
-IsOwned {A} {B} f own = (k : ℕ) (x : A) (j : ℕ) (y : B) → slice_get (f k x) j ≡ Some y → own y ≡ k
+most_from : {A B : Type 0} (test : B → Bool) (f : ℕ → A → List B) (m most k : ℕ) (xs : List A)
+    → ((i j : ℕ) (x : A) → i ≡ k + j → slice_get xs j ≡ Some x → count_by test (f i x) ≤ cond (eqb i m) most 0) → count_by test (flat_map_at f k xs) ≤ cond (leb k m) most 0
+most_from test f m most k [] h = omega arith
+most_from test f m most k (x ∷ xs) h =
+    let both = sum_by-append (λ y. cond (test y) 1 0) (f k x) (flat_map_at f (suc k) xs) in
+    let here = h k 0 x (omega arith) refl in
+    let rest = most_from test f m most (suc k) xs (λ i j y is e. h i (suc j) y (omega (arith, is)) e) in
+    grind (arith, nat_tests)
 
--- all items pass the test, or none does
-count_alike : {B : Type 0} (test : B → Bool) (b : Bool) (ys : List B) → ((j : ℕ) (y : B) → slice_get ys j ≡ Some y → test y ≡ b) → count_by test ys ≡ cond b (length ys) 0
-count_alike test true [] alike = refl
-count_alike test false [] alike = refl
-count_alike test b (y ∷ ys) alike = by b first (count_alike test b ys (λ j z e. alike (suc j) z e))
-  where
-    first : count_by test (y ∷ ys) ≡ cond b 1 0 + count_by test ys
-    first = sum_by-cons (λ z. cond (test z) 1 0) y ys ∙ ap (λ c. cond c 1 0 + count_by test ys) (alike 0 y refl)
-
-    by : (b : Bool) → count_by test (y ∷ ys) ≡ cond b 1 0 + count_by test ys → count_by test ys ≡ cond b (length ys) 0 → count_by test (y ∷ ys) ≡ cond b (suc (length ys)) 0
-    by true first rest = omega (arith, first, rest)
-    by false first rest = omega (arith, first, rest)
-
--- as many as its part, where there is one
-owned_size : {A B : Type 0} (f : ℕ → A → List B) (own : B → ℕ) (m : ℕ) → IsOwned f own → (k : ℕ) (xs : List A) (i : ℕ) → m ≡ k + i
-    → count_by (λ y. eqb (own y) m) (flat_map_at f k xs) ≡ elim (slice_get xs i) [ Some x ↦ length (f m x) | None ↦ 0 ]
-owned_size f own m owned k [] i same = refl
-owned_size f own m owned k (z ∷ xs) zero same =
-    let sum = sum_by-append (λ y. cond (eqb (own y) m) 1 0) (f k z) (flat_map_at f (suc k) xs) in
-    let all = count_alike (λ y. eqb (own y) m) true (f k z) (λ j y g. let is = owned k z j y g in eq-eqb (own y) m (omega (arith, is, same))) in
-    let none = count_alike (λ y. eqb (own y) m) false (flat_map_at f (suc k) xs) (λ j y g.
-    let p = part_from f (suc k) xs j y g in
-    ne_eqb (own y) m (λ e. omega (arith, owned (suc k + p.part) p.owner p.place y p.item, same, e))) in
-    let here : k ≡ m = omega (arith, same) in
-    omega (arith, sum, all, none, ap (λ (n : ℕ). length (f n z)) here)
-owned_size f own m owned k (z ∷ xs) (suc i) same =
-    let none = count_alike (λ y. eqb (own y) m) false (f k z) (λ j y g. let is = owned k z j y g in ne_eqb (own y) m (λ e. omega (arith, is, same, e))) in
-    omega (arith, sum_by-append (λ y. cond (eqb (own y) m) 1 0) (f k z) (flat_map_at f (suc k) xs), none, owned_size f own m owned (suc k) xs i (omega (arith, same)))
-
-pub owned_count : {A B : Type 0} (f : ℕ → A → List B) (own : B → ℕ) (m : ℕ) → IsOwned f own → (k : ℕ) (xs : List A) (i : ℕ) (x : A) → m ≡ k + i → slice_get xs i ≡ Some x
-    → count_by (λ y. eqb (own y) m) (flat_map_at f k xs) ≡ length (f m x)
-owned_count f own m owned k xs i x same e = owned_size f own m owned k xs i same ∙ ap (λ o. elim o [ Some z ↦ length (f m z) | None ↦ 0 ]) e
+-- so many at most, where so many of part m do, and none of another
+pub most_in_part : {A B : Type 0} (test : B → Bool) (f : ℕ → A → List B) (m most : ℕ) (xs : List A)
+    → ((i : ℕ) (x : A) → slice_get xs i ≡ Some x → count_by test (f i x) ≤ cond (eqb i m) most 0) → count_by test (flat_map_at f 0 xs) ≤ most
+most_in_part test f m most xs h =
+    let all = most_from test f m most 0 xs (λ i j x is e. h i x (ap (slice_get xs) (let same : i ≡ j = omega (arith, is) in same) ∙ e)) in
+    grind (arith, nat_tests)
 
 -- ---- lists by owners, of which each has nodes that give an item each
 
@@ -247,17 +235,28 @@ stands item nodes xs k m x n there its =
     subst (λ (i : ℕ). slice_get (flat_map_at (given item nodes) 0 xs) (i + m) ≡ Some (item k x n)) (counted item nodes (take k xs))
     (at_part (given item nodes) 0 xs k m k x (item k x n) (omega arith) there (get_mapped (item k x) (nodes x) m n its))
 
-pub owned : {A N B : Type 0} (item : ℕ → A → N → B) (nodes : A → List N) (own : B → ℕ) → ((k : ℕ) (x : A) (n : N) → own (item k x n) ≡ k) → IsOwned (given item nodes) own
+-- an item has the place of its part as owner
+owned : {A N B : Type 0} (item : ℕ → A → N → B) (nodes : A → List N) (own : B → ℕ) → ((k : ℕ) (x : A) (n : N) → own (item k x n) ≡ k)
+    → (k : ℕ) (x : A) (j : ℕ) (y : B) → slice_get (given item nodes k x) j ≡ Some y → own y ≡ k
 owned item nodes own is k x j y e = let r = of_map (item k x) (nodes x) j y e in sym (ap own r.2) ∙ is k x r.0
+
+-- all items of an owner pass the test, or none does
+count_alike : {N B : Type 0} (test : B → Bool) (b : Bool) (g : N → B) (ns : List N) → ((n : N) → test (g n) ≡ b) → count_by test (map g ns) ≤ cond b (length ns) 0
+count_alike test b g [] alike = omega arith
+count_alike test b g (n ∷ ns) alike =
+    let first = sum_by-cons (λ y. cond (test y) 1 0) (g n) (map g ns) in
+    let here = alike n in
+    let rest = count_alike test b g ns alike in
+    grind (arith, nat_tests)
 
 -- no owner has more items than nodes
 pub few_owned : {A N B : Type 0} (item : ℕ → A → N → B) (nodes : A → List N) (own : B → ℕ) → ((k : ℕ) (x : A) (n : N) → own (item k x n) ≡ k)
-    → (m most : ℕ) (xs : List A) → ((x : A) → length (nodes x) ≤ most) → count_by (λ y. eqb (own y) m) (flat_map_at (given item nodes) 0 xs) ≤ most
-few_owned {A} item nodes own is m most xs few = let size = owned_size (given item nodes) own m (owned item nodes own is) 0 xs m (omega arith) in let low = by (slice_get xs m) in omega (arith, size, low)
-  where
-    by : (o : Option A) → elim o [ Some x ↦ length (given item nodes m x) | None ↦ 0 ] ≤ most
-    by (Some x) = let size = length-map (nodes x) (item m x) in let low = few x in omega (arith, size, low)
-    by None = omega arith
+    → (m most : ℕ) (xs : List A) → ((x : A) → slice_get xs m ≡ Some x → length (nodes x) ≤ most) → count_by (λ y. eqb (own y) m) (flat_map_at (given item nodes) 0 xs) ≤ most
+few_owned item nodes own is m most xs few =
+    most_in_part (λ y. eqb (own y) m) (given item nodes) m most xs (λ i x e.
+    let size = count_alike (λ y. eqb (own y) m) (eqb i m) (item i x) (nodes x) (λ n. ap (λ k. eqb k m) (is i x n)) in
+    let low = λ (same : i ≡ m). few x (ap (slice_get xs) (sym same) ∙ e) in
+    grind (arith, nat_tests))
 
 -- owners don't fall
 pub owners_order : {A N B : Type 0} (item : ℕ → A → N → B) (nodes : A → List N) (own : B → ℕ) → ((k : ℕ) (x : A) (n : N) → own (item k x n) ≡ k)

@@ -36,7 +36,7 @@ use Rattle.htl_names.specs.declared.place.ModuleAt.{ModuleAt}
 use Rattle.htl_names.proofs.EntryLaws.{declared, one_place, one_entry, source_entries, entries_are, Origin, of_comm, of_module, of_task, of_mode as mode_origin, of_port, of_invoke}
 use Rattle.htl_names.proofs.FlatMaps.{at_part, part_before, part_of, given, of_map, counted, few_owned, owners_order, stands}
 use Rattle.htl_names.proofs.SmallFunctions.{functions_in_range, functions_counted}
-use Rattle.htl_names.proofs.Numbered.{switch_small, each_module, modes_in, tasks_in, modules_exist, modes_in_range, module_in_range, tasks_in_range, mode_count, module_count, number_is, mode_before, all_in_modes, mode_numbered, mode_stands, its_mode}
+use Rattle.htl_names.proofs.Numbered.{switch_small, each_module, modes_in, tasks_in, modes_in_range, module_in_range, tasks_in_range, mode_count, module_count, number_is, mode_before, all_in_modes, mode_numbered, mode_stands, its_mode}
 use Rattle.htl_names.proofs.Members.{In, in_next, in_second, in_part_at, All-from_places, in_first, in_mapped, All-at, all_given}
 use Rattle.htl_names.proofs.NameUses.{known, used_in_invoke, comm_period_span, initial_fits, used_in_switch, parent_stands}
 use Rattle.htl_names.proofs.Places.{program_of_module, order_of, part_in_source}
@@ -294,13 +294,13 @@ names-in-range ps small right =
     let ordered = names-ordered ps right in
     record {
       few_comms = omega (arith, length-map (comms_of ps) comm_item, kept_limit ps right 0 (length (comms_of ps)) 1024 refl refl);
-      few_modules = omega (arith, module_count l ps (modules_exist ps ordered), ordered.few_modules);
+      few_modules = omega (arith, module_count l ps ordered.exist, ordered.few_modules);
       few_modes = omega (arith, mode_count l ps refl, ordered.few_modes);
       few_ports = omega (arith, counted (λ m a. port_item m) (ports_at ps) l.modes, ordered.few_ports);
       few_tasks = omega (arith, counted (λ k s. task_item k) (tasks_in ps) l.modules, ordered.few_tasks);
       few_invs = omega (arith, counted (invoke_item l ps) (invokes_at ps) l.modes, ordered.few_invokes);
       few_switches = omega (arith, counted (switch_item l ps) (switches_at ps) l.modes, ordered.few_switches);
-      few_in_mode = λ m. few_owned (invoke_item l ps) (invokes_at ps) (λ (i : Inv). i.mode) (λ n a i. refl) m 128 l.modes ordered.few_in_mode;
+      few_in_mode = λ m. few_owned (invoke_item l ps) (invokes_at ps) (λ (i : Inv). i.mode) (λ n a i. refl) m 128 l.modes (λ a there. ordered.few_in_mode a);
       comm_names = different (map (λ (c : Comm). c.name) (comm_items ps)) (comm_names_apart ps right);
       module_names = different (map (λ (x : Module). x.name) (module_items l ps)) (module_names_apart ps right ordered);
       mode_names = different_owned (map (λ (m : Mode). (m.«module», m.name)) (mode_items l ps)) (mode_names_apart ps right);

@@ -1,7 +1,7 @@
 -- The root selections of a tree's tables are as many as the tree's, and have no more positions than the limit.
 use Rattle.std.proofs.Common.{◌≡◌, ◌<◌, ◌≤◌, ◌+◌, ◌*◌, cond, ℕ, suc, Bool, true, false, List, [], ◌∷◌, ◌++◌, map, length, slice_get, Option, Some, None, filter, sum, refl, sym, ◌∙◌, ap, subst, arith, length-append}
 use Rattle.std.specs.List.{flat_map, AllZip}
-use Rattle.std.proofs.lemmas.List.{length-map}
+use Rattle.std.proofs.lemmas.Nat.{mul-le}
 use Rattle.std.proofs.lemmas.List.Sums.{sum_by-cons}
 use Rattle.std.proofs.lemmas.Option.{slice_get_within, same_Some}
 use Rattle.htl_model.specs.Broken.{KeepsLimits}
@@ -10,7 +10,6 @@ use Rattle.htl_model.specs.Selections.{is_root, root_modules, mode_of_module, in
 use Rattle.htl_model.specs.Tables.{Tables, mode_module}
 use Rattle.htl_model.specs.declared.parts.Inv.{Inv}
 use Rattle.htl_model.specs.declared.parts.Mode.{Mode}
-use Rattle.htl_model.proofs.SelectionLaws.{root_mode_below}
 use Rattle.htl_model.proofs.RootModeLaws.{own_mode}
 use Rattle.htl_text.specs.Nodes.{PlainProgram, PlainModule, PlainMode}
 use Rattle.htl_text.specs.declared.tree.InvokeNode.{InvokeNode}
@@ -20,24 +19,24 @@ use Rattle.htl_names.specs.Limits.{most_invokes, most_positions, selections, cho
 use Rattle.htl_names.specs.Lists.{flat_map_at}
 use Rattle.htl_names.specs.NameRules.{AreNamesRight}
 use Rattle.htl_names.specs.Order.{modules_at, modes_at, invokes_at}
-use Rattle.htl_names.specs.Nth.{nth_module}
+use Rattle.htl_names.specs.Nth.{nth_module, mode_in}
 use Rattle.htl_names.specs.Ordered.{is_root_module}
 use Rattle.htl_names.specs.declared.place.ModeAt.{ModeAt}
 use Rattle.htl_names.specs.declared.place.ModuleAt.{ModuleAt}
 use Rattle.htl_names.proofs.InRange.{names-in-range}
-use Rattle.htl_names.proofs.Numbered.{modules_exist, AreModules, modes_in, mode_count, module_count, mode_of_number, one_module}
-use Rattle.htl_names.proofs.FlatMaps.{owned, owned_count, there_is}
+use Rattle.htl_names.proofs.Numbered.{modes_in, module_count, each_mode, mode_stands, one_module}
+use Rattle.htl_names.proofs.FlatMaps.{few_owned}
 use Rattle.htl_names.proofs.Ordering.{kept_limit, names-ordered}
 use Rattle.htl_model.proofs.PlaceLaws.{get_mapped}
 use Rattle.htl_names.proofs.ListLaws.{greatest_at, map_places, length-places}
-use Rattle.htl_names.proofs.Places.{modes_there}
+use Rattle.htl_names.proofs.Places.{modes_there, part_is}
 use Rattle.htl_names.proofs.LimitLaws.{root_modules_are}
 use Rattle.htl_names.proofs.Members.{at_place}
 use Rattle.htl_model.specs.declared.parts.Module.{Module}
 
--- root module u of the tables has so many modes, and in each selection no more positions than the most of one of these
+-- root module u of the tables has no more modes, and in each selection no more positions than the most of one of these
 record IsRoot (t : Tables) (u : ℕ) (xs : List PlainMode) : Type 0 where
-  modes : length (modes_of t u) ≡ length xs
+  modes : length (modes_of t u) ≤ length xs
   few : (sel : ℕ) → length (invs_of t (root_mode t sel u)) ≤ most_invokes xs
 
 -- ---- from root modules to selections
@@ -55,21 +54,21 @@ module _ (t : Tables) where
       by true n us is = ap (λ m. length (modes_of t k) * m) is
       by false n us is = omega (arith, is)
 
-  -- these root modules give what those modules of a source give
+  -- these root modules give no more than those modules of a source
   record AreAlike (us : List ℕ) (xs : List PlainModule) : Type 0 where
-    same : product us ≡ choices xs
-    counted : (n : ℕ) → n ≡ choices xs → ◌≡◌ {A = ℕ} (elim us [ [] ↦ 0 | u ∷ vs ↦ n ]) (elim xs [ [] ↦ 0 | y ∷ ys ↦ choices (y ∷ ys) ])
+    most : product us ≤ choices xs
+    counted : (n : ℕ) → n ≤ choices xs → elim us as (λ _. ℕ) [ [] ↦ 0 | u ∷ vs ↦ n ] ≤ elim xs as (λ _. ℕ) [ [] ↦ 0 | y ∷ ys ↦ choices (y ∷ ys) ]
     few : (sel : ℕ) → length (flat_map (λ u. invs_of t (root_mode t sel u)) us) ≤ sum (map (λ (x : PlainModule). most_invokes x.modes) xs)
 
   alike : (us : List ℕ) (xs : List PlainModule) → AllZip (IsRoot t) us (map (λ (x : PlainModule). x.modes) xs) → AreAlike us xs
-  alike [] [] h = record { same = refl; counted = λ n is. refl; few = λ sel. omega arith }
+  alike [] [] h = record { most = omega arith; counted = λ n le. omega arith; few = λ sel. omega arith }
   alike [] (x ∷ xs) h = absurd h
   alike (u ∷ us) [] h = absurd h
   alike (u ∷ us) (x ∷ xs) h =
       let rest = alike us xs h.1 in
       record {
-        same = ap (λ n. n * product us) h.0.modes ∙ ap (λ n. length x.modes * n) rest.same;
-        counted = λ n is. is;
+        most = mul-le (length (modes_of t u)) (product us) (length x.modes) (choices xs) h.0.modes rest.most;
+        counted = λ n le. le;
         few = λ sel.
             let size = length-append (invs_of t (root_mode t sel u)) (flat_map (λ v. invs_of t (root_mode t sel v)) us) in
             let total = sum_by-cons (λ (n : ℕ). n) (most_invokes x.modes) (map (λ (y : PlainModule). most_invokes y.modes) xs) in
@@ -85,45 +84,30 @@ module _ (ps : List PlainProgram) (small : MeetsBounds ps) (right : AreNamesRigh
   abbrev l : Layout
   l = layout ps
 
-  exist : AreModules ps l.modules
-  exist = modules_exist ps (names-ordered ps right)
-
-  modes_counted : (k : ℕ) (s : ModuleAt) → slice_get l.modules k ≡ Some s → length (modes_of t k) ≡ length (modes_in ps s)
-  modes_counted k s there =
-      length-places (mode_of_module k) 0 t.modes
-      ∙ owned_count (module_mode_items ps) (λ (m : Mode). m.«module») k (owned (λ k s. mode_item k) (modes_in ps) (λ (m : Mode). m.«module») (λ k s x. refl)) 0 l.modules k s (omega arith) there
-      ∙ length-map (modes_in ps s) (mode_item k)
-
-  invokes_counted : (m : ℕ) (a : ModeAt) → slice_get l.modes m ≡ Some a → length (invs_of t m) ≡ length (invokes_at ps a)
-  invokes_counted m a there =
-      length-places (inv_of_mode m) 0 t.invs
-      ∙ owned_count (mode_invoke_items l ps) (λ (i : Inv). i.mode) m (owned (invoke_item l ps) (invokes_at ps) (λ (i : Inv). i.mode) (λ m a x. refl)) 0 l.modes m a (omega arith) there
-      ∙ length-map (invokes_at ps a) (invoke_item l ps m a)
-
   -- a mode of a module has no more invocations than the most of one
-  few_in_mode : (k n : ℕ) (s : ModuleAt) → slice_get l.modules k ≡ Some s → n < length t.modes → mode_module t n ≡ k → length (invs_of t n) ≤ most_invokes (modes_in ps s)
-  few_in_mode k n s there below owner =
-      let size = mode_count l ps refl in
-      let a = there_is l.modes n (omega (arith, below, size)) in
-      let m = mode_of_number l ps refl n a.0 a.1 in
-      let number : m.number ≡ k = sym (ap (λ o. elim o as (λ _. ℕ) [ Some x ↦ x.«module» | None ↦ 0 ]) m.item) ∙ owner in
-      let same : m.«module» ≡ s = same_Some m.«module» s (sym m.there ∙ ap (slice_get l.modules) number ∙ there) in
-      let its : modes_at ps a.0.program a.0.«module» ≡ modes_in ps s =
-      ap (λ p. modes_at ps p a.0.«module») (sym m.program) ∙ ap (modes_at ps m.«module».program) (sym m.place) ∙ ap (modes_in ps) same in
-      let invokes : PlainMode → ℕ = λ x. length x.invokes in
-      let few = greatest_at 0 (invokes m.node) (map invokes (modes_at ps a.0.program a.0.«module»)) a.0.mode (get_mapped invokes _ a.0.mode m.node m.its) in
-      let counted = invokes_counted n a.0 a.1 ∙ ap (λ o. length (elim o as (λ _. List InvokeNode) [ Some x ↦ x.invokes | None ↦ [] ])) m.its in
-      omega (arith, counted, few, ap most_invokes its)
+  few_in_mode : (k : ℕ) (s : ModuleAt) → slice_get l.modules k ≡ Some s → (n : ℕ) (a : ModeAt) → slice_get l.modes n ≡ Some a → mode_module t n ≡ k
+      → length (invokes_at ps a) ≤ most_invokes (modes_in ps s)
+  few_in_mode k s there =
+      each_mode l ps refl (λ n a. mode_module t n ≡ k → length (invokes_at ps a) ≤ most_invokes (modes_in ps s)) (λ j m r x at its owner.
+      let number : j ≡ k = sym (ap (λ o. elim o as (λ _. ℕ) [ Some x ↦ x.«module» | None ↦ 0 ]) (mode_stands l ps j m r x at its)) ∙ owner in
+      let same = same_Some r s (sym at ∙ ap (slice_get l.modules) number ∙ there) in
+      let invokes : PlainMode → ℕ = λ z. length z.invokes in
+      let few = greatest_at 0 (invokes x) (map invokes (modes_in ps r)) m (get_mapped invokes (modes_in ps r) m x its) in
+      omega (arith, few, ap (λ q. most_invokes (modes_in ps q)) same, ap length (part_is ps (mode_in r m) x (λ z. z.invokes) its)))
 
   root_is : (k : ℕ) (s : ModuleAt) → slice_get l.modules k ≡ Some s → IsRoot t k (modes_in ps s)
   root_is k s there =
       let range = names-in-range ps small right in
-      let within = slice_get_within l.modules k s there in
-      let size = module_count l ps exist in
-      let below : k < length t.modules = omega (arith, within, size) in
+      let below : k < length t.modules = omega (arith, slice_get_within l.modules k s there, module_count l ps (names-ordered ps right).exist) in
+      let modes = few_owned (λ k s. mode_item k) (modes_in ps) (λ (m : Mode). m.«module») (λ k s x. refl) k (length (modes_in ps s)) l.modules
+      (λ r at. omega (arith, ap (λ q. length (modes_in ps q)) (same_Some r s (sym at ∙ there)))) in
       record {
-        modes = modes_counted k s there;
-        few = λ sel. few_in_mode k (root_mode t sel k) s there (root_mode_below t sel k range below) (own_mode t sel k range below);
+        modes = omega (arith, length-places (mode_of_module k) 0 t.modes, modes);
+        few = λ sel.
+            let n = root_mode t sel k in
+            let invokes = few_owned (invoke_item l ps) (invokes_at ps) (λ (i : Inv). i.mode) (λ m a x. refl) n (most_invokes (modes_in ps s)) l.modes
+            (λ a at. few_in_mode k s there n a at (own_mode t sel k range below)) in
+            omega (arith, length-places (inv_of_mode n) 0 t.invs, invokes);
       }
 
   -- the root modules among the modules from place k on
@@ -132,7 +116,7 @@ module _ (ps : List PlainProgram) (small : MeetsBounds ps) (right : AreNamesRigh
   roots_from k [] stand = tt
   roots_from k (s ∷ us) stand =
       let there = stand k 0 s (omega arith) refl in
-      let x = exist k s there in
+      let x = (names-ordered ps right).exist k s there in
       let later = flat_map_at (module_items_at l ps) (suc k) us in
       let rest = roots_from (suc k) us (λ i j r is e. stand i (suc j) r (omega (arith, is)) e) in
       subst (λ ms. AllZip (IsRoot t) (places_from is_root k (ms ++ later)) (map (modes_in ps) (filter is_root_module (s ∷ us)))) (sym (one_module l ps k s x.0 x.1))
@@ -154,7 +138,7 @@ module _ (ps : List PlainProgram) (small : MeetsBounds ps) (right : AreNamesRigh
 
   pub names-keep-limits : KeepsLimits (tables_of_tree ps)
   names-keep-limits =
-      let same = roots_alike.counted _ (choices_by_roots t 0 t.modules ∙ roots_alike.same) in
+      let same = roots_alike.counted (choices_from t 0 t.modules) (omega (arith, choices_by_roots t 0 t.modules, roots_alike.most)) in
       let few = kept_limit ps right 9 (selections ps) 1024 refl refl in
       let most = kept_limit ps right 10 (most_positions ps) 128 refl refl in
       record {

@@ -51,18 +51,6 @@ module_mode_parts ps modules =
 abbrev pub IsLaid : Layout → List PlainProgram → Type 0
 IsLaid l ps = l.modes ≡ mode_order ps l.modules
 
--- the mode of a number: its module's number and place
-pub record ModeOf (l : Layout) (ps : List PlainProgram) (n : ℕ) (a : ModeAt) : Type 0 where
-  pub number : ℕ
-  pub «module» : ModuleAt
-  pub there : slice_get l.modules number ≡ Some «module»
-  pub program : «module».program ≡ a.program
-  pub place : «module».«module» ≡ a.«module»
-  pub node : PlainMode
-  pub its : slice_get (modes_at ps a.program a.«module») a.mode ≡ Some node
-  pub is : n ≡ modes_before l ps number + a.mode
-  pub item : slice_get (mode_items l ps) n ≡ Some (mode_item number node)
-
 module _ (l : Layout) (ps : List PlainProgram) (laid : IsLaid l ps) where
   pub mode_count : length (mode_items l ps) ≡ length l.modes
   mode_count = counted (λ k s. mode_item k) (modes_in ps) l.modules ∙ sym (module_mode_parts ps l.modules) ∙ sym (ap length laid)
@@ -73,7 +61,7 @@ module _ (l : Layout) (ps : List PlainProgram) (laid : IsLaid l ps) where
       ap (λ ms. slice_get ms (modes_before l ps k + m)) laid ∙ subst (λ (n : ℕ). slice_get (mode_order ps l.modules) (n + m) ≡ Some (mode_in s m)) (module_mode_parts ps (take k l.modules)) at
 
   -- what holds of each mode of each module holds of the mode of each number
-  each_mode : (P : ℕ → ModeAt → Type 0)
+  pub each_mode : (P : ℕ → ModeAt → Type 0)
       → ((k m : ℕ) (s : ModuleAt) (x : PlainMode) → slice_get l.modules k ≡ Some s → slice_get (modes_in ps s) m ≡ Some x → P (modes_before l ps k + m) (mode_in s m))
       → (n : ℕ) (a : ModeAt) → slice_get l.modes n ≡ Some a → P n a
   each_mode P holds n a e =
@@ -90,20 +78,6 @@ module _ (l : Layout) (ps : List PlainProgram) (laid : IsLaid l ps) where
       → All P (flat_map_at (given item nodes) 0 l.modes)
   all_in_modes {N = N} P item nodes holds =
       all_given P item nodes l.modes (λ i a j n at its. each_mode (λ i a. (j : ℕ) (n : N) → slice_get (nodes a) j ≡ Some n → P (item i a n)) holds i a at j n its)
-
-  pub mode_of_number : (n : ℕ) (a : ModeAt) → slice_get l.modes n ≡ Some a → ModeOf l ps n a
-  mode_of_number =
-      each_mode (ModeOf l ps) (λ k m s x there its. record {
-        number = k;
-        «module» = s;
-        there = there;
-        program = refl;
-        place = refl;
-        node = x;
-        its = its;
-        is = refl;
-        item = mode_stands l ps k m s x there its;
-      })
 
 -- ---- modules by their numbers
 
@@ -133,9 +107,6 @@ module_stands l ps exist k s x there is =
     subst (λ (n : ℕ). slice_get (module_items l ps) n ≡ Some (module_item l ps k s x)) place at
 
 -- ---- what an order gives
-
-pub modules_exist : (ps : List PlainProgram) → IsOrdered (symbols_of ps) ps (order (symbols_of ps) ps) → AreModules ps (layout ps).modules
-modules_exist ps ordered k s e = All-at (Exists ps) (layout ps).modules k s ordered.exist e
 
 -- the number of a module is its place
 pub number_is : (ps : List PlainProgram) → IsOrdered (symbols_of ps) ps (order (symbols_of ps) ps) → (k : ℕ) (s : ModuleAt) → slice_get (layout ps).modules k ≡ Some s
@@ -216,7 +187,7 @@ within_levels ps ordered zero k s there few None is = refl
 within_levels ps ordered (suc steps) k s there few None is = refl
 within_levels ps ordered zero k s there few (Some a) is =
     let b = ordered.parents k s a there is in
-    let x = modules_exist ps ordered k s there in
+    let x = ordered.exist k s there in
     let o = program_of_module ps s.program s.«module» x.0 x.1 in
     let some = level_some (naming (symbols_of ps) ps) (length ps) a.program (omega (arith, slice_get_within ps s.program o.0 o.1)) in
     absurd (omega (arith, few, ordered.steps k s a there is, some))
@@ -225,8 +196,8 @@ within_levels ps ordered (suc steps) k s there few (Some a) is =
     let b = ordered.parents k s a there is in
     let x = mode_before ps ordered k a b in
     let owner = module_of_mode t (mode_number (layout ps) ps a) (mode_item b.place x.node) x.item in
-    let y = modules_exist ps ordered b.place b.«module» b.there in
-    let own = parent_of_module t b.place (module_item (layout ps) ps b.place b.«module» y.0) (module_stands (layout ps) ps (modules_exist ps ordered) b.place b.«module» y.0 b.there y.1) in
+    let y = ordered.exist b.place b.«module» b.there in
+    let own = parent_of_module t b.place (module_item (layout ps) ps b.place b.«module» y.0) (module_stands (layout ps) ps ordered.exist b.place b.«module» y.0 b.there y.1) in
     let rest = within_levels ps ordered steps b.place b.«module» b.there (omega (arith, few, ordered.steps k s a there is, ap (level_of ps) b.program)) b.«module».parent refl in
     ap (λ (j : ℕ). is_within steps t (parent_of t j)) owner ∙ ap (is_within steps t) own ∙ rest
 
@@ -235,7 +206,7 @@ pub each_module : (ps : List PlainProgram) → IsOrdered (symbols_of ps) ps (ord
     → ((k : ℕ) (s : ModuleAt) (x : PlainModule) → slice_get (layout ps).modules k ≡ Some s → module_at ps s.program s.«module» ≡ Some x → P k (module_item (layout ps) ps k s x))
     → (k : ℕ) (y : Module) → slice_get (module_items (layout ps) ps) k ≡ Some y → P k y
 each_module ps ordered P holds k y e =
-    let exist = modules_exist ps ordered in
+    let exist = ordered.exist in
     let s = there_is (layout ps).modules k (omega (arith, module_count (layout ps) ps exist, slice_get_within (module_items (layout ps) ps) k y e)) in
     let x = exist k s.0 s.1 in
     subst (P k) (same_Some _ _ (sym (module_stands (layout ps) ps exist k s.0 x.0 s.1 x.1) ∙ e)) (holds k s.0 x.0 s.1 x.1)
@@ -265,7 +236,7 @@ module _ (ps : List PlainProgram) (small : MeetsBounds ps) where
   module _ (right : AreNamesRight ps) (ordered : IsOrdered (symbols_of ps) ps (order (symbols_of ps) ps)) where
     owner_within : (k : ℕ) (s : ModuleAt) → slice_get (layout ps).modules k ≡ Some s → k < length (module_items (layout ps) ps)
     owner_within k s there =
-        omega (arith, slice_get_within (layout ps).modules k s there, module_count (layout ps) ps (modules_exist ps ordered))
+        omega (arith, slice_get_within (layout ps).modules k s there, module_count (layout ps) ps ordered.exist)
 
     pub modes_in_range : All (IsModeInRange (tables_of_tree ps)) (mode_items (layout ps) ps)
     modes_in_range =

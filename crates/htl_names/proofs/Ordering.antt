@@ -39,9 +39,6 @@ pub right_tree : (ps : List PlainProgram) → AreNamesRight ps → IsTree (symbo
 right_tree ps right p lt wrong = right ProgramTree p (fault.NotATree p) (lt, wrong, refl)
 
 module _ (ps : List PlainProgram) (right : AreNamesRight ps) where
-  all : Each (Exists ps) (order (symbols_of ps) ps)
-  all = each_weaker (IsPlaced (symbols_of ps) ps) (Exists ps) (λ s h. h.there) (order (symbols_of ps) ps) (modules_placed (symbols_of ps) ps)
-
   low : (p : ℕ) → p < length ps → level (naming (symbols_of ps) ps) (length ps) p ≤ 8
   low p lt =
       let f : ℕ → ℕ = level (naming (symbols_of ps) ps) (length ps) in
@@ -55,11 +52,11 @@ names-ordered ps right =
     let modules = order symbols ps in
     let tree = right_tree ps right in
     let apart = order_apart symbols ps tree in
-    let here = all ps right in
     let at = λ (k : ℕ) (s : ModuleAt) (e : slice_get modules k ≡ Some s). each_at (IsPlaced symbols ps) modules k s (modules_placed symbols ps) e in
+    let here = λ (k : ℕ) (s : ModuleAt) (e : slice_get modules k ≡ Some s). (at k s e).there in
     let within = λ (k : ℕ) (s : ModuleAt) (e : slice_get modules k ≡ Some s). placed_within symbols ps s (at k s e) in
     record {
-      exist = each_all (Exists ps) modules here;
+      exist = here;
       apart = apart;
       parents = parents_before symbols ps;
       refined = λ k s a e p. refined_at symbols ps tree a s.program (within k s e) (placed_names symbols ps s a (at k s e) p);
@@ -128,7 +125,7 @@ module _ (ps : List PlainProgram) (right : AreNamesRight ps) where
 
   few_modes : length (flat_map (λ (s : ModuleAt). modes_at ps s.program s.«module») modules) ≤ length (modes_of (modules_of ps))
   few_modes =
-      few ps modules (all ps right) (order_apart (symbols_of ps) ps (right_tree ps right)) (λ (s : ModuleAt). modes_at ps s.program s.«module») (λ (y : PlainModule). y.modes)
+      few ps modules (λ k s e. (each_at (IsPlaced (symbols_of ps) ps) modules k s (modules_placed (symbols_of ps) ps) e).there) (order_apart (symbols_of ps) ps (right_tree ps right)) (λ (s : ModuleAt). modes_at ps s.program s.«module») (λ (y : PlainModule). y.modes)
       (λ s y e. ap length (modes_there ps s.program s.«module» y e))
 
 pub names-narrow : (ps : List PlainProgram) → MeetsBounds ps → AreNamesRight ps → IsNarrow (layout ps) ps

@@ -27,7 +27,7 @@ is_root_module s = elim s.parent [ Some a ↦ false | None ↦ true ]
 
 pub record IsOrdered (symbols : List (Key × ℕ)) (ps : List PlainProgram) (modules : List ModuleAt) : Type 0 where
   -- each is a module of the source, and stands once
-  pub exist : All (Exists ps) modules
+  pub exist : (k : ℕ) (s : ModuleAt) → slice_get modules k ≡ Some s → Exists ps s
   pub apart : (j k : ℕ) (s r : ModuleAt) → slice_get modules j ≡ Some s → slice_get modules k ≡ Some r → s.program ≡ r.program → s.«module» ≡ r.«module» → j ≡ k
   -- a module of another program than the root refines the mode that names its program, of a module that stands before it
   pub parents : (k : ℕ) (s : ModuleAt) (a : ModeAt) → slice_get modules k ≡ Some s → s.parent ≡ Some a → StandsBefore ps modules k a
