@@ -1,5 +1,5 @@
 -- In a tree of programs each module stands once in the order, so the modules in order have no more of a kind than the source.
-use Rattle.std.proofs.Common.{◌≡◌, ◌⊎◌, inl, inr, ℕ, zero, suc, ◌+◌, ◌≤◌, ◌<◌, Bool, true, false, cond, eqb, List, [], ◌∷◌, length, take, slice_get, Option, Some, None, refl, sym, ◌∙◌, ap, ap₂, subst, arith, ◌≢◌, map, get_or, set, sum, sum_by, length-set, get_or-set_other}
+use Rattle.std.proofs.Common.{◌≡◌, inl, inr, ℕ, zero, suc, ◌+◌, ◌≤◌, ◌<◌, Bool, true, false, cond, eqb, List, [], ◌∷◌, length, take, slice_get, Option, Some, None, refl, sym, ◌∙◌, ap, subst, arith, ◌≢◌, map, get_or, set, sum, sum_by, length-set, get_or-set_other}
 use Rattle.std.specs.List.{flat_map, count_by}
 use Rattle.std.specs.Prelude.{ltb}
 use Rattle.std.proofs.lemmas.Bool.{cases_eq, ne_eqb}
@@ -9,7 +9,6 @@ use Rattle.std.proofs.lemmas.List.{length-map}
 use Rattle.std.proofs.lemmas.List.Concat.{length-flat_map, flat_map_single}
 use Rattle.std.proofs.lemmas.List.Sums.{sum-map, sum_by-cons, sum_by-append, sum_by_push, sum_by-set, sum_by_more_le, get_or-le-sum_by}
 use Rattle.htl_model.specs.Lists.{list_to}
-use Rattle.htl_model.proofs.Listed.{length-list_to}
 use Rattle.htl_model.proofs.PlaceLaws.{get_mapped}
 use Rattle.htl_text.specs.Bounds.{modules_of, modes_of, tasks_of}
 use Rattle.htl_text.specs.Nodes.{PlainProgram, PlainMode, PlainModule, PlainTask}
@@ -22,14 +21,12 @@ use Rattle.htl_names.specs.Limits.{most_invokes}
 use Rattle.htl_names.specs.Lists.{flat_map_at}
 use Rattle.htl_names.specs.Narrow.{refined_place}
 use Rattle.htl_names.specs.Nth.{nth_module, mode_in}
-use Rattle.htl_names.specs.Order.{modules_at, modes_at, modules_in, mode_kids, kids, below, order, module_at, mode_at, tasks_at, invokes_at, module_modes, mode_order}
-use Rattle.htl_names.specs.Ordered.{Exists}
+use Rattle.htl_names.specs.Order.{modules_at, modes_at, modules_in, mode_kids, kids, below, order, module_at, mode_at, invokes_at, module_modes, mode_order}
 use Rattle.htl_names.specs.Programs.{named_program, refined_by}
 use Rattle.htl_names.proofs.FlatMaps.{at_front, at_part, same_part, flat_map_is, most_in_part}
 use Rattle.htl_names.proofs.ListLaws.{flat_map_flat_map, flat_map_places, greatest_at}
-use Rattle.htl_names.proofs.Members.{each_at, at_place}
-use Rattle.htl_names.proofs.ModulePlaces.{IsPlaced, modules_placed, placed_within, placed_names, placed_root, parents_before}
-use Rattle.htl_names.proofs.Places.{order_of, program_of_module, modes_there, mode_in_source}
+use Rattle.htl_names.proofs.ModulePlaces.{Exists, Comes, top, under, kid, comes}
+use Rattle.htl_names.proofs.Places.{order_of, modes_in, tasks_in, program_of_module, within, modes_there, mode_in_source}
 use Rattle.htl_names.proofs.TreeLevels.{IsTree, refined_at, root_unnamed, root_not_named}
 use Rattle.htl_names.proofs.Naming.{Names, refined_none}
 
@@ -98,53 +95,50 @@ module _ (symbols : List (Key × ℕ)) (ps : List PlainProgram) (tree : IsTree s
         → count_by test (flat_map f xs) ≤ count_by test xs + count_by over (flat_map f xs)
     flat_few f own [] = omega arith
     flat_few f own (s ∷ xs) =
-        omega (arith, sum_by-append (λ r. cond (test r) 1 0) (f s) (flat_map f xs), sum_by-append (λ r. cond (over r) 1 0) (f s) (flat_map f xs),
-        sum_by-cons (λ r. cond (test r) 1 0) s xs, own s, flat_few f own xs)
+        omega (
+          arith,
+          sum_by-append (λ r. cond (test r) 1 0) (f s) (flat_map f xs),
+          sum_by-append (λ r. cond (over r) 1 0) (f s) (flat_map f xs),
+          sum_by-cons (λ r. cond (test r) 1 0) s xs,
+          own s,
+          flat_few f own xs,
+        )
 
     below_few : (n : ℕ) (s : ModuleAt) → count_by test (below n symbols ps s) ≤ cond (test s) 1 0 + count_by over (below n symbols ps s)
     below_few zero s = omega arith
     below_few (suc n) s =
         let rest = flat_map (below n symbols ps) (kids symbols ps s) in
-        omega (arith, sum_by-cons (λ r. cond (test r) 1 0) s rest, sum_by-cons (λ r. cond (over r) 1 0) s rest,
-        flat_few (below n symbols ps) (below_few n) (kids symbols ps s), few s)
+        omega (
+          arith,
+          sum_by-cons (λ r. cond (test r) 1 0) s rest,
+          sum_by-cons (λ r. cond (over r) 1 0) s rest,
+          flat_few (below n symbols ps) (below_few n) (kids symbols ps s),
+          few s,
+        )
 
-  once : (n k : ℕ) (s : ModuleAt) → k < n → slice_get (order symbols ps) k ≡ Some s → count_by (is_module s.program s.«module») (order symbols ps) ≤ 1
-  once zero k s less e = absurd (omega (arith, less))
-  once (suc n) k s less e = by s.parent refl (λ j r lower there. once n j r (omega (arith, lower, less)) there)
-    where
-      test : ModuleAt → Bool
-      test = is_module s.program s.«module»
+  all : (p u : ℕ) (o : Option ModeAt) → p < length ps → refined_by symbols ps p ≡ o
+      → count_by (is_module p u) (order symbols ps) ≤ cond (eqb 0 p) 1 0 + count_by (is_over o) (order symbols ps)
+  all p u o lt refined =
+      let few = subst (λ (o : Option ModeAt). (t : ModuleAt) → count_by (is_module p u) (kids symbols ps t) ≤ cond (is_over o t) 1 0) refined (kids_few p u lt) in
+      let along = flat_few (is_module p u) (is_over o) few (below (length ps) symbols ps) (below_few (is_module p u) (is_over o) few (length ps)) (modules_in ps None 0) in
+      let roots = in_program p u 0 None (length (modules_at ps 0)) in
+      grind (arith, nat_tests)
 
-      placed : IsPlaced symbols ps s
-      placed = each_at (IsPlaced symbols ps) (order symbols ps) k s (modules_placed symbols ps) e
-
-      within : s.program < length ps
-      within = placed_within symbols ps s placed
-
-      all : (o : Option ModeAt) → refined_by symbols ps s.program ≡ o → count_by test (order symbols ps) ≤ cond (eqb 0 s.program) 1 0 + count_by (is_over o) (order symbols ps)
-      all o refined =
-          let few = subst (λ (o : Option ModeAt). (t : ModuleAt) → count_by test (kids symbols ps t) ≤ cond (is_over o t) 1 0) refined (kids_few s.program s.«module» within) in
-          let along = flat_few test (is_over o) few (below (length ps) symbols ps) (below_few test (is_over o) few (length ps)) (modules_in ps None 0) in
-          let roots = in_program s.program s.«module» 0 None (length (modules_at ps 0)) in
-          grind (arith, nat_tests)
-
-      by : (o : Option ModeAt) → s.parent ≡ o
-          → ((j : ℕ) (r : ModuleAt) → j < k → slice_get (order symbols ps) j ≡ Some r → count_by (is_module r.program r.«module») (order symbols ps) ≤ 1) → count_by test (order symbols ps) ≤ 1
-      by None none before =
-          let top = placed_root symbols ps s placed none in
-          let few = all None (ap (refined_by symbols ps) top ∙ refined_none symbols ps 0 (root_unnamed symbols ps tree (omega (arith, within, top)))) in
-          grind (arith, nat_tests, none_over (order symbols ps))
-      by (Some a) some before =
-          let b = parents_before symbols ps k s a e some in
-          let one = before b.place b.«module» b.lower b.there in
-          let same = ap₂ (λ p u. count_by (is_module p u) (order symbols ps)) b.program b.number in
-          let names = placed_names symbols ps s a placed some in
-          let few = all (Some a) (refined_at symbols ps tree a s.program within names) in
-          let no_root = ne_eqb 0 s.program (λ is. root_not_named symbols ps tree (omega (arith, within)) a (subst (Names symbols ps a) (sym is) names)) in
-          grind (arith, nat_tests)
+  once : (n k : ℕ) (s : ModuleAt) → k < n → Comes symbols ps (order symbols ps) k s → count_by (is_module s.program s.«module») (order symbols ps) ≤ 1
+  once zero k s less h = absurd (omega (arith, less))
+  once (suc n) k s less (top u y its) =
+      let some = within ps 0 u y its in
+      let few = all 0 u None some (refined_none symbols ps 0 (root_unnamed symbols ps tree some)) in
+      omega (arith, few, none_over (order symbols ps))
+  once (suc n) k s less (under j t r lower there (kid m q u x y at named its)) =
+      let before = once n j t (omega (arith, lower, less)) (comes symbols ps j t there) in
+      let names : Names symbols ps (mode_in t m) q = record { mode = x; there = at; named = named } in
+      let few = all q u (Some (mode_in t m)) (within ps q u y its) (refined_at symbols ps tree (mode_in t m) q (within ps q u y its) names) in
+      let no_root = ne_eqb 0 q (λ is. root_not_named symbols ps tree (omega (arith, within ps q u y its)) (mode_in t m) (subst (Names symbols ps (mode_in t m)) (sym is) names)) in
+      omega (arith, few, before, ap {B = ℕ} (λ b. cond b 1 0) no_root)
 
   pub order_apart : Apart (order symbols ps)
-  order_apart j k s r a b p u = passes_once (is_module r.program r.«module») (order symbols ps) (once (suc k) k r (omega arith) b) j k s r a b (grind (arith, nat_tests)) (grind (arith, nat_tests))
+  order_apart j k s r a b p u = passes_once (is_module r.program r.«module») (order symbols ps) (once (suc k) k r (omega arith) (comes symbols ps k r b)) j k s r a b (grind (arith, nat_tests)) (grind (arith, nat_tests))
 
 -- ---- the modules in order have no more of a kind than the source
 
@@ -185,7 +179,7 @@ module _ (ps : List PlainProgram) where
 
   module _ (modules : List ModuleAt) (h : (k : ℕ) (s : ModuleAt) → slice_get modules k ≡ Some s → Exists ps s) (d : Apart modules) where
     -- what the modules in order have, the source has
-    pub few : {B C : Type 0} (at : ModuleAt → List B) (part : PlainModule → List C) → ((s : ModuleAt) (y : PlainModule) → module_at ps s.program s.«module» ≡ Some y → length (at s) ≡ length (part y))
+    few : {B C : Type 0} (at : ModuleAt → List B) (part : PlainModule → List C) → ((s : ModuleAt) (y : PlainModule) → module_at ps s.program s.«module» ≡ Some y → length (at s) ≡ length (part y))
         → length (flat_map at modules) ≤ length (flat_map part (modules_of ps))
     few at part same =
         let size : PlainModule → ℕ = λ y. length (part y) in
@@ -197,12 +191,12 @@ module _ (ps : List PlainProgram) where
     pub few_modules_than : length modules ≤ length (modules_of ps)
     few_modules_than = simp (flat_map_single, length-map) at (few (λ (s : ModuleAt). s ∷ []) (λ (y : PlainModule). y ∷ []) (λ s y e. refl))
 
-    pub few_modes_than : length (mode_order ps modules) ≤ length (modes_of (modules_of ps))
-    few_modes_than = few (module_modes ps) (λ (y : PlainModule). y.modes) (λ s y e. length-list_to _ _ ∙ ap length (modes_there ps s.program s.«module» y e))
+    pub few_modes_than : length (flat_map (modes_in ps) modules) ≤ length (modes_of (modules_of ps))
+    few_modes_than = few (modes_in ps) (λ (y : PlainModule). y.modes) (λ s y e. ap length (modes_there ps s.program s.«module» y e))
 
-    pub few_tasks_than : length (flat_map (λ (s : ModuleAt). tasks_at ps s.program s.«module») modules) ≤ length (tasks_of (modules_of ps))
+    pub few_tasks_than : length (flat_map (tasks_in ps) modules) ≤ length (tasks_of (modules_of ps))
     few_tasks_than =
-        few (λ (s : ModuleAt). tasks_at ps s.program s.«module») (λ (y : PlainModule). y.tasks)
+        few (tasks_in ps) (λ (y : PlainModule). y.tasks)
         (λ s y e. ap (λ (o : Option PlainModule). length {A = PlainTask} (elim o [ Some x ↦ x.tasks | None ↦ [] ])) e)
 
     -- what the modes in order have, the source has

@@ -1,5 +1,5 @@
 -- The names of the tables of a tree differ, and the tables are in range.
-use Rattle.std.proofs.Common.{◌≡◌, ◌<◌, inl, inr, ◌+◌, ℕ, List, map, length, take, slice_get, Some, refl, sym, ◌∙◌, ap, subst, arith, [], None, Option, IfSome, All}
+use Rattle.std.proofs.Common.{◌≡◌, ◌<◌, ◌+◌, ℕ, List, map, length, take, slice_get, Some, refl, sym, ◌∙◌, ap, subst, arith, None, Option, IfSome, All}
 use Rattle.std.proofs.lemmas.Option.{slice_get_within, same_Some}
 use Rattle.std.proofs.lemmas.List.{length-map}
 use Rattle.htl_model.specs.Lists.{AreApart}
@@ -21,26 +21,28 @@ use Rattle.htl_text.specs.declared.tree.EndNode.{EndNode}
 use Rattle.htl_text.specs.declared.tree.EndNode.TheVariants as end
 use Rattle.htl_names.specs.declared.place.ModeAt.{ModeAt}
 use Rattle.htl_names.specs.declared.key.Entry.{Entry}
-use Rattle.htl_names.specs.Entries.{entry, module_entries, comm_entry}
+use Rattle.htl_names.specs.Entries.{entry, module_entries, comm_entry, entries}
 use Rattle.htl_names.specs.Flat.{layout, symbols_of, meaning, comm_item, comm_items, mode_item, mode_items, module_items, port_item, port_items, task_item, task_items, invoke_item, invoke_items, switch_item, tables_of_tree, module_number, modes_before, tasks_before, mode_number, end_item, refined_mode, parent_number, comms_in}
 use Rattle.htl_names.specs.Keys.{comm_key, module_key, task_key, mode_key, port_key, invoke_key}
 use Rattle.htl_names.specs.Lists.{flat_map_at}
 use Rattle.htl_names.specs.NameRules.{AreNamesRight}
-use Rattle.htl_names.specs.Order.{order, module_at, tasks_at, ports_at, invokes_at, switches_at}
-use Rattle.htl_names.specs.Ordered.{IsOrdered}
+use Rattle.htl_names.specs.Order.{module_at, tasks_at, ports_at, invokes_at, switches_at}
 use Rattle.htl_names.specs.Uses.{usage, uses, comm_use, end_use}
 use Rattle.htl_names.specs.Conditions.{MeetsBounds, MeetsInvokeBounds}
 use Rattle.htl_names.specs.Narrow.{IsNarrowEnd, IsNarrowInvoke}
 use Rattle.htl_names.specs.Nth.{mode_in}
 use Rattle.htl_names.specs.declared.place.ModuleAt.{ModuleAt}
 use Rattle.htl_names.proofs.EntryLaws.{declared, one_place, one_entry, source_entries, entries_are, Origin, of_comm, of_module, of_task, of_mode as mode_origin, of_port, of_invoke}
-use Rattle.htl_names.proofs.FlatMaps.{at_part, part_before, part_of, given, of_map, counted, few_owned, owners_order, stands}
+use Rattle.htl_names.proofs.FlatMaps.{at_part, same_part, part_of, given, of_map, counted, few_owned, owners_order, stands as item_stands}
 use Rattle.htl_names.proofs.SmallFunctions.{functions_in_range, functions_counted}
-use Rattle.htl_names.proofs.Numbered.{switch_small, each_module, modes_in, tasks_in, modes_in_range, module_in_range, tasks_in_range, mode_count, module_count, number_is, mode_before, all_in_modes, mode_numbered, mode_stands, its_mode}
+use Rattle.htl_names.proofs.Numbered.{switch_small, each_module, modes_in_range, module_in_range, tasks_in_range, mode_count, module_count, number_is, mode_number_is, all_in_modes, mode_numbered, mode_owner, mode_stands, its_mode}
+use Rattle.htl_names.proofs.ModulePlaces.{Comes, top, under, kid, comes}
+use Rattle.htl_names.proofs.TreeLevels.{refined_at}
+use Rattle.htl_names.specs.Programs.{refined_by}
 use Rattle.htl_names.proofs.Members.{In, in_next, in_second, in_part_at, All-from_places, in_first, in_mapped, All-at, all_given}
 use Rattle.htl_names.proofs.NameUses.{known, used_in_invoke, comm_period_span, initial_fits, used_in_switch, parent_stands}
-use Rattle.htl_names.proofs.Places.{program_of_module, order_of, part_in_source}
-use Rattle.htl_names.proofs.Ordering.{kept_limit, names-ordered, instances}
+use Rattle.htl_names.proofs.Places.{modes_in, tasks_in, program_of_module, within as inside, part_in_source}
+use Rattle.htl_names.proofs.Ordering.{kept_limit, right_tree, modules_apart, are_few, instances}
 use Rattle.htl_names.proofs.ListLaws.{few_reads, read_of, distinct_once, distinct_apart, among_at}
 
 -- items differ by what they are called, where those called alike stand at one place
@@ -88,37 +90,29 @@ module _ (ps : List PlainProgram) (right : AreNamesRight ps) where
   abbrev module_entry : ℕ → PlainModule → Entry
   module_entry u y = entry (module_key y.name.name) u y.name
 
-  -- among the entries of its program
-  entry_in : (p u : ℕ) (y : PlainModule) → module_at ps p u ≡ Some y → (x : PlainProgram) × (slice_get ps p ≡ Some x) × In (module_entry u y) (source_entries ps p x)
-  entry_in p u y there = let o = program_of_module ps p u y there in (o.0, o.1, in_next _ _ (in_second _ _ (in_part_at (module_entries p) o.0.modules u y o.2 (0, refl))))
+  -- its entry is one of its program's
+  entry_in : (p u : ℕ) (y : PlainModule) → module_at ps p u ≡ Some y → (x : PlainProgram) × (slice_get ps p ≡ Some x) × (i : ℕ) × (i < length (source_entries ps p x))
+      × (slice_get (entries ps) (length (flat_map_at (source_entries ps) 0 (take p ps)) + i) ≡ Some (module_entry u y))
+  entry_in p u y there =
+      let o = program_of_module ps p u y there in
+      let n : In (module_entry u y) (source_entries ps p o.0) = in_next _ _ (in_second _ _ (in_part_at (module_entries p) o.0.modules u y o.2 (0, refl))) in
+      let at = at_part (source_entries ps) 0 ps p n.0 p o.0 (module_entry u y) (omega arith) o.1 n.1 in
+      (o.0, o.1, n.0, slice_get_within (source_entries ps p o.0) n.0 (module_entry u y) n.1, ap (λ es. slice_get es (length (flat_map_at (source_entries ps) 0 (take p ps)) + n.0)) (entries_are ps) ∙ at)
 
-  -- no later program has a module of the name
-  not_later : (p u q v : ℕ) (y w : PlainModule) → module_at ps p u ≡ Some y → module_at ps q v ≡ Some w → y.name.name ≡ w.name.name → p < q → ⊥
-  not_later p u q v y w a b names less =
-      let f = entry_in p u y a in
-      let g = entry_in q v w b in
-      let i = length (flat_map_at (source_entries ps) 0 (take p ps)) + f.2.0 in
-      let j = length (flat_map_at (source_entries ps) 0 (take q ps)) + g.2.0 in
-      let one = at_part (source_entries ps) 0 ps p f.2.0 p f.0 (module_entry u y) (omega arith) f.1 f.2.1 in
-      let two = at_part (source_entries ps) 0 ps q g.2.0 q g.0 (module_entry v w) (omega arith) g.1 g.2.1 in
-      let same = one_place ps right i j (module_entry u y) (module_entry v w) (ap (λ es. slice_get es i) (entries_are ps) ∙ one) (ap (λ es. slice_get es j) (entries_are ps) ∙ two) (ap (λ (m : List ℕ). module_key m) names) in
-      omega (arith, same, part_before (source_entries ps) 0 ps p q p f.0 (omega arith) less f.1, slice_get_within (source_entries ps p f.0) f.2.0 (module_entry u y) f.2.1)
-
-  -- two modules of one name are one
+  -- two modules of one name are of one program
   one_program : (p u q v : ℕ) (y w : PlainModule) → module_at ps p u ≡ Some y → module_at ps q v ≡ Some w → y.name.name ≡ w.name.name → p ≡ q
   one_program p u q v y w a b names =
-      elim (order_of p q) [
-        | inl less ↦ absurd (not_later p u q v y w a b names less)
-        | inr r ↦ elim r [ inl more ↦ absurd (not_later q v p u w y b a (sym names) more) | inr is ↦ is ]
-      ]
+      let f = entry_in p u y a in
+      let g = entry_in q v w b in
+      same_part (source_entries ps) ps p q f.2 g.2 f.0 g.0 f.1 g.1 f.3 g.3 (one_place ps right _ _ (module_entry u y) (module_entry v w) f.4 g.4 (ap (λ (m : List ℕ). module_key m) names))
 
-  module_names_apart : IsOrdered (symbols_of ps) ps (order (symbols_of ps) ps) → AreApart (map (λ (x : Module). x.name) (module_items (layout ps) ps))
-  module_names_apart ordered =
+  module_names_apart : AreApart (map (λ (x : Module). x.name) (module_items (layout ps) ps))
+  module_names_apart =
       apart_by (λ (x : Module). x.name) (module_items (layout ps) ps) (λ j k x z p q.
-      each_module ps ordered (λ j x. x.name ≡ z.name → j ≡ k) (λ j s y there its.
-      each_module ps ordered (λ k z. y.name.name ≡ z.name → j ≡ k) (λ k r w at own names.
+      each_module ps (λ j x. x.name ≡ z.name → j ≡ k) (λ j s y there its.
+      each_module ps (λ k z. y.name.name ≡ z.name → j ≡ k) (λ k r w at own names.
       let same = same_number _ _ (of_module s.program s.«module» y its) (of_module r.program r.«module» w own) (ap (λ (m : List ℕ). module_key m) names) in
-      ordered.apart j k s r there at (one_program s.program s.«module» r.program r.«module» y w its own names) same) k z q) j x p)
+      modules_apart ps right j k s r there at (one_program s.program s.«module» r.program r.«module» y w its own names) same) k z q) j x p)
 
   -- ---- names of an owner
 
@@ -165,7 +159,7 @@ module _ (ps : List PlainProgram) (right : AreNamesRight ps) where
 pub ports_in_range : (ps : List PlainProgram) → All (IsPortInRange (tables_of_tree ps)) (port_items (layout ps) ps)
 ports_in_range ps =
     all_given (IsPortInRange (tables_of_tree ps)) (λ m a. port_item m) (ports_at ps) (layout ps).modes (λ m a j x there its.
-    omega (arith, slice_get_within (layout ps).modes m a there, mode_count (layout ps) ps refl))
+    omega (arith, slice_get_within (layout ps).modes m a there, mode_count ps))
 
 -- ---- what a communicator's name means
 
@@ -176,7 +170,7 @@ comm_below ps right id used =
 
 -- ---- what stands in mode m of module k
 
-module _ (ps : List PlainProgram) (small : MeetsBounds ps) (right : AreNamesRight ps) (ordered : IsOrdered (symbols_of ps) ps (order (symbols_of ps) ps))
+module _ (ps : List PlainProgram) (small : MeetsBounds ps) (right : AreNamesRight ps)
     (k m : ℕ) (s : ModuleAt) (x : PlainMode) (there : slice_get (layout ps).modules k ≡ Some s) (its : slice_get (modes_in ps s) m ≡ Some x) where
   abbrev a : ModeAt
   a = mode_in s m
@@ -185,16 +179,16 @@ module _ (ps : List PlainProgram) (small : MeetsBounds ps) (right : AreNamesRigh
   n = modes_before (layout ps) ps k + m
 
   stands_there : slice_get (layout ps).modes n ≡ Some a
-  stands_there = mode_numbered (layout ps) ps refl k m s there (slice_get_within (modes_in ps s) m x its)
+  stands_there = mode_numbered ps k m s x there its
 
   owner : mode_module (tables_of_tree ps) n ≡ k
-  owner = ap (λ o. elim o [ Some x ↦ x.«module» | None ↦ 0 ]) (mode_stands (layout ps) ps k m s x there its)
+  owner = mode_owner ps k m s x there its
 
   number : module_number (layout ps) s.program s.«module» ≡ k
-  number = number_is ps ordered k s there
+  number = number_is ps right k s there
 
   within : n < length (mode_items (layout ps) ps)
-  within = slice_get_within (mode_items (layout ps) ps) n _ (mode_stands (layout ps) ps k m s x there its)
+  within = slice_get_within (mode_items (layout ps) ps) n _ (mode_stands ps k m s x there its)
 
   task_in_module : (j : ℕ) (i : InvokeNode) → slice_get (invokes_at ps a) j ≡ Some i
       → (t : Task) × (slice_get (task_items (layout ps) ps) (tasks_before (layout ps) ps (module_number (layout ps) s.program s.«module») + meaning (layout ps) (task_key s.program s.«module» i.task.name)) ≡ Some t)
@@ -205,7 +199,7 @@ module _ (ps : List PlainProgram) (small : MeetsBounds ps) (right : AreNamesRigh
       let t = (known ps right use_of (used_in_invoke ps use_of a j i at (0, refl))).0 in (
         task_item k t.0,
         ap (λ (q : ℕ). slice_get (task_items l ps) (tasks_before l ps q + meaning l use_of.key)) number
-            ∙ stands (λ k s. task_item k) (tasks_in ps) l.modules k (meaning l use_of.key) s t.0 there t.1,
+            ∙ item_stands (λ k s. task_item k) (tasks_in ps) l.modules k (meaning l use_of.key) s t.0 there t.1,
         sym owner,
       )
 
@@ -214,7 +208,7 @@ module _ (ps : List PlainProgram) (small : MeetsBounds ps) (right : AreNamesRigh
   end_in_range (end.Port port) used few =
       let key = port_key s.program s.«module» m port.name in
       let y = (known ps right (usage key port) used).0 in
-      (port_item n y.0, stands (λ m a. port_item m) (ports_at ps) (layout ps).modes n (meaning (layout ps) key) a y.0 stands_there y.1, refl)
+      (port_item n y.0, item_stands (λ m a. port_item m) (ports_at ps) (layout ps).modes n (meaning (layout ps) key) a y.0 stands_there y.1, refl)
 
   ends_in_range : (es : List EndNode) → ((j : ℕ) (e : EndNode) → slice_get es j ≡ Some e → In (end_use s.program s.«module» m e) (uses ps)) → All IsNarrowEnd es
       → All (IsEndInRange (tables_of_tree ps) n) (map (end_item (layout ps) ps n a) es)
@@ -226,7 +220,7 @@ module _ (ps : List PlainProgram) (small : MeetsBounds ps) (right : AreNamesRigh
   parent_within : (j : ℕ) (i : InvokeNode) → slice_get (invokes_at ps a) j ≡ Some i → (o : Option Id) → i.parent ≡ o
       → IfSome (elim o [ Some id ↦ parent_number (layout ps) ps (refined_mode (layout ps) s.program s.«module») id | None ↦ None ]) (λ p. p < length (invoke_items (layout ps) ps))
   parent_within j i at None is = tt
-  parent_within j i at (Some id) is = subst Goal (sym refined_is) (by s.parent refl)
+  parent_within j i at (Some id) is = subst Goal (sym refined_is) (by s (comes (symbols_of ps) ps k s there) refl)
     where
       Goal : Option ModeAt → Type 0
       Goal o = IfSome (parent_number (layout ps) ps o id) (λ p. p < length (invoke_items (layout ps) ps))
@@ -235,12 +229,14 @@ module _ (ps : List PlainProgram) (small : MeetsBounds ps) (right : AreNamesRigh
       refined_is =
           ap (λ (q : ℕ). elim (slice_get (layout ps).modules q) [ Some r ↦ r.parent | None ↦ None ]) number ∙ ap (λ o. elim o [ Some r ↦ r.parent | None ↦ None ]) there
 
-      by : (o : Option ModeAt) → s.parent ≡ o → Goal o
-      by None none = tt
-      by (Some b) some =
-          let before = mode_before ps ordered k b (ordered.parents k s b there some) in
-          let y = parent_stands ps right a j i id at is b (ordered.refined k s b there some) in
-          slice_get_within (invoke_items (layout ps) ps) _ _ (stands (invoke_item (layout ps) ps) (invokes_at ps) (layout ps).modes (mode_number (layout ps) ps b) _ b y.0 before.there y.1)
+      by : (r : ModuleAt) → Comes (symbols_of ps) ps (layout ps).modules k r → r.program ≡ s.program → Goal r.parent
+      by r (top u y here) same = tt
+      by r (under h t v lower before (kid c q u z y stands named here)) same =
+          let refined = refined_at (symbols_of ps) ps (right_tree ps right) (mode_in t c) q (inside ps q u y here) (record { mode = z; there = stands; named = named }) in
+          let w = parent_stands ps right a j i id at is (mode_in t c) (ap (refined_by (symbols_of ps) ps) (sym same) ∙ refined) in
+          let number = ap (slice_get (layout ps).modes) (sym (mode_number_is ps right h c t before)) ∙ mode_numbered ps h c t z before stands in
+          slice_get_within (invoke_items (layout ps) ps) _ _
+          (item_stands (invoke_item (layout ps) ps) (invokes_at ps) (layout ps).modes (mode_number (layout ps) ps (mode_in t c)) _ (mode_in t c) w.0 number w.1)
 
   invoke_in_range : (j : ℕ) (i : InvokeNode) → slice_get (invokes_at ps a) j ≡ Some i → IsInvInRange (tables_of_tree ps) (invoke_item (layout ps) ps n a i)
   invoke_in_range j i at =
@@ -291,18 +287,18 @@ pub names-in-range : (ps : List PlainProgram) → MeetsBounds ps → AreNamesRig
 names-in-range ps small right =
     let l = layout ps in
     let t = tables_of_tree ps in
-    let ordered = names-ordered ps right in
+    let few = are_few ps right in
     record {
       few_comms = omega (arith, length-map (comms_of ps) comm_item, kept_limit ps right 0 (length (comms_of ps)) 1024 refl refl);
-      few_modules = omega (arith, module_count l ps ordered.exist, ordered.few_modules);
-      few_modes = omega (arith, mode_count l ps refl, ordered.few_modes);
-      few_ports = omega (arith, counted (λ m a. port_item m) (ports_at ps) l.modes, ordered.few_ports);
-      few_tasks = omega (arith, counted (λ k s. task_item k) (tasks_in ps) l.modules, ordered.few_tasks);
-      few_invs = omega (arith, counted (invoke_item l ps) (invokes_at ps) l.modes, ordered.few_invokes);
-      few_switches = omega (arith, counted (switch_item l ps) (switches_at ps) l.modes, ordered.few_switches);
-      few_in_mode = λ m. few_owned (invoke_item l ps) (invokes_at ps) (λ (i : Inv). i.mode) (λ n a i. refl) m 128 l.modes (λ a there. ordered.few_in_mode a);
+      few_modules = omega (arith, module_count ps, few.modules);
+      few_modes = omega (arith, counted (λ k s. mode_item k) (modes_in ps) l.modules, few.modes);
+      few_ports = omega (arith, counted (λ m a. port_item m) (ports_at ps) l.modes, few.ports);
+      few_tasks = omega (arith, counted (λ k s. task_item k) (tasks_in ps) l.modules, few.tasks);
+      few_invs = omega (arith, counted (invoke_item l ps) (invokes_at ps) l.modes, few.invokes);
+      few_switches = omega (arith, counted (switch_item l ps) (switches_at ps) l.modes, few.switches);
+      few_in_mode = λ m. few_owned (invoke_item l ps) (invokes_at ps) (λ (i : Inv). i.mode) (λ n a i. refl) m 128 l.modes (λ a there. few.in_mode a);
       comm_names = different (map (λ (c : Comm). c.name) (comm_items ps)) (comm_names_apart ps right);
-      module_names = different (map (λ (x : Module). x.name) (module_items l ps)) (module_names_apart ps right ordered);
+      module_names = different (map (λ (x : Module). x.name) (module_items l ps)) (module_names_apart ps right);
       mode_names = different_owned (map (λ (m : Mode). (m.«module», m.name)) (mode_items l ps)) (mode_names_apart ps right);
       port_names = different_owned (map (λ (q : Port). (q.mode, q.name)) (port_items l ps)) (port_names_apart ps right);
       task_names = different_owned (map (λ (k : Task). (k.«module», k.name)) (task_items l ps)) (task_names_apart ps right);
@@ -313,12 +309,12 @@ names-in-range ps small right =
       invs_by_mode = owners_order (invoke_item l ps) (invokes_at ps) (λ (i : Inv). i.mode) (λ m a i. refl) l.modes;
       switches_by_mode = owners_order (switch_item l ps) (switches_at ps) (λ (w : Switch). w.mode) (λ m a x. refl) l.modes;
       comms = comms_in_range ps right;
-      modes = modes_in_range ps small right ordered;
-      modules = module_in_range ps right ordered;
+      modes = modes_in_range ps small right;
+      modules = module_in_range ps right;
       ports = ports_in_range ps;
-      tasks = tasks_in_range ps small right ordered;
-      invs = all_in_modes l ps refl (IsInvInRange t) (invoke_item l ps) (invokes_at ps) (invoke_in_range ps small right ordered);
-      switches = all_in_modes l ps refl (IsSwitchInRange t) (switch_item l ps) (switches_at ps) (switch_in_range ps small right ordered);
+      tasks = tasks_in_range ps small right;
+      invs = all_in_modes ps (IsInvInRange t) (invoke_item l ps) (invokes_at ps) (invoke_in_range ps small right);
+      switches = all_in_modes ps (IsSwitchInRange t) (switch_item l ps) (switches_at ps) (switch_in_range ps small right);
       functions = functions_in_range ps small right;
       function_count = functions_counted ps small right;
     }

@@ -12,24 +12,23 @@ use Rattle.htl_model.specs.declared.parts.Inv.{Inv}
 use Rattle.htl_model.specs.declared.parts.Mode.{Mode}
 use Rattle.htl_model.proofs.RootModeLaws.{own_mode}
 use Rattle.htl_text.specs.Nodes.{PlainProgram, PlainModule, PlainMode}
-use Rattle.htl_text.specs.declared.tree.InvokeNode.{InvokeNode}
 use Rattle.htl_names.specs.Conditions.{MeetsBounds}
-use Rattle.htl_names.specs.Flat.{Layout, layout, mode_item, module_mode_items, module_item, module_items_at, invoke_item, mode_invoke_items, tables_of_tree}
+use Rattle.htl_names.specs.Flat.{Layout, layout, symbols_of, mode_item, module_item, module_items_at, invoke_item, tables_of_tree}
 use Rattle.htl_names.specs.Limits.{most_invokes, most_positions, selections, choices, plain_root_modules}
 use Rattle.htl_names.specs.Lists.{flat_map_at}
 use Rattle.htl_names.specs.NameRules.{AreNamesRight}
-use Rattle.htl_names.specs.Order.{modules_at, modes_at, invokes_at}
+use Rattle.htl_names.specs.Order.{modules_at, invokes_at}
 use Rattle.htl_names.specs.Nth.{nth_module, mode_in}
-use Rattle.htl_names.specs.Ordered.{is_root_module}
 use Rattle.htl_names.specs.declared.place.ModeAt.{ModeAt}
 use Rattle.htl_names.specs.declared.place.ModuleAt.{ModuleAt}
 use Rattle.htl_names.proofs.InRange.{names-in-range}
-use Rattle.htl_names.proofs.Numbered.{modes_in, module_count, each_mode, mode_stands, one_module}
+use Rattle.htl_names.proofs.Numbered.{module_count, each_mode, mode_owner, one_module}
+use Rattle.htl_names.proofs.ModulePlaces.{is_root_module, exist, roots_of}
 use Rattle.htl_names.proofs.FlatMaps.{few_owned}
-use Rattle.htl_names.proofs.Ordering.{kept_limit, names-ordered}
+use Rattle.htl_names.proofs.Ordering.{kept_limit}
 use Rattle.htl_model.proofs.PlaceLaws.{get_mapped}
 use Rattle.htl_names.proofs.ListLaws.{greatest_at, map_places, length-places}
-use Rattle.htl_names.proofs.Places.{modes_there, part_is}
+use Rattle.htl_names.proofs.Places.{modes_in, modes_there, part_is}
 use Rattle.htl_names.proofs.LimitLaws.{root_modules_are}
 use Rattle.htl_names.proofs.Members.{at_place}
 use Rattle.htl_model.specs.declared.parts.Module.{Module}
@@ -88,8 +87,8 @@ module _ (ps : List PlainProgram) (small : MeetsBounds ps) (right : AreNamesRigh
   few_in_mode : (k : ℕ) (s : ModuleAt) → slice_get l.modules k ≡ Some s → (n : ℕ) (a : ModeAt) → slice_get l.modes n ≡ Some a → mode_module t n ≡ k
       → length (invokes_at ps a) ≤ most_invokes (modes_in ps s)
   few_in_mode k s there =
-      each_mode l ps refl (λ n a. mode_module t n ≡ k → length (invokes_at ps a) ≤ most_invokes (modes_in ps s)) (λ j m r x at its owner.
-      let number : j ≡ k = sym (ap (λ o. elim o as (λ _. ℕ) [ Some x ↦ x.«module» | None ↦ 0 ]) (mode_stands l ps j m r x at its)) ∙ owner in
+      each_mode ps (λ n a. mode_module t n ≡ k → length (invokes_at ps a) ≤ most_invokes (modes_in ps s)) (λ j m r x at its owner.
+      let number : j ≡ k = sym (mode_owner ps j m r x at its) ∙ owner in
       let same = same_Some r s (sym at ∙ ap (slice_get l.modules) number ∙ there) in
       let invokes : PlainMode → ℕ = λ z. length z.invokes in
       let few = greatest_at 0 (invokes x) (map invokes (modes_in ps r)) m (get_mapped invokes (modes_in ps r) m x its) in
@@ -98,7 +97,7 @@ module _ (ps : List PlainProgram) (small : MeetsBounds ps) (right : AreNamesRigh
   root_is : (k : ℕ) (s : ModuleAt) → slice_get l.modules k ≡ Some s → IsRoot t k (modes_in ps s)
   root_is k s there =
       let range = names-in-range ps small right in
-      let below : k < length t.modules = omega (arith, slice_get_within l.modules k s there, module_count l ps (names-ordered ps right).exist) in
+      let below : k < length t.modules = omega (arith, slice_get_within l.modules k s there, module_count ps) in
       let modes = few_owned (λ k s. mode_item k) (modes_in ps) (λ (m : Mode). m.«module») (λ k s x. refl) k (length (modes_in ps s)) l.modules
       (λ r at. omega (arith, ap (λ q. length (modes_in ps q)) (same_Some r s (sym at ∙ there)))) in
       record {
@@ -116,7 +115,7 @@ module _ (ps : List PlainProgram) (small : MeetsBounds ps) (right : AreNamesRigh
   roots_from k [] stand = tt
   roots_from k (s ∷ us) stand =
       let there = stand k 0 s (omega arith) refl in
-      let x = (names-ordered ps right).exist k s there in
+      let x = exist (symbols_of ps) ps k s there in
       let later = flat_map_at (module_items_at l ps) (suc k) us in
       let rest = roots_from (suc k) us (λ i j r is e. stand i (suc j) r (omega (arith, is)) e) in
       subst (λ ms. AllZip (IsRoot t) (places_from is_root k (ms ++ later)) (map (modes_in ps) (filter is_root_module (s ∷ us)))) (sym (one_module l ps k s x.0 x.1))
@@ -132,7 +131,7 @@ module _ (ps : List PlainProgram) (small : MeetsBounds ps) (right : AreNamesRigh
   roots_alike =
       let modes : PlainModule → List PlainMode = λ x. x.modes in
       let roots : map (modes_in ps) (filter is_root_module l.modules) ≡ map modes (plain_root_modules ps) =
-      ap (map (modes_in ps)) (names-ordered ps right).roots ∙ map_places (modes_in ps) (nth_module 0 None) modes (modules_at ps 0) (modes_there ps 0)
+      ap (map (modes_in ps)) (roots_of (symbols_of ps) ps) ∙ map_places (modes_in ps) (nth_module 0 None) modes (modules_at ps 0) (modes_there ps 0)
       ∙ ap (map modes) (root_modules_are ps) in
       alike t (root_modules t) (plain_root_modules ps) (subst (AllZip (IsRoot t) (root_modules t)) roots (roots_from 0 l.modules (at_place l.modules)))
 

@@ -1,12 +1,12 @@
 -- Lists: different numbers and how many a switch reads, sums over places, items in pairs, items that pass a test.
-use Rattle.std.proofs.Common.{◌≡◌, ◌⊎◌, inl, inr, ℕ, zero, suc, Bool, true, false, cond, ◌||◌, eqb, List, [], ◌∷◌, ◌++◌, slice_get, Some, fold, refl, sym, ◌∙◌, ap, ap₂, subst, eq-eqb, eqb-true, ◌≤◌, ◌<◌, map, length, arith, length-append, ◌≢◌, ◌+◌, max, get_or, set, sum_by, sum, length-set, get_or-set_other, Option, IsSomeAnd}
+use Rattle.std.proofs.Common.{◌≡◌, inl, inr, ℕ, zero, suc, Bool, true, false, cond, ◌||◌, eqb, List, [], ◌∷◌, ◌++◌, slice_get, Some, fold, refl, sym, ◌∙◌, ap, ap₂, subst, eq-eqb, eqb-true, ◌≤◌, map, length, arith, ◌+◌, max, Option, IsSomeAnd}
 use Rattle.std.proofs.lemmas.Slice.Zip.{AllZip-left}
 use Rattle.std.specs.List.{All, AllZip, IsDistinct, list_any, flat_map, count_by}
 use Rattle.std.proofs.Math.Bool.{or-false, or_assoc}
-use Rattle.std.specs.Set.{distinct_count, unique_keys, is_member}
+use Rattle.std.specs.Set.{distinct_count}
 use Rattle.std.proofs.lemmas.Bool.Decides.{nat_tests}
 use Rattle.std.proofs.lemmas.Map.Made.{length-from_keys}
-use Rattle.std.proofs.lemmas.Bool.{or_cases, or_left, or_right, cond_both, cond-true, false≢true}
+use Rattle.std.proofs.lemmas.Bool.{or_cases, or_left, or_right, cond_both, false≢true}
 use Rattle.std.proofs.lemmas.Cmp.{nat_eq_equiv}
 use Rattle.std.proofs.lemmas.List.Elements.{All-nil, All-cons}
 use Rattle.std.proofs.lemmas.List.Folds.{list_any-append, flat_map-map}
@@ -15,7 +15,7 @@ use Rattle.std.proofs.lemmas.Option.{MatchOption-at_some, slice_get_within, get_
 use Rattle.std.specs.Str.{bytes_eq}
 use Rattle.std.proofs.lemmas.Slice.Eq.{bytes_eq-Decides}
 use Rattle.std.proofs.lemmas.Map.Steps.{length-le_from_distinct_below}
-use Rattle.std.proofs.lemmas.List.Sums.{sum_by-cons, sum_by-set}
+use Rattle.std.proofs.lemmas.List.Sums.{sum_by-cons}
 use Rattle.htl_model.specs.Lists.{AreApart, list_to, places_from}
 use Rattle.htl_model.specs.Tables.{greatest}
 use Rattle.htl_text.specs.Bounds.{names_of}
@@ -26,7 +26,7 @@ use Rattle.htl_names.specs.Lists.{flat_map_at, with_new, distinct, place_in}
 use Rattle.htl_names.specs.Flat.{layout, meaning, comms_in, Layout, read_place}
 use Rattle.htl_names.specs.Keys.{comm_key}
 use Rattle.htl_names.specs.declared.key.Key.{Key}
-use Rattle.htl_names.proofs.Members.{In, Each, each_weaker}
+use Rattle.htl_names.proofs.Members.{In}
 use Rattle.htl_names.proofs.FlatMaps.{of_map, flat_map_is, flat_map_parts}
 
 abbrev pub is_among : List ℕ → ℕ → Bool
@@ -122,26 +122,6 @@ few_comms l low e =
 pub read_place-le : (l : Layout) → ((key : Key) → meaning l key ≤ 4096) → (e : Expr) (id : Id) → read_place l (comms_in l e) id ≤ 4097
 read_place-le l low e id =
     omega (arith, place_in-le (eqb (meaning l (comm_key id.name))) (comms_in l e), few_comms l low e)
-
--- ---- a sum over different places of a list is at most the sum over the list
-
--- no two items have one place
-abbrev pub Differ : {A : Type 0} → (A → ℕ) → List A → Type 0
-Differ at [] = Unit {0}
-Differ at (x ∷ xs) = Each (λ y. at y ≢ at x) xs × Differ at xs
-
-pub sum_by_same : {A : Type 0} (f g : A → ℕ) (xs : List A) → Each (λ x. f x ≡ g x) xs → sum_by f xs ≡ sum_by g xs
-sum_by_same f g [] h = refl
-sum_by_same f g (x ∷ xs) h = sum_by-cons f x xs ∙ ap (λ n. n + sum_by f xs) h.0 ∙ ap (λ n. g x + n) (sum_by_same f g xs h.1) ∙ sym (sum_by-cons g x xs)
-
-pub sum_at_places : {A : Type 0} (at : A → ℕ) (ws : List ℕ) (xs : List A) → Differ at xs → Each (λ x. at x < length ws) xs → sum_by (λ x. get_or ws (at x) 0) xs ≤ sum ws
-sum_at_places at ws [] d h = omega arith
-sum_at_places {A} at ws (x ∷ xs) d h =
-    let rest = set ws (at x) 0 in
-    let later = sum_at_places at rest xs d.1 (each_weaker (λ y. at y < length ws) (λ y. at y < length rest) (λ y lt. omega (arith, lt, length-set ws (at x) 0)) xs h.1) in
-    let same = sum_by_same (λ y. get_or ws (at y) 0) (λ y. get_or rest (at y) 0) xs
-    (each_weaker (λ y. at y ≢ at x) (λ y. get_or ws (at y) 0 ≡ get_or rest (at y) 0) (λ y ne. sym (get_or-set_other ws (at x) (at y) 0 0 ne)) xs d.0) in
-    omega (arith, later, same, sum_by-set (λ n. n) ws (at x) 0 0 h.0, sum_by-cons (λ y. get_or ws (at y) 0) x xs)
 
 -- ---- lists by places
 

@@ -1,163 +1,113 @@
--- The modules in the order of the tables: where each stands, what it refines, and what stands before it.
-use Rattle.std.proofs.Common.{◌≡◌, ℕ, zero, suc, ◌+◌, ◌<◌, true, false, List, [], ◌∷◌, length, take, slice_get, Option, Some, None, filter, refl, ◌∙◌, ap, subst, arith, ◌⊎◌, inl, inr, sym}
+-- The modules in the order of the tables: where each comes from, and which of them are root modules.
+use Rattle.std.proofs.Common.{◌≡◌, ◌⊎◌, inl, inr, ℕ, zero, suc, ◌+◌, ◌<◌, Bool, true, false, cond, List, [], ◌∷◌, length, take, slice_get, Option, Some, None, filter, refl, ◌∙◌, ap, subst, sym, arith}
 use Rattle.std.specs.List.{flat_map}
 use Rattle.std.proofs.lemmas.Grind.{common_steps}
 use Rattle.std.proofs.lemmas.List.Elements.{filter-append}
-use Rattle.std.proofs.lemmas.Option.{slice_get_within, none-some, same_Some}
-use Rattle.htl_text.specs.Nodes.{PlainProgram, PlainMode}
+use Rattle.std.proofs.lemmas.Option.{none-some, same_Some}
+use Rattle.htl_text.specs.Nodes.{PlainProgram, PlainModule, PlainMode}
 use Rattle.htl_names.specs.declared.key.Key.{Key}
 use Rattle.htl_names.specs.declared.place.ModeAt.{ModeAt}
 use Rattle.htl_names.specs.declared.place.ModuleAt.{ModuleAt}
-use Rattle.htl_names.specs.Order.{modules_at, modes_at, modules_in, mode_kids, kids, below, order}
-use Rattle.htl_names.specs.Ordered.{Exists, is_root_module, StandsBefore}
+use Rattle.htl_names.specs.Order.{module_at, modules_at, modes_at, modules_in, mode_kids, kids, below, order}
 use Rattle.htl_names.specs.Programs.{named_program}
 use Rattle.htl_names.specs.Nth.{nth_module, mode_in}
-use Rattle.htl_names.proofs.Members.{Each, at_place, each_at, each_weaker, each_list_to, each_flat_map, each_flat_map_at}
-use Rattle.htl_names.proofs.Naming.{Names}
-use Rattle.htl_names.proofs.FlatMaps.{there_is, at_flat, flat_part, get_back}
-use Rattle.htl_names.proofs.Places.{program_of_module}
+use Rattle.htl_names.proofs.Members.{In}
+use Rattle.htl_names.proofs.FlatMaps.{there_is, at_flat, flat_part, part_of, of_list_to}
 
--- a module of the root has no parent; one of another program has the mode that names the program
-abbrev pub IsParent : List (Key × ℕ) → List PlainProgram → Option ModeAt → ℕ → Type 0
-IsParent symbols ps None q = q ≡ 0
-IsParent symbols ps (Some a) q = Names symbols ps a q
+-- the module of a module
+abbrev pub Exists : List PlainProgram → ModuleAt → Type 0
+Exists ps s = (x : PlainModule) × (module_at ps s.program s.«module» ≡ Some x)
 
-pub record IsPlaced (symbols : List (Key × ℕ)) (ps : List PlainProgram) (s : ModuleAt) : Type 0 where
-  pub there : Exists ps s
-  pub parent : IsParent symbols ps s.parent s.program
+abbrev pub is_root_module : ModuleAt → Bool
+is_root_module s = elim s.parent [ Some a ↦ false | None ↦ true ]
 
--- r stands in a program that refines a mode of s
-pub record IsKid (symbols : List (Key × ℕ)) (ps : List PlainProgram) (s r : ModuleAt) : Type 0 where
-  pub mode : ℕ
-  pub inside : mode < length (modes_at ps s.program s.«module»)
-  pub parent : r.parent ≡ Some (mode_in s mode)
-  pub placed : IsPlaced symbols ps r
+-- a module of the program that a mode of s names
+pub data IsKid (symbols : List (Key × ℕ)) (ps : List PlainProgram) (s : ModuleAt) : ModuleAt → Type 0 where
+  kid : (m q u : ℕ) (x : PlainMode) (y : PlainModule) → slice_get (modes_at ps s.program s.«module») m ≡ Some x → named_program symbols x ≡ Some q → module_at ps q u ≡ Some y
+      → IsKid symbols ps s (nth_module q (Some (mode_in s m)) u)
+
+-- the module at place k is a root module, or stands below one before it
+pub data Comes (symbols : List (Key × ℕ)) (ps : List PlainProgram) (modules : List ModuleAt) (k : ℕ) : ModuleAt → Type 0 where
+  top : (u : ℕ) (y : PlainModule) → module_at ps 0 u ≡ Some y → Comes symbols ps modules k (nth_module 0 None u)
+  under : (j : ℕ) (s r : ModuleAt) → j < k → slice_get modules j ≡ Some s → IsKid symbols ps s r → Comes symbols ps modules k r
 
 module _ (symbols : List (Key × ℕ)) (ps : List PlainProgram) where
-  -- a module's program is one of the source
-  pub placed_within : (s : ModuleAt) → IsPlaced symbols ps s → s.program < length ps
-  placed_within s h = let x = program_of_module ps s.program s.«module» h.there.0 h.there.1 in slice_get_within ps s.program x.0 x.1
+  in_program : (parent : Option ModeAt) (q k : ℕ) (r : ModuleAt) → slice_get (modules_in ps parent q) k ≡ Some r → (y : PlainModule) × (module_at ps q k ≡ Some y) × (nth_module q parent k ≡ r)
+  in_program parent q k r e =
+      let u = of_list_to (nth_module q parent) (length (modules_at ps q)) k r e in
+      let y = there_is (modules_at ps q) k u.0 in
+      (y.0, y.1, u.1)
 
-  pub placed_names : (s : ModuleAt) (a : ModeAt) → IsPlaced symbols ps s → s.parent ≡ Some a → Names symbols ps a s.program
-  placed_names s a h e = subst (λ o. IsParent symbols ps o s.program) e h.parent
-
-  pub placed_root : (s : ModuleAt) → IsPlaced symbols ps s → s.parent ≡ None → s.program ≡ 0
-  placed_root s h e = subst (λ o. IsParent symbols ps o s.program) e h.parent
-
-  -- what holds of the modules of a program
-  each_in_program : (P : ModuleAt → Type 0) (parent : Option ModeAt) (q : ℕ) → IsParent symbols ps parent q → ((r : ModuleAt) → IsPlaced symbols ps r → r.parent ≡ parent → P r)
-      → Each P (modules_in ps parent q)
-  each_in_program P parent q is h =
-      each_list_to P (nth_module q parent) (length (modules_at ps q)) (λ u lt. h (nth_module q parent u) (record { there = there_is (modules_at ps q) u lt; parent = is }) refl)
-
-  pub each_root : (P : ModuleAt → Type 0) → ((r : ModuleAt) → IsPlaced symbols ps r → r.parent ≡ None → P r) → Each P (modules_in ps None 0)
-  each_root P = each_in_program P None 0 refl
-
-  -- those of mode m refine mode m
-  pub mode_kids_are : (s : ModuleAt) (m : ℕ) (x : PlainMode) → slice_get (modes_at ps s.program s.«module») m ≡ Some x
-      → Each (λ r. (k : IsKid symbols ps s r) × (k.mode ≡ m)) (mode_kids symbols ps s.program s.«module» m x)
-  mode_kids_are s m x at = by (named_program symbols x) refl
+  kid_of : (s : ModuleAt) (k : ℕ) (r : ModuleAt) → slice_get (kids symbols ps s) k ≡ Some r → IsKid symbols ps s r
+  kid_of s k r e =
+      let p = part_of (mode_kids symbols ps s.program s.«module») (modes_at ps s.program s.«module») k r e in
+      by p.part p.owner p.there p.place (named_program symbols p.owner) refl p.item
     where
-      by : (o : Option ℕ) → named_program symbols x ≡ o → Each (λ r. (k : IsKid symbols ps s r) × (k.mode ≡ m)) (elim o [ Some q ↦ modules_in ps (Some (mode_in s m)) q | None ↦ [] ])
-      by None e = tt
-      by (Some q) e =
-          each_in_program (λ r. (k : IsKid symbols ps s r) × (k.mode ≡ m)) (Some (mode_in s m)) q (record { mode = x; there = at; named = e })
-          (λ r placed parent. (record { mode = m; inside = slice_get_within (modes_at ps s.program s.«module») m x at; parent = parent; placed = placed }, refl))
+      by : (m : ℕ) (x : PlainMode) → slice_get (modes_at ps s.program s.«module») m ≡ Some x → (j : ℕ) (o : Option ℕ) → named_program symbols x ≡ o
+          → slice_get (elim o as (λ _. List ModuleAt) [ Some q ↦ modules_in ps (Some (mode_in s m)) q | None ↦ [] ]) j ≡ Some r → IsKid symbols ps s r
+      by m x its j None is e = absurd (none-some r e)
+      by m x its j (Some q) is e = let y = in_program (Some (mode_in s m)) q j r e in subst (IsKid symbols ps s) y.2 (kid m q j x y.0 its is y.1)
 
-  pub each_kid : (P : ModuleAt → Type 0) (s : ModuleAt) → ((r : ModuleAt) → IsKid symbols ps s r → P r) → Each P (kids symbols ps s)
-  each_kid P s h =
-      let modes = modes_at ps s.program s.«module» in
-      let kids = mode_kids symbols ps s.program s.«module» in
-      each_flat_map_at P kids 0 modes
-      (λ m j x is at. each_weaker (λ r. (k : IsKid symbols ps s r) × (k.mode ≡ m)) P (λ r k. h r k.0) (kids m x) (mode_kids_are s m x (at_place modes m j x is at)))
+  -- below one before place k
+  abbrev Under : List ModuleAt → ℕ → ModuleAt → Type 0
+  Under xs k r = (j : ℕ) × (s : ModuleAt) × (j < k) × (slice_get xs j ≡ Some s) × IsKid symbols ps s r
 
-  -- what passes on to kids holds of all below
-  module _ (P : ModuleAt → Type 0) (step : (s r : ModuleAt) → IsKid symbols ps s r → P s → P r) where
-    pub each_below : (n : ℕ) (s : ModuleAt) → P s → Each P (below n symbols ps s)
-    each_below zero s p = (p, tt)
-    each_below (suc n) s p =
-        (p, each_flat_map P (below n symbols ps) (kids symbols ps s) (each_kid (λ r. Each P (below n symbols ps r)) s (λ r k. each_below n r (step s r k p))))
+  flat_under : (f : ModuleAt → List ModuleAt) → ((s : ModuleAt) (k : ℕ) (r : ModuleAt) → slice_get (f s) k ≡ Some r → (s ≡ r) ⊎ Under (f s) k r)
+      → (xs : List ModuleAt) (k : ℕ) (r : ModuleAt) → slice_get (flat_map f xs) k ≡ Some r → In r xs ⊎ Under (flat_map f xs) k r
+  flat_under f own xs k r e =
+      let p = flat_part f xs k r e in
+      elim (own p.owner p.place r p.item) [
+        | inl is ↦ inl (p.part, p.there ∙ ap Some is)
+        | inr b ↦ inr (length (flat_map f (take p.part xs)) + b.0, b.1, omega (arith, b.2, p.number), at_flat f xs p.part b.0 p.owner b.1 p.there b.3, b.4)
+      ]
 
-    pub each_below_kids : (n : ℕ) (s : ModuleAt) → ((r : ModuleAt) → IsKid symbols ps s r → P r) → Each P (flat_map (below n symbols ps) (kids symbols ps s))
-    each_below_kids n s h = each_flat_map P (below n symbols ps) (kids symbols ps s) (each_kid (λ r. Each P (below n symbols ps r)) s (λ r k. each_below n r (h r k)))
+  below_under : (n : ℕ) (s : ModuleAt) (k : ℕ) (r : ModuleAt) → slice_get (below n symbols ps s) k ≡ Some r → (s ≡ r) ⊎ Under (below n symbols ps s) k r
+  below_under zero s zero r e = inl (same_Some s r e)
+  below_under zero s (suc k) r e = absurd (none-some r e)
+  below_under (suc n) s zero r e = inl (same_Some s r e)
+  below_under (suc n) s (suc k) r e =
+      elim (flat_under (below n symbols ps) (below_under n) (kids symbols ps s) k r e) [
+        | inl h ↦ inr (0, s, omega arith, refl, kid_of s h.0 r h.1)
+        | inr b ↦ inr (suc b.0, b.1, omega (arith, b.2), b.3, b.4)
+      ]
 
-  pub modules_placed : Each (IsPlaced symbols ps) (order symbols ps)
-  modules_placed =
-      each_flat_map (IsPlaced symbols ps) (below (length ps) symbols ps) (modules_in ps None 0)
-      (each_root (λ r. Each (IsPlaced symbols ps) (below (length ps) symbols ps r)) (λ r placed top. each_below (IsPlaced symbols ps) (λ s t k q. k.placed) (length ps) r placed))
+  pub comes : (k : ℕ) (s : ModuleAt) → slice_get (order symbols ps) k ≡ Some s → Comes symbols ps (order symbols ps) k s
+  comes k s e =
+      elim (flat_under (below (length ps) symbols ps) (below_under (length ps)) (modules_in ps None 0) k s e) [
+        | inl h ↦ let y = in_program None 0 h.0 s h.1 in subst (Comes symbols ps (order symbols ps) k) y.2 (top h.0 y.0 y.1)
+        | inr b ↦ under b.0 b.1 s b.2 b.3 b.4
+      ]
+
+  pub exist : (k : ℕ) (s : ModuleAt) → slice_get (order symbols ps) k ≡ Some s → Exists ps s
+  exist k s e = by s (comes k s e)
+    where
+      by : (s : ModuleAt) → Comes symbols ps (order symbols ps) k s → Exists ps s
+      by s (top u y its) = (y, its)
+      by s (under j t r lower there (kid m q u x y at named its)) = (y, its)
 
   -- ---- the root modules
 
-  none_kept : (xs : List ModuleAt) → Each (λ s. is_root_module s ≡ false) xs → filter is_root_module xs ≡ []
-  none_kept [] h = refl
-  none_kept (x ∷ xs) h = let here = h.0 in let rest = none_kept xs h.1 in grind (arith, common_steps)
+  -- all are, or none is
+  roots_alike : (b : Bool) (xs : List ModuleAt) → ((k : ℕ) (s : ModuleAt) → slice_get xs k ≡ Some s → is_root_module s ≡ b) → filter is_root_module xs ≡ cond b xs []
+  roots_alike b [] h = grind (arith, common_steps)
+  roots_alike b (x ∷ xs) h = let here = h 0 x refl in let rest = roots_alike b xs (λ k s e. h (suc k) s e) in grind (arith, common_steps)
 
-  kid_no_root : (s r : ModuleAt) → IsKid symbols ps s r → is_root_module r ≡ false
-  kid_no_root s r k = ap (λ (o : Option ModeAt). elim o [ Some a ↦ false | None ↦ true ]) k.parent
+  no_root_below : (s : ModuleAt) → filter is_root_module (kids symbols ps s) ≡ []
+  no_root_below s = roots_alike false (kids symbols ps s) (λ k r e. by r (kid_of s k r e))
+    where
+      by : (r : ModuleAt) → IsKid symbols ps s r → is_root_module r ≡ false
+      by r (kid m q u x y at named its) = refl
 
-  below_roots : (n : ℕ) (s : ModuleAt) → s.parent ≡ None → filter is_root_module (below n symbols ps s) ≡ s ∷ []
-  below_roots zero s e = grind (arith, common_steps)
-  below_roots (suc n) s e =
-      let rest = flat_map (below n symbols ps) (kids symbols ps s) in
-      let no = none_kept rest (each_below_kids (λ r. is_root_module r ≡ false) (λ t q l p. kid_no_root t q l) n s (kid_no_root s)) in
+  roots_stay : (n : ℕ) (xs : List ModuleAt) → filter is_root_module (flat_map (below n symbols ps) xs) ≡ filter is_root_module xs
+  roots_stay n [] = refl
+  roots_stay zero (x ∷ xs) = let rest = roots_stay zero xs in grind (arith, common_steps)
+  roots_stay (suc n) (x ∷ xs) =
+      let lower = roots_stay n (kids symbols ps x) ∙ no_root_below x in
+      let both = filter-append is_root_module (below (suc n) symbols ps x) (flat_map (below (suc n) symbols ps) xs) in
+      let rest = roots_stay (suc n) xs in
       grind (arith, common_steps)
 
-  all_roots : (n : ℕ) (xs : List ModuleAt) → Each (λ (s : ModuleAt). s.parent ≡ None) xs → filter is_root_module (flat_map (below n symbols ps) xs) ≡ xs
-  all_roots n [] h = refl
-  all_roots n (x ∷ xs) h =
-      let both = filter-append is_root_module (below n symbols ps x) (flat_map (below n symbols ps) xs) in
-      let first = below_roots n x h.0 in
-      let rest = all_roots n xs h.1 in
-      cc
-
   pub roots_of : filter is_root_module (order symbols ps) ≡ modules_in ps None 0
-  roots_of = all_roots (length ps) (modules_in ps None 0) (each_root (λ (s : ModuleAt). s.parent ≡ None) (λ r placed top. top))
-
--- ---- the module of a refined mode stands before the modules that refine it
-
-module _ (symbols : List (Key × ℕ)) (ps : List PlainProgram) where
-  -- what stands before a place of a list stands before the places behind it
-  later : (xs ys : List ModuleAt) (k n : ℕ) (a : ModeAt) → ((j : ℕ) (s : ModuleAt) → slice_get xs j ≡ Some s → slice_get ys (n + j) ≡ Some s) → StandsBefore ps xs k a → StandsBefore ps ys (n + k) a
-  later xs ys k n a moved b =
-      let lower = b.lower in
-      record { place = n + b.place; lower = omega (arith, lower); «module» = b.«module»; there = moved b.place b.«module» b.there; program = b.program; number = b.number; mode = b.mode }
-
-  -- the parent of a module below others is that of one of them, or stands before it
-  before_flat : (n : ℕ) (xs : List ModuleAt) → ((s r : ModuleAt) (k : ℕ) (a : ModeAt) → slice_get (below n symbols ps s) k ≡ Some r → r.parent ≡ Some a → (s.parent ≡ Some a) ⊎ StandsBefore ps (below n symbols ps s) k a)
-      → (r : ModuleAt) (k : ℕ) (a : ModeAt) → slice_get (flat_map (below n symbols ps) xs) k ≡ Some r → r.parent ≡ Some a
-      → ((j : ℕ) × (s : ModuleAt) × (slice_get xs j ≡ Some s) × (s.parent ≡ Some a)) ⊎ StandsBefore ps (flat_map (below n symbols ps) xs) k a
-  before_flat n xs own r k a e p =
-      let f = below n symbols ps in
-      let at = flat_part f xs k r e in
-      let front = length (flat_map f (take at.part xs)) in
-      elim (own at.owner r at.place a at.item p) [
-        | inl above ↦ inl (at.part, at.owner, at.there, above)
-        | inr b ↦
-            inr (subst (λ m. StandsBefore ps (flat_map f xs) m a) (sym at.number)
-            (later (f at.owner) (flat_map f xs) at.place front a (λ j s there. at_flat f xs at.part j at.owner s at.there there) b))
-      ]
-
-  before_below : (n : ℕ) (s r : ModuleAt) (k : ℕ) (a : ModeAt) → slice_get (below n symbols ps s) k ≡ Some r → r.parent ≡ Some a → (s.parent ≡ Some a) ⊎ StandsBefore ps (below n symbols ps s) k a
-  before_below zero s r zero a e p = inl (ap (λ (t : ModuleAt). t.parent) (same_Some s r e) ∙ p)
-  before_below zero s r (suc k) a e p = absurd (none-some r e)
-  before_below (suc n) s r zero a e p = inl (ap (λ (t : ModuleAt). t.parent) (same_Some s r e) ∙ p)
-  before_below (suc n) s r (suc k) a e p =
-      elim (before_flat n (kids symbols ps s) (before_below n) r k a e p) [
-        | inl top ↦
-            let kid = each_at (IsKid symbols ps s) (kids symbols ps s) top.0 top.1 (each_kid symbols ps (IsKid symbols ps s) s (λ r k. k)) top.2 in
-            let same = same_Some (mode_in s kid.mode) a (sym kid.parent ∙ top.3) in
-            inr (subst (λ b. StandsBefore ps (below (suc n) symbols ps s) (suc k) b) same
-            (record { place = 0; lower = omega arith; «module» = s; there = refl; program = refl; number = refl; mode = kid.inside }))
-        | inr b ↦
-            inr (subst (λ m. StandsBefore ps (below (suc n) symbols ps s) m a) (omega arith)
-            (later (flat_map (below n symbols ps) (kids symbols ps s)) (below (suc n) symbols ps s) k 1 a (λ j t there. get_back (s ∷ []) (flat_map (below n symbols ps) (kids symbols ps s)) j ∙ there) b))
-      ]
-
-  pub parents_before : (k : ℕ) (s : ModuleAt) (a : ModeAt) → slice_get (order symbols ps) k ≡ Some s → s.parent ≡ Some a → StandsBefore ps (order symbols ps) k a
-  parents_before k s a e p =
-      elim (before_flat (length ps) (modules_in ps None 0) (before_below (length ps)) s k a e p) [
-        | inl top ↦
-            let root = each_at (λ (r : ModuleAt). r.parent ≡ None) (modules_in ps None 0) top.0 top.1 (each_root symbols ps (λ (r : ModuleAt). r.parent ≡ None) (λ r placed none. none)) top.2 in
-            absurd (none-some a (sym root ∙ top.3))
-        | inr b ↦ b
-      ]
+  roots_of =
+      roots_stay (length ps) (modules_in ps None 0)
+      ∙ roots_alike true (modules_in ps None 0) (λ k s e. ap (λ (r : ModuleAt). is_root_module r) (sym (in_program None 0 k s e).2))

@@ -1,12 +1,15 @@
 -- What tests tell, what stands at a place of a tree, and where among all of its kind.
-use Rattle.std.proofs.Common.{◌≡◌, ℕ, ◌≤◌, ◌<◌, ◌⊎◌, inl, inr, arith, Bool, true, ◌&&◌, refl, ◌+◌, List, [], slice_get, Option, Some, None, ◌∙◌, ap, flat_map}
+use Rattle.std.proofs.Common.{◌≡◌, ℕ, ◌≤◌, ◌<◌, ◌⊎◌, inl, inr, arith, Bool, true, ◌&&◌, refl, ◌+◌, List, [], length, slice_get, Option, Some, None, ◌∙◌, ap, sym, flat_map}
 use Rattle.std.proofs.lemmas.Bool.{and_parts, cases_eq, cases_lt}
-use Rattle.std.proofs.lemmas.Option.{none-some}
+use Rattle.std.proofs.lemmas.Option.{none-some, slice_get_within}
 use Rattle.htl_text.specs.Bounds.{modules_of, modes_of, tasks_of}
 use Rattle.htl_text.specs.Nodes.{PlainProgram, PlainModule, PlainMode, PlainTask}
-use Rattle.htl_names.specs.Order.{module_at, tasks_at, modes_at, mode_at}
+use Rattle.htl_names.specs.Order.{module_at, tasks_at, modes_at, mode_at, module_modes, mode_order}
 use Rattle.htl_names.specs.declared.place.ModeAt.{ModeAt}
-use Rattle.htl_names.proofs.FlatMaps.{at_flat}
+use Rattle.htl_names.proofs.FlatMaps.{at_flat, flat_map_is, same_length}
+use Rattle.htl_names.specs.Nth.{mode_in}
+use Rattle.htl_names.specs.declared.place.ModuleAt.{ModuleAt}
+use Rattle.htl_model.proofs.Listed.{length-list_to}
 
 pub stable : (m n : ℕ) → ((m ≡ n → ⊥) → ⊥) → m ≡ n
 stable m n h = elim (cases_eq m n) [ inl p ↦ p | inr q ↦ absurd (h q) ]
@@ -40,6 +43,18 @@ pub part_is : {A : Type 0} (ps : List PlainProgram) (a : ModeAt) (x : PlainMode)
     → elim (mode_at ps a) [ Some y ↦ part y | None ↦ [] ] ≡ part x
 part_is ps a x part e = ap (λ o. elim o [ Some y ↦ part y | None ↦ [] ]) e
 
+-- ---- modes and tasks of a module
+
+abbrev pub modes_in : List PlainProgram → ModuleAt → List PlainMode
+modes_in ps s = modes_at ps s.program s.«module»
+
+abbrev pub tasks_in : List PlainProgram → ModuleAt → List PlainTask
+tasks_in ps s = tasks_at ps s.program s.«module»
+
+pub mode_parts : (ps : List PlainProgram) (modules : List ModuleAt) → length (mode_order ps modules) ≡ length (flat_map (modes_in ps) modules)
+mode_parts ps modules =
+    ap length (sym (flat_map_is (module_modes ps) 0 modules)) ∙ same_length (λ k. module_modes ps) (modes_in ps) (λ k s. length-list_to (mode_in s) (length (modes_in ps s))) 0 modules
+
 -- ---- whose it is
 
 -- an item of a part of what stands there
@@ -50,6 +65,10 @@ part_there part (Some x) k y e = (x, refl, e)
 
 pub program_of_module : (ps : List PlainProgram) (p u : ℕ) (y : PlainModule) → module_at ps p u ≡ Some y → (x : PlainProgram) × (slice_get ps p ≡ Some x) × (slice_get x.modules u ≡ Some y)
 program_of_module ps p u y e = part_there (λ (x : PlainProgram). x.modules) (slice_get ps p) u y e
+
+-- it is a program of the source
+pub within : (ps : List PlainProgram) (p u : ℕ) (y : PlainModule) → module_at ps p u ≡ Some y → p < length ps
+within ps p u y e = let x = program_of_module ps p u y e in slice_get_within ps p x.0 x.1
 
 pub module_of_task : (ps : List PlainProgram) (p u k : ℕ) (t : PlainTask) → slice_get (tasks_at ps p u) k ≡ Some t → (y : PlainModule) × (module_at ps p u ≡ Some y) × (slice_get y.tasks k ≡ Some t)
 module_of_task ps p u k t e = part_there (λ (x : PlainModule). x.tasks) (module_at ps p u) k t e

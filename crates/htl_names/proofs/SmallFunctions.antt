@@ -29,7 +29,8 @@ use Rattle.htl_names.specs.declared.place.ModuleAt.{ModuleAt}
 use Rattle.htl_names.proofs.ListLaws.{zip_append, zip_map, zip_parts, zip_at, zip_all, distinct_has, among_at, place_found, few_reads}
 use Rattle.htl_names.proofs.FlatMaps.{flat_map_is, flat_map_parts}
 use Rattle.htl_names.proofs.Members.{In, in_first, in_second, in_part, in_mapped, at_place, All-at, map_flat_map_at}
-use Rattle.htl_names.proofs.Numbered.{task_small, switch_small, tasks_in}
+use Rattle.htl_names.proofs.Numbered.{task_small, switch_small}
+use Rattle.htl_names.proofs.Places.{tasks_in}
 use Rattle.htl_names.proofs.NameUses.{known, used_in_task}
 
 -- ---- expressions

@@ -1,5 +1,5 @@
 -- The trees that a source gives meet the conditions under which names are resolved.
-use Rattle.std.proofs.Common.{◌≤◌, ℕ, ◌+◌, List, [], ◌∷◌, length, map, fold, All, arith, length-append}
+use Rattle.std.proofs.Common.{List, map, All, arith}
 use Rattle.std.specs.List.{flat_map}
 use Rattle.std.proofs.lemmas.List.{length-map}
 use Rattle.std.proofs.lemmas.List.Elements.{All-weaker}

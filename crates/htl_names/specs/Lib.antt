@@ -11,7 +11,6 @@ pub mod Lists
 pub mod NameRules
 pub mod Narrow
 pub mod Order
-pub mod Ordered
 pub mod Parents
 pub mod Programs
 pub mod Named
