@@ -26,7 +26,7 @@ use Rattle.htl_names.specs.Programs.{named_program, refined_by}
 use Rattle.htl_names.proofs.FlatMaps.{at_front, at_part, same_part, flat_map_is, most_in_part}
 use Rattle.htl_names.proofs.ListLaws.{flat_map_flat_map, flat_map_places, greatest_at}
 use Rattle.htl_names.proofs.ModulePlaces.{Exists, Comes, top, under, kid, comes}
-use Rattle.htl_names.proofs.Places.{order_of, modes_in, tasks_in, program_of_module, within, modes_there, mode_in_source}
+use Rattle.htl_names.proofs.Places.{order_of, modes_in, tasks_in, program_of_module, within, modes_there, item_in_source}
 use Rattle.htl_names.proofs.TreeLevels.{IsTree, refined_at, root_unnamed, root_not_named}
 use Rattle.htl_names.proofs.Naming.{Names, refined_none}
 
@@ -179,7 +179,7 @@ module _ (ps : List PlainProgram) where
 
   module _ (modules : List ModuleAt) (h : (k : ℕ) (s : ModuleAt) → slice_get modules k ≡ Some s → Exists ps s) (d : Apart modules) where
     -- what the modules in order have, the source has
-    few : {B C : Type 0} (at : ModuleAt → List B) (part : PlainModule → List C) → ((s : ModuleAt) (y : PlainModule) → module_at ps s.program s.«module» ≡ Some y → length (at s) ≡ length (part y))
+    pub few : {B C : Type 0} (at : ModuleAt → List B) (part : PlainModule → List C) → ((s : ModuleAt) (y : PlainModule) → module_at ps s.program s.«module» ≡ Some y → length (at s) ≡ length (part y))
         → length (flat_map at modules) ≤ length (flat_map part (modules_of ps))
     few at part same =
         let size : PlainModule → ℕ = λ y. length (part y) in
@@ -187,17 +187,6 @@ module _ (ps : List PlainProgram) where
         (λ k s e. let x = h k s e in get_mapped size (modules_of ps) (number s) x.0 (there s x) ∙ ap (λ (n : ℕ). Some n) (sym (same s x.0 x.1)))
         (λ j k s r e f is. let own = own_number s r (h j s e) (h k r f) is in d j k s r e f own.0 own.1) in
         omega (arith, total, length-flat_map at modules, sum-map size (modules_of ps), length-flat_map part (modules_of ps))
-
-    pub few_modules_than : length modules ≤ length (modules_of ps)
-    few_modules_than = simp (flat_map_single, length-map) at (few (λ (s : ModuleAt). s ∷ []) (λ (y : PlainModule). y ∷ []) (λ s y e. refl))
-
-    pub few_modes_than : length (flat_map (modes_in ps) modules) ≤ length (modes_of (modules_of ps))
-    few_modes_than = few (modes_in ps) (λ (y : PlainModule). y.modes) (λ s y e. ap length (modes_there ps s.program s.«module» y e))
-
-    pub few_tasks_than : length (flat_map (tasks_in ps) modules) ≤ length (tasks_of (modules_of ps))
-    few_tasks_than =
-        few (tasks_in ps) (λ (y : PlainModule). y.tasks)
-        (λ s y e. ap (λ (o : Option PlainModule). length {A = PlainTask} (elim o [ Some x ↦ x.tasks | None ↦ [] ])) e)
 
     -- what the modes in order have, the source has
     pub few_in_modes : {B : Type 0} (part : PlainMode → List B)
@@ -220,6 +209,6 @@ module _ (ps : List PlainProgram) where
       by : (o : Option PlainMode) → mode_at ps a ≡ o → length {A = InvokeNode} (elim o [ Some x ↦ x.invokes | None ↦ [] ]) ≤ most_invokes (modes_of (modules_of ps))
       by None e = omega arith
       by (Some z) e =
-          let n = mode_in_source ps a.program a.«module» a.mode z e in
+          let n = item_in_source (λ (y : PlainModule). y.modes) ps a.program a.«module» a.mode z e in
           greatest_at 0 (length z.invokes) (map (λ (x : PlainMode). length x.invokes) (modes_of (modules_of ps))) (n.0 + a.mode)
           (get_mapped (λ (x : PlainMode). length x.invokes) (modes_of (modules_of ps)) (n.0 + a.mode) z n.1)

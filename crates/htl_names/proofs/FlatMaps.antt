@@ -6,7 +6,8 @@ use Rattle.std.proofs.lemmas.Grind.{flat_map-append}
 use Rattle.std.specs.List.Sorted.{IsNonDecreasing}
 use Rattle.std.proofs.lemmas.Bool.{cases_lt}
 use Rattle.std.proofs.lemmas.Bool.Decides.{nat_tests}
-use Rattle.std.proofs.lemmas.List.Sums.{sum_by-cons, sum_by-append}
+use Rattle.std.proofs.lemmas.List.Sums.{sum_by-cons, sum_by-append, sum_by-le-sum_by}
+use Rattle.std.proofs.lemmas.List.Concat.{length-flat_map}
 use Rattle.htl_model.specs.Lists.{list_to}
 use Rattle.htl_model.proofs.Listed.{length-list_to, get_list_to}
 use Rattle.htl_model.proofs.PlaceLaws.{get_mapped}
@@ -32,12 +33,6 @@ get_either (z ∷ xs) ys zero x e = inl e
 get_either (z ∷ xs) ys (suc k) x e =
     elim (get_either xs ys k x e) [ inl a ↦ inl a | inr b ↦ inr (b.0, omega (arith, b.1), b.2) ]
 
--- no item stands at the places from the length on
-pub past : {A : Type 0} (xs : List A) (k : ℕ) → slice_get xs k ≡ None → length xs ≤ k
-past [] k e = omega arith
-past (x ∷ xs) zero e = cc
-past (x ∷ xs) (suc k) e = omega (arith, past xs k e)
-
 -- an item stands at each place below the length
 pub there_is : {A : Type 0} (xs : List A) (k : ℕ) → k < length xs → (x : A) × (slice_get xs k ≡ Some x)
 there_is [] k less = absurd (omega (arith, less))
@@ -48,8 +43,7 @@ there_is (x ∷ xs) (suc k) less = there_is xs k (omega (arith, less))
 pub in_front : {A : Type 0} (es : List A) (k j : ℕ) (d : A) → slice_get (take k es) j ≡ Some d → (j < k) × (slice_get es j ≡ Some d)
 in_front es k j d e =
     let within = slice_get_within (take k es) j d e in
-    let below : (j < k) × (j < length es) = (omega (arith, within, length-take k es), omega (arith, within, length-take k es)) in
-    (below.0, slice_get-get_or es j d below.1 ∙ ap (λ x. Some x) (sym (get_or-take k es j d below.0) ∙ get_or_from_slice_get (take k es) j d d e))
+    (omega (arith, within, length-take k es), ap (λ xs. slice_get xs j) (sym (take-append-drop k es)) ∙ get_front (take k es) (drop k es) j d e)
 
 pub at_front : {A : Type 0} (es : List A) (k j : ℕ) (d : A) → j < k → slice_get es j ≡ Some d → slice_get (take k es) j ≡ Some d
 at_front es k j d below e =
@@ -152,13 +146,7 @@ take_length f k xs = omega (arith, simp (flat_map-append, length-append) at (ap 
 
 -- at most as many from each item
 pub flat_map_shorter : {A B C : Type 0} (f : A → List B) (g : A → List C) → ((x : A) → length (f x) ≤ length (g x)) → (xs : List A) → length (flat_map f xs) ≤ length (flat_map g xs)
-flat_map_shorter f g le [] = omega arith
-flat_map_shorter f g le (x ∷ xs) =
-    omega (arith, length-append (f x) (flat_map f xs), length-append (g x) (flat_map g xs), le x, flat_map_shorter f g le xs)
-
-pub flat_map_single_shorter : {A B : Type 0} (f : A → List B) → ((x : A) → length (f x) ≤ 1) → (xs : List A) → length (flat_map f xs) ≤ length xs
-flat_map_single_shorter f le [] = omega arith
-flat_map_single_shorter f le (x ∷ xs) = omega (arith, length-append (f x) (flat_map f xs), le x, flat_map_single_shorter f le xs)
+flat_map_shorter f g le xs = omega (arith, length-flat_map f xs, length-flat_map g xs, sum_by-le-sum_by (λ x. length (f x)) (λ x. length (g x)) xs le)
 
 -- ---- parts that know nothing of their place
 

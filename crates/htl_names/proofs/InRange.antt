@@ -2,6 +2,7 @@
 use Rattle.std.proofs.Common.{◌≡◌, ◌<◌, ◌+◌, ℕ, List, map, length, take, slice_get, Some, refl, sym, ◌∙◌, ap, subst, arith, None, Option, IfSome, All}
 use Rattle.std.proofs.lemmas.Option.{slice_get_within, same_Some}
 use Rattle.std.proofs.lemmas.List.{length-map}
+use Rattle.std.proofs.lemmas.List.Elements.{All-map}
 use Rattle.htl_model.specs.Lists.{AreApart}
 use Rattle.htl_model.specs.declared.parts.Comm.{Comm}
 use Rattle.htl_model.specs.declared.parts.Mode.{Mode}
@@ -150,9 +151,8 @@ module _ (ps : List PlainProgram) (right : AreNamesRight ps) where
 
   comms_in_range : All IsCommInRange (comm_items ps)
   comms_in_range =
-      All-from_places IsCommInRange (comm_items ps) (λ k y e.
-      let x = of_map comm_item (comms_of ps) k y e in
-      subst IsCommInRange x.2 (record { period = comm_period_span ps right k x.0 x.1; init = initial_fits ps right k x.0 x.1 }))
+      All-map IsCommInRange comm_item (comms_of ps)
+      (All-from_places (λ x. IsCommInRange (comm_item x)) (comms_of ps) (λ k x e. record { period = comm_period_span ps right k x e; init = initial_fits ps right k x e }))
 
 -- ---- ports
 
@@ -195,11 +195,10 @@ module _ (ps : List PlainProgram) (small : MeetsBounds ps) (right : AreNamesRigh
       × (t.«module» ≡ mode_module (tables_of_tree ps) n)
   task_in_module j i at =
       let l = layout ps in
-      let use_of = usage (task_key s.program s.«module» i.task.name) i.task in
-      let t = (known ps right use_of (used_in_invoke ps use_of a j i at (0, refl))).0 in (
+      let t = task_named ps right a j i at in (
         task_item k t.0,
-        ap (λ (q : ℕ). slice_get (task_items l ps) (tasks_before l ps q + meaning l use_of.key)) number
-            ∙ item_stands (λ k s. task_item k) (tasks_in ps) l.modules k (meaning l use_of.key) s t.0 there t.1,
+        ap (λ (q : ℕ). slice_get (task_items l ps) (tasks_before l ps q + meaning l (task_key s.program s.«module» i.task.name))) number
+            ∙ item_stands (λ k s. task_item k) (tasks_in ps) l.modules k (meaning l (task_key s.program s.«module» i.task.name)) s t.0 there t.1,
         sym owner,
       )
 
@@ -213,9 +212,8 @@ module _ (ps : List PlainProgram) (small : MeetsBounds ps) (right : AreNamesRigh
   ends_in_range : (es : List EndNode) → ((j : ℕ) (e : EndNode) → slice_get es j ≡ Some e → In (end_use s.program s.«module» m e) (uses ps)) → All IsNarrowEnd es
       → All (IsEndInRange (tables_of_tree ps) n) (map (end_item (layout ps) ps n a) es)
   ends_in_range es used narrow =
-      All-from_places (IsEndInRange (tables_of_tree ps) n) (map (end_item (layout ps) ps n a) es) (λ j y at.
-      let e = of_map (end_item (layout ps) ps n a) es j y at in
-      subst (IsEndInRange (tables_of_tree ps) n) e.2 (end_in_range e.0 (used j e.0 e.1) (All-at IsNarrowEnd es j e.0 narrow e.1)))
+      All-map (IsEndInRange (tables_of_tree ps) n) (end_item (layout ps) ps n a) es
+      (All-from_places (λ e. IsEndInRange (tables_of_tree ps) n (end_item (layout ps) ps n a e)) es (λ j e at. end_in_range e (used j e at) (All-at IsNarrowEnd es j e narrow at)))
 
   parent_within : (j : ℕ) (i : InvokeNode) → slice_get (invokes_at ps a) j ≡ Some i → (o : Option Id) → i.parent ≡ o
       → IfSome (elim o [ Some id ↦ parent_number (layout ps) ps (refined_mode (layout ps) s.program s.«module») id | None ↦ None ]) (λ p. p < length (invoke_items (layout ps) ps))

@@ -70,10 +70,6 @@ module _ {A : Type 0} (P : A → Type 0) where
   each_always [] h = tt
   each_always (x ∷ xs) h = (h x, each_always xs h)
 
-  pub each_list_to : (f : ℕ → A) (n : ℕ) → ((k : ℕ) → k < n → P (f k)) → Each P (list_to f n)
-  each_list_to f zero h = tt
-  each_list_to f (suc n) h = each_append (list_to f n) (f n ∷ []) (each_list_to f n (λ k lt. h k (omega arith))) (h n (omega arith), tt)
-
   pub each_flat_map : {B : Type 0} (f : B → List A) (xs : List B) → Each (λ x. Each P (f x)) xs → Each P (flat_map f xs)
   each_flat_map f [] h = tt
   each_flat_map f (x ∷ xs) h = each_append (f x) (flat_map f xs) h.0 (each_flat_map f xs h.1)
@@ -88,12 +84,6 @@ module _ {A : Type 0} (P : A → Type 0) where
   -- of each part, numbered from 0
   pub each_part : {B : Type 0} (f : ℕ → B → List A) (xs : List B) → ((i : ℕ) (x : B) → slice_get xs i ≡ Some x → Each P (f i x)) → Each P (flat_map_at f 0 xs)
   each_part f xs h = each_flat_map_at f 0 xs (λ i j x is there. h i x (at_place xs i j x is there))
-
-  -- ---- from all to one
-
-  pub each_of_places : (xs : List A) → ((k : ℕ) (x : A) → slice_get xs k ≡ Some x → P x) → Each P xs
-  each_of_places [] h = tt
-  each_of_places (x ∷ xs) h = (h 0 x refl, each_of_places xs (λ k y e. h (suc k) y e))
 
 pub each_weaker : {A : Type 0} (P Q : A → Type 0) → ((x : A) → P x → Q x) → (xs : List A) → Each P xs → Each Q xs
 each_weaker P Q f [] h = tt
@@ -115,9 +105,6 @@ all_given P item nodes xs h =
 pub All-at : {A : Type 0} (P : A → Type 0) (xs : List A) (k : ℕ) (x : A) → All P xs → slice_get xs k ≡ Some x → P x
 All-at P xs k x all e = subst P (get_or_from_slice_get xs k x x e) (All-get_or P xs k x (slice_get_within xs k x e) all)
 
-pub each_of_all : {A : Type 0} (P : A → Type 0) (xs : List A) → All P xs → Each P xs
-each_of_all P xs h = each_of_places P xs (λ k x e. All-at P xs k x h e)
-
 -- ---- maps
 
 pub map_flat_map_at : {A B C : Type 0} (h : B → C) (f : ℕ → A → List B) (g : A → List C) → ((k : ℕ) (x : A) → map h (f k x) ≡ g x)
@@ -138,6 +125,5 @@ sum_by_flat_map f h (x ∷ xs) =
 -- of one of the lists that are joined
 pub all_part : {X Y : Type 0} (P : Y → Type 0) (f : X → List Y) (xs : List X) (k : ℕ) (x : X) → k < length xs → All P (flat_map f xs)
     → All P (f (get_or xs k x))
-all_part P f xs k x below all = λ j d within.
-    let place = length (flat_map f (take k xs)) + j in
-    subst P (get_or-flat_map f xs k j x d below within) (all place d (omega (arith, length-flat_map-take f xs k x below, within)))
+all_part P f xs k x below all =
+    All-from_places P (f (get_or xs k x)) (λ j y e. All-at P (flat_map f xs) _ y all (at_flat f xs k j (get_or xs k x) y (slice_get-get_or xs k x below) e))

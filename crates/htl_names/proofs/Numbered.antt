@@ -23,7 +23,7 @@ use Rattle.htl_names.specs.Nth.{mode_in}
 use Rattle.htl_names.proofs.FlatMaps.{in_front, at_part, at_flat, flat_part, there_is, list_to_at, of_list_to, counted, given, stands}
 use Rattle.htl_names.proofs.NameUses.{worst_span, mode_period_span, known, used_in_module}
 use Rattle.htl_names.proofs.ListLaws.{place_found}
-use Rattle.htl_names.proofs.Places.{modes_in, tasks_in, mode_parts, within, task_in_source, part_in_source}
+use Rattle.htl_names.proofs.Places.{modes_in, tasks_in, mode_parts, within, item_in_source, part_in_source}
 use Rattle.htl_names.proofs.ModulePlaces.{Comes, top, under, kid, comes, exist}
 use Rattle.htl_names.proofs.Ordering.{right_tree, modules_apart, low}
 use Rattle.htl_names.proofs.TreeLevels.{level_step}
@@ -189,7 +189,7 @@ module _ (ps : List PlainProgram) (right : AreNamesRight ps) where
 
 module _ (ps : List PlainProgram) (small : MeetsBounds ps) where
   pub task_small : (p u k : ℕ) (t : PlainTask) → slice_get (tasks_at ps p u) k ≡ Some t → MeetsTaskBounds t
-  task_small p u k t e = let n = task_in_source ps p u k t e in All-at MeetsTaskBounds (tasks_of (modules_of ps)) (n.0 + k) t small.tasks n.1
+  task_small p u k t e = let n = item_in_source (λ (y : PlainModule). y.tasks) ps p u k t e in All-at MeetsTaskBounds (tasks_of (modules_of ps)) (n.0 + k) t small.tasks n.1
 
   pub switch_small : (a : ModeAt) (j : ℕ) (w : PlainSwitch) → slice_get (switches_at ps a) j ≡ Some w → MeetsSwitchBounds w
   switch_small a j w at =

@@ -1,7 +1,7 @@
 -- Where the name rules are kept, the modules in order differ and are few, and their numbers fit the fields.
-use Rattle.std.proofs.Common.{◌≡◌, ℕ, suc, ◌≤◌, ◌<◌, min, ◌^◌, ◌-◌, List, length, slice_get, Some, refl, arith, le_trans, [], Option, None, All, ap, ◌+◌, ◌∙◌}
+use Rattle.std.proofs.Common.{◌≡◌, ℕ, suc, ◌≤◌, ◌<◌, min, ◌^◌, ◌-◌, List, length, slice_get, Some, refl, arith, le_trans, [], Option, None, All, ap, ◌+◌, ◌∙◌, ◌∷◌}
 use Rattle.htl_model.specs.Lists.{list_to}
-use Rattle.htl_text.specs.Nodes.{PlainProgram, PlainMode, PlainTask}
+use Rattle.htl_text.specs.Nodes.{PlainProgram, PlainModule, PlainMode, PlainTask}
 use Rattle.htl_names.specs.declared.place.ModeAt.{ModeAt}
 use Rattle.htl_names.specs.declared.place.ModuleAt.{ModuleAt}
 use Rattle.htl_names.specs.Flat.{symbols_of, layout, size_of, Layout, layout_by, tables_by, tables_of_tree}
@@ -9,14 +9,16 @@ use Rattle.htl_names.specs.Limits.{counts, limits}
 use Rattle.htl_names.specs.NameRules.{AreNamesRight, ProgramTree, Limits}
 use Rattle.htl_names.specs.Order.{order, mode_order, mode_at, modes_at, tasks_at, ports_at, invokes_at, switches_at}
 use Rattle.htl_names.specs.Programs.{naming, level, levels}
-use Rattle.htl_names.proofs.Apart.{Apart, order_apart, few_modules_than, few_modes_than, few_tasks_than, few_in_modes, few_in_mode_than}
-use Rattle.htl_names.proofs.Places.{not_above, modes_in, tasks_in, mode_parts, mode_in_source}
+use Rattle.htl_names.proofs.Apart.{Apart, order_apart, few, few_in_modes, few_in_mode_than}
+use Rattle.htl_names.proofs.Places.{not_above, part_there, modes_there, tasks_there, modes_in, tasks_in, mode_parts, item_in_source}
 use Rattle.htl_names.proofs.FlatMaps.{list_to_at, take_length}
 use Rattle.htl_names.proofs.TreeLevels.{IsTree, few_programs}
 use Rattle.htl_names.proofs.Members.{All-from_places}
 use Rattle.htl_names.proofs.ModulePlaces.{Comes, top, under, kid, comes, exist}
 use Rattle.htl_names.proofs.ListLaws.{greatest_at}
 use Rattle.std.specs.List.{flat_map}
+use Rattle.std.proofs.lemmas.List.{length-map}
+use Rattle.std.proofs.lemmas.List.Concat.{flat_map_single}
 use Rattle.std.proofs.lemmas.List.Elements.{All-nil}
 use Rattle.std.proofs.lemmas.Option.{slice_get_within}
 use Rattle.htl_text.specs.Bounds.{comms_of, modules_of, modes_of}
@@ -63,9 +65,9 @@ are_few ps right =
     let here = exist (symbols_of ps) ps in
     let apart = modules_apart ps right in
     record {
-      modules = le_trans (few_modules_than ps modules here apart) (kept_limit ps right 1 _ 64 refl refl);
-      modes = le_trans (few_modes_than ps modules here apart) (kept_limit ps right 2 _ 256 refl refl);
-      tasks = le_trans (few_tasks_than ps modules here apart) (kept_limit ps right 4 _ 4096 refl refl);
+      modules = le_trans (simp (flat_map_single, length-map) at (few ps modules here apart (λ (s : ModuleAt). s ∷ []) (λ (y : PlainModule). y ∷ []) (λ s y e. refl))) (kept_limit ps right 1 _ 64 refl refl);
+      modes = le_trans (few ps modules here apart (modes_in ps) (λ (y : PlainModule). y.modes) (λ s y e. ap length (modes_there ps s.program s.«module» y e))) (kept_limit ps right 2 _ 256 refl refl);
+      tasks = le_trans (few ps modules here apart (tasks_in ps) (λ (y : PlainModule). y.tasks) (λ s y e. ap length (tasks_there ps s.program s.«module» y e))) (kept_limit ps right 4 _ 4096 refl refl);
       ports = le_trans (few_in_modes ps modules here apart (λ (x : PlainMode). x.ports)) (kept_limit ps right 3 _ 4096 refl refl);
       invokes = le_trans (few_in_modes ps modules here apart (λ (x : PlainMode). x.invokes)) (kept_limit ps right 5 _ 2048 refl refl);
       switches = le_trans (few_in_modes ps modules here apart (λ (x : PlainMode). x.switches)) (kept_limit ps right 6 _ 4096 refl refl);
@@ -93,26 +95,15 @@ low_source ps small right =
     }
 
 module _ (ps : List PlainProgram) (right : AreNamesRight ps) where
-  comm_periods : All (λ (c : CommNode). size_of c.period.x ≤ 1000000) (comms_of ps)
-  comm_periods = All-from_places (λ (c : CommNode). size_of c.period.x ≤ 1000000) (comms_of ps) (λ k c e. (comm_period_span ps right k c e).most)
-
-  periods : (p u : ℕ) → All (λ (x : PlainMode). size_of x.period.x ≤ 1000000) (modes_at ps p u)
-  periods p u = All-from_places (λ (x : PlainMode). size_of x.period.x ≤ 1000000) (modes_at ps p u) (λ m x e. (mode_period_span ps right p u m x e).most)
-
-  worsts : (p u : ℕ) → All (λ (t : PlainTask). size_of t.worst.x ≤ 1000000) (tasks_at ps p u)
-  worsts p u = All-from_places (λ (t : PlainTask). size_of t.worst.x ≤ 1000000) (tasks_at ps p u) (λ k t e. (worst_span ps right p u k t e).most)
-
   pub instances : (a : ModeAt) → All IsNarrowInvoke (invokes_at ps a)
-  instances a = by (mode_at ps a) refl
-    where
-      by : (o : Option PlainMode) → mode_at ps a ≡ o → All IsNarrowInvoke (elim o [ Some x ↦ x.invokes | None ↦ [] ])
-      by None e = All-nil IsNarrowInvoke
-      by (Some x) e = All-from_places IsNarrowInvoke x.invokes (λ k i its. narrow_invoke ps right a.program a.«module» a.mode k x i e its)
+  instances a =
+      All-from_places IsNarrowInvoke (invokes_at ps a) (λ k i its.
+      let x = part_there (λ (z : PlainMode). z.invokes) (mode_at ps a) k i its in narrow_invoke ps right a.program a.«module» a.mode k x.0 i x.1 x.2)
 
   parent_narrow : (k : ℕ) (s : ModuleAt) → Comes (symbols_of ps) ps (layout ps).modules k s → IsNarrowParent s.parent
   parent_narrow k s (top u y its) = omega arith
   parent_narrow k s (under j t r lower there (kid m q u x y at named its)) =
-      let n = mode_in_source ps t.program t.«module» m x at in
+      let n = item_in_source (λ (y : PlainModule). y.modes) ps t.program t.«module» m x at in
       omega (arith, slice_get_within (modes_of (modules_of ps)) (n.0 + m) x n.1, kept_limit ps right 2 _ 256 refl refl)
 
 pub names-narrow : (ps : List PlainProgram) → MeetsBounds ps → AreNamesRight ps → IsNarrow (layout ps) ps
@@ -129,9 +120,9 @@ names-narrow ps small right =
       first_ports = λ m. le_trans (take_length (ports_at ps) m modes) few.ports;
       first_invokes = λ m. le_trans (take_length (invokes_at ps) m modes) few.invokes;
       parents = All-from_places (λ (s : ModuleAt). IsNarrowParent s.parent) modules (λ k s e. parent_narrow ps right k s (comes (symbols_of ps) ps k s e));
-      comm_periods = comm_periods ps right;
-      mode_periods = periods ps right;
-      worsts = worsts ps right;
+      comm_periods = All-from_places (λ (c : CommNode). size_of c.period.x ≤ 1000000) (comms_of ps) (λ k c e. (comm_period_span ps right k c e).most);
+      mode_periods = λ p u. All-from_places (λ (x : PlainMode). size_of x.period.x ≤ 1000000) (modes_at ps p u) (λ m x e. (mode_period_span ps right p u m x e).most);
+      worsts = λ p u. All-from_places (λ (t : PlainTask). size_of t.worst.x ≤ 1000000) (tasks_at ps p u) (λ k t e. (worst_span ps right p u k t e).most);
       instances = instances ps right;
     }
 

@@ -23,10 +23,6 @@ not_below m n h = elim (cases_lt m n) [ inl p ↦ p | inr q ↦ absurd (h q) ]
 pub order_of : (m n : ℕ) → (m < n) ⊎ ((n < m) ⊎ (m ≡ n))
 order_of m n = grind arith
 
--- both tests passed
-pub both : (a b : Bool) → (a && b) ≡ true → (a ≡ true) × (b ≡ true)
-both a b h = and_parts a b h
-
 -- ---- what stands at a place of a tree, and where it stands among all of its kind
 
 pub module_there : (ps : List PlainProgram) (p u : ℕ) (x : PlainProgram) (y : PlainModule) → slice_get ps p ≡ Some x → slice_get x.modules u ≡ Some y → module_at ps p u ≡ Some y
@@ -81,22 +77,18 @@ module_of_mode ps p u m x e = part_there (λ (x : PlainModule). x.modes) (module
 pub module_in_source : (ps : List PlainProgram) (p u : ℕ) (y : PlainModule) → module_at ps p u ≡ Some y → (n : ℕ) × (slice_get (modules_of ps) (n + u) ≡ Some y)
 module_in_source ps p u y e = let q = program_of_module ps p u y e in (_, at_flat (λ (x : PlainProgram). x.modules) ps p u q.0 y q.1 q.2)
 
-pub task_in_source : (ps : List PlainProgram) (p u k : ℕ) (t : PlainTask) → slice_get (tasks_at ps p u) k ≡ Some t → (n : ℕ) × (slice_get (tasks_of (modules_of ps)) (n + k) ≡ Some t)
-task_in_source ps p u k t e =
-    let o = module_of_task ps p u k t e in
+-- a task, a mode
+pub item_in_source : {B : Type 0} (part : PlainModule → List B) (ps : List PlainProgram) (p u k : ℕ) (y : B)
+    → slice_get (elim (module_at ps p u) as (λ _. List B) [ Some x ↦ part x | None ↦ [] ]) k ≡ Some y → (n : ℕ) × (slice_get (flat_map part (modules_of ps)) (n + k) ≡ Some y)
+item_in_source part ps p u k y e =
+    let o = part_there part (module_at ps p u) k y e in
     let n = module_in_source ps p u o.0 o.1 in
-    (_, at_flat (λ (y : PlainModule). y.tasks) (modules_of ps) (n.0 + u) k o.0 t n.1 o.2)
-
-pub mode_in_source : (ps : List PlainProgram) (p u m : ℕ) (x : PlainMode) → slice_get (modes_at ps p u) m ≡ Some x → (n : ℕ) × (slice_get (modes_of (modules_of ps)) (n + m) ≡ Some x)
-mode_in_source ps p u m x e =
-    let o = module_of_mode ps p u m x e in
-    let n = module_in_source ps p u o.0 o.1 in
-    (_, at_flat (λ (y : PlainModule). y.modes) (modules_of ps) (n.0 + u) m o.0 x n.1 o.2)
+    (_, at_flat part (modules_of ps) (n.0 + u) k o.0 y n.1 o.2)
 
 -- a port, an invocation, a switch
 pub part_in_source : {B : Type 0} (part : PlainMode → List B) (ps : List PlainProgram) (a : ModeAt) (j : ℕ) (y : B)
     → slice_get (elim (mode_at ps a) as (λ _. List B) [ Some x ↦ part x | None ↦ [] ]) j ≡ Some y → (n : ℕ) × (slice_get (flat_map part (modes_of (modules_of ps))) (n + j) ≡ Some y)
 part_in_source part ps a j y its =
     let x = part_there part (mode_at ps a) j y its in
-    let n = mode_in_source ps a.program a.«module» a.mode x.0 x.1 in
+    let n = item_in_source (λ (x : PlainModule). x.modes) ps a.program a.«module» a.mode x.0 x.1 in
     (_, at_flat part (modes_of (modules_of ps)) (n.0 + a.mode) j x.0 y n.1 x.2)

@@ -1,5 +1,5 @@
 -- A tree of programs: its levels, how many programs it has, and the table of refined modes.
-use Rattle.std.proofs.Common.{◌≡◌, ℕ, zero, suc, ◌+◌, ◌≤◌, ◌<◌, inl, inr, Bool, true, eqb, List, [], ◌∷◌, length, Some, refl, sym, ◌∙◌, ap, subst, arith, cond, eq-or-lt_of_le}
+use Rattle.std.proofs.Common.{get_or, ◌≡◌, ℕ, zero, suc, ◌+◌, ◌≤◌, ◌<◌, inl, inr, Bool, true, eqb, List, [], ◌∷◌, length, Some, refl, sym, ◌∙◌, ap, subst, arith, cond, eq-or-lt_of_le}
 use Rattle.std.specs.List.{list_any, flat_map, count_by}
 use Rattle.std.proofs.lemmas.Bool.Decides.{nat_tests}
 use Rattle.std.proofs.lemmas.Map.Steps.{le-length_from_below}
@@ -15,7 +15,9 @@ use Rattle.std.proofs.lemmas.List.Sums.{sum_by-cons}
 use Rattle.htl_text.specs.Bounds.{modules_of, modes_of}
 use Rattle.htl_names.proofs.Members.{sum_by_map, sum_by_flat_map}
 use Rattle.htl_names.proofs.ListLaws.{among_at, flat_map_flat_map}
-use Rattle.htl_names.proofs.FlatMaps.{list_to_at, flat_map_shorter, flat_map_single_shorter}
+use Rattle.htl_names.proofs.FlatMaps.{list_to_at, flat_map_shorter}
+use Rattle.std.proofs.lemmas.List.Concat.{length-flat_map}
+use Rattle.std.proofs.lemmas.List.Sums.{sum_by-le}
 
 -- the programs make a tree
 abbrev pub IsTree : List (Key × ℕ) → List PlainProgram → Type 0
@@ -108,7 +110,7 @@ module _ (symbols : List (Key × ℕ)) (ps : List PlainProgram) where
   links_length : length (flat_map (program_links symbols) ps) ≤ length (modes_of (modules_of ps))
   links_length =
       let one = flat_map_shorter (program_links symbols) (λ (x : PlainProgram). flat_map (λ (y : PlainModule). y.modes) x.modules)
-      (λ x. flat_map_shorter (module_links symbols) (λ (y : PlainModule). y.modes) (λ y. flat_map_single_shorter (mode_links symbols) (mode_links_one symbols) y.modes) x.modules) ps in
+      (λ x. flat_map_shorter (module_links symbols) (λ (y : PlainModule). y.modes) (λ y. omega (arith, length-flat_map (mode_links symbols) y.modes, sum_by-le (λ x. length (mode_links symbols x)) 1 y.modes (λ k d below. mode_links_one symbols (get_or y.modes k d)))) x.modules) ps in
       let two = ap length (flat_map_flat_map (λ (y : PlainModule). y.modes) (λ (x : PlainProgram). x.modules) ps) in
       omega (arith, one, two)
 
