@@ -115,23 +115,6 @@ module _ (ps : List PlainProgram) (right : AreNamesRight ps) where
       let same = same_number _ _ (of_module s.program s.«module» y its) (of_module r.program r.«module» w own) (ap (λ (m : List ℕ). module_key m) names) in
       modules_apart ps right j k s r there at (one_program s.program s.«module» r.program r.«module» y w its own names) same) k z q) j x p)
 
-  -- ---- names of an owner
-
-  mode_names_apart : AreApart {A = ℕ × List ℕ} (map (λ (m : Mode). (m.«module», m.name)) (mode_items (layout ps) ps))
-  mode_names_apart =
-      apart_by_owner (λ k s. mode_item k) (modes_in ps) (λ (m : Mode). m.«module») (λ (m : Mode). m.name) (λ s x. x.name.name) (layout ps).modules (λ k s x. (refl, refl)) (λ k s there i j x w a b names.
-      same_number _ _ (mode_origin s.program s.«module» i x a) (mode_origin s.program s.«module» j w b) (ap (λ (m : List ℕ). mode_key s.program s.«module» m) names))
-
-  task_names_apart : AreApart {A = ℕ × List ℕ} (map (λ (t : Task). (t.«module», t.name)) (task_items (layout ps) ps))
-  task_names_apart =
-      apart_by_owner (λ k s. task_item k) (tasks_in ps) (λ (t : Task). t.«module») (λ (t : Task). t.name) (λ s x. x.name.name) (layout ps).modules (λ k s x. (refl, refl)) (λ k s there i j x w a b names.
-      same_number _ _ (of_task s.program s.«module» i x a) (of_task s.program s.«module» j w b) (ap (λ (m : List ℕ). task_key s.program s.«module» m) names))
-
-  port_names_apart : AreApart {A = ℕ × List ℕ} (map (λ (q : Port). (q.mode, q.name)) (port_items (layout ps) ps))
-  port_names_apart =
-      apart_by_owner (λ m a. port_item m) (ports_at ps) (λ (q : Port). q.mode) (λ (q : Port). q.name) (λ a x. x.name.name) (layout ps).modes (λ m a x. (refl, refl)) (λ m a there i j x w p q names.
-      same_number _ _ (of_port a i x p) (of_port a j w q) (ap (λ (n : List ℕ). port_key a.program a.«module» a.mode n) names))
-
   -- the task that an invocation names
   task_named : (a : ModeAt) (j : ℕ) (i : InvokeNode) → slice_get (invokes_at ps a) j ≡ Some i
       → (t : PlainTask) × (slice_get (tasks_at ps a.program a.«module») (meaning (layout ps) (task_key a.program a.«module» i.task.name)) ≡ Some t) × (t.name.name ≡ i.task.name)
@@ -146,20 +129,6 @@ module _ (ps : List PlainProgram) (right : AreNamesRight ps) where
       let task : one.0 ≡ two.0 = same_Some _ _ (sym one.1 ∙ ap (slice_get (tasks_at ps a.program a.«module»)) same ∙ two.1) in
       let names : x.task.name ≡ w.task.name = sym one.2 ∙ ap (λ (t : PlainTask). t.name.name) task ∙ two.2 in
       same_number _ _ (of_invoke a i x p) (of_invoke a j w q) (ap (λ (n : List ℕ). invoke_key a.program a.«module» a.mode n) names))
-
-  -- ---- communicators
-
-  comms_in_range : All IsCommInRange (comm_items ps)
-  comms_in_range =
-      All-map IsCommInRange comm_item (comms_of ps)
-      (All-from_places (λ x. IsCommInRange (comm_item x)) (comms_of ps) (λ k x e. record { period = comm_period_span ps right k x e; init = initial_fits ps right k x e }))
-
--- ---- ports
-
-pub ports_in_range : (ps : List PlainProgram) → All (IsPortInRange (tables_of_tree ps)) (port_items (layout ps) ps)
-ports_in_range ps =
-    all_given (IsPortInRange (tables_of_tree ps)) (λ m a. port_item m) (ports_at ps) (layout ps).modes (λ m a j x there its.
-    omega (arith, slice_get_within (layout ps).modes m a there, mode_count ps))
 
 -- ---- what a communicator's name means
 
@@ -297,19 +266,30 @@ names-in-range ps small right =
       few_in_mode = λ m. few_owned (invoke_item l ps) (invokes_at ps) (λ (i : Inv). i.mode) (λ n a i. refl) m 128 l.modes (λ a there. few.in_mode a);
       comm_names = different (map (λ (c : Comm). c.name) (comm_items ps)) (comm_names_apart ps right);
       module_names = different (map (λ (x : Module). x.name) (module_items l ps)) (module_names_apart ps right);
-      mode_names = different_owned (map (λ (m : Mode). (m.«module», m.name)) (mode_items l ps)) (mode_names_apart ps right);
-      port_names = different_owned (map (λ (q : Port). (q.mode, q.name)) (port_items l ps)) (port_names_apart ps right);
-      task_names = different_owned (map (λ (k : Task). (k.«module», k.name)) (task_items l ps)) (task_names_apart ps right);
+      mode_names =
+          different_owned (map (λ (m : Mode). (m.«module», m.name)) (mode_items l ps))
+          (apart_by_owner (λ k s. mode_item k) (modes_in ps) (λ (m : Mode). m.«module») (λ (m : Mode). m.name) (λ s x. x.name.name) l.modules (λ k s x. (refl, refl)) (λ k s there i j x w a b names.
+          same_number ps right _ _ (mode_origin s.program s.«module» i x a) (mode_origin s.program s.«module» j w b) (ap (λ (m : List ℕ). mode_key s.program s.«module» m) names)));
+      port_names =
+          different_owned (map (λ (q : Port). (q.mode, q.name)) (port_items l ps))
+          (apart_by_owner (λ m a. port_item m) (ports_at ps) (λ (q : Port). q.mode) (λ (q : Port). q.name) (λ a x. x.name.name) l.modes (λ m a x. (refl, refl)) (λ m a there i j x w p q names.
+          same_number ps right _ _ (of_port a i x p) (of_port a j w q) (ap (λ (n : List ℕ). port_key a.program a.«module» a.mode n) names)));
+      task_names =
+          different_owned (map (λ (k : Task). (k.«module», k.name)) (task_items l ps))
+          (apart_by_owner (λ k s. task_item k) (tasks_in ps) (λ (t : Task). t.«module») (λ (t : Task). t.name) (λ s x. x.name.name) l.modules (λ k s x. (refl, refl)) (λ k s there i j x w a b names.
+          same_number ps right _ _ (of_task s.program s.«module» i x a) (of_task s.program s.«module» j w b) (ap (λ (m : List ℕ). task_key s.program s.«module» m) names)));
       invoked_once = different_pairs (map (λ (i : Inv). (i.mode, i.task)) (invoke_items l ps)) (invoked_apart ps right);
       modes_by_module = owners_order (λ k s. mode_item k) (modes_in ps) (λ (m : Mode). m.«module») (λ k s x. refl) l.modules;
       ports_by_mode = owners_order (λ m a. port_item m) (ports_at ps) (λ (q : Port). q.mode) (λ m a x. refl) l.modes;
       tasks_by_module = owners_order (λ k s. task_item k) (tasks_in ps) (λ (k : Task). k.«module») (λ k s x. refl) l.modules;
       invs_by_mode = owners_order (invoke_item l ps) (invokes_at ps) (λ (i : Inv). i.mode) (λ m a i. refl) l.modes;
       switches_by_mode = owners_order (switch_item l ps) (switches_at ps) (λ (w : Switch). w.mode) (λ m a x. refl) l.modes;
-      comms = comms_in_range ps right;
+      comms =
+          All-map IsCommInRange comm_item (comms_of ps)
+          (All-from_places (λ x. IsCommInRange (comm_item x)) (comms_of ps) (λ k x e. record { period = comm_period_span ps right k x e; init = initial_fits ps right k x e }));
       modes = modes_in_range ps small right;
       modules = module_in_range ps right;
-      ports = ports_in_range ps;
+      ports = all_given (IsPortInRange t) (λ m a. port_item m) (ports_at ps) l.modes (λ m a j x there its. omega (arith, slice_get_within l.modes m a there, mode_count ps));
       tasks = tasks_in_range ps small right;
       invs = all_in_modes ps (IsInvInRange t) (invoke_item l ps) (invokes_at ps) (invoke_in_range ps small right);
       switches = all_in_modes ps (IsSwitchInRange t) (switch_item l ps) (switches_at ps) (switch_in_range ps small right);

@@ -163,13 +163,6 @@ module _ {A B : Type 0} (R : A → B → Type 0) where
   zip_append [] (y ∷ ys) us vs h k = absurd h
   zip_append (x ∷ xs) [] us vs h k = absurd h
 
-  -- what the relation gives of each of the second list
-  pub zip_all : (P : B → Type 0) → ((x : A) (y : B) → R x y → P y) → (xs : List A) (ys : List B) → AllZip R xs ys → All P ys
-  zip_all P f [] [] h = All-nil P
-  zip_all P f (x ∷ xs) (y ∷ ys) h = All-cons P y ys (f x y h.0) (zip_all P f xs ys h.1)
-  zip_all P f [] (y ∷ ys) h = absurd h
-  zip_all P f (x ∷ xs) [] h = absurd h
-
   pub zip_map : {X : Type 0} (f : X → A) (g : X → B) (xs : List X) → ((k : ℕ) (x : X) → slice_get xs k ≡ Some x → R (f x) (g x)) → AllZip R (map f xs) (map g xs)
   zip_map f g [] h = tt
   zip_map f g (x ∷ xs) h = (h 0 x refl, zip_map f g xs (λ k y e. h (suc k) y e))

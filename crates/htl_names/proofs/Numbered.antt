@@ -2,6 +2,7 @@
 use Rattle.std.proofs.Common.{◌≡◌, ◌<◌, ◌+◌, ℕ, zero, suc, true, List, [], ◌∷◌, length, take, slice_get, Some, None, refl, sym, ◌∙◌, ap, subst, arith, length-append, ◌≤◌, eqb, Option, IfSome, All}
 use Rattle.std.proofs.lemmas.Bool.{and_from, and_parts, eq-eqb, eqb-true}
 use Rattle.std.proofs.lemmas.List.{length-take-le, length-map}
+use Rattle.std.proofs.lemmas.Bool.Decides.{nat_tests}
 use Rattle.std.proofs.lemmas.Option.{slice_get_within, same_Some}
 use Rattle.std.proofs.lemmas.Map.Keys.{any_passes_from_place}
 use Rattle.htl_model.specs.declared.parts.Module.{Module}
@@ -121,21 +122,16 @@ level_of ps p = level (naming (symbols_of ps) ps) (length ps) p
 
 level_some : (xs : List Naming) (n p : ℕ) → 0 < n → 1 ≤ level xs n p
 level_some xs zero p h = absurd (omega (arith, h))
-level_some xs (suc n) p h = by (refined_in p xs)
-  where
-    by : (o : Option ModeAt) → 1 ≤ elim o [ Some a ↦ suc (level xs n a.program) | None ↦ 1 ]
-    by None = omega arith
-    by (Some a) = omega arith
+level_some xs (suc n) p h = grind arith
 
 module _ (ps : List PlainProgram) (right : AreNamesRight ps) where
   -- the number of a module is its place
   pub number_is : (k : ℕ) (s : ModuleAt) → slice_get (layout ps).modules k ≡ Some s → module_number (layout ps) s.program s.«module» ≡ k
   number_is k s there =
-      let is_there = is_module s.program s.«module» in
-      let here = and_from (eqb s.program s.program) (eqb s.«module» s.«module») (eq-eqb s.program s.program refl) (eq-eqb s.«module» s.«module» refl) in
-      let f = place_found is_there (layout ps).modules (any_passes_from_place is_there (layout ps).modules k s there here) in
-      let same = and_parts (eqb f.0.program s.program) (eqb f.0.«module» s.«module») f.2 in
-      modules_apart ps right (module_number (layout ps) s.program s.«module») k f.0 s f.1 there (eqb-true f.0.program s.program same.0) (eqb-true f.0.«module» s.«module» same.1)
+      let test = is_module s.program s.«module» in
+      let f = place_found test (layout ps).modules (any_passes_from_place test (layout ps).modules k s there (grind (arith, nat_tests))) in
+      let passes = f.2 in
+      modules_apart ps right (module_number (layout ps) s.program s.«module») k f.0 s f.1 there (grind (arith, nat_tests)) (grind (arith, nat_tests))
 
   pub mode_number_is : (k m : ℕ) (s : ModuleAt) → slice_get (layout ps).modules k ≡ Some s → modes_before (layout ps) ps k + m ≡ mode_number (layout ps) ps (mode_in s m)
   mode_number_is k m s there = ap (λ (j : ℕ). modes_before (layout ps) ps j + m) (sym (number_is k s there))

@@ -26,9 +26,9 @@ use Rattle.htl_names.specs.Order.{tasks_at, switches_at}
 use Rattle.htl_names.specs.Uses.{input_use, output_uses, outputs_uses}
 use Rattle.htl_names.specs.declared.place.ModeAt.{ModeAt}
 use Rattle.htl_names.specs.declared.place.ModuleAt.{ModuleAt}
-use Rattle.htl_names.proofs.ListLaws.{zip_append, zip_map, zip_parts, zip_at, zip_all, distinct_has, among_at, place_found, few_reads}
-use Rattle.htl_names.proofs.FlatMaps.{flat_map_is, flat_map_parts}
-use Rattle.htl_names.proofs.Members.{In, in_first, in_second, in_part, in_mapped, at_place, All-at, map_flat_map_at}
+use Rattle.htl_names.proofs.ListLaws.{zip_append, zip_map, zip_parts, zip_at, distinct_has, among_at, place_found, few_reads}
+use Rattle.htl_names.proofs.FlatMaps.{there_is, flat_map_is, flat_map_parts}
+use Rattle.htl_names.proofs.Members.{All-from_places, In, in_first, in_second, in_part, in_mapped, at_place, All-at, map_flat_map_at}
 use Rattle.htl_names.proofs.Numbered.{task_small, switch_small}
 use Rattle.htl_names.proofs.Places.{tasks_in}
 use Rattle.htl_names.proofs.NameUses.{known, used_in_task}
@@ -147,7 +147,12 @@ functions_small ps small right ranges = λ k f g a b. zip_at IsSmallFunction (fu
 
 pub functions_in_range : (ps : List PlainProgram) → MeetsBounds ps → AreNamesRight ps → All IsFunInRange (function_items (layout ps) ps)
 functions_in_range ps small right =
-    zip_all IsSmallFunction IsFunInRange by (function_types (tables_of_tree ps)) (function_items (layout ps) ps) (all_zipped ps small right)
+    let types = function_types (tables_of_tree ps) in
+    let functions = function_items (layout ps) ps in
+    let all = all_zipped ps small right in
+    All-from_places IsFunInRange functions (λ k g e.
+    let f = there_is types k (omega (arith, AllZip-long IsSmallFunction types functions all, slice_get_within functions k g e)) in
+    by f.0 g (zip_at IsSmallFunction types functions k f.0 g all f.1 e))
   where
     by : (f : FunctionType) (g : Fun) → IsSmallFunction f g → IsFunInRange g
     by f (Formula first e) h = tt
