@@ -5,28 +5,25 @@ use Rattle.std.specs.Prelude.{ltb}
 use Rattle.std.proofs.lemmas.Bool.{cases_eq, ne_eqb}
 use Rattle.std.proofs.lemmas.Bool.Decides.{nat_tests}
 use Rattle.std.proofs.lemmas.Option.{slice_get_within, get_or_from_slice_get, slice_get-get_or}
-use Rattle.std.proofs.lemmas.List.{length-map}
-use Rattle.std.proofs.lemmas.List.Concat.{length-flat_map, flat_map_single}
+use Rattle.std.proofs.lemmas.List.Concat.{length-flat_map}
 use Rattle.std.proofs.lemmas.List.Sums.{sum-map, sum_by-cons, sum_by-append, sum_by_push, sum_by-set, sum_by_more_le, get_or-le-sum_by}
 use Rattle.htl_model.specs.Lists.{list_to}
 use Rattle.htl_model.proofs.PlaceLaws.{get_mapped}
-use Rattle.htl_text.specs.Bounds.{modules_of, modes_of, tasks_of}
-use Rattle.htl_text.specs.Nodes.{PlainProgram, PlainMode, PlainModule, PlainTask}
-use Rattle.htl_text.specs.declared.tree.InvokeNode.{InvokeNode}
+use Rattle.htl_text.specs.Bounds.{modules_of, modes_of}
+use Rattle.htl_text.specs.Nodes.{PlainProgram, PlainMode, PlainModule}
 use Rattle.htl_names.specs.declared.key.Key.{Key}
 use Rattle.htl_names.specs.declared.place.ModeAt.{ModeAt}
 use Rattle.htl_names.specs.declared.place.ModuleAt.{ModuleAt}
 use Rattle.htl_names.specs.Flat.{is_module}
-use Rattle.htl_names.specs.Limits.{most_invokes}
 use Rattle.htl_names.specs.Lists.{flat_map_at}
 use Rattle.htl_names.specs.Narrow.{refined_place}
 use Rattle.htl_names.specs.Nth.{nth_module, mode_in}
-use Rattle.htl_names.specs.Order.{modules_at, modes_at, modules_in, mode_kids, kids, below, order, module_at, mode_at, invokes_at, module_modes, mode_order}
+use Rattle.htl_names.specs.Order.{modules_at, modes_at, modules_in, mode_kids, kids, below, order, module_at, mode_at, module_modes, mode_order}
 use Rattle.htl_names.specs.Programs.{named_program, refined_by}
 use Rattle.htl_names.proofs.FlatMaps.{at_front, at_part, same_part, flat_map_is, most_in_part}
-use Rattle.htl_names.proofs.ListLaws.{flat_map_flat_map, flat_map_places, greatest_at}
+use Rattle.htl_names.proofs.ListLaws.{flat_map_flat_map, flat_map_places}
 use Rattle.htl_names.proofs.ModulePlaces.{Exists, Comes, top, under, kid, comes}
-use Rattle.htl_names.proofs.Places.{order_of, modes_in, tasks_in, program_of_module, within, modes_there, item_in_source}
+use Rattle.htl_names.proofs.Places.{program_of_module, within, modes_there}
 use Rattle.htl_names.proofs.TreeLevels.{IsTree, refined_at, root_unnamed, root_not_named}
 use Rattle.htl_names.proofs.Naming.{Names, refined_none}
 
@@ -34,7 +31,9 @@ use Rattle.htl_names.proofs.Naming.{Names, refined_none}
 passes_once : {A : Type 0} (test : A → Bool) (xs : List A) → count_by test xs ≤ 1 → (j k : ℕ) (x y : A) → slice_get xs j ≡ Some x → slice_get xs k ≡ Some y
     → test x ≡ true → test y ≡ true → j ≡ k
 passes_once {A} test xs few j k x y a b p q =
-    elim (order_of j k) [ inl less ↦ absurd (twice j k x y a b p q less) | inr r ↦ elim r [ inl more ↦ absurd (twice k j y x b a q p more) | inr is ↦ is ] ]
+    let before = twice j k x y a b p q in
+    let after = twice k j y x b a q p in
+    omega arith
   where
     twice : (j k : ℕ) (x y : A) → slice_get xs j ≡ Some x → slice_get xs k ≡ Some y → test x ≡ true → test y ≡ true → j < k → ⊥
     twice j k x y a b p q less =
@@ -202,13 +201,3 @@ module _ (ps : List PlainProgram) where
         same s y e =
             flat_map_places at (mode_in s) part (modes_at ps s.program s.«module») (λ k z g. ap (λ (o : Option PlainMode). elim o [ Some x ↦ part x | None ↦ [] ]) g)
             ∙ ap (flat_map part) (modes_there ps s.program s.«module» y e)
-
-  pub few_in_mode_than : (a : ModeAt) → length (invokes_at ps a) ≤ most_invokes (modes_of (modules_of ps))
-  few_in_mode_than a = by (mode_at ps a) refl
-    where
-      by : (o : Option PlainMode) → mode_at ps a ≡ o → length {A = InvokeNode} (elim o [ Some x ↦ x.invokes | None ↦ [] ]) ≤ most_invokes (modes_of (modules_of ps))
-      by None e = omega arith
-      by (Some z) e =
-          let n = item_in_source (λ (y : PlainModule). y.modes) ps a.program a.«module» a.mode z e in
-          greatest_at 0 (length z.invokes) (map (λ (x : PlainMode). length x.invokes) (modes_of (modules_of ps))) (n.0 + a.mode)
-          (get_mapped (λ (x : PlainMode). length x.invokes) (modes_of (modules_of ps)) (n.0 + a.mode) z n.1)

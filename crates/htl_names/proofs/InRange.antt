@@ -1,5 +1,5 @@
 -- The names of the tables of a tree differ, and the tables are in range.
-use Rattle.std.proofs.Common.{◌≡◌, ◌<◌, ◌+◌, ℕ, List, map, length, take, slice_get, Some, refl, sym, ◌∙◌, ap, subst, arith, None, Option, IfSome, All}
+use Rattle.std.proofs.Common.{◌≤◌, ◌≡◌, ◌<◌, ◌+◌, ℕ, List, map, length, take, slice_get, Some, refl, sym, ◌∙◌, ap, subst, arith, None, Option, IfSome, All}
 use Rattle.std.proofs.lemmas.Option.{slice_get_within, same_Some}
 use Rattle.std.proofs.lemmas.List.{length-map}
 use Rattle.std.proofs.lemmas.List.Elements.{All-map}
@@ -36,14 +36,14 @@ use Rattle.htl_names.specs.declared.place.ModuleAt.{ModuleAt}
 use Rattle.htl_names.proofs.EntryLaws.{declared, one_place, one_entry, source_entries, entries_are, Origin, of_comm, of_module, of_task, of_mode as mode_origin, of_port, of_invoke}
 use Rattle.htl_names.proofs.FlatMaps.{at_part, same_part, part_of, given, of_map, counted, few_owned, owners_order, stands as item_stands}
 use Rattle.htl_names.proofs.SmallFunctions.{functions_in_range, functions_counted}
-use Rattle.htl_names.proofs.Numbered.{switch_small, each_module, modes_in_range, module_in_range, tasks_in_range, mode_count, module_count, number_is, mode_number_is, all_in_modes, mode_numbered, mode_owner, mode_stands, its_mode}
+use Rattle.htl_names.proofs.Numbered.{switch_small, each_mode, each_module, modes_in_range, module_in_range, tasks_in_range, mode_count, module_count, number_is, mode_number_is, all_in_modes, mode_numbered, mode_owner, mode_stands, mode_meant}
 use Rattle.htl_names.proofs.ModulePlaces.{Comes, top, under, kid, comes}
 use Rattle.htl_names.proofs.TreeLevels.{refined_at}
 use Rattle.htl_names.specs.Programs.{refined_by}
 use Rattle.htl_names.proofs.Members.{In, in_next, in_second, in_part_at, All-from_places, in_first, in_mapped, All-at, all_given}
 use Rattle.htl_names.proofs.NameUses.{known, used_in_invoke, comm_period_span, initial_fits, used_in_switch, parent_stands}
 use Rattle.htl_names.proofs.Places.{modes_in, tasks_in, program_of_module, within as inside, part_in_source}
-use Rattle.htl_names.proofs.Ordering.{kept_limit, right_tree, modules_apart, are_few, instances}
+use Rattle.htl_names.proofs.Ordering.{kept_limit, right_tree, modules_apart, are_few, few_in_mode, instances}
 use Rattle.htl_names.proofs.ListLaws.{few_reads, read_of, distinct_once, distinct_apart, among_at}
 
 -- items differ by what they are called, where those called alike stand at one place
@@ -233,11 +233,9 @@ module _ (ps : List PlainProgram) (small : MeetsBounds ps) (right : AreNamesRigh
       target : IsModeThat (tables_of_tree ps) (λ o. o ≡ mode_module (tables_of_tree ps) n)
           (modes_before (layout ps) ps (module_number (layout ps) s.program s.«module») + meaning (layout ps) (mode_key s.program s.«module» w.target.name))
       target =
-          let use_of = usage (mode_key s.program s.«module» w.target.name) w.target in
-          let y = (known ps right use_of (used_in_switch ps use_of a j w at (in_second (map comm_use (names_of w.cond)) _ (0, refl)))).0 in
           let is_own : ℕ → Type 0 = λ o. o ≡ mode_module (tables_of_tree ps) n in
-          subst (λ (q : ℕ). IsModeThat (tables_of_tree ps) is_own (modes_before (layout ps) ps q + meaning (layout ps) use_of.key)) (sym number)
-          (its_mode ps k (meaning (layout ps) use_of.key) s y.0 is_own (sym owner) there y.1)
+          subst (λ (q : ℕ). IsModeThat (tables_of_tree ps) is_own (modes_before (layout ps) ps q + meaning (layout ps) (mode_key s.program s.«module» w.target.name))) (sym number)
+          (mode_meant ps right k s w.target is_own (sym owner) there (used_in_switch ps _ a j w at (in_second (map comm_use (names_of w.cond)) _ (0, refl))))
 
       is_comm : ℕ → Type 0
       is_comm c = c < length (comm_items ps)
@@ -263,7 +261,8 @@ names-in-range ps small right =
       few_tasks = omega (arith, counted (λ k s. task_item k) (tasks_in ps) l.modules, few.tasks);
       few_invs = omega (arith, counted (invoke_item l ps) (invokes_at ps) l.modes, few.invokes);
       few_switches = omega (arith, counted (switch_item l ps) (switches_at ps) l.modes, few.switches);
-      few_in_mode = λ m. few_owned (invoke_item l ps) (invokes_at ps) (λ (i : Inv). i.mode) (λ n a i. refl) m 128 l.modes (λ a there. few.in_mode a);
+      few_in_mode = λ m. few_owned (invoke_item l ps) (invokes_at ps) (λ (i : Inv). i.mode) (λ n a i. refl) m 128 l.modes
+          (each_mode ps (λ n a. length (invokes_at ps a) ≤ 128) (λ k m s x there its. few_in_mode ps right s m x its) m);
       comm_names = different (map (λ (c : Comm). c.name) (comm_items ps)) (comm_names_apart ps right);
       module_names = different (map (λ (x : Module). x.name) (module_items l ps)) (module_names_apart ps right);
       mode_names =

@@ -41,38 +41,34 @@ record IsRoot (t : Tables) (u : ℕ) (xs : List PlainMode) : Type 0 where
 -- ---- from root modules to selections
 
 module _ (t : Tables) where
-  abbrev product : List ℕ → ℕ
-  product [] = 1
-  product (u ∷ us) = length (modes_of t u) * product us
-
-  choices_by_roots : (k : ℕ) (xs : List Module) → choices_from t k xs ≡ product (places_from is_root k xs)
-  choices_by_roots k [] = refl
-  choices_by_roots k (x ∷ xs) = by (is_root x) _ _ (choices_by_roots (suc k) xs)
-    where
-      by : (b : Bool) (n : ℕ) (us : List ℕ) → n ≡ product us → cond b (length (modes_of t k)) 1 * n ≡ product (cond b (k ∷ us) us)
-      by true n us is = ap (λ m. length (modes_of t k) * m) is
-      by false n us is = omega (arith, is)
-
-  -- these root modules give no more than those modules of a source
-  record AreAlike (us : List ℕ) (xs : List PlainModule) : Type 0 where
-    most : product us ≤ choices xs
-    counted : (n : ℕ) → n ≤ choices xs → elim us as (λ _. ℕ) [ [] ↦ 0 | u ∷ vs ↦ n ] ≤ elim xs as (λ _. ℕ) [ [] ↦ 0 | y ∷ ys ↦ choices (y ∷ ys) ]
+  -- these root modules, with n choices, give no more than those modules of a source
+  record AreAlike (n : ℕ) (us : List ℕ) (xs : List PlainModule) : Type 0 where
+    most : n ≤ choices xs
+    counted : (m : ℕ) → m ≤ choices xs → elim us as (λ _. ℕ) [ [] ↦ 0 | u ∷ vs ↦ m ] ≤ elim xs as (λ _. ℕ) [ [] ↦ 0 | y ∷ ys ↦ choices (y ∷ ys) ]
     few : (sel : ℕ) → length (flat_map (λ u. invs_of t (root_mode t sel u)) us) ≤ sum (map (λ (x : PlainModule). most_invokes x.modes) xs)
 
-  alike : (us : List ℕ) (xs : List PlainModule) → AllZip (IsRoot t) us (map (λ (x : PlainModule). x.modes) xs) → AreAlike us xs
-  alike [] [] h = record { most = omega arith; counted = λ n le. omega arith; few = λ sel. omega arith }
-  alike [] (x ∷ xs) h = absurd h
-  alike (u ∷ us) [] h = absurd h
-  alike (u ∷ us) (x ∷ xs) h =
-      let rest = alike us xs h.1 in
-      record {
-        most = mul-le (length (modes_of t u)) (product us) (length x.modes) (choices xs) h.0.modes rest.most;
-        counted = λ n le. le;
-        few = λ sel.
-            let size = length-append (invs_of t (root_mode t sel u)) (flat_map (λ v. invs_of t (root_mode t sel v)) us) in
-            let total = sum_by-cons (λ (n : ℕ). n) (most_invokes x.modes) (map (λ (y : PlainModule). most_invokes y.modes) xs) in
-            omega (arith, size, total, h.0.few sel, rest.few sel);
-      }
+  abbrev AreRoots : List ℕ → List PlainModule → Type 0
+  AreRoots us xs = AllZip (IsRoot t) us (map (λ (x : PlainModule). x.modes) xs)
+
+  alike : (k : ℕ) (ms : List Module) (xs : List PlainModule) → AreRoots (places_from is_root k ms) xs → AreAlike (choices_from t k ms) (places_from is_root k ms) xs
+  alike k [] [] h = record { most = omega arith; counted = λ m le. omega arith; few = λ sel. omega arith }
+  alike k [] (x ∷ xs) h = absurd h
+  alike k (m ∷ ms) xs h = by (is_root m) (choices_from t (suc k) ms) (places_from is_root (suc k) ms) xs h (alike (suc k) ms)
+    where
+      by : (b : Bool) (n : ℕ) (us : List ℕ) (xs : List PlainModule) → AreRoots (cond b (k ∷ us) us) xs → ((ys : List PlainModule) → AreRoots us ys → AreAlike n us ys)
+          → AreAlike (cond b (length (modes_of t k)) 1 * n) (cond b (k ∷ us) us) xs
+      by false n us xs h rest = let r = rest xs h in record { most = omega (arith, r.most); counted = r.counted; few = r.few }
+      by true n us [] h rest = absurd h
+      by true n us (x ∷ xs) h rest =
+          let r = rest xs h.1 in
+          record {
+            most = mul-le (length (modes_of t k)) n (length x.modes) (choices xs) h.0.modes r.most;
+            counted = λ m le. le;
+            few = λ sel.
+                let size = length-append (invs_of t (root_mode t sel k)) (flat_map (λ v. invs_of t (root_mode t sel v)) us) in
+                let total = sum_by-cons (λ (n : ℕ). n) (most_invokes x.modes) (map (λ (y : PlainModule). most_invokes y.modes) xs) in
+                omega (arith, size, total, h.0.few sel, r.few sel);
+          }
 
 -- ---- the tables of a tree
 
@@ -127,17 +123,17 @@ module _ (ps : List PlainProgram) (small : MeetsBounds ps) (right : AreNamesRigh
       by x None ks ss here rest = (here, rest)
       by x (Some a) ks ss here rest = rest
 
-  roots_alike : AreAlike t (root_modules t) (plain_root_modules ps)
+  roots_alike : AreAlike t (choices_from t 0 t.modules) (root_modules t) (plain_root_modules ps)
   roots_alike =
       let modes : PlainModule → List PlainMode = λ x. x.modes in
       let roots : map (modes_in ps) (filter is_root_module l.modules) ≡ map modes (plain_root_modules ps) =
       ap (map (modes_in ps)) (roots_of (symbols_of ps) ps) ∙ map_places (modes_in ps) (nth_module 0 None) modes (modules_at ps 0) (modes_there ps 0)
       ∙ ap (map modes) (root_modules_are ps) in
-      alike t (root_modules t) (plain_root_modules ps) (subst (AllZip (IsRoot t) (root_modules t)) roots (roots_from 0 l.modules (at_place l.modules)))
+      alike t 0 t.modules (plain_root_modules ps) (subst (AllZip (IsRoot t) (root_modules t)) roots (roots_from 0 l.modules (at_place l.modules)))
 
   pub names-keep-limits : KeepsLimits (tables_of_tree ps)
   names-keep-limits =
-      let same = roots_alike.counted (choices_from t 0 t.modules) (omega (arith, choices_by_roots t 0 t.modules, roots_alike.most)) in
+      let same = roots_alike.counted (choices_from t 0 t.modules) roots_alike.most in
       let few = kept_limit ps right 9 (selections ps) 1024 refl refl in
       let most = kept_limit ps right 10 (most_positions ps) 128 refl refl in
       record {

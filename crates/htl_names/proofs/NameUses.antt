@@ -29,7 +29,7 @@ use Rattle.htl_names.specs.declared.fault.NameFault.TheVariants as fault
 use Rattle.htl_names.proofs.EntryLaws.{Stands, means}
 use Rattle.htl_names.specs.Narrow.{IsNarrowEnd, IsNarrowInvoke}
 use Rattle.htl_names.proofs.Members.{All-from_places, In, in_next, in_first, in_second, in_mapped, in_part, in_part_at}
-use Rattle.htl_names.proofs.Places.{part_there, program_of_module, module_of_task, module_of_mode, not_below}
+use Rattle.htl_names.proofs.Places.{part_there, program_of_module, module_of_task, module_of_mode}
 use Rattle.htl_names.proofs.FlatMaps.{flat_part}
 
 -- ---- a use is known
@@ -47,7 +47,7 @@ known ps right u at = by (look_up u.key (symbols_of ps)) u.below refl (λ is. ri
         → Stands ps u.key.space u.key (meaning (layout ps) u.key) × Within b (elim o as (λ _. ℕ) [ Some n ↦ n | None ↦ 0 ])
     by None b is wrong = absurd (wrong tt)
     by (Some n) None is wrong = (means ps u.key n is, tt)
-    by (Some n) (Some below) is wrong = (means ps u.key n is, not_below n below wrong)
+    by (Some n) (Some below) is wrong = (means ps u.key n is, omega (arith, wrong))
 
 -- ---- the uses of a module, a task, a mode, an invocation, a switch
 

@@ -1,6 +1,5 @@
 -- Which items the numbers of the tables name; the modules, modes and tasks of the tables are in range.
-use Rattle.std.proofs.Common.{◌≡◌, ◌<◌, ◌+◌, ℕ, zero, suc, true, List, [], ◌∷◌, length, take, slice_get, Some, None, refl, sym, ◌∙◌, ap, subst, arith, length-append, ◌≤◌, eqb, Option, IfSome, All}
-use Rattle.std.proofs.lemmas.Bool.{and_from, and_parts, eq-eqb, eqb-true}
+use Rattle.std.proofs.Common.{◌≡◌, ◌<◌, ◌+◌, ℕ, zero, suc, true, List, [], ◌∷◌, length, take, slice_get, Some, None, refl, sym, ◌∙◌, ap, subst, arith, length-append, ◌≤◌, Option, IfSome, All}
 use Rattle.std.proofs.lemmas.List.{length-take-le, length-map}
 use Rattle.std.proofs.lemmas.Bool.Decides.{nat_tests}
 use Rattle.std.proofs.lemmas.Option.{slice_get_within, same_Some}
@@ -18,8 +17,8 @@ use Rattle.htl_names.specs.Order.{module_at, tasks_at, module_modes, switches_at
 use Rattle.htl_names.specs.Conditions.{MeetsBounds, MeetsTaskBounds, MeetsSwitchBounds}
 use Rattle.htl_names.specs.Keys.{mode_key}
 use Rattle.htl_names.specs.NameRules.{AreNamesRight}
-use Rattle.htl_names.specs.Programs.{naming, Naming, named_program, level, refined_in}
-use Rattle.htl_names.specs.Uses.{usage}
+use Rattle.htl_names.specs.Programs.{naming, Naming, named_program, level}
+use Rattle.htl_names.specs.Uses.{usage, uses}
 use Rattle.htl_names.specs.Nth.{mode_in}
 use Rattle.htl_names.proofs.FlatMaps.{in_front, at_part, at_flat, flat_part, there_is, list_to_at, of_list_to, counted, given, stands}
 use Rattle.htl_names.proofs.NameUses.{worst_span, mode_period_span, known, used_in_module}
@@ -28,7 +27,8 @@ use Rattle.htl_names.proofs.Places.{modes_in, tasks_in, mode_parts, within, item
 use Rattle.htl_names.proofs.ModulePlaces.{Comes, top, under, kid, comes, exist}
 use Rattle.htl_names.proofs.Ordering.{right_tree, modules_apart, low}
 use Rattle.htl_names.proofs.TreeLevels.{level_step}
-use Rattle.htl_names.proofs.Members.{All-at, all_given}
+use Rattle.htl_names.proofs.Members.{In, All-at, all_given}
+use Rattle.htl_text.specs.declared.tree.Id.{Id}
 
 -- ---- modes by their numbers
 
@@ -136,12 +136,10 @@ module _ (ps : List PlainProgram) (right : AreNamesRight ps) where
   pub mode_number_is : (k m : ℕ) (s : ModuleAt) → slice_get (layout ps).modules k ≡ Some s → modes_before (layout ps) ps k + m ≡ mode_number (layout ps) ps (mode_in s m)
   mode_number_is k m s there = ap (λ (j : ℕ). modes_before (layout ps) ps j + m) (sym (number_is k s there))
 
-  start_in_range : (k : ℕ) (s : ModuleAt) (x : PlainModule) → slice_get (layout ps).modules k ≡ Some s → module_at ps s.program s.«module» ≡ Some x
-      → IsModeThat (tables_of_tree ps) (λ owner. owner ≡ k) (modes_before (layout ps) ps k + meaning (layout ps) (mode_key s.program s.«module» x.start.name))
-  start_in_range k s x there is =
-      let use_of = usage (mode_key s.program s.«module» x.start.name) x.start in
-      let m = (known ps right use_of (used_in_module ps use_of s.program s.«module» x is (0, refl))).0 in
-      its_mode ps k (meaning (layout ps) use_of.key) s m.0 (λ owner. owner ≡ k) refl there m.1
+  -- the mode that a name means which stands in a module
+  pub mode_meant : (k : ℕ) (s : ModuleAt) (id : Id) (P : ℕ → Type 0) → P k → slice_get (layout ps).modules k ≡ Some s → In (usage (mode_key s.program s.«module» id.name) id) (uses ps)
+      → IsModeThat (tables_of_tree ps) P (modes_before (layout ps) ps k + meaning (layout ps) (mode_key s.program s.«module» id.name))
+  mode_meant k s id P holds there used = let m = (known ps right (usage (mode_key s.program s.«module» id.name) id) used).0 in its_mode ps k _ s m.0 P holds there m.1
 
   abbrev parent_item : ModuleAt → Option ℕ
   parent_item s = elim s.parent [ Some a ↦ Some (mode_number (layout ps) ps a) | None ↦ None ]
@@ -176,7 +174,7 @@ module _ (ps : List PlainProgram) (right : AreNamesRight ps) where
       each_module ps (IsModuleInRange (tables_of_tree ps)) (λ k s x there its.
       let h = comes (symbols_of ps) ps k s there in
       record {
-        start = start_in_range k s x there its;
+        start = mode_meant k s x.start (λ owner. owner ≡ k) refl there (used_in_module ps _ s.program s.«module» x its (0, refl));
         parent = parent_in_range k s h;
         levels = within_levels 7 k s h (omega (arith, low ps right s.program (within ps s.program s.«module» x its)));
       })

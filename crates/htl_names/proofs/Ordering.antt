@@ -1,6 +1,8 @@
 -- Where the name rules are kept, the modules in order differ and are few, and their numbers fit the fields.
-use Rattle.std.proofs.Common.{◌≡◌, ℕ, suc, ◌≤◌, ◌<◌, min, ◌^◌, ◌-◌, List, length, slice_get, Some, refl, arith, le_trans, [], Option, None, All, ap, ◌+◌, ◌∙◌, ◌∷◌}
+use Rattle.std.proofs.Common.{◌≡◌, ℕ, suc, ◌≤◌, ◌<◌, min, ◌^◌, ◌-◌, List, length, slice_get, Some, refl, arith, le_trans, [], All, ap, ◌+◌, ◌∙◌, ◌∷◌, map}
 use Rattle.htl_model.specs.Lists.{list_to}
+use Rattle.htl_model.proofs.PlaceLaws.{get_mapped}
+use Rattle.htl_names.specs.Nth.{mode_in}
 use Rattle.htl_text.specs.Nodes.{PlainProgram, PlainModule, PlainMode, PlainTask}
 use Rattle.htl_names.specs.declared.place.ModeAt.{ModeAt}
 use Rattle.htl_names.specs.declared.place.ModuleAt.{ModuleAt}
@@ -9,8 +11,8 @@ use Rattle.htl_names.specs.Limits.{counts, limits}
 use Rattle.htl_names.specs.NameRules.{AreNamesRight, ProgramTree, Limits}
 use Rattle.htl_names.specs.Order.{order, mode_order, mode_at, modes_at, tasks_at, ports_at, invokes_at, switches_at}
 use Rattle.htl_names.specs.Programs.{naming, level, levels}
-use Rattle.htl_names.proofs.Apart.{Apart, order_apart, few, few_in_modes, few_in_mode_than}
-use Rattle.htl_names.proofs.Places.{not_above, part_there, modes_there, tasks_there, modes_in, tasks_in, mode_parts, item_in_source}
+use Rattle.htl_names.proofs.Apart.{Apart, order_apart, few, few_in_modes}
+use Rattle.htl_names.proofs.Places.{part_is, part_there, modes_there, tasks_there, modes_in, tasks_in, mode_parts, item_in_source}
 use Rattle.htl_names.proofs.FlatMaps.{list_to_at, take_length}
 use Rattle.htl_names.proofs.TreeLevels.{IsTree, few_programs}
 use Rattle.htl_names.proofs.Members.{All-from_places}
@@ -19,7 +21,6 @@ use Rattle.htl_names.proofs.ListLaws.{greatest_at}
 use Rattle.std.specs.List.{flat_map}
 use Rattle.std.proofs.lemmas.List.{length-map}
 use Rattle.std.proofs.lemmas.List.Concat.{flat_map_single}
-use Rattle.std.proofs.lemmas.List.Elements.{All-nil}
 use Rattle.std.proofs.lemmas.Option.{slice_get_within}
 use Rattle.htl_text.specs.Bounds.{comms_of, modules_of, modes_of}
 use Rattle.htl_text.specs.declared.tree.CommNode.{CommNode}
@@ -33,7 +34,7 @@ use Rattle.htl_names.specs.declared.fault.NameFault.TheVariants as fault
 
 -- no limit is exceeded
 pub kept_limit : (ps : List PlainProgram) → AreNamesRight ps → (k count limit : ℕ) → slice_get (counts (symbols_of ps) ps) k ≡ Some count → slice_get limits k ≡ Some limit → count ≤ limit
-kept_limit ps right k count limit a b = not_above count limit (λ lt. right Limits k (fault.Limit (suc k) (min count (2 ^ 32 - 1))) (count, limit, a, b, lt, refl))
+kept_limit ps right k count limit a b = let no = λ (over : limit < count). right Limits k (fault.Limit (suc k) (min count (2 ^ 32 - 1))) (count, limit, a, b, over, refl) in omega arith
 
 -- the programs make a tree
 pub right_tree : (ps : List PlainProgram) → AreNamesRight ps → IsTree (symbols_of ps) ps
@@ -57,7 +58,6 @@ pub record AreFew (ps : List PlainProgram) : Type 0 where
   pub ports : length (flat_map (ports_at ps) (layout ps).modes) ≤ 4096
   pub invokes : length (flat_map (invokes_at ps) (layout ps).modes) ≤ 2048
   pub switches : length (flat_map (switches_at ps) (layout ps).modes) ≤ 4096
-  pub in_mode : (a : ModeAt) → length (invokes_at ps a) ≤ 128
 
 pub are_few : (ps : List PlainProgram) → AreNamesRight ps → AreFew ps
 are_few ps right =
@@ -71,26 +71,28 @@ are_few ps right =
       ports = le_trans (few_in_modes ps modules here apart (λ (x : PlainMode). x.ports)) (kept_limit ps right 3 _ 4096 refl refl);
       invokes = le_trans (few_in_modes ps modules here apart (λ (x : PlainMode). x.invokes)) (kept_limit ps right 5 _ 2048 refl refl);
       switches = le_trans (few_in_modes ps modules here apart (λ (x : PlainMode). x.switches)) (kept_limit ps right 6 _ 4096 refl refl);
-      in_mode = λ a. le_trans (few_in_mode_than ps a) (kept_limit ps right 7 _ 128 refl refl);
     }
+
+-- of the invocations in a mode
+pub few_in_mode : (ps : List PlainProgram) → AreNamesRight ps → (s : ModuleAt) (m : ℕ) (x : PlainMode) → slice_get (modes_in ps s) m ≡ Some x → length (invokes_at ps (mode_in s m)) ≤ 128
+few_in_mode ps right s m x its =
+    let n = item_in_source (λ (y : PlainModule). y.modes) ps s.program s.«module» m x its in
+    let invokes : PlainMode → ℕ = λ z. length z.invokes in
+    let most = greatest_at 0 (invokes x) (map invokes (modes_of (modules_of ps))) (n.0 + m) (get_mapped invokes (modes_of (modules_of ps)) (n.0 + m) x n.1) in
+    omega (arith, most, ap length (part_is ps (mode_in s m) x (λ z. z.invokes) its), kept_limit ps right 7 _ 128 refl refl)
 
 -- ---- where the name rules are kept, the numbers of the layout fit the fields of the tables
 
 low_source : (ps : List PlainProgram) → MeetsBounds ps → AreNamesRight ps → IsLowSource ps
 low_source ps small right =
-    let comms = kept_limit ps right 0 _ 1024 refl refl in
-    let modules = kept_limit ps right 1 _ 64 refl refl in
-    let modes = kept_limit ps right 2 _ 256 refl refl in
-    let invokes = kept_limit ps right 5 _ 2048 refl refl in
-    let programs = few_programs (symbols_of ps) ps (right_tree ps right) in
     record {
-      programs = omega (arith, programs, modes);
-      comms = omega (arith, comms);
-      modules = omega (arith, modules);
+      programs = omega (arith, few_programs (symbols_of ps) ps (right_tree ps right), kept_limit ps right 2 _ 256 refl refl);
+      comms = omega (arith, kept_limit ps right 0 _ 1024 refl refl);
+      modules = omega (arith, kept_limit ps right 1 _ 64 refl refl);
       tasks = kept_limit ps right 4 _ 4096 refl refl;
-      modes = omega (arith, modes);
+      modes = omega (arith, kept_limit ps right 2 _ 256 refl refl);
       ports = kept_limit ps right 3 _ 4096 refl refl;
-      invokes = omega (arith, invokes);
+      invokes = omega (arith, kept_limit ps right 5 _ 2048 refl refl);
       small = small.tasks;
     }
 

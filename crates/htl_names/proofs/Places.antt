@@ -1,8 +1,8 @@
 -- What tests tell, what stands at a place of a tree, and where among all of its kind.
-use Rattle.std.proofs.Common.{◌≡◌, ℕ, ◌≤◌, ◌<◌, ◌⊎◌, inl, inr, arith, Bool, true, ◌&&◌, refl, ◌+◌, List, [], length, slice_get, Option, Some, None, ◌∙◌, ap, sym, flat_map}
-use Rattle.std.proofs.lemmas.Bool.{and_parts, cases_eq, cases_lt}
+use Rattle.std.proofs.Common.{◌≡◌, ℕ, ◌<◌, ◌⊎◌, inl, inr, arith, refl, ◌+◌, List, [], length, slice_get, Option, Some, None, ◌∙◌, ap, sym, flat_map}
+use Rattle.std.proofs.lemmas.Bool.{cases_eq}
 use Rattle.std.proofs.lemmas.Option.{none-some, slice_get_within}
-use Rattle.htl_text.specs.Bounds.{modules_of, modes_of, tasks_of}
+use Rattle.htl_text.specs.Bounds.{modules_of, modes_of}
 use Rattle.htl_text.specs.Nodes.{PlainProgram, PlainModule, PlainMode, PlainTask}
 use Rattle.htl_names.specs.Order.{module_at, tasks_at, modes_at, mode_at, module_modes, mode_order}
 use Rattle.htl_names.specs.declared.place.ModeAt.{ModeAt}
@@ -13,12 +13,6 @@ use Rattle.htl_model.proofs.Listed.{length-list_to}
 
 pub stable : (m n : ℕ) → ((m ≡ n → ⊥) → ⊥) → m ≡ n
 stable m n h = elim (cases_eq m n) [ inl p ↦ p | inr q ↦ absurd (h q) ]
-
-pub not_above : (m n : ℕ) → (n < m → ⊥) → m ≤ n
-not_above m n h = elim (cases_lt n m) [ inl p ↦ absurd (h p) | inr q ↦ q ]
-
-pub not_below : (m n : ℕ) → (n ≤ m → ⊥) → m < n
-not_below m n h = elim (cases_lt m n) [ inl p ↦ p | inr q ↦ absurd (h q) ]
 
 pub order_of : (m n : ℕ) → (m < n) ⊎ ((n < m) ⊎ (m ≡ n))
 order_of m n = grind arith

@@ -9,7 +9,7 @@ use Rattle.htl_text.specs.Nodes.{PlainProgram, PlainModule, PlainMode}
 use Rattle.htl_names.specs.declared.key.Key.{Key}
 use Rattle.htl_names.specs.declared.place.ModeAt.{ModeAt}
 use Rattle.htl_names.specs.Programs.{Reached, root, below as beneath, links, namings, IsMisplaced, naming, refined_by, level, mode_links, module_links, program_links}
-use Rattle.htl_names.proofs.Places.{not_above, stable}
+use Rattle.htl_names.proofs.Places.{stable}
 use Rattle.htl_names.proofs.Naming.{Names, refined_is, refined_none, named_counts, link_names}
 use Rattle.std.proofs.lemmas.List.Sums.{sum_by-cons}
 use Rattle.htl_text.specs.Bounds.{modules_of, modes_of}
@@ -25,7 +25,7 @@ IsTree symbols ps = (p : ℕ) → p < length ps → IsMisplaced (links symbols p
 
 module _ (symbols : List (Key × ℕ)) (ps : List PlainProgram) (tree : IsTree symbols ps) where
   pub root_unnamed : 0 < length ps → namings (links symbols ps) 0 ≡ 0
-  root_unnamed some = omega (arith, not_above (namings (links symbols ps) 0) 0 (tree 0 some))
+  root_unnamed some = let no : 0 < namings (links symbols ps) 0 → ⊥ = tree 0 some in omega arith
 
   -- the root is named by no mode
   pub root_not_named : 0 < length ps → (a : ModeAt) → Names symbols ps a 0 → ⊥
