@@ -165,7 +165,7 @@ module _ (ps : List PlainProgram) where
   there s h =
       let x = program_of_module ps s.program s.«module» h.0 h.1 in
       ap (λ ys. slice_get ys (number s)) (sym (flat_map_is (λ (x : PlainProgram). x.modules) 0 ps))
-      ∙ at_part (λ k (x : PlainProgram). x.modules) 0 ps s.program s.«module» s.program x.0 h.0 (omega arith) x.1 x.2
+      ∙ at_part (λ k (x : PlainProgram). x.modules) ps s.program s.«module» x.0 h.0 x.1 x.2
 
   -- no other has it
   own_number : (s r : ModuleAt) → Exists ps s → Exists ps r → number s ≡ number r → (s.program ≡ r.program) × (s.«module» ≡ r.«module»)

@@ -63,40 +63,41 @@ of_list_to f n k y e =
 
 -- ---- the parts of a list
 
+-- the places counted from one more
+shift : {A B : Type 0} (f : ℕ → A → List B) (k : ℕ) (xs : List A) → flat_map_at f (suc k) xs ≡ flat_map_at (λ i. f (suc i)) k xs
+shift f k [] = refl
+shift f k (x ∷ xs) = ap (λ ys. f (suc k) x ++ ys) (shift f (suc k) xs)
+
 -- item j of part i stands behind the parts before
-pub at_part : {A B : Type 0} (f : ℕ → A → List B) (k : ℕ) (xs : List A) (i j n : ℕ) (x : A) (y : B) → n ≡ k + i → slice_get xs i ≡ Some x → slice_get (f n x) j ≡ Some y
-    → slice_get (flat_map_at f k xs) (length (flat_map_at f k (take i xs)) + j) ≡ Some y
-at_part f k [] i j n x y is e g = absurd (none-some x e)
-at_part f k (z ∷ xs) zero j n x y is e g =
-    let here : k ≡ n = omega (arith, is) in
-    let own : slice_get (f k z) j ≡ Some y = ap (λ w. slice_get (f k w) j) (same_Some z x e) ∙ ap (λ (m : ℕ). slice_get (f m x) j) here ∙ g in
+pub at_part : {A B : Type 0} (f : ℕ → A → List B) (xs : List A) (i j : ℕ) (x : A) (y : B) → slice_get xs i ≡ Some x → slice_get (f i x) j ≡ Some y
+    → slice_get (flat_map_at f 0 xs) (length (flat_map_at f 0 (take i xs)) + j) ≡ Some y
+at_part f [] i j x y e g = absurd (none-some x e)
+at_part f (z ∷ xs) zero j x y e g =
     let place : 0 + j ≡ j = omega arith in
-    ap (slice_get (f k z ++ flat_map_at f (suc k) xs)) place ∙ get_front (f k z) (flat_map_at f (suc k) xs) j y own
-at_part f k (z ∷ xs) (suc i) j n x y is e g =
-    let front = flat_map_at f (suc k) (take i xs) in
-    let place : length (f k z ++ front) + j ≡ length (f k z) + (length front + j) = omega (arith, length-append (f k z) front) in
-    ap (slice_get (f k z ++ flat_map_at f (suc k) xs)) place
-    ∙ get_back (f k z) (flat_map_at f (suc k) xs) (length front + j)
-    ∙ at_part f (suc k) xs i j n x y (omega (arith, is)) e g
+    ap (slice_get (f 0 z ++ flat_map_at f 1 xs)) place ∙ get_front (f 0 z) (flat_map_at f 1 xs) j y (ap (λ w. slice_get (f 0 w) j) (same_Some z x e) ∙ g)
+at_part f (z ∷ xs) (suc i) j x y e g =
+    let n = length (flat_map_at (λ i. f (suc i)) 0 (take i xs)) + j in
+    let place : length (f 0 z ++ flat_map_at f 1 (take i xs)) + j ≡ length (f 0 z) + n = omega (arith, length-append (f 0 z) (flat_map_at f 1 (take i xs)), ap length (shift f 0 (take i xs))) in
+    ap (slice_get (f 0 z ++ flat_map_at f 1 xs)) place ∙ get_back (f 0 z) (flat_map_at f 1 xs) n ∙ ap (λ ys. slice_get ys n) (shift f 0 xs)
+    ∙ at_part (λ i. f (suc i)) xs i j x y e g
 
 -- a part stands before the later ones
-pub part_before : {A B : Type 0} (f : ℕ → A → List B) (k : ℕ) (xs : List A) (i j n : ℕ) (x : A) → n ≡ k + i → i < j → slice_get xs i ≡ Some x
-    → length (flat_map_at f k (take i xs)) + length (f n x) ≤ length (flat_map_at f k (take j xs))
-part_before f k [] i j n x is less there = absurd (none-some x there)
-part_before f k (z ∷ xs) i zero n x is less there = absurd (omega (arith, less))
-part_before f k (z ∷ xs) zero (suc j) n x is less there =
-    let here : n ≡ k = omega (arith, is) in
-    omega (arith, ap (λ (m : ℕ). length (f m x)) here ∙ ap (λ w. length (f k w)) (sym (same_Some z x there)), length-append (f k z) (flat_map_at f (suc k) (take j xs)))
-part_before f k (z ∷ xs) (suc i) (suc j) n x is less there =
-    let later = part_before f (suc k) xs i j n x (omega (arith, is)) (omega (arith, less)) there in
-    omega (arith, later, length-append (f k z) (flat_map_at f (suc k) (take i xs)), length-append (f k z) (flat_map_at f (suc k) (take j xs)))
+part_before : {A B : Type 0} (f : ℕ → A → List B) (xs : List A) (i j : ℕ) (x : A) → i < j → slice_get xs i ≡ Some x
+    → length (flat_map_at f 0 (take i xs)) + length (f i x) ≤ length (flat_map_at f 0 (take j xs))
+part_before f [] i j x less there = absurd (none-some x there)
+part_before f (z ∷ xs) i zero x less there = absurd (omega (arith, less))
+part_before f (z ∷ xs) zero (suc j) x less there =
+    omega (arith, ap (λ w. length (f 0 w)) (same_Some z x there), length-append (f 0 z) (flat_map_at f 1 (take j xs)))
+part_before f (z ∷ xs) (suc i) (suc j) x less there =
+    let later = part_before (λ i. f (suc i)) xs i j x (omega (arith, less)) there in
+    omega (arith, later, length-append (f 0 z) (flat_map_at f 1 (take i xs)), length-append (f 0 z) (flat_map_at f 1 (take j xs)), ap length (shift f 0 (take i xs)), ap length (shift f 0 (take j xs)))
 
 -- a place is in one part
 pub same_part : {A B : Type 0} (f : ℕ → A → List B) (xs : List A) (i j m n : ℕ) (x y : A) → slice_get xs i ≡ Some x → slice_get xs j ≡ Some y → m < length (f i x) → n < length (f j y)
     → length (flat_map_at f 0 (take i xs)) + m ≡ length (flat_map_at f 0 (take j xs)) + n → i ≡ j
 same_part f xs i j m n x y a b p q same =
-    let one = λ (less : i < j). part_before f 0 xs i j i x (omega arith) less a in
-    let two = λ (less : j < i). part_before f 0 xs j i j y (omega arith) less b in
+    let one = λ (less : i < j). part_before f xs i j x less a in
+    let two = λ (less : j < i). part_before f xs j i y less b in
     grind arith
 
 -- where an item stands: in which part, at which place of it, and behind how many items
@@ -108,28 +109,22 @@ pub record Part {A B : Type 0} (f : ℕ → A → List B) (before : ℕ → ℕ)
   pub item : slice_get (f part owner) place ≡ Some y
   pub number : n ≡ before part + place
 
-part_from : {A B : Type 0} (f : ℕ → A → List B) (k : ℕ) (xs : List A) (n : ℕ) (y : B) → slice_get (flat_map_at f k xs) n ≡ Some y
-    → Part (λ i. f (k + i)) (λ i. length (flat_map_at f k (take i xs))) xs n y
-part_from f k [] n y e = absurd cc
-part_from f k (z ∷ xs) n y e =
-    elim (get_either (f k z) (flat_map_at f (suc k) xs) n y e) [
-      | inl own ↦ record { part = 0; owner = z; there = refl; place = n; item = ap (λ (m : ℕ). slice_get (f m z) n) (omega arith) ∙ own; number = omega arith }
+pub part_of : {A B : Type 0} (f : ℕ → A → List B) (xs : List A) (n : ℕ) (y : B) → slice_get (flat_map_at f 0 xs) n ≡ Some y → Part f (λ i. length (flat_map_at f 0 (take i xs))) xs n y
+part_of f [] n y e = absurd cc
+part_of f (z ∷ xs) n y e =
+    elim (get_either (f 0 z) (flat_map_at f 1 xs) n y e) [
+      | inl own ↦ record { part = 0; owner = z; there = refl; place = n; item = own; number = omega arith }
       | inr b ↦
-          let p = part_from f (suc k) xs b.0 y b.2 in
+          let p = part_of (λ i. f (suc i)) xs b.0 y (ap (λ ys. slice_get ys b.0) (sym (shift f 0 xs)) ∙ b.2) in
           record {
             part = suc p.part;
             owner = p.owner;
             there = p.there;
             place = p.place;
-            item = ap (λ (m : ℕ). slice_get (f m p.owner) p.place) (omega arith) ∙ p.item;
-            number = omega (arith, b.1, p.number, length-append (f k z) (flat_map_at f (suc k) (take p.part xs)));
+            item = p.item;
+            number = omega (arith, b.1, p.number, length-append (f 0 z) (flat_map_at f 1 (take p.part xs)), ap length (shift f 0 (take p.part xs)));
           }
     ]
-
-pub part_of : {A B : Type 0} (f : ℕ → A → List B) (xs : List A) (n : ℕ) (y : B) → slice_get (flat_map_at f 0 xs) n ≡ Some y → Part f (λ i. length (flat_map_at f 0 (take i xs))) xs n y
-part_of f xs n y e =
-    let p = part_from f 0 xs n y e in
-    record { part = p.part; owner = p.owner; there = p.there; place = p.place; item = ap (λ (m : ℕ). slice_get (f m p.owner) p.place) (omega arith) ∙ p.item; number = p.number }
 
 -- ---- lengths
 
@@ -163,11 +158,11 @@ flat_map_parts h f g same k (x ∷ xs) = flat_map-append h (f k x) (flat_map_at 
 pub at_flat : {A B : Type 0} (f : A → List B) (xs : List A) (i j : ℕ) (x : A) (y : B) → slice_get xs i ≡ Some x → slice_get (f x) j ≡ Some y
     → slice_get (flat_map f xs) (length (flat_map f (take i xs)) + j) ≡ Some y
 at_flat f xs i j x y e g =
-    ap₂ (λ ys zs. slice_get ys (length zs + j)) (sym (flat_map_is f 0 xs)) (sym (flat_map_is f 0 (take i xs))) ∙ at_part (λ k. f) 0 xs i j i x y (omega arith) e g
+    ap₂ (λ ys zs. slice_get ys (length zs + j)) (sym (flat_map_is f 0 xs)) (sym (flat_map_is f 0 (take i xs))) ∙ at_part (λ k. f) xs i j x y e g
 
 pub flat_part : {A B : Type 0} (f : A → List B) (xs : List A) (n : ℕ) (y : B) → slice_get (flat_map f xs) n ≡ Some y → Part (λ k. f) (λ i. length (flat_map f (take i xs))) xs n y
 flat_part f xs n y e =
-    let p = part_from (λ k. f) 0 xs n y (ap (λ ys. slice_get ys n) (flat_map_is f 0 xs) ∙ e) in
+    let p = part_of (λ k. f) xs n y (ap (λ ys. slice_get ys n) (flat_map_is f 0 xs) ∙ e) in
     record { part = p.part; owner = p.owner; there = p.there; place = p.place; item = p.item; number = p.number ∙ ap (λ ys. length ys + p.place) (flat_map_is f 0 (take p.part xs)) }
 
 -- one item more of a walk along a list
@@ -221,7 +216,7 @@ pub stands : {A N B : Type 0} (item : ℕ → A → N → B) (nodes : A → List
     → slice_get (flat_map_at (given item nodes) 0 xs) (length (flat_map nodes (take k xs)) + m) ≡ Some (item k x n)
 stands item nodes xs k m x n there its =
     subst (λ (i : ℕ). slice_get (flat_map_at (given item nodes) 0 xs) (i + m) ≡ Some (item k x n)) (counted item nodes (take k xs))
-    (at_part (given item nodes) 0 xs k m k x (item k x n) (omega arith) there (get_mapped (item k x) (nodes x) m n its))
+    (at_part (given item nodes) xs k m x (item k x n) there (get_mapped (item k x) (nodes x) m n its))
 
 -- an item has the place of its part as owner
 owned : {A N B : Type 0} (item : ℕ → A → N → B) (nodes : A → List N) (own : B → ℕ) → ((k : ℕ) (x : A) (n : N) → own (item k x n) ≡ k)
@@ -261,6 +256,6 @@ owners_order item nodes own is xs i j d less below =
     elim (cases_lt q.part p.part) [
       | inl lower ↦
           let within = slice_get_within (f q.part q.owner) q.place z.0 q.item in
-          absurd (omega (arith, less, part_before f 0 xs q.part p.part q.part q.owner (omega arith) lower q.there, within, p.number, q.number))
+          absurd (omega (arith, less, part_before f xs q.part p.part q.owner lower q.there, within, p.number, q.number))
       | inr order ↦ omega (arith, order, one, two, y.2, z.2)
     ]

@@ -97,7 +97,7 @@ module _ (ps : List PlainProgram) (right : AreNamesRight ps) where
   entry_in p u y there =
       let o = program_of_module ps p u y there in
       let n : In (module_entry u y) (source_entries ps p o.0) = in_next _ _ (in_second _ _ (in_part_at (module_entries p) o.0.modules u y o.2 (0, refl))) in
-      let at = at_part (source_entries ps) 0 ps p n.0 p o.0 (module_entry u y) (omega arith) o.1 n.1 in
+      let at = at_part (source_entries ps) ps p n.0 o.0 (module_entry u y) o.1 n.1 in
       (o.0, o.1, n.0, slice_get_within (source_entries ps p o.0) n.0 (module_entry u y) n.1, ap (λ es. slice_get es (length (flat_map_at (source_entries ps) 0 (take p ps)) + n.0)) (entries_are ps) ∙ at)
 
   -- two modules of one name are of one program

@@ -43,7 +43,7 @@ pub in_part : {A B : Type 0} {y : A} (f : B → List A) (xs : List B) (i : ℕ) 
 in_part {y = y} f xs i x there h = (_, at_flat f xs i h.0 x y there h.1)
 
 pub in_part_at : {A B : Type 0} {y : A} (f : ℕ → B → List A) (xs : List B) (i : ℕ) (x : B) → slice_get xs i ≡ Some x → In y (f i x) → In y (flat_map_at f 0 xs)
-in_part_at {y = y} f xs i x there h = (_, at_part f 0 xs i h.0 i x y (omega arith) there h.1)
+in_part_at {y = y} f xs i x there h = (_, at_part f xs i h.0 x y there h.1)
 
 pub at_place : {B : Type 0} (xs : List B) (i j : ℕ) (x : B) → i ≡ 0 + j → slice_get xs j ≡ Some x → slice_get xs i ≡ Some x
 at_place xs i j x is there = let same : i ≡ j = omega (arith, is) in ap (slice_get xs) same ∙ there

@@ -105,7 +105,7 @@ module _ (ps : List PlainProgram) where
       let size = length-take-le k modules (omega (arith, slice_get_within modules k s there)) in
       let own : slice_get (module_items_at l ps k s) 0 ≡ Some (module_item l ps k s x) = ap (λ ms. slice_get ms 0) (one_module l ps k s x is) in
       let place : length (flat_map_at (module_items_at l ps) 0 (take k modules)) + 0 ≡ k = omega (arith, front, size) in
-      subst (λ (n : ℕ). slice_get (module_items l ps) n ≡ Some (module_item l ps k s x)) place (at_part (module_items_at l ps) 0 modules k 0 k s (module_item l ps k s x) (omega arith) there own)
+      subst (λ (n : ℕ). slice_get (module_items l ps) n ≡ Some (module_item l ps k s x)) place (at_part (module_items_at l ps) modules k 0 s (module_item l ps k s x) there own)
 
   -- what holds of each module at its place holds of each of the tables
   pub each_module : (P : ℕ → Module → Type 0)
