@@ -165,17 +165,6 @@ flat_part f xs n y e =
     let p = part_of (λ k. f) xs n y (ap (λ ys. slice_get ys n) (flat_map_is f 0 xs) ∙ e) in
     record { part = p.part; owner = p.owner; there = p.there; place = p.place; item = p.item; number = p.number ∙ ap (λ ys. length ys + p.place) (flat_map_is f 0 (take p.part xs)) }
 
--- one item more of a walk along a list
-pub flat_on : {A B C : Type 0} (f : ℕ → B → List C) (g : A → B) (k : ℕ) (xs : List A) (x : A) (old new total : List C) → k < length xs → x ≡ get_or xs k x
-    → new ≡ old ++ f k (g x) → old ++ flat_map_at f k (map g (drop k xs)) ≡ total → new ++ flat_map_at f (k + 1) (map g (drop (k + 1) xs)) ≡ total
-flat_on {A} f g k xs x old new total below is grown going =
-    let rest = map g (drop (k + 1) xs) in
-    ap (λ n. new ++ flat_map_at f n rest) (add-one k)
-    ∙ ap (λ ys. ys ++ flat_map_at f (suc k) rest) grown
-    ∙ append_assoc old (f k (g x)) (flat_map_at f (suc k) rest)
-    ∙ ap (λ (ys : List A). old ++ flat_map_at f k (map g ys)) (sym (drop_more xs k x below ∙ ap (λ y. y ∷ drop (k + 1) xs) (sym is)))
-    ∙ going
-
 -- ---- mapped lists
 
 -- an item of a mapped list is the image of one

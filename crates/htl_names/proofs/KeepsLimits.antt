@@ -27,7 +27,7 @@ use Rattle.htl_names.proofs.ModulePlaces.{is_root_module, exist, roots_of}
 use Rattle.htl_names.proofs.FlatMaps.{few_owned}
 use Rattle.htl_names.proofs.Ordering.{kept_limit}
 use Rattle.htl_model.proofs.PlaceLaws.{get_mapped}
-use Rattle.htl_names.proofs.ListLaws.{greatest_at, map_places, length-places}
+use Rattle.htl_names.proofs.ListLaws.{invokes_most, map_places, length-places}
 use Rattle.htl_names.proofs.Places.{modes_in, modes_there, part_is}
 use Rattle.htl_names.proofs.LimitLaws.{root_modules_are}
 use Rattle.htl_names.proofs.Members.{at_place}
@@ -86,9 +86,7 @@ module _ (ps : List PlainProgram) (small : MeetsBounds ps) (right : AreNamesRigh
       each_mode ps (λ n a. mode_module t n ≡ k → length (invokes_at ps a) ≤ most_invokes (modes_in ps s)) (λ j m r x at its owner.
       let number : j ≡ k = sym (mode_owner ps j m r x at its) ∙ owner in
       let same = same_Some r s (sym at ∙ ap (slice_get l.modules) number ∙ there) in
-      let invokes : PlainMode → ℕ = λ z. length z.invokes in
-      let few = greatest_at 0 (invokes x) (map invokes (modes_in ps r)) m (get_mapped invokes (modes_in ps r) m x its) in
-      omega (arith, few, ap (λ q. most_invokes (modes_in ps q)) same, ap length (part_is ps (mode_in r m) x (λ z. z.invokes) its)))
+      omega (arith, invokes_most (modes_in ps r) m x its, ap (λ q. most_invokes (modes_in ps q)) same, ap length (part_is ps (mode_in r m) x (λ z. z.invokes) its)))
 
   root_is : (k : ℕ) (s : ModuleAt) → slice_get l.modules k ≡ Some s → IsRoot t k (modes_in ps s)
   root_is k s there =

@@ -19,7 +19,9 @@ use Rattle.htl_model.specs.Lists.{AreApart, list_to, places_from}
 use Rattle.htl_model.specs.Tables.{greatest}
 use Rattle.htl_text.specs.Bounds.{names_of}
 use Rattle.htl_text.specs.Expressions.{Expr}
-use Rattle.htl_text.specs.Nodes.{PlainProgram}
+use Rattle.htl_text.specs.Nodes.{PlainProgram, PlainMode}
+use Rattle.htl_names.specs.Limits.{most_invokes}
+use Rattle.htl_model.proofs.PlaceLaws.{get_mapped}
 use Rattle.htl_text.specs.declared.tree.Id.{Id}
 use Rattle.htl_names.specs.Lists.{flat_map_at, with_new, distinct, place_in}
 use Rattle.htl_names.specs.Flat.{layout, meaning, comms_in, Layout, read_place}
@@ -152,6 +154,9 @@ pub greatest_at : (d x : ℕ) (xs : List ℕ) (k : ℕ) → slice_get xs k ≡ S
 greatest_at d x [] k e = absurd (none-some x e)
 greatest_at d x (y ∷ xs) zero e = let h = greatest_start (max d y) xs in omega (arith, h, same_Some y x e)
 greatest_at d x (y ∷ xs) (suc k) e = greatest_at (max d y) x xs k e
+
+pub invokes_most : (xs : List PlainMode) (k : ℕ) (x : PlainMode) → slice_get xs k ≡ Some x → length x.invokes ≤ most_invokes xs
+invokes_most xs k x e = greatest_at 0 (length x.invokes) (map (λ (z : PlainMode). length z.invokes) xs) k (get_mapped (λ (z : PlainMode). length z.invokes) xs k x e)
 
 -- ---- lists of one length, item by item
 

@@ -17,7 +17,7 @@ use Rattle.htl_names.proofs.FlatMaps.{list_to_at, take_length}
 use Rattle.htl_names.proofs.TreeLevels.{IsTree, few_programs}
 use Rattle.htl_names.proofs.Members.{All-from_places}
 use Rattle.htl_names.proofs.ModulePlaces.{Comes, top, under, kid, comes, exist}
-use Rattle.htl_names.proofs.ListLaws.{greatest_at}
+use Rattle.htl_names.proofs.ListLaws.{greatest_at, invokes_most}
 use Rattle.std.specs.List.{flat_map}
 use Rattle.std.proofs.lemmas.List.{length-map}
 use Rattle.std.proofs.lemmas.List.Concat.{flat_map_single}
@@ -77,9 +77,7 @@ are_few ps right =
 pub few_in_mode : (ps : List PlainProgram) → AreNamesRight ps → (s : ModuleAt) (m : ℕ) (x : PlainMode) → slice_get (modes_in ps s) m ≡ Some x → length (invokes_at ps (mode_in s m)) ≤ 128
 few_in_mode ps right s m x its =
     let n = item_in_source (λ (y : PlainModule). y.modes) ps s.program s.«module» m x its in
-    let invokes : PlainMode → ℕ = λ z. length z.invokes in
-    let most = greatest_at 0 (invokes x) (map invokes (modes_of (modules_of ps))) (n.0 + m) (get_mapped invokes (modes_of (modules_of ps)) (n.0 + m) x n.1) in
-    omega (arith, most, ap length (part_is ps (mode_in s m) x (λ z. z.invokes) its), kept_limit ps right 7 _ 128 refl refl)
+    omega (arith, invokes_most (modes_of (modules_of ps)) (n.0 + m) x n.1, ap length (part_is ps (mode_in s m) x (λ z. z.invokes) its), kept_limit ps right 7 _ 128 refl refl)
 
 -- ---- where the name rules are kept, the numbers of the layout fit the fields of the tables
 
