@@ -1,10 +1,10 @@
 -- In a tree of programs each module stands once in the order, so the modules in order have no more of a kind than the source.
-use Rattle.std.proofs.Common.{◌≡◌, inl, inr, ℕ, zero, suc, ◌+◌, ◌≤◌, ◌<◌, Bool, true, false, cond, eqb, List, [], ◌∷◌, length, take, slice_get, Option, Some, None, refl, sym, ◌∙◌, ap, subst, arith, ◌≢◌, map, get_or, set, sum, sum_by, length-set, get_or-set_other}
+use Rattle.std.proofs.Common.{◌≡◌, inl, inr, ℕ, zero, suc, ◌+◌, ◌≤◌, ◌<◌, Bool, true, false, cond, eqb, List, [], ◌∷◌, length, take, slice_get, Option, Some, None, refl, sym, ◌∙◌, ap, ap₂, subst, arith, ◌≢◌, map, get_or, set, sum, sum_by, length-set, get_or-set_other}
 use Rattle.std.specs.List.{flat_map, count_by}
 use Rattle.std.specs.Prelude.{ltb}
 use Rattle.std.proofs.lemmas.Bool.{cases_eq, ne_eqb}
 use Rattle.std.proofs.lemmas.Bool.Decides.{nat_tests}
-use Rattle.std.proofs.lemmas.Option.{slice_get_within, get_or_from_slice_get, slice_get-get_or}
+use Rattle.std.proofs.lemmas.Option.{same_Some, slice_get_within, get_or_from_slice_get, slice_get-get_or}
 use Rattle.std.proofs.lemmas.List.Concat.{length-flat_map}
 use Rattle.std.proofs.lemmas.List.Sums.{sum-map, sum_by-cons, sum_by-append, sum_by_push, sum_by-set, sum_by_more_le, get_or-le-sum_by}
 use Rattle.htl_model.specs.Lists.{list_to}
@@ -15,40 +15,30 @@ use Rattle.htl_names.specs.declared.key.Key.{Key}
 use Rattle.htl_names.specs.declared.place.ModeAt.{ModeAt}
 use Rattle.htl_names.specs.declared.place.ModuleAt.{ModuleAt}
 use Rattle.htl_names.specs.Flat.{is_module}
-use Rattle.htl_names.specs.Lists.{flat_map_at}
+use Rattle.htl_names.specs.Lists.{flat_map_at, place_in}
 use Rattle.htl_names.specs.Narrow.{refined_place}
 use Rattle.htl_names.specs.Nth.{nth_module, mode_in}
 use Rattle.htl_names.specs.Order.{modules_at, modes_at, modules_in, mode_kids, kids, below, order, module_at, mode_at, module_modes, mode_order}
 use Rattle.htl_names.specs.Programs.{named_program, refined_by}
-use Rattle.htl_names.proofs.FlatMaps.{at_front, at_part, same_part, flat_map_is, most_in_part}
+use Rattle.htl_names.proofs.FlatMaps.{at_part, same_part, flat_map_is, most_in_part}
 use Rattle.htl_names.proofs.ListLaws.{flat_map_flat_map, flat_map_places}
 use Rattle.htl_names.proofs.ModulePlaces.{Exists, Comes, top, under, kid, comes}
 use Rattle.htl_names.proofs.Places.{program_of_module, within, modes_there}
 use Rattle.htl_names.proofs.TreeLevels.{IsTree, refined_at, root_unnamed, root_not_named}
 use Rattle.htl_names.proofs.Naming.{Names, refined_none}
 
--- no two items pass, where at most one is counted
-passes_once : {A : Type 0} (test : A → Bool) (xs : List A) → count_by test xs ≤ 1 → (j k : ℕ) (x y : A) → slice_get xs j ≡ Some x → slice_get xs k ≡ Some y
-    → test x ≡ true → test y ≡ true → j ≡ k
-passes_once {A} test xs few j k x y a b p q =
-    let before = twice j k x y a b p q in
-    let after = twice k j y x b a q p in
-    omega arith
-  where
-    twice : (j k : ℕ) (x y : A) → slice_get xs j ≡ Some x → slice_get xs k ≡ Some y → test x ≡ true → test y ≡ true → j < k → ⊥
-    twice j k x y a b p q less =
-        let counts : A → ℕ = λ z. cond (test z) 1 0 in
-        let inside = slice_get_within (take k xs) j x (at_front xs k j x less a) in
-        let front = get_or-le-sum_by counts (take k xs) j x inside in
-        let one : counts (get_or (take k xs) j x) ≡ 1 = ap counts (get_or_from_slice_get (take k xs) j x x (at_front xs k j x less a)) ∙ ap (λ c. cond c 1 0) p in
-        let two : counts (get_or xs k y) ≡ 1 = ap counts (get_or_from_slice_get xs k y y b) ∙ ap (λ c. cond c 1 0) q in
-        omega (arith, few, front, one, two, sum_by_more_le counts xs k y (slice_get_within xs k y b))
+-- where one item passes at most, it is the first
+place_is : {A : Type 0} (test : A → Bool) (xs : List A) (k : ℕ) (x : A) → count_by test xs ≤ 1 → slice_get xs k ≡ Some x → test x ≡ true → place_in test xs ≡ k
+place_is test [] k x few e p = absurd cc
+place_is test (z ∷ xs) zero x few e p = let same = same_Some z x e in grind arith
+place_is test (z ∷ xs) (suc k) x few e p =
+    let first = sum_by-cons (λ y. cond (test y) 1 0) z xs in
+    let some = get_or-le-sum_by (λ y. cond (test y) 1 0) xs k x (slice_get_within xs k x e) in
+    let one = get_or_from_slice_get xs k x x e in
+    let rest = place_is test xs k x in
+    grind arith
 
 -- ---- each module stands once
-
--- no module stands twice
-abbrev pub Apart : List ModuleAt → Type 0
-Apart xs = (j k : ℕ) (s r : ModuleAt) → slice_get xs j ≡ Some s → slice_get xs k ≡ Some r → s.program ≡ r.program → s.«module» ≡ r.«module» → j ≡ k
 
 -- once at most among the modules of its program
 in_program : (p u q : ℕ) (parent : Option ModeAt) (n : ℕ) → count_by (is_module p u) (list_to (nth_module q parent) n) ≤ cond (eqb q p) (cond (ltb u n) 1 0) 0
@@ -136,8 +126,8 @@ module _ (symbols : List (Key × ℕ)) (ps : List PlainProgram) (tree : IsTree s
       let no_root = ne_eqb 0 q (λ is. root_not_named symbols ps tree (omega (arith, within ps q u y its)) (mode_in t m) (subst (Names symbols ps (mode_in t m)) (sym is) names)) in
       omega (arith, few, before, ap {B = ℕ} (λ b. cond b 1 0) no_root)
 
-  pub order_apart : Apart (order symbols ps)
-  order_apart j k s r a b p u = passes_once (is_module r.program r.«module») (order symbols ps) (once (suc k) k r (omega arith) (comes symbols ps k r b)) j k s r a b (grind (arith, nat_tests)) (grind (arith, nat_tests))
+  pub order_number : (k : ℕ) (s : ModuleAt) → slice_get (order symbols ps) k ≡ Some s → place_in (is_module s.program s.«module») (order symbols ps) ≡ k
+  order_number k s e = place_is (is_module s.program s.«module») (order symbols ps) k s (once (suc k) k s (omega arith) (comes symbols ps k s e)) e (grind (arith, nat_tests))
 
 -- ---- the modules in order have no more of a kind than the source
 
@@ -176,7 +166,8 @@ module _ (ps : List PlainProgram) where
       (slice_get_within x.0.modules s.«module» h.0 x.2) (slice_get_within y.0.modules r.«module» g.0 y.2) same in
       (part, omega (arith, same, ap (λ (p : ℕ). length (flat_map_at (λ k (x : PlainProgram). x.modules) 0 (take p ps))) part))
 
-  module _ (modules : List ModuleAt) (h : (k : ℕ) (s : ModuleAt) → slice_get modules k ≡ Some s → Exists ps s) (d : Apart modules) where
+  module _ (modules : List ModuleAt) (h : (k : ℕ) (s : ModuleAt) → slice_get modules k ≡ Some s → Exists ps s) 
+      (d : (k : ℕ) (s : ModuleAt) → slice_get modules k ≡ Some s → place_in (is_module s.program s.«module») modules ≡ k) where
     -- what the modules in order have, the source has
     pub few : {B C : Type 0} (at : ModuleAt → List B) (part : PlainModule → List C) → ((s : ModuleAt) (y : PlainModule) → module_at ps s.program s.«module» ≡ Some y → length (at s) ≡ length (part y))
         → length (flat_map at modules) ≤ length (flat_map part (modules_of ps))
@@ -184,7 +175,7 @@ module _ (ps : List PlainProgram) where
         let size : PlainModule → ℕ = λ y. length (part y) in
         let total = sum_few number (λ s. length (at s)) (map size (modules_of ps)) modules
         (λ k s e. let x = h k s e in get_mapped size (modules_of ps) (number s) x.0 (there s x) ∙ ap (λ (n : ℕ). Some n) (sym (same s x.0 x.1)))
-        (λ j k s r e f is. let own = own_number s r (h j s e) (h k r f) is in d j k s r e f own.0 own.1) in
+        (λ j k s r e f is. let own = own_number s r (h j s e) (h k r f) is in sym (d j s e) ∙ ap₂ (λ p u. place_in (is_module p u) modules) own.0 own.1 ∙ d k r f) in
         omega (arith, total, length-flat_map at modules, sum-map size (modules_of ps), length-flat_map part (modules_of ps))
 
     -- what the modes in order have, the source has

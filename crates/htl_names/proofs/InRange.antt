@@ -1,5 +1,5 @@
 -- The names of the tables of a tree differ, and the tables are in range.
-use Rattle.std.proofs.Common.{◌≤◌, ◌≡◌, ◌<◌, ◌+◌, ℕ, List, map, length, take, slice_get, Some, refl, sym, ◌∙◌, ap, subst, arith, None, Option, IfSome, All}
+use Rattle.std.proofs.Common.{◌≤◌, ◌≡◌, ◌<◌, ◌+◌, ℕ, List, map, length, take, slice_get, Some, refl, sym, ◌∙◌, ap, ap₂, subst, arith, None, Option, IfSome, All}
 use Rattle.std.proofs.lemmas.Option.{slice_get_within, same_Some}
 use Rattle.std.proofs.lemmas.List.{length-map}
 use Rattle.std.proofs.lemmas.List.Elements.{All-map}
@@ -36,14 +36,14 @@ use Rattle.htl_names.specs.declared.place.ModuleAt.{ModuleAt}
 use Rattle.htl_names.proofs.EntryLaws.{declared, one_place, one_entry, source_entries, entries_are, Origin, of_comm, of_module, of_task, of_mode as mode_origin, of_port, of_invoke}
 use Rattle.htl_names.proofs.FlatMaps.{at_part, same_part, part_of, given, of_map, counted, few_owned, owners_order, stands as item_stands}
 use Rattle.htl_names.proofs.SmallFunctions.{functions_in_range, functions_counted}
-use Rattle.htl_names.proofs.Numbered.{switch_small, each_mode, each_module, modes_in_range, module_in_range, tasks_in_range, mode_count, module_count, number_is, mode_number_is, all_in_modes, mode_numbered, mode_owner, mode_stands, mode_meant}
+use Rattle.htl_names.proofs.Numbered.{switch_small, each_mode, each_module, modes_in_range, module_in_range, tasks_in_range, mode_count, module_count, mode_number_is, all_in_modes, mode_numbered, mode_owner, mode_stands, mode_meant}
 use Rattle.htl_names.proofs.ModulePlaces.{Comes, top, under, kid, comes}
 use Rattle.htl_names.proofs.TreeLevels.{refined_at}
 use Rattle.htl_names.specs.Programs.{refined_by}
 use Rattle.htl_names.proofs.Members.{In, in_next, in_second, in_part_at, All-from_places, in_first, in_mapped, All-at, all_given}
 use Rattle.htl_names.proofs.NameUses.{known, used_in_invoke, comm_period_span, initial_fits, used_in_switch, parent_stands}
 use Rattle.htl_names.proofs.Places.{modes_in, tasks_in, program_of_module, within as inside, part_in_source}
-use Rattle.htl_names.proofs.Ordering.{kept_limit, right_tree, modules_apart, are_few, few_in_mode, instances}
+use Rattle.htl_names.proofs.Ordering.{kept_limit, right_tree, number_is, are_few, few_in_mode, instances}
 use Rattle.htl_names.proofs.ListLaws.{few_reads, read_of, distinct_once, distinct_apart, among_at}
 
 -- items differ by what they are called, where those called alike stand at one place
@@ -113,7 +113,7 @@ module _ (ps : List PlainProgram) (right : AreNamesRight ps) where
       each_module ps (λ j x. x.name ≡ z.name → j ≡ k) (λ j s y there its.
       each_module ps (λ k z. y.name.name ≡ z.name → j ≡ k) (λ k r w at own names.
       let same = same_number _ _ (of_module s.program s.«module» y its) (of_module r.program r.«module» w own) (ap (λ (m : List ℕ). module_key m) names) in
-      modules_apart ps right j k s r there at (one_program s.program s.«module» r.program r.«module» y w its own names) same) k z q) j x p)
+      sym (number_is ps right j s there) ∙ ap₂ (module_number (layout ps)) (one_program s.program s.«module» r.program r.«module» y w its own names) same ∙ number_is ps right k r at) k z q) j x p)
 
   -- the task that an invocation names
   task_named : (a : ModeAt) (j : ℕ) (i : InvokeNode) → slice_get (invokes_at ps a) j ≡ Some i

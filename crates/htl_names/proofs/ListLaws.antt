@@ -1,5 +1,5 @@
 -- Lists: different numbers and how many a switch reads, sums over places, items in pairs, items that pass a test.
-use Rattle.std.proofs.Common.{◌≡◌, inl, inr, ℕ, zero, suc, Bool, true, false, cond, ◌||◌, eqb, List, [], ◌∷◌, ◌++◌, slice_get, Some, fold, refl, sym, ◌∙◌, ap, ap₂, subst, eq-eqb, eqb-true, ◌≤◌, map, length, arith, ◌+◌, max, Option, IsSomeAnd}
+use Rattle.std.proofs.Common.{◌<◌, ◌≡◌, inl, inr, ℕ, zero, suc, Bool, true, false, cond, ◌||◌, eqb, List, [], ◌∷◌, ◌++◌, slice_get, Some, fold, refl, sym, ◌∙◌, ap, ap₂, subst, eq-eqb, eqb-true, ◌≤◌, map, length, arith, ◌+◌, max, Option, IsSomeAnd}
 use Rattle.std.proofs.lemmas.Slice.Zip.{AllZip-left}
 use Rattle.std.specs.List.{AllZip, IsDistinct, list_any, flat_map, count_by}
 use Rattle.std.proofs.Math.Bool.{or-false, or_assoc}
@@ -96,15 +96,12 @@ few_reads ps e =
 -- the place of an item is not behind the list's end
 place_in-le : {A : Type 0} (p : A → Bool) (xs : List A) → place_in p xs ≤ length xs
 place_in-le p [] = omega arith
-place_in-le p (x ∷ xs) =
-    cond_both (p x) 0 (suc (place_in p xs)) (λ n. n ≤ suc (length xs)) (λ passed. omega arith) (λ failed. omega (arith, place_in-le p xs))
+place_in-le p (x ∷ xs) = let rest = place_in-le p xs in grind arith
 
 -- where one passes, the first that does stands there
-pub place_found : {A : Type 0} (p : A → Bool) (xs : List A) → list_any p xs ≡ true → (y : A) × (slice_get xs (place_in p xs) ≡ Some y) × (p y ≡ true)
-place_found p [] h = absurd (false≢true h)
-place_found {A} p (x ∷ xs) h =
-    cond_both (p x) 0 (suc (place_in p xs)) (λ n. (y : A) × (slice_get (x ∷ xs) n ≡ Some y) × (p y ≡ true)) (λ passed. (x, refl, passed))
-    (λ failed. place_found p xs (sym (ap (λ b. b || list_any p xs) failed) ∙ h))
+pub place_within : {A : Type 0} (p : A → Bool) (xs : List A) → list_any p xs ≡ true → place_in p xs < length xs
+place_within p [] h = absurd cc
+place_within p (x ∷ xs) h = let rest = place_within p xs in grind (arith, nat_tests)
 
 -- a communicator that is read is what a name means
 pub read_of : (l : Layout) (e : Expr) (q : ℕ) → is_among (comms_in l e) q ≡ true → (id : Id) × In id (names_of e) × (meaning l (comm_key id.name) ≡ q)
@@ -186,8 +183,6 @@ module _ {A B : Type 0} (R : A → B → Type 0) where
 pub length-places : {A : Type 0} (test : A → Bool) (k : ℕ) (xs : List A) → length (places_from test k xs) ≡ count_by test xs
 length-places test k [] = refl
 length-places test k (x ∷ xs) =
-    omega (arith, length-places test (suc k) xs, sum_by-cons (λ y. cond (test y) 1 0) x xs, front (test x) k (places_from test (suc k) xs))
-  where
-    front : (b : Bool) (k : ℕ) (ks : List ℕ) → length (cond b (k ∷ ks) ks) ≡ cond b 1 0 + length ks
-    front true k ks = omega arith
-    front false k ks = omega arith
+    let rest = length-places test (suc k) xs in
+    let first = sum_by-cons (λ y. cond (test y) 1 0) x xs in
+    grind arith

@@ -22,10 +22,9 @@ use Rattle.htl_names.specs.Uses.{usage, uses}
 use Rattle.htl_names.specs.Nth.{mode_in}
 use Rattle.htl_names.proofs.FlatMaps.{in_front, at_part, at_flat, flat_part, there_is, list_to_at, of_list_to, counted, given, stands}
 use Rattle.htl_names.proofs.NameUses.{worst_span, mode_period_span, known, used_in_module}
-use Rattle.htl_names.proofs.ListLaws.{place_found}
 use Rattle.htl_names.proofs.Places.{modes_in, tasks_in, mode_parts, within, item_in_source, part_in_source}
 use Rattle.htl_names.proofs.ModulePlaces.{Comes, top, under, kid, comes, exist}
-use Rattle.htl_names.proofs.Ordering.{right_tree, modules_apart, low}
+use Rattle.htl_names.proofs.Ordering.{right_tree, number_is, low}
 use Rattle.htl_names.proofs.TreeLevels.{level_step}
 use Rattle.htl_names.proofs.Members.{In, All-at, all_given}
 use Rattle.htl_text.specs.declared.tree.Id.{Id}
@@ -125,16 +124,8 @@ level_some xs zero p h = absurd (omega (arith, h))
 level_some xs (suc n) p h = grind arith
 
 module _ (ps : List PlainProgram) (right : AreNamesRight ps) where
-  -- the number of a module is its place
-  pub number_is : (k : ℕ) (s : ModuleAt) → slice_get (layout ps).modules k ≡ Some s → module_number (layout ps) s.program s.«module» ≡ k
-  number_is k s there =
-      let test = is_module s.program s.«module» in
-      let f = place_found test (layout ps).modules (any_passes_from_place test (layout ps).modules k s there (grind (arith, nat_tests))) in
-      let passes = f.2 in
-      modules_apart ps right (module_number (layout ps) s.program s.«module») k f.0 s f.1 there (grind (arith, nat_tests)) (grind (arith, nat_tests))
-
   pub mode_number_is : (k m : ℕ) (s : ModuleAt) → slice_get (layout ps).modules k ≡ Some s → modes_before (layout ps) ps k + m ≡ mode_number (layout ps) ps (mode_in s m)
-  mode_number_is k m s there = ap (λ (j : ℕ). modes_before (layout ps) ps j + m) (sym (number_is k s there))
+  mode_number_is k m s there = ap (λ (j : ℕ). modes_before (layout ps) ps j + m) (sym (number_is ps right k s there))
 
   -- the mode that a name means which stands in a module
   pub mode_meant : (k : ℕ) (s : ModuleAt) (id : Id) (P : ℕ → Type 0) → P k → slice_get (layout ps).modules k ≡ Some s → In (usage (mode_key s.program s.«module» id.name) id) (uses ps)

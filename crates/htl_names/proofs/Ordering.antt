@@ -6,12 +6,12 @@ use Rattle.htl_names.specs.Nth.{mode_in}
 use Rattle.htl_text.specs.Nodes.{PlainProgram, PlainModule, PlainMode, PlainTask}
 use Rattle.htl_names.specs.declared.place.ModeAt.{ModeAt}
 use Rattle.htl_names.specs.declared.place.ModuleAt.{ModuleAt}
-use Rattle.htl_names.specs.Flat.{symbols_of, layout, size_of, Layout, layout_by, tables_by, tables_of_tree}
+use Rattle.htl_names.specs.Flat.{symbols_of, layout, module_number, size_of, Layout, layout_by, tables_by, tables_of_tree}
 use Rattle.htl_names.specs.Limits.{counts, limits}
 use Rattle.htl_names.specs.NameRules.{AreNamesRight, ProgramTree, Limits}
 use Rattle.htl_names.specs.Order.{order, mode_order, mode_at, modes_at, tasks_at, ports_at, invokes_at, switches_at}
 use Rattle.htl_names.specs.Programs.{naming, level, levels}
-use Rattle.htl_names.proofs.Apart.{Apart, order_apart, few, few_in_modes}
+use Rattle.htl_names.proofs.Apart.{order_number, few, few_in_modes}
 use Rattle.htl_names.proofs.Places.{part_is, part_there, modes_there, tasks_there, modes_in, tasks_in, mode_parts, item_in_source}
 use Rattle.htl_names.proofs.FlatMaps.{list_to_at, take_length}
 use Rattle.htl_names.proofs.TreeLevels.{IsTree, few_programs}
@@ -40,8 +40,9 @@ kept_limit ps right k count limit a b = let no = λ (over : limit < count). righ
 pub right_tree : (ps : List PlainProgram) → AreNamesRight ps → IsTree (symbols_of ps) ps
 right_tree ps right p lt wrong = right ProgramTree p (fault.NotATree p) (lt, wrong, refl)
 
-pub modules_apart : (ps : List PlainProgram) → AreNamesRight ps → Apart (layout ps).modules
-modules_apart ps right = order_apart (symbols_of ps) ps (right_tree ps right)
+-- the number of a module is its place
+pub number_is : (ps : List PlainProgram) → AreNamesRight ps → (k : ℕ) (s : ModuleAt) → slice_get (layout ps).modules k ≡ Some s → module_number (layout ps) s.program s.«module» ≡ k
+number_is ps right = order_number (symbols_of ps) ps (right_tree ps right)
 
 pub low : (ps : List PlainProgram) → AreNamesRight ps → (p : ℕ) → p < length ps → level (naming (symbols_of ps) ps) (length ps) p ≤ 8
 low ps right p lt =
@@ -63,7 +64,7 @@ pub are_few : (ps : List PlainProgram) → AreNamesRight ps → AreFew ps
 are_few ps right =
     let modules = (layout ps).modules in
     let here = exist (symbols_of ps) ps in
-    let apart = modules_apart ps right in
+    let apart = number_is ps right in
     record {
       modules = le_trans (simp (flat_map_single, length-map) at (few ps modules here apart (λ (s : ModuleAt). s ∷ []) (λ (y : PlainModule). y ∷ []) (λ s y e. refl))) (kept_limit ps right 1 _ 64 refl refl);
       modes = le_trans (few ps modules here apart (modes_in ps) (λ (y : PlainModule). y.modes) (λ s y e. ap length (modes_there ps s.program s.«module» y e))) (kept_limit ps right 2 _ 256 refl refl);

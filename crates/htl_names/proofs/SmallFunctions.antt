@@ -26,7 +26,7 @@ use Rattle.htl_names.specs.Order.{tasks_at, switches_at}
 use Rattle.htl_names.specs.Uses.{input_use, output_uses, outputs_uses}
 use Rattle.htl_names.specs.declared.place.ModeAt.{ModeAt}
 use Rattle.htl_names.specs.declared.place.ModuleAt.{ModuleAt}
-use Rattle.htl_names.proofs.ListLaws.{zip_append, zip_map, zip_parts, zip_at, distinct_has, among_at, place_found, few_reads}
+use Rattle.htl_names.proofs.ListLaws.{zip_append, zip_map, zip_parts, zip_at, distinct_has, among_at, place_within, few_reads}
 use Rattle.htl_names.proofs.FlatMaps.{there_is, flat_map_is, flat_map_parts}
 use Rattle.htl_names.proofs.Members.{All-from_places, In, in_first, in_second, in_part, in_mapped, at_place, All-at, map_flat_map_at}
 use Rattle.htl_names.proofs.Numbered.{task_small, switch_small}
@@ -107,7 +107,7 @@ read_below : (l : Layout) (e : Expr) (id : Id) → In id (names_of e) → read_p
 read_below l e id at =
     let f : Id → ℕ = λ x. meaning l (comm_key x.name) in
     let among = distinct_has (f id) [] (map f (names_of e)) ∙ among_at (map f (names_of e)) at.0 (f id) (get_mapped f (names_of e) at.0 id at.1) in
-    slice_get_within (comms_in l e) _ _ (place_found (eqb (f id)) (comms_in l e) among).1
+    place_within (eqb (f id)) (comms_in l e) among
 
 -- ---- switches
 
@@ -159,11 +159,7 @@ functions_in_range ps small right =
     by f (Compiled code) h = absurd h
 
 types_of_task : (t : Task) → length (task_types t) ≡ function_count t
-types_of_task t = by t.is_abstract
-  where
-    by : (b : Bool) → length (cond b [] (map (output_type t.inputs) t.outputs)) ≡ cond b 0 (length t.outputs)
-    by true = refl
-    by false = length-map t.outputs (output_type t.inputs)
+types_of_task t = let size = length-map t.outputs (output_type t.inputs) in grind arith
 
 count_first : (t : Task) (ts : List Task) (n : ℕ) → count_before (suc n) (t ∷ ts) ≡ function_count t + count_before n ts
 count_first t ts zero = omega arith
