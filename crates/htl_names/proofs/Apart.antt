@@ -6,7 +6,7 @@ use Rattle.std.proofs.lemmas.Bool.{cases_eq, ne_eqb}
 use Rattle.std.proofs.lemmas.Bool.Decides.{nat_tests}
 use Rattle.std.proofs.lemmas.Option.{same_Some, slice_get_within, get_or_from_slice_get, slice_get-get_or}
 use Rattle.std.proofs.lemmas.List.Concat.{length-flat_map}
-use Rattle.std.proofs.lemmas.List.Sums.{sum-map, sum_by-cons, sum_by-append, sum_by_push, sum_by-set, sum_by_more_le, get_or-le-sum_by}
+use Rattle.std.proofs.lemmas.List.Sums.{sum_by-le, sum-map, sum_by-cons, sum_by-append, sum_by_push, sum_by-set, sum_by_more_le, get_or-le-sum_by}
 use Rattle.htl_model.specs.Lists.{list_to}
 use Rattle.htl_model.proofs.PlaceLaws.{get_mapped}
 use Rattle.htl_text.specs.Bounds.{modules_of, modes_of}
@@ -52,10 +52,6 @@ in_program p u q parent (suc n) =
 abbrev is_over : Option ModeAt → ModuleAt → Bool
 is_over None s = false
 is_over (Some a) s = is_module a.program a.«module» s
-
-none_over : (xs : List ModuleAt) → count_by (is_over None) xs ≡ 0
-none_over [] = refl
-none_over (s ∷ xs) = omega (arith, sum_by-cons (λ r. cond (is_over None r) 1 0) s xs, none_over xs)
 
 module _ (symbols : List (Key × ℕ)) (ps : List PlainProgram) (tree : IsTree symbols ps) where
   -- a module stands once at most among those below the modes of one, and only below the one that its program refines
@@ -118,7 +114,7 @@ module _ (symbols : List (Key × ℕ)) (ps : List PlainProgram) (tree : IsTree s
   once (suc n) k s less (top u y its) =
       let some = within ps 0 u y its in
       let few = all 0 u None some (refined_none symbols ps 0 (root_unnamed symbols ps tree some)) in
-      omega (arith, few, none_over (order symbols ps))
+      omega (arith, few, sum_by-le (λ r. cond (is_over None r) 1 0) 0 (order symbols ps) (λ k d below. omega arith))
   once (suc n) k s less (under j t r lower there (kid m q u x y at named its)) =
       let before = once n j t (omega (arith, lower, less)) (comes symbols ps j t there) in
       let names : Names symbols ps (mode_in t m) q = record { mode = x; there = at; named = named } in

@@ -42,10 +42,9 @@ any_end p xs x = list_any-append p xs (x ∷ []) ∙ ap (λ b. list_any p xs || 
 pub distinct_has : (q : ℕ) (acc xs : List ℕ) → is_among (fold with_new acc xs) q ≡ (is_among acc q || is_among xs q)
 distinct_has q acc [] = sym (or-false _)
 distinct_has q acc (x ∷ xs) =
-    distinct_has q (with_new acc x) xs ∙ ap (λ b. b || is_among xs q) one ∙ or_assoc (is_among acc q) (eqb q x) (is_among xs q)
-  where
-    one : is_among (with_new acc x) q ≡ (is_among acc q || eqb q x)
-    one = cond_both (is_among acc x) acc (acc ++ x ∷ []) (λ ys. is_among ys q ≡ (is_among acc q || eqb q x)) (λ old. grind (arith, nat_tests)) (λ new. any_end (eqb q) acc x)
+    let rest = distinct_has q (with_new acc x) xs in
+    let more = any_end (eqb q) acc x in
+    grind (arith, nat_tests)
 
 all_distinct : (acc xs : List ℕ) → IsDistinct eqb acc → IsDistinct eqb (fold with_new acc xs)
 all_distinct acc [] d = d
@@ -111,15 +110,13 @@ read_of l e q h =
     let id = of_map f (names_of e) at.0 q at.1 in
     (id.0, (at.0, id.1), id.2)
 
-few_comms : (l : Layout) → ((key : Key) → meaning l key ≤ 4096) → (e : Expr) → length (comms_in l e) ≤ 4097
-few_comms l low e =
-    length-le_from_distinct_below (comms_in l e) 4097 (distinct_once (map (λ (id : Id). meaning l (comm_key id.name)) (names_of e)))
-    (λ q h. let id = read_of l e q h in omega (arith, low (comm_key id.0.name), id.2))
-
--- so is each place among them
+-- so is the place of each
 pub read_place-le : (l : Layout) → ((key : Key) → meaning l key ≤ 4096) → (e : Expr) (id : Id) → read_place l (comms_in l e) id ≤ 4097
 read_place-le l low e id =
-    omega (arith, place_in-le (eqb (meaning l (comm_key id.name))) (comms_in l e), few_comms l low e)
+    let reads = comms_in l e in
+    let few = length-le_from_distinct_below reads 4097 (distinct_once (map (λ (id : Id). meaning l (comm_key id.name)) (names_of e))) (λ q h.
+    let id = read_of l e q h in omega (arith, low (comm_key id.0.name), id.2)) in
+    omega (arith, place_in-le (eqb (meaning l (comm_key id.name))) reads, few)
 
 -- ---- lists by places
 
