@@ -12,9 +12,9 @@ use Rattle.htl_model.specs.declared.parts.Task.{Task}
 use Rattle.htl_model.specs.declared.parts.Inv.{Inv}
 use Rattle.htl_model.specs.declared.parts.Switch.{Switch}
 use Rattle.htl_model.proofs.Apart.{different, different_owned, different_pairs, different_numbers}
-use Rattle.htl_model.specs.Ranges.{IsCommInRange, AreInRange, IsPortInRange, IsEndInRange, IsInvInRange, IsModeThat, IsSwitchInRange}
+use Rattle.htl_model.specs.Ranges.{IsModeInRange, IsTaskInRange, IsCommInRange, AreInRange, IsPortInRange, IsEndInRange, IsInvInRange, IsModeThat, IsSwitchInRange}
 use Rattle.htl_model.specs.Tables.{mode_module}
-use Rattle.htl_text.specs.Bounds.{comms_of, modules_of, modes_of, invokes_of, names_of}
+use Rattle.htl_text.specs.Bounds.{out_params, comms_of, modules_of, modes_of, invokes_of, names_of}
 use Rattle.htl_text.specs.declared.tree.InvokeNode.{InvokeNode}
 use Rattle.htl_text.specs.Nodes.{PlainProgram, PlainModule, PlainTask, PlainMode, PlainSwitch}
 use Rattle.htl_text.specs.declared.tree.Id.{Id}
@@ -36,12 +36,12 @@ use Rattle.htl_names.specs.declared.place.ModuleAt.{ModuleAt}
 use Rattle.htl_names.proofs.EntryLaws.{declared, one_place, one_entry, source_entries, entries_are, Origin, of_comm, of_module, of_task, of_mode as mode_origin, of_port, of_invoke}
 use Rattle.htl_names.proofs.FlatMaps.{at_part, same_part, part_of, given, of_map, counted, few_owned, owners_order, stands as item_stands}
 use Rattle.htl_names.proofs.SmallFunctions.{functions_in_range, functions_counted}
-use Rattle.htl_names.proofs.Numbered.{switch_small, each_mode, each_module, modes_in_range, module_in_range, tasks_in_range, mode_count, module_count, mode_number_is, all_in_modes, mode_numbered, mode_owner, mode_stands, mode_meant}
+use Rattle.htl_names.proofs.Numbered.{task_small, switch_small, each_mode, each_module, module_in_range, mode_count, module_count, mode_number_is, all_in_modes, mode_numbered, mode_owner, mode_stands, mode_meant}
 use Rattle.htl_names.proofs.ModulePlaces.{Comes, top, under, kid, comes}
 use Rattle.htl_names.proofs.TreeLevels.{refined_at}
 use Rattle.htl_names.specs.Programs.{refined_by}
 use Rattle.htl_names.proofs.Members.{In, in_next, in_second, in_part_at, All-from_places, in_first, in_mapped, All-at, all_given}
-use Rattle.htl_names.proofs.NameUses.{known, used_in_invoke, comm_period_span, initial_fits, used_in_switch, parent_stands}
+use Rattle.htl_names.proofs.NameUses.{mode_period_span, worst_span, known, used_in_invoke, comm_period_span, initial_fits, used_in_switch, parent_stands}
 use Rattle.htl_names.proofs.Places.{modes_in, tasks_in, program_of_module, within as inside, part_in_source}
 use Rattle.htl_names.proofs.Ordering.{kept_limit, right_tree, number_is, are_few, few_in_mode, instances}
 use Rattle.htl_names.proofs.ListLaws.{few_reads, read_of, distinct_once, distinct_apart, among_at}
@@ -253,6 +253,7 @@ names-in-range ps small right =
     let l = layout ps in
     let t = tables_of_tree ps in
     let few = are_few ps right in
+    let within : (k : ℕ) (s : ModuleAt) → slice_get l.modules k ≡ Some s → k < length t.modules = λ k s e. omega (arith, slice_get_within l.modules k s e, module_count ps) in
     record {
       few_comms = omega (arith, length-map (comms_of ps) comm_item, kept_limit ps right 0 (length (comms_of ps)) 1024 refl refl);
       few_modules = omega (arith, module_count ps, few.modules);
@@ -286,10 +287,20 @@ names-in-range ps small right =
       comms =
           All-map IsCommInRange comm_item (comms_of ps)
           (All-from_places (λ x. IsCommInRange (comm_item x)) (comms_of ps) (λ k x e. record { period = comm_period_span ps right k x e; init = initial_fits ps right k x e }));
-      modes = modes_in_range ps small right;
+      modes =
+          all_given (IsModeInRange t) (λ k s. mode_item k) (modes_in ps) l.modules (λ k s m x there its.
+          record { owner = within k s there; period = mode_period_span ps right s.program s.«module» m x its });
       modules = module_in_range ps right;
       ports = all_given (IsPortInRange t) (λ m a. port_item m) (ports_at ps) l.modes (λ m a j x there its. omega (arith, slice_get_within l.modes m a there, mode_count ps));
-      tasks = tasks_in_range ps small right;
+      tasks =
+          all_given (IsTaskInRange t) (λ k s. task_item k) (tasks_in ps) l.modules (λ k s j x there its.
+          let few = task_small ps small s.program s.«module» j x its in
+          record {
+            owner = within k s there;
+            worst = worst_span ps right s.program s.«module» j x its;
+            few_inputs = omega (arith, length-map x.inputs (λ y. y.ty), few.inputs);
+            few_outputs = omega (arith, length-map (out_params x.outputs) (λ y. y.ty), few.outputs);
+          });
       invs = all_in_modes ps (IsInvInRange t) (invoke_item l ps) (invokes_at ps) (invoke_in_range ps small right);
       switches = all_in_modes ps (IsSwitchInRange t) (switch_item l ps) (switches_at ps) (switch_in_range ps small right);
       functions = functions_in_range ps small right;

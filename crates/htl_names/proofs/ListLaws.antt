@@ -74,11 +74,7 @@ among_place (y ∷ xs) x h = elim (or_cases (eqb x y) _ h) [ inl is ↦ (0, ap S
 
 met : (g : List ℕ → ℕ) (n : List ℕ) (ids : List Id) → list_any (bytes_eq n) (map (λ (id : Id). id.name) ids) ≡ true → is_among (map (λ (id : Id). g id.name) ids) (g n) ≡ true
 met g n [] h = absurd cc
-met g n (id ∷ ids) h =
-    elim (or_cases (bytes_eq n id.name) _ h) [
-      | inl is ↦ or_left _ _ (eq-eqb (g n) (g id.name) (ap g ((bytes_eq-Decides n id.name).0 is)))
-      | inr later ↦ or_right _ _ (met g n ids later)
-    ]
+met g n (id ∷ ids) h = let later = met g n ids in let same = (bytes_eq-Decides n id.name).0 in grind (arith, nat_tests)
 
 few_by : (g : List ℕ → ℕ) (ids : List Id) → distinct_count eqb (map (λ (id : Id). g id.name) ids) ≤ distinct_count bytes_eq (map (λ (id : Id). id.name) ids)
 few_by g [] = omega arith

@@ -1,4 +1,4 @@
--- Which items the numbers of the tables name; the modules, modes and tasks of the tables are in range.
+-- Which items the numbers of the tables name; the modules of the tables are in range.
 use Rattle.std.proofs.Common.{◌≡◌, ◌<◌, ◌+◌, ℕ, zero, suc, true, List, [], ◌∷◌, length, take, slice_get, Some, None, refl, sym, ◌∙◌, ap, subst, arith, length-append, ◌≤◌, Option, IfSome, All}
 use Rattle.std.proofs.lemmas.List.{length-take-le, length-map}
 use Rattle.std.proofs.lemmas.Bool.Decides.{nat_tests}
@@ -170,7 +170,7 @@ module _ (ps : List PlainProgram) (right : AreNamesRight ps) where
         levels = within_levels 7 k s h (omega (arith, low ps right s.program (within ps s.program s.«module» x its)));
       })
 
--- ---- modes and tasks
+-- ---- tasks and switches
 
 module _ (ps : List PlainProgram) (small : MeetsBounds ps) where
   pub task_small : (p u k : ℕ) (t : PlainTask) → slice_get (tasks_at ps p u) k ≡ Some t → MeetsTaskBounds t
@@ -180,24 +180,3 @@ module _ (ps : List PlainProgram) (small : MeetsBounds ps) where
   switch_small a j w at =
       let n = part_in_source (λ (z : PlainMode). z.switches) ps a j w at in
       All-at MeetsSwitchBounds (switches_of (modes_of (modules_of ps))) (n.0 + j) w small.switches n.1
-
-  module _ (right : AreNamesRight ps) where
-    owner_within : (k : ℕ) (s : ModuleAt) → slice_get (layout ps).modules k ≡ Some s → k < length (module_items (layout ps) ps)
-    owner_within k s there =
-        omega (arith, slice_get_within (layout ps).modules k s there, module_count ps)
-
-    pub modes_in_range : All (IsModeInRange (tables_of_tree ps)) (mode_items (layout ps) ps)
-    modes_in_range =
-        all_given (IsModeInRange (tables_of_tree ps)) (λ k s. mode_item k) (modes_in ps) (layout ps).modules (λ k s m x there its.
-        record { owner = owner_within k s there; period = mode_period_span ps right s.program s.«module» m x its })
-
-    pub tasks_in_range : All (IsTaskInRange (tables_of_tree ps)) (task_items (layout ps) ps)
-    tasks_in_range =
-        all_given (IsTaskInRange (tables_of_tree ps)) (λ k s. task_item k) (tasks_in ps) (layout ps).modules (λ k s j t there its.
-        let few = task_small s.program s.«module» j t its in
-        record {
-          owner = owner_within k s there;
-          worst = worst_span ps right s.program s.«module» j t its;
-          few_inputs = omega (arith, length-map t.inputs (λ x. x.ty), few.inputs);
-          few_outputs = omega (arith, length-map (out_params t.outputs) (λ x. x.ty), few.outputs);
-        })
