@@ -115,9 +115,8 @@ module _ (symbols : List (Key × ℕ)) (ps : List PlainProgram) (tree : IsTree s
       let some = within ps 0 u y its in
       let few = all 0 u None some (refined_none symbols ps 0 (root_unnamed symbols ps tree some)) in
       omega (arith, few, sum_by-le (λ r. cond (is_over None r) 1 0) 0 (order symbols ps) (λ k d below. omega arith))
-  once (suc n) k s less (under j t r lower there (kid m q u x y at named its)) =
+  once (suc n) k s less (under j t r lower there (kid m q u y names its)) =
       let before = once n j t (omega (arith, lower, less)) (comes symbols ps j t there) in
-      let names : Names symbols ps (mode_in t m) q = record { mode = x; there = at; named = named } in
       let few = all q u (Some (mode_in t m)) (within ps q u y its) (refined_at symbols ps tree (mode_in t m) q (within ps q u y its) names) in
       let no_root = ne_eqb 0 q (λ is. root_not_named symbols ps tree (omega (arith, within ps q u y its)) (mode_in t m) (subst (Names symbols ps (mode_in t m)) (sym is) names)) in
       omega (arith, few, before, ap {B = ℕ} (λ b. cond b 1 0) no_root)

@@ -198,10 +198,10 @@ module _ (ps : List PlainProgram) (small : MeetsBounds ps) (right : AreNamesRigh
 
       by : (r : ModuleAt) → Comes (symbols_of ps) ps (layout ps).modules k r → r.program ≡ s.program → Goal r.parent
       by r (top u y here) same = tt
-      by r (under h t v lower before (kid c q u z y stands named here)) same =
-          let refined = refined_at (symbols_of ps) ps (right_tree ps right) (mode_in t c) q (inside ps q u y here) (record { mode = z; there = stands; named = named }) in
+      by r (under h t v lower before (kid c q u y names here)) same =
+          let refined = refined_at (symbols_of ps) ps (right_tree ps right) (mode_in t c) q (inside ps q u y here) names in
           let w = parent_stands ps right a j i id at is (mode_in t c) (ap (refined_by (symbols_of ps) ps) (sym same) ∙ refined) in
-          let number = ap (slice_get (layout ps).modes) (sym (mode_number_is ps right h c t before)) ∙ mode_numbered ps h c t z before stands in
+          let number = ap (slice_get (layout ps).modes) (sym (mode_number_is ps right h c t before)) ∙ mode_numbered ps h c t names.mode before names.there in
           slice_get_within (invoke_items (layout ps) ps) _ _
           (item_stands (invoke_item (layout ps) ps) (invokes_at ps) (layout ps).modes (mode_number (layout ps) ps (mode_in t c)) _ (mode_in t c) w.0 number w.1)
 

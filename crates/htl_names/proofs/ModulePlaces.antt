@@ -11,6 +11,7 @@ use Rattle.htl_names.specs.declared.place.ModuleAt.{ModuleAt}
 use Rattle.htl_names.specs.Order.{module_at, modules_at, modes_at, modules_in, mode_kids, kids, below, order}
 use Rattle.htl_names.specs.Programs.{named_program}
 use Rattle.htl_names.specs.Nth.{nth_module, mode_in}
+use Rattle.htl_names.proofs.Naming.{Names}
 use Rattle.htl_names.proofs.Members.{In}
 use Rattle.htl_names.proofs.FlatMaps.{there_is, at_flat, flat_part, part_of, of_list_to}
 
@@ -23,8 +24,7 @@ is_root_module s = elim s.parent [ Some a ↦ false | None ↦ true ]
 
 -- a module of the program that a mode of s names
 pub data IsKid (symbols : List (Key × ℕ)) (ps : List PlainProgram) (s : ModuleAt) : ModuleAt → Type 0 where
-  kid : (m q u : ℕ) (x : PlainMode) (y : PlainModule) → slice_get (modes_at ps s.program s.«module») m ≡ Some x → named_program symbols x ≡ Some q → module_at ps q u ≡ Some y
-      → IsKid symbols ps s (nth_module q (Some (mode_in s m)) u)
+  kid : (m q u : ℕ) (y : PlainModule) → Names symbols ps (mode_in s m) q → module_at ps q u ≡ Some y → IsKid symbols ps s (nth_module q (Some (mode_in s m)) u)
 
 -- the module at place k is a root module, or stands below one before it
 pub data Comes (symbols : List (Key × ℕ)) (ps : List PlainProgram) (modules : List ModuleAt) (k : ℕ) : ModuleAt → Type 0 where
@@ -46,7 +46,7 @@ module _ (symbols : List (Key × ℕ)) (ps : List PlainProgram) where
       by : (m : ℕ) (x : PlainMode) → slice_get (modes_at ps s.program s.«module») m ≡ Some x → (j : ℕ) (o : Option ℕ) → named_program symbols x ≡ o
           → slice_get (elim o as (λ _. List ModuleAt) [ Some q ↦ modules_in ps (Some (mode_in s m)) q | None ↦ [] ]) j ≡ Some r → IsKid symbols ps s r
       by m x its j None is e = absurd (none-some r e)
-      by m x its j (Some q) is e = let y = in_program (Some (mode_in s m)) q j r e in subst (IsKid symbols ps s) y.2 (kid m q j x y.0 its is y.1)
+      by m x its j (Some q) is e = let y = in_program (Some (mode_in s m)) q j r e in subst (IsKid symbols ps s) y.2 (kid m q j y.0 (record { mode = x; there = its; named = is }) y.1)
 
   -- below one before place k
   abbrev Under : List ModuleAt → ℕ → ModuleAt → Type 0
@@ -83,7 +83,7 @@ module _ (symbols : List (Key × ℕ)) (ps : List PlainProgram) where
     where
       by : (s : ModuleAt) → Comes symbols ps (order symbols ps) k s → Exists ps s
       by s (top u y its) = (y, its)
-      by s (under j t r lower there (kid m q u x y at named its)) = (y, its)
+      by s (under j t r lower there (kid m q u y n its)) = (y, its)
 
   -- ---- the root modules
 
@@ -96,7 +96,7 @@ module _ (symbols : List (Key × ℕ)) (ps : List PlainProgram) where
   no_root_below s = roots_alike false (kids symbols ps s) (λ k r e. by r (kid_of s k r e))
     where
       by : (r : ModuleAt) → IsKid symbols ps s r → is_root_module r ≡ false
-      by r (kid m q u x y at named its) = refl
+      by r (kid m q u y n its) = refl
 
   roots_stay : (n : ℕ) (xs : List ModuleAt) → filter is_root_module (flat_map (below n symbols ps) xs) ≡ filter is_root_module xs
   roots_stay n [] = refl

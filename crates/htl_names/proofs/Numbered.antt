@@ -137,28 +137,22 @@ module _ (ps : List PlainProgram) (right : AreNamesRight ps) where
 
   parent_in_range : (k : ℕ) (s : ModuleAt) → Comes (symbols_of ps) ps (layout ps).modules k s → IfSome (parent_item s) (IsModeThat (tables_of_tree ps) (λ owner. owner < k))
   parent_in_range k s (top u y its) = tt
-  parent_in_range k s (under j t r lower there (kid m q u x y at named its)) =
-      subst (IsModeThat (tables_of_tree ps) (λ owner. owner < k)) (mode_number_is j m t there) (its_mode ps j m t x (λ owner. owner < k) lower there at)
-
-  -- one level more than the program of the mode that it refines
-  step : (t : ModuleAt) (m q u : ℕ) (x : PlainMode) (y : PlainModule) → slice_get (modes_in ps t) m ≡ Some x → named_program (symbols_of ps) x ≡ Some q → module_at ps q u ≡ Some y
-      → level_of ps q ≡ suc (level_of ps t.program)
-  step t m q u x y at named its =
-      level_step (symbols_of ps) ps (right_tree ps right) q (mode_in t m) (within ps q u y its) (record { mode = x; there = at; named = named })
+  parent_in_range k s (under j t r lower there (kid m q u y names its)) =
+      subst (IsModeThat (tables_of_tree ps) (λ owner. owner < k)) (mode_number_is j m t there) (its_mode ps j m t names.mode (λ owner. owner < k) lower there names.there)
 
   within_levels : (steps k : ℕ) (s : ModuleAt) → Comes (symbols_of ps) ps (layout ps).modules k s → level_of ps s.program ≤ steps + 1 → is_within steps (tables_of_tree ps) (parent_item s) ≡ true
   within_levels zero k s (top u y its) few = refl
   within_levels (suc steps) k s (top u y its) few = refl
-  within_levels zero k s (under j t r lower there (kid m q u x y at named its)) few =
+  within_levels zero k s (under j t r lower there (kid m q u y names its)) few =
       let some = level_some (naming (symbols_of ps) ps) (length ps) t.program (omega (arith, within ps q u y its)) in
-      absurd (omega (arith, few, step t m q u x y at named its, some))
-  within_levels (suc steps) k s (under j t r lower there (kid m q u x y at named its)) few =
+      absurd (omega (arith, few, level_step (symbols_of ps) ps (right_tree ps right) q (mode_in t m) (within ps q u y its) names, some))
+  within_levels (suc steps) k s (under j t r lower there (kid m q u y names its)) few =
       let t' = tables_of_tree ps in
-      let owner = ap (mode_module t') (sym (mode_number_is j m t there)) ∙ mode_owner ps j m t x there at in
+      let owner = ap (mode_module t') (sym (mode_number_is j m t there)) ∙ mode_owner ps j m t names.mode there names.there in
       let z = exist (symbols_of ps) ps j t there in
       let own : parent_of t' j ≡ parent_item t = ap (λ (o : Option Module). elim o [ Some y ↦ y.parent | None ↦ None ]) (module_stands ps j t z.0 there z.1) in
       ap (λ (i : ℕ). is_within steps t' (parent_of t' i)) owner ∙ ap (is_within steps t') own
-      ∙ within_levels steps j t (comes (symbols_of ps) ps j t there) (omega (arith, few, step t m q u x y at named its))
+      ∙ within_levels steps j t (comes (symbols_of ps) ps j t there) (omega (arith, few, level_step (symbols_of ps) ps (right_tree ps right) q (mode_in t m) (within ps q u y its) names))
 
   pub module_in_range : (k : ℕ) (y : Module) → slice_get (module_items (layout ps) ps) k ≡ Some y → IsModuleInRange (tables_of_tree ps) k y
   module_in_range =

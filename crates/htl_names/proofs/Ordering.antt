@@ -103,9 +103,9 @@ module _ (ps : List PlainProgram) (right : AreNamesRight ps) where
 
   parent_narrow : (k : ℕ) (s : ModuleAt) → Comes (symbols_of ps) ps (layout ps).modules k s → IsNarrowParent s.parent
   parent_narrow k s (top u y its) = omega arith
-  parent_narrow k s (under j t r lower there (kid m q u x y at named its)) =
-      let n = item_in_source (λ (y : PlainModule). y.modes) ps t.program t.«module» m x at in
-      omega (arith, slice_get_within (modes_of (modules_of ps)) (n.0 + m) x n.1, kept_limit ps right 2 _ 256 refl refl)
+  parent_narrow k s (under j t r lower there (kid m q u y names its)) =
+      let n = item_in_source (λ (y : PlainModule). y.modes) ps t.program t.«module» m names.mode names.there in
+      omega (arith, slice_get_within (modes_of (modules_of ps)) (n.0 + m) names.mode n.1, kept_limit ps right 2 _ 256 refl refl)
 
 pub names-narrow : (ps : List PlainProgram) → MeetsBounds ps → AreNamesRight ps → IsNarrow (layout ps) ps
 names-narrow ps small right =
