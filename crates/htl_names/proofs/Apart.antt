@@ -1,12 +1,12 @@
 -- In a tree of programs each module stands once in the order, so the modules in order have no more of a kind than the source.
-use Rattle.std.proofs.Common.{◌≡◌, inl, inr, ℕ, zero, suc, ◌+◌, ◌≤◌, ◌<◌, Bool, true, false, cond, eqb, List, [], ◌∷◌, length, take, slice_get, Option, Some, None, refl, sym, ◌∙◌, ap, ap₂, subst, arith, ◌≢◌, map, get_or, set, sum, sum_by, length-set, get_or-set_other}
+use Rattle.std.proofs.Common.{◌≡◌, inl, inr, ℕ, zero, suc, ◌+◌, ◌≤◌, ◌<◌, Bool, true, false, cond, eqb, List, [], ◌∷◌, length, take, slice_get, Option, Some, None, refl, sym, ◌∙◌, ap, ap₂, subst, arith, ◌≢◌, map, set, sum, sum_by, length-set, get_or-set_other}
 use Rattle.std.specs.List.{flat_map, count_by}
 use Rattle.std.specs.Prelude.{ltb}
 use Rattle.std.proofs.lemmas.Bool.{cases_eq, ne_eqb}
 use Rattle.std.proofs.lemmas.Bool.Decides.{nat_tests}
 use Rattle.std.proofs.lemmas.Option.{same_Some, slice_get_within, get_or_from_slice_get, slice_get-get_or}
 use Rattle.std.proofs.lemmas.List.Concat.{length-flat_map}
-use Rattle.std.proofs.lemmas.List.Sums.{sum_by-le, sum-map, sum_by-cons, sum_by-append, sum_by_push, sum_by-set, sum_by_more_le, get_or-le-sum_by}
+use Rattle.std.proofs.lemmas.List.Sums.{sum_by-le, sum-map, sum_by-cons, sum_by-append, sum_by_push, sum_by-set, get_or-le-sum_by}
 use Rattle.htl_model.specs.Lists.{list_to}
 use Rattle.htl_model.proofs.PlaceLaws.{get_mapped}
 use Rattle.htl_text.specs.Bounds.{modules_of, modes_of}
@@ -161,7 +161,7 @@ module _ (ps : List PlainProgram) where
       (slice_get_within x.0.modules s.«module» h.0 x.2) (slice_get_within y.0.modules r.«module» g.0 y.2) same in
       (part, omega (arith, same, ap (λ (p : ℕ). length (flat_map_at (λ k (x : PlainProgram). x.modules) 0 (take p ps))) part))
 
-  module _ (modules : List ModuleAt) (h : (k : ℕ) (s : ModuleAt) → slice_get modules k ≡ Some s → Exists ps s) 
+  module _ (modules : List ModuleAt) (h : (k : ℕ) (s : ModuleAt) → slice_get modules k ≡ Some s → Exists ps s)
       (d : (k : ℕ) (s : ModuleAt) → slice_get modules k ≡ Some s → place_in (is_module s.program s.«module») modules ≡ k) where
     -- what the modules in order have, the source has
     pub few : {B C : Type 0} (at : ModuleAt → List B) (part : PlainModule → List C) → ((s : ModuleAt) (y : PlainModule) → module_at ps s.program s.«module» ≡ Some y → length (at s) ≡ length (part y))

@@ -1,6 +1,6 @@
 -- Where the items of lists and of their parts stand, and whose they are.
-use Rattle.std.proofs.Common.{◌≡◌, ℕ, zero, suc, ◌+◌, ◌<◌, ◌≤◌, ◌⊎◌, inl, inr, List, [], ◌∷◌, ◌++◌, length, take, slice_get, Some, refl, sym, ◌∙◌, ap, ap₂, subst, arith, length-append, drop, take-append-drop, add-one, append_assoc, get_or, map, cond, Bool, eqb, leb, flat_map, count_by}
-use Rattle.std.proofs.lemmas.List.{drop_more, length-map, length-take, get_or-take}
+use Rattle.std.proofs.Common.{◌≡◌, ℕ, zero, suc, ◌+◌, ◌<◌, ◌≤◌, ◌⊎◌, inl, inr, List, [], ◌∷◌, ◌++◌, length, take, slice_get, Some, refl, sym, ◌∙◌, ap, ap₂, subst, arith, length-append, drop, take-append-drop, get_or, map, cond, Bool, eqb, leb, flat_map, count_by}
+use Rattle.std.proofs.lemmas.List.{length-map, length-take, get_or-take}
 use Rattle.std.proofs.lemmas.Option.{slice_get_within, same_Some, none-some, slice_get-get_or, get_or_from_slice_get}
 use Rattle.std.proofs.lemmas.Grind.{flat_map-append}
 use Rattle.std.specs.List.Sorted.{IsNonDecreasing}

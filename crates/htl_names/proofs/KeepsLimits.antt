@@ -26,7 +26,6 @@ use Rattle.htl_names.proofs.Numbered.{module_count, each_mode, mode_owner, one_m
 use Rattle.htl_names.proofs.ModulePlaces.{is_root_module, exist, roots_of}
 use Rattle.htl_names.proofs.FlatMaps.{few_owned}
 use Rattle.htl_names.proofs.Ordering.{kept_limit}
-use Rattle.htl_model.proofs.PlaceLaws.{get_mapped}
 use Rattle.htl_names.proofs.ListLaws.{invokes_most, map_places, length-places}
 use Rattle.htl_names.proofs.Places.{modes_in, modes_there, part_is}
 use Rattle.htl_names.proofs.LimitLaws.{root_modules_are}

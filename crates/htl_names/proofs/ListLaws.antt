@@ -1,12 +1,12 @@
 -- Lists: different numbers and how many a switch reads, sums over places, items in pairs, items that pass a test.
-use Rattle.std.proofs.Common.{◌<◌, ◌≡◌, inl, inr, ℕ, zero, suc, Bool, true, false, cond, ◌||◌, eqb, List, [], ◌∷◌, ◌++◌, slice_get, Some, fold, refl, sym, ◌∙◌, ap, ap₂, subst, eq-eqb, eqb-true, ◌≤◌, map, length, arith, ◌+◌, max, Option, IsSomeAnd}
+use Rattle.std.proofs.Common.{◌<◌, ◌≡◌, inl, inr, ℕ, zero, suc, Bool, true, cond, ◌||◌, eqb, List, [], ◌∷◌, ◌++◌, slice_get, Some, fold, refl, sym, ◌∙◌, ap, ap₂, subst, eq-eqb, eqb-true, ◌≤◌, map, length, arith, ◌+◌, max, Option, IsSomeAnd}
 use Rattle.std.proofs.lemmas.Slice.Zip.{AllZip-left}
 use Rattle.std.specs.List.{AllZip, IsDistinct, list_any, flat_map, count_by}
-use Rattle.std.proofs.Math.Bool.{or-false, or_assoc}
+use Rattle.std.proofs.Math.Bool.{or-false}
 use Rattle.std.specs.Set.{distinct_count}
 use Rattle.std.proofs.lemmas.Bool.Decides.{nat_tests}
 use Rattle.std.proofs.lemmas.Map.Made.{length-from_keys}
-use Rattle.std.proofs.lemmas.Bool.{or_cases, or_left, or_right, cond_both, false≢true}
+use Rattle.std.proofs.lemmas.Bool.{or_cases, cond_both}
 use Rattle.std.proofs.lemmas.Cmp.{nat_eq_equiv}
 use Rattle.std.proofs.lemmas.List.Folds.{list_any-append, flat_map-map}
 use Rattle.std.proofs.lemmas.Map.Keys.{IsDistinct-push, apart_from_distinct, any_passes_from_place}

@@ -1,7 +1,6 @@
 -- Where the name rules are kept, the modules in order differ and are few, and their numbers fit the fields.
-use Rattle.std.proofs.Common.{◌≡◌, ℕ, suc, ◌≤◌, ◌<◌, min, ◌^◌, ◌-◌, List, length, slice_get, Some, refl, arith, le_trans, [], All, ap, ◌+◌, ◌∙◌, ◌∷◌, map}
+use Rattle.std.proofs.Common.{◌≡◌, ℕ, suc, ◌≤◌, ◌<◌, min, ◌^◌, ◌-◌, List, length, slice_get, Some, refl, arith, le_trans, [], All, ap, ◌+◌, ◌∙◌, ◌∷◌}
 use Rattle.htl_model.specs.Lists.{list_to}
-use Rattle.htl_model.proofs.PlaceLaws.{get_mapped}
 use Rattle.htl_names.specs.Nth.{mode_in}
 use Rattle.htl_text.specs.Nodes.{PlainProgram, PlainModule, PlainMode, PlainTask}
 use Rattle.htl_names.specs.declared.place.ModeAt.{ModeAt}
