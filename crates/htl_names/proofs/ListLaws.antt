@@ -1,4 +1,4 @@
--- Lists: different numbers and how many a switch reads, sums over places, items in pairs, items that pass a test.
+-- Lists: different numbers and how many a switch reads, values by places, items in pairs, items that pass a test.
 use Rattle.std.proofs.Common.{◌<◌, ◌≡◌, inl, inr, ℕ, zero, suc, Bool, true, cond, ◌||◌, eqb, List, [], ◌∷◌, ◌++◌, slice_get, Some, fold, refl, sym, ◌∙◌, ap, ap₂, subst, eq-eqb, eqb-true, ◌≤◌, map, length, arith, ◌+◌, max, Option, IsSomeAnd}
 use Rattle.std.proofs.lemmas.Slice.Zip.{AllZip-left}
 use Rattle.std.specs.List.{AllZip, IsDistinct, list_any, flat_map, count_by}
