@@ -24,7 +24,7 @@ use Rattle.htl_names.specs.Named.{refined_at, AreRefined}
 use Rattle.htl_names.specs.Programs.{IsFirstMisplaced, Naming, Graph, links, program_links, refined_by}
 use Rattle.htl_names.specs.Repeats.{EntriesAreApart, IsFirstRepeat, IsRepeat}
 use Rattle.htl_names.proofs.Naming.{graph_is}
-use Rattle.htl_names.specs.Rows.{wrong_tokens}
+use Rattle.htl_names.specs.Rows.{wrong_of, wrong_tokens}
 use Rattle.htl_names.specs.Kinds.{Judged, kinds, token_of, is_kind, IsWrongKind, wrong_token}
 use Rattle.htl_names.specs.declared.key.Use.{Use}
 use Rattle.htl_names.specs.Keys.{look_up}
@@ -211,6 +211,7 @@ kind_tells true token = λ e. cc
 kind_tells false token = (refl, refl)
 
 first_wrong : (js : List Judged) → slice_get (wrong_tokens js) 0 ≡ first_some wrong_token js
+unfolding wrong_of
 first_wrong [] = refl
 first_wrong (j ∷ js) = by (is_kind j) (first_wrong js)
   where
