@@ -1,5 +1,5 @@
 -- The test of keys is true exactly where they are the same.
-use Rattle.std.specs.Prelude.{◌≡◌, ◌+◌, ◌*◌, ◌%◌, ◌^◌, ℕ, zero, suc, List, IsTrue, fold}
+use Rattle.std.specs.Prelude.{◌≡◌, ◌+◌, ◌*◌, ◌%◌, ◌^◌, ℕ, List, [], ◌∷◌, IsTrue, fold, get_or}
 use Rattle.std.specs.Bool.{Decides}
 use Rattle.std.specs.Hash as fed
 use Rattle.std.proofs.Common.{refl, sym, ◌∙◌, ap}
@@ -10,18 +10,12 @@ use Rattle.htl_names.specs.declared.key.Space.{Space}
 use Rattle.htl_names.specs.declared.key.Space.TheVariants as space
 use Rattle.htl_names.specs.Keys.{space_code, same_key}
 
--- the kind of list with a number
-abbrev space_at : ℕ → Space
-space_at zero = space.Programs
-space_at (suc zero) = space.Comms
-space_at (suc (suc zero)) = space.Modules
-space_at (suc (suc (suc zero))) = space.Tasks
-space_at (suc (suc (suc (suc zero)))) = space.Modes
-space_at (suc (suc (suc (suc (suc zero))))) = space.Params
-space_at (suc (suc (suc (suc (suc (suc zero)))))) = space.Ports
-space_at (suc (suc (suc (suc (suc (suc (suc n))))))) = space.Invokes
+-- the kinds of lists by their numbers
+abbrev spaces : List Space
+spaces =
+    space.Programs ∷ space.Comms ∷ space.Modules ∷ space.Tasks ∷ space.Modes ∷ space.Params ∷ space.Ports ∷ space.Invokes ∷ []
 
-space_back : (s : Space) → space_at (space_code s) ≡ s
+space_back : (s : Space) → get_or spaces (space_code s) space.Programs ≡ s
 space_back space.Programs = refl
 space_back space.Comms = refl
 space_back space.Modules = refl
@@ -32,18 +26,13 @@ space_back space.Ports = refl
 space_back space.Invokes = refl
 
 same_space : (a b : Space) → space_code a ≡ space_code b → a ≡ b
-same_space a b e = sym (space_back a) ∙ ap space_at e ∙ space_back b
+same_space a b e = sym (space_back a) ∙ ap (λ (n : ℕ). get_or spaces n space.Programs) e ∙ space_back b
 
 abbrev make : Space → ℕ → ℕ → ℕ → List ℕ → Key
 make s p u i n = record { space = s; program = p; «module» = u; item = i; name = n }
 
 made : (a b : Key) → a.space ≡ b.space → a.program ≡ b.program → a.«module» ≡ b.«module» → a.item ≡ b.item → a.name ≡ b.name → a ≡ b
-made a b s p u i n =
-    ap (λ x. make x a.program a.«module» a.item a.name) s
-    ∙ ap (λ x. make b.space x a.«module» a.item a.name) p
-    ∙ ap (λ x. make b.space b.program x a.item a.name) u
-    ∙ ap (λ x. make b.space b.program b.«module» x a.name) i
-    ∙ ap (λ x. make b.space b.program b.«module» b.item x) n
+made a b s p u i n = let same : make a.space a.program a.«module» a.item a.name ≡ make b.space b.program b.«module» b.item b.name = cc in same
 
 pub same_key_decides : (a b : Key) → Decides (same_key a b) (a ≡ b)
 same_key_decides a b = (
