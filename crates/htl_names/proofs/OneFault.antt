@@ -1,24 +1,22 @@
 -- A source has one first name fault at most.
-use Rattle.std.proofs.Common.{◌≡◌, ℕ, ◌<◌, ◌⊎◌, inl, inr, List, sym, ◌∙◌, subst, arith}
+use Rattle.std.proofs.Common.{◌≡◌, ℕ, ◌<◌, ◌⊎◌, inl, inr, List, sym, ◌∙◌, subst}
 use Rattle.htl_text.specs.Nodes.{PlainProgram}
 use Rattle.htl_names.specs.NameRules.{NameRule, RepeatedName, UnknownName, WrongKind, ProgramTree, ParentName, Limits, order_of, NameBroken, TriedBefore, IsFirstNameFault}
 use Rattle.htl_names.specs.declared.fault.NameFault.{NameFault}
+use Rattle.htl_names.proofs.Places.{order_of as order_of_two}
 use Rattle.htl_names.proofs.RuleLaws.{same_rule}
-
-three : (a b : ℕ) → (a < b) ⊎ (a ≡ b) ⊎ (b < a)
-three a b = grind arith
 
 -- a place is tried before another, or it is the other, or tried after it
 tried : (r s : NameRule) (j k : ℕ) → TriedBefore r j s k ⊎ ((r ≡ s) × (j ≡ k)) ⊎ TriedBefore s k r j
-tried r s j k = by (three (order_of r) (order_of s)) (three j k)
+tried r s j k = by (order_of_two (order_of r) (order_of s)) (order_of_two j k)
   where
-    by : (order_of r < order_of s) ⊎ (order_of r ≡ order_of s) ⊎ (order_of s < order_of r) → (j < k) ⊎ (j ≡ k) ⊎ (k < j)
+    by : (order_of r < order_of s) ⊎ (order_of s < order_of r) ⊎ (order_of r ≡ order_of s) → (j < k) ⊎ (k < j) ⊎ (j ≡ k)
         → TriedBefore r j s k ⊎ ((r ≡ s) × (j ≡ k)) ⊎ TriedBefore s k r j
     by (inl less) place = inl (inl less)
-    by (inr (inl same)) (inl less) = inl (inr (same, less))
-    by (inr (inl same)) (inr (inl at)) = inr (inl (same_rule r s same, at))
-    by (inr (inl same)) (inr (inr more)) = inr (inr (inr (sym same, more)))
-    by (inr (inr more)) place = inr (inr (inl more))
+    by (inr (inl more)) place = inr (inr (inl more))
+    by (inr (inr same)) (inl less) = inl (inr (same, less))
+    by (inr (inr same)) (inr (inl more)) = inr (inr (inr (sym same, more)))
+    by (inr (inr same)) (inr (inr at)) = inr (inl (same_rule r s same, at))
 
 -- at one place one fault is told
 one_at : (ps : List PlainProgram) (r : NameRule) (k : ℕ) (f g : NameFault) → NameBroken ps r k f → NameBroken ps r k g → f ≡ g

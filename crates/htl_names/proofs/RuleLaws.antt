@@ -5,9 +5,8 @@ use Rattle.std.proofs.lemmas.Option.{none-some, same_Some, slice_get_within}
 use Rattle.htl_model.specs.Lists.{first_some}
 use Rattle.htl_names.specs.declared.fault.NameFault.{NameFault}
 use Rattle.std.proofs.Math.Nat.{eq-or-lt_of_le}
-use Rattle.std.specs.Result.{IsErrAnd, IfOk, MatchResult}
+use Rattle.std.specs.Result.{IsErrAnd}
 use Rattle.htl_text.specs.Nodes.{PlainProgram}
-use Rattle.htl_model.specs.Tables.{Tables}
 use Rattle.htl_names.specs.NameRules.{NameRule, RepeatedName, UnknownName, WrongKind, ProgramTree, ParentName, Limits, order_of, NameBroken, IsFirstNameFault, AreNamesRight, IsResolved}
 use Rattle.htl_names.specs.Told.{IsKept, KeptBelow, IsFirstOf, IsSearched, IsRefusal}
 use Rattle.std.proofs.lemmas.List.{length-map}
@@ -21,7 +20,7 @@ use Rattle.htl_names.specs.Limits.{counts}
 use Rattle.htl_names.specs.declared.programs.Named.{Named}
 use Rattle.htl_names.specs.Named.{refined_at, AreRefined}
 use Rattle.htl_names.specs.Programs.{IsFirstMisplaced, links, program_links, refined_by}
-use Rattle.htl_names.specs.Repeats.{EntriesAreApart, IsFirstRepeat, IsRepeat}
+use Rattle.htl_names.specs.Repeats.{EntriesAreApart, IsRepeat}
 use Rattle.htl_names.specs.Rows.{wrong_of, wrong_tokens}
 use Rattle.htl_names.specs.Kinds.{Judged, kinds, token_of, is_kind, IsWrongKind, wrong_token}
 use Rattle.htl_names.specs.declared.key.Use.{Use}
@@ -121,44 +120,34 @@ tried ps rule fault None kept none = kept_next ps rule kept none
 tried ps rule fault (Some x) kept first = inr (first_fault ps rule (fault x) kept first)
 
 pub resolved_err : (ps : List PlainProgram) (f : NameFault) → IsRefusal ps f → IsResolved ps (Err f)
-resolved_err ps (fault.Twice token) (inl memory) = absurd cc
-resolved_err ps (fault.Twice token) (inr first) = first
-resolved_err ps (fault.Unknown token) (inl memory) = absurd cc
-resolved_err ps (fault.Unknown token) (inr first) = first
-resolved_err ps (fault.Kind token) (inl memory) = absurd cc
-resolved_err ps (fault.Kind token) (inr first) = first
-resolved_err ps (fault.NotATree program) (inl memory) = absurd cc
-resolved_err ps (fault.NotATree program) (inr first) = first
-resolved_err ps (fault.Limit which count) (inl memory) = absurd cc
-resolved_err ps (fault.Limit which count) (inr first) = first
-resolved_err ps fault.Memory (inl memory) = tt
-resolved_err ps fault.Memory (inr first) = tt
+resolved_err ps f (inl memory) = subst (λ (g : NameFault). IsResolved ps (Err g)) (sym memory) tt
+resolved_err ps f (inr first) = by f first
+  where
+    by : (g : NameFault) → IsFirstNameFault ps g → IsResolved ps (Err g)
+    by (fault.Twice token) told = told
+    by (fault.Unknown token) told = told
+    by (fault.Kind token) told = told
+    by (fault.NotATree program) told = told
+    by (fault.Limit which count) told = told
+    by fault.Memory told = tt
 
-pub resolved_by : (ps : List PlainProgram) (r : Result Tables NameFault) (f : NameFault) → IsErrAnd r (λ e. e ≡ f) → IsRefusal ps f → IsResolved ps r
-resolved_by ps (Ok x) f h told = absurd h
-resolved_by ps (Err e) f h told = resolved_err ps e (subst (IsRefusal ps) (sym h) told)
-
-pub refused : {A : Type 0} (P : A → Type 0) (ps : List PlainProgram) (r : Result A NameFault) (f : NameFault) → IsErrAnd r (λ e. e ≡ f) → IsRefusal ps f → MatchResult r P (IsRefusal ps)
-refused P ps (Ok x) f h told = absurd h
-refused P ps (Err e) f h told = subst (IsRefusal ps) (sym h) told
-
--- where there is an error, no tables are spoken of
-pub no_tables : (P : Tables → Type 0) (r : Result Tables NameFault) (f : NameFault) → IsErrAnd r (λ e. e ≡ f) → IfOk r P
-no_tables P (Ok x) f h = absurd h
-no_tables P (Err e) f h = tt
+pub is_err : {A : Type 0} (r : Result A NameFault) (f : NameFault) → IsErrAnd r (λ e. e ≡ f) → r ≡ Err f
+is_err (Ok x) f h = absurd h
+is_err (Err e) f h = cc
 
 -- ---- what the searches of single rules find, in the words of the rules
 
 pub names_repeated : (ps : List PlainProgram) (es : List Entry) (f : NameFault) → es ≡ entries ps → IsRepeat es f → IsRefusal ps f
-names_repeated ps es f are (inl memory) = inl memory
-names_repeated ps es f are (inr told) =
-    let r = subst (λ xs. IsFirstRepeat xs told.0) are told.2 in
-    inr (first_fault ps RepeatedName f (none_below ps) (r.0, (r.1, r.2, r.3, told.1 ∙ ap (λ t. fault.Twice t) r.4), λ k g less broken. r.5 k broken.0 less broken.1 broken.2))
+names_repeated ps es f are told =
+    elim (subst (λ xs. IsRepeat xs f) are told) [
+      | inl memory ↦ inl memory
+      | inr r ↦ inr (first_fault ps RepeatedName f (none_below ps) (r.0, (r.1, r.2, r.3, r.4), λ k g less broken. r.5 k broken.0 less broken.1 broken.2))
+    ]
 
 pub names_apart : (ps : List PlainProgram) (es : List Entry) → es ≡ entries ps → EntriesAreApart es → KeptBelow ps 2
 names_apart ps es are h =
     let r = subst EntriesAreApart are h in
-    kept_next ps RepeatedName (none_below ps) (λ k f broken. r k broken.0 broken.1 broken.2)
+    kept_next ps RepeatedName (none_below ps) (λ k f broken. r k broken.0 (slice_get_within (entries ps) k broken.0 broken.1) broken.1 broken.2)
 
 pub tree_searched : (ps : List PlainProgram) (o : Option ℕ) → IsFirstMisplaced (links (symbols_of ps) ps) o → IsSearched ps ProgramTree (λ p. fault.NotATree p) o
 tree_searched ps None none = λ k f broken. none k (let within = broken.0 in omega (arith, within, length-map ps (program_links (symbols_of ps)))) broken.1

@@ -1,13 +1,13 @@
 -- The table of symbols: its look-ups, and names that repeat.
-use Rattle.std.proofs.Common.{◌≡◌, ℕ, cond, List, [], ◌∷◌, Some, refl, ap, ◌<◌, ◌≤◌, suc, take, map, slice_get, None, sym, ◌∙◌, arith, length, inl, inr}
+use Rattle.std.proofs.Common.{◌≡◌, ℕ, cond, List, [], ◌∷◌, Some, refl, ap, ◌<◌, ◌≤◌, suc, take, map, slice_get, None, sym, ◌∙◌, arith, inl, inr}
 use Rattle.std.specs.Map.{lookup}
 use Rattle.htl_names.specs.declared.key.Key.{Key}
 use Rattle.htl_names.specs.Keys.{same_key, look_up, pair_of}
 use Rattle.std.proofs.Math.Nat.{eq-or-lt_of_le}
-use Rattle.std.proofs.lemmas.Option.{none-some, slice_get_within}
+use Rattle.std.proofs.lemmas.Option.{none-some}
 use Rattle.htl_names.specs.declared.key.Entry.{Entry}
 use Rattle.htl_names.specs.Entries.{Repeats}
-use Rattle.htl_names.specs.Repeats.{AreApartTo, EntriesAreApart}
+use Rattle.htl_names.specs.Repeats.{AreApartTo}
 use Rattle.htl_names.proofs.FlatMaps.{in_front, at_front}
 use Rattle.htl_names.proofs.EntryLaws.{found, some}
 use Rattle.htl_names.specs.contracts.key.KeyPartialEq.TheImpl as key_impl
@@ -41,6 +41,3 @@ apart_here es k e seen are is here apart j d below there repeats = place j d (om
     place j d below there repeats =
         let within : j ≤ k = omega (arith, below) in
         elim (eq-or-lt_of_le within) [ inl same ↦ at_last j d same there repeats | inr less ↦ apart j d less there repeats ]
-
-pub all_apart : (es : List Entry) (k : ℕ) → k ≡ length es → AreApartTo k es → EntriesAreApart es
-all_apart es k whole apart j d there = apart j d (let within = slice_get_within es j d there in omega (arith, within, whole)) there

@@ -1,22 +1,15 @@
-use Rattle.std.proofs.Common.{◌≡◌, ◌∙◌, ap, List, ℕ, map}
-use Rattle.htl_text.specs.Nodes.{PlainProgram, tree_of}
-use Rattle.htl_names.specs.declared.key.Key.{Key}
-use Rattle.htl_names.specs.Flat.{symbols_of}
+use Rattle.std.proofs.Common.{◌∙◌, ap, map}
+use Rattle.htl_text.specs.Nodes.{tree_of}
 use Rattle.htl_names.specs.Keys.{pair_of}
-use Rattle.htl_names.specs.NameRules.{AreNamesRight}
 use Rattle.htl_names.specs.Rows.{Rows}
-use Rattle.htl_names.proofs.RuleLaws.{refused, names_repeated, names_apart}
+use Rattle.htl_names.proofs.RuleLaws.{is_err, names_repeated, names_apart}
 use Rattle.htl_names.proofs.resolving.names_of.Goals as goal
-
-abbrev AreMeant : List PlainProgram → List (Key × ℕ) → Type 0
-AreMeant ps symbols = (symbols ≡ symbols_of ps) × AreNamesRight ps
 
 pub returns-in_err-symbols : goal.returns-in_err-symbols
 returns-in_err-symbols c =
-    let ps = tree_of c.args.tree.now in
     let are = c.as_slice.ensures.value ∙ ap (λ (r : Rows). r.entries) (c.rows.view_is ∙ c.in_ok-rows.ensures) in
-    refused (AreMeant ps) ps c.from_residual-in_err-symbols.result c.in_err-symbols.field-0.0 c.from_residual-in_err-symbols.ensures.1
-    (names_repeated ps c.as_slice.result.now c.in_err-symbols.field-0.0 are c.in_err-symbols.ensures)
+    rw (is_err c.from_residual-in_err-symbols.result c.in_err-symbols.field-0.0 c.from_residual-in_err-symbols.ensures.1)
+    (names_repeated (tree_of c.args.tree.now) c.as_slice.result.now c.in_err-symbols.field-0.0 are c.in_err-symbols.ensures)
 
 pub check_rules-requires-clause-kept : goal.check_rules-requires-clause-kept
 check_rules-requires-clause-kept c =
