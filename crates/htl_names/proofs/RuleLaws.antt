@@ -1,5 +1,5 @@
 -- What the searches of single rules find, and the first fault over all rules.
-use Rattle.std.proofs.Common.{◌≡◌, ◌++◌, get_or, ◌<◌, ℕ, zero, suc, List, [], ◌∷◌, slice_get, Option, Some, None, refl, sym, ap, subst, arith, ◌≤◌, Result, Ok, Err, ◌∙◌, inl, inr, length, Bool, true, false, cond, leb, leb-true, le-leb}
+use Rattle.std.proofs.Common.{◌≡◌, ◌<◌, ℕ, zero, suc, List, [], ◌∷◌, slice_get, Option, Some, None, refl, sym, ap, subst, arith, ◌≤◌, Result, Ok, Err, ◌∙◌, inl, inr, length, Bool, true, false, cond, leb, leb-true, le-leb}
 use Rattle.std.specs.Prelude.{MatchOption}
 use Rattle.std.proofs.lemmas.Option.{none-some, same_Some, slice_get_within}
 use Rattle.htl_model.specs.Lists.{first_some}
@@ -63,31 +63,13 @@ first_bad {A} Bad token fault test (y ∷ ys) tells = by (test y) (tells 0 y ref
     by None good None later = λ k f at. let n = behind good k f at in later n.0 f n.2
     by None good (Some t) later = (suc later.0, later.1, λ k f less at. let n = behind good k f at in later.2 n.0 f (let next = n.1 in omega (arith, next, less)) n.2)
 
--- ---- the rules by their numbers
-
-abbrev rules : List NameRule
-rules = RepeatedName ∷ RepeatedName ∷ UnknownName ∷ WrongKind ∷ ProgramTree ∷ ParentName ∷ Limits ∷ []
-
-record Numbered (r : NameRule) : Type 0 where
-  pub back : get_or rules (order_of r) RepeatedName ≡ r
-  pub first : 0 < order_of r
-  pub last : order_of r < 7
-
-numbered : (r : NameRule) → Numbered r
-numbered RepeatedName = record { back = refl; first = omega arith; last = omega arith }
-numbered UnknownName = record { back = refl; first = omega arith; last = omega arith }
-numbered WrongKind = record { back = refl; first = omega arith; last = omega arith }
-numbered ProgramTree = record { back = refl; first = omega arith; last = omega arith }
-numbered ParentName = record { back = refl; first = omega arith; last = omega arith }
-numbered Limits = record { back = refl; first = omega arith; last = omega arith }
-
-pub same_rule : (r s : NameRule) → order_of r ≡ order_of s → r ≡ s
-same_rule r s h = sym (numbered r).back ∙ ap (λ (n : ℕ). get_or rules n RepeatedName) h ∙ (numbered s).back
-
 -- ---- rule after rule
 
+pub same_rule : (r s : NameRule) → order_of r ≡ order_of s → r ≡ s
+same_rule r s h = grind arith
+
 pub none_below : (ps : List PlainProgram) → KeptBelow ps 1
-none_below ps r less = let first = (numbered r).first in absurd (omega (arith, less, first))
+none_below ps r less = let first : 0 < order_of r = grind arith in absurd (omega (arith, less, first))
 
 pub kept_next : (ps : List PlainProgram) (rule : NameRule) → KeptBelow ps (order_of rule) → IsKept ps rule → KeptBelow ps (suc (order_of rule))
 kept_next ps rule before kept r less =
@@ -98,7 +80,7 @@ kept_next ps rule before kept r less =
     ]
 
 pub all_right : (ps : List PlainProgram) → KeptBelow ps 7 → AreNamesRight ps
-all_right ps kept r j f broken = kept r (numbered r).last j f broken
+all_right ps kept r j f broken = kept r (grind arith) j f broken
 
 pub first_fault : (ps : List PlainProgram) (rule : NameRule) (f : NameFault) → KeptBelow ps (order_of rule) → IsFirstOf ps rule f → IsFirstNameFault ps f
 first_fault ps rule f kept told =
@@ -174,12 +156,7 @@ kind_tells false token = (refl, refl)
 first_wrong : (js : List Judged) → slice_get (wrong_tokens js) 0 ≡ first_some wrong_token js
 unfolding wrong_of
 first_wrong [] = refl
-first_wrong (j ∷ js) = by (is_kind j) (first_wrong js)
-  where
-    by : (b : Bool) → slice_get (wrong_tokens js) 0 ≡ first_some wrong_token js
-        → slice_get (cond b [] (token_of j ∷ []) ++ wrong_tokens js) 0 ≡ elim (cond b None (Some (token_of j))) as (λ _. Option ℕ) [ Some t ↦ Some t | None ↦ first_some wrong_token js ]
-    by true later = later
-    by false later = refl
+first_wrong (j ∷ js) = let rest = first_wrong js in grind arith
 
 pub kinds_searched : (ps : List PlainProgram) (o : Option ℕ) → o ≡ slice_get (wrong_tokens (kinds ps)) 0 → IsSearched ps WrongKind (λ t. fault.Kind t) o
 kinds_searched ps o is =

@@ -1,38 +1,19 @@
 -- The test of keys is true exactly where they are the same.
-use Rattle.std.specs.Prelude.{◌≡◌, ◌+◌, ◌*◌, ◌%◌, ◌^◌, ℕ, List, [], ◌∷◌, IsTrue, fold, get_or}
+use Rattle.std.specs.Prelude.{◌≡◌, ◌+◌, ◌*◌, ◌%◌, ◌^◌, ℕ, List, IsTrue, fold}
 use Rattle.std.specs.Bool.{Decides}
 use Rattle.std.specs.Hash as fed
-use Rattle.std.proofs.Common.{refl, sym, ◌∙◌, ap}
+use Rattle.std.proofs.Common.{arith, ap}
 use Rattle.std.proofs.lemmas.Bool.Decides.{Decides-and, Decides-eqb}
 use Rattle.std.proofs.lemmas.Slice.Eq.{bytes_eq-Decides}
 use Rattle.htl_names.specs.declared.key.Key.{Key}
 use Rattle.htl_names.specs.declared.key.Space.{Space}
-use Rattle.htl_names.specs.declared.key.Space.TheVariants as space
 use Rattle.htl_names.specs.Keys.{space_code, same_key}
 
--- the kinds of lists by their numbers
-abbrev spaces : List Space
-spaces =
-    space.Programs ∷ space.Comms ∷ space.Modules ∷ space.Tasks ∷ space.Modes ∷ space.Params ∷ space.Ports ∷ space.Invokes ∷ []
-
-space_back : (s : Space) → get_or spaces (space_code s) space.Programs ≡ s
-space_back space.Programs = refl
-space_back space.Comms = refl
-space_back space.Modules = refl
-space_back space.Tasks = refl
-space_back space.Modes = refl
-space_back space.Params = refl
-space_back space.Ports = refl
-space_back space.Invokes = refl
-
 same_space : (a b : Space) → space_code a ≡ space_code b → a ≡ b
-same_space a b e = sym (space_back a) ∙ ap (λ (n : ℕ). get_or spaces n space.Programs) e ∙ space_back b
-
-abbrev make : Space → ℕ → ℕ → ℕ → List ℕ → Key
-make s p u i n = record { space = s; program = p; «module» = u; item = i; name = n }
+same_space a b e = grind arith
 
 made : (a b : Key) → a.space ≡ b.space → a.program ≡ b.program → a.«module» ≡ b.«module» → a.item ≡ b.item → a.name ≡ b.name → a ≡ b
-made a b s p u i n = let same : make a.space a.program a.«module» a.item a.name ≡ make b.space b.program b.«module» b.item b.name = cc in same
+made a b s p u i n = grind arith
 
 pub same_key_decides : (a b : Key) → Decides (same_key a b) (a ≡ b)
 same_key_decides a b = (
