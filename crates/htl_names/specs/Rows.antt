@@ -14,7 +14,6 @@ use Rattle.htl_text.specs.declared.tree.ProgramNode.{ProgramNode}
 use Rattle.htl_text.specs.declared.tree.SwitchNode.{SwitchNode}
 use Rattle.htl_text.specs.declared.tree.TaskNode.{TaskNode}
 use Rattle.htl_names.specs.declared.key.Scope.{Scope}
-use Rattle.htl_names.specs.declared.key.Space.{Space}
 use Rattle.htl_names.specs.declared.key.Entry.{Entry}
 use Rattle.htl_names.specs.declared.key.Use.{Use}
 use Rattle.htl_names.specs.declared.rows.ParentName.{ParentName}
@@ -72,9 +71,6 @@ pub record AreInOrder {A : Type 0} (rows : ℕ → List A → Rows) : Type 0 whe
   pub more : (k : ℕ) (x : A) (xs : List A) → rows k (x ∷ xs) ≡ rows_joined (rows k (x ∷ [])) (rows (suc k) xs)
 
 -- ---- what the parts of a source in a list give, the first of them at a place
-
-abbrev pub list_of : Space → ℕ → ℕ → ℕ → Scope
-list_of s p u i = record { space = s; program = p; «module» = u; item = i }
 
 abbrev pub comm_rows : Scope → ℕ → List CommNode → Rows
 comm_rows s c xs = rows_with (map_at comm_entry c xs) [] (flat_map comm_kinds xs) []
