@@ -170,20 +170,20 @@ some (x ∷ xs) (suc k) e at =
 
 -- the mode of a list of ports or invocations
 abbrev mode_of : Key → ModeAt
-mode_of key = record { program = key.program; «module» = key.«module»; mode = key.item }
+mode_of key = record { program = key.scope.program; «module» = key.scope.«module»; mode = key.scope.item }
 
 -- the item with the key's name at place n of the key's list
 abbrev pub Stands : List PlainProgram → Space → Key → ℕ → Type 0
 Stands ps space.Programs key n = Unit {0}
 Stands ps space.Comms key n = (x : CommNode) × (slice_get (comms_of ps) n ≡ Some x) × (x.name.name ≡ key.name)
 Stands ps space.Modules key n = Unit {0}
-Stands ps space.Tasks key n = (t : PlainTask) × (slice_get (tasks_at ps key.program key.«module») n ≡ Some t) × (t.name.name ≡ key.name)
-Stands ps space.Modes key n = (x : PlainMode) × (slice_get (modes_at ps key.program key.«module») n ≡ Some x) × (x.name.name ≡ key.name)
+Stands ps space.Tasks key n = (t : PlainTask) × (slice_get (tasks_at ps key.scope.program key.scope.«module») n ≡ Some t) × (t.name.name ≡ key.name)
+Stands ps space.Modes key n = (x : PlainMode) × (slice_get (modes_at ps key.scope.program key.scope.«module») n ≡ Some x) × (x.name.name ≡ key.name)
 Stands ps space.Params key n = Unit {0}
 Stands ps space.Ports key n = (y : ParamNode) × (slice_get (ports_at ps (mode_of key)) n ≡ Some y) × (y.name.name ≡ key.name)
 Stands ps space.Invokes key n = (y : InvokeNode) × (slice_get (invokes_at ps (mode_of key)) n ≡ Some y) × (y.task.name ≡ key.name)
 
-stands : (ps : List PlainProgram) (e : Entry) → Origin ps e → Stands ps e.key.space e.key e.number
+stands : (ps : List PlainProgram) (e : Entry) → Origin ps e → Stands ps e.key.scope.space e.key e.number
 stands ps e (of_program p x there) = tt
 stands ps e (of_comm c x there) = (x, there, refl)
 stands ps e (of_module p u x there) = tt
@@ -194,11 +194,11 @@ stands ps e (of_port a j y at) = (y, at, refl)
 stands ps e (of_invoke a j y at) = (y, at, refl)
 
 -- so does what a name means, where it is found
-pub means : (ps : List PlainProgram) (key : Key) (n : ℕ) → look_up key (symbols_of ps) ≡ Some n → Stands ps key.space key (meaning (layout ps) key)
+pub means : (ps : List PlainProgram) (key : Key) (n : ℕ) → look_up key (symbols_of ps) ≡ Some n → Stands ps key.scope.space key (meaning (layout ps) key)
 means ps key n got =
     let f = found key (entries ps) n got in
     let is : f.0.number ≡ meaning (layout ps) key = f.3 ∙ ap (λ (o : Option ℕ). elim o as (λ _. ℕ) [ Some k ↦ k | None ↦ 0 ]) (sym got) in
-    subst (Stands ps key.space key) is (subst (λ (a : Key). Stands ps a.space a f.0.number) f.2 (stands ps f.0 (origin ps f.1.0 f.0 f.1.1)))
+    subst (Stands ps key.scope.space key) is (subst (λ (a : Key). Stands ps a.scope.space a f.0.number) f.2 (stands ps f.0 (origin ps f.1.0 f.0 f.1.1)))
 
 -- ---- the numbers of declared names are small where the limits are kept
 

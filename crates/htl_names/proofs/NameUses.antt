@@ -40,11 +40,11 @@ Within (Some below) n = n < below
 
 -- what the name means stands in its list, at a place that is allowed
 pub known : (ps : List PlainProgram) → AreNamesRight ps → (u : Use) → In u (uses ps)
-    → Stands ps u.key.space u.key (meaning (layout ps) u.key) × Within u.below (meaning (layout ps) u.key)
+    → Stands ps u.key.scope.space u.key (meaning (layout ps) u.key) × Within u.below (meaning (layout ps) u.key)
 known ps right u at = by (look_up u.key (symbols_of ps)) u.below refl (λ is. right UnknownName at.0 (fault.Unknown u.token) (u, at.1, is, refl))
   where
     by : (o b : Option ℕ) → look_up u.key (symbols_of ps) ≡ o → (MatchOption o (Unit {0}) (λ n. MatchOption b ⊥ (λ below. below ≤ n)) → ⊥)
-        → Stands ps u.key.space u.key (meaning (layout ps) u.key) × Within b (elim o as (λ _. ℕ) [ Some n ↦ n | None ↦ 0 ])
+        → Stands ps u.key.scope.space u.key (meaning (layout ps) u.key) × Within b (elim o as (λ _. ℕ) [ Some n ↦ n | None ↦ 0 ])
     by None b is wrong = absurd (wrong tt)
     by (Some n) None is wrong = (means ps u.key n is, tt)
     by (Some n) (Some below) is wrong = (means ps u.key n is, omega (arith, wrong))

@@ -1,38 +1,21 @@
 -- A source has one first name fault at most.
-use Rattle.std.proofs.Common.{◌≡◌, ℕ, ◌<◌, ◌⊎◌, inl, inr, List, sym, ◌∙◌, subst, arith}
+use Rattle.std.proofs.Common.{arith, ◌≡◌, ℕ, ◌⊎◌, inl, inr, List, sym, ◌∙◌, subst}
 use Rattle.htl_text.specs.Nodes.{PlainProgram}
-use Rattle.htl_names.specs.NameRules.{NameRule, RepeatedName, UnknownName, WrongKind, ProgramTree, ParentName, Limits, order_of, NameBroken, TriedBefore, IsFirstNameFault}
+use Rattle.htl_names.specs.NameRules.{NameRule, RepeatedName, UnknownName, WrongKind, ProgramTree, ParentName, Limits, NameBroken, TriedBefore, IsFirstNameFault}
 use Rattle.htl_names.specs.declared.fault.NameFault.{NameFault}
-use Rattle.htl_names.proofs.RuleLaws.{same_rule}
-
-three : (a b : ℕ) → (a < b) ⊎ (a ≡ b) ⊎ (b < a)
-three a b = grind arith
 
 -- a place is tried before another, or it is the other, or tried after it
 tried : (r s : NameRule) (j k : ℕ) → TriedBefore r j s k ⊎ ((r ≡ s) × (j ≡ k)) ⊎ TriedBefore s k r j
-tried r s j k = by (three (order_of r) (order_of s)) (three j k)
-  where
-    by : (order_of r < order_of s) ⊎ (order_of r ≡ order_of s) ⊎ (order_of s < order_of r) → (j < k) ⊎ (j ≡ k) ⊎ (k < j)
-        → TriedBefore r j s k ⊎ ((r ≡ s) × (j ≡ k)) ⊎ TriedBefore s k r j
-    by (inl less) place = inl (inl less)
-    by (inr (inl same)) (inl less) = inl (inr (same, less))
-    by (inr (inl same)) (inr (inl at)) = inr (inl (same_rule r s same, at))
-    by (inr (inl same)) (inr (inr more)) = inr (inr (inr (sym same, more)))
-    by (inr (inr more)) place = inr (inr (inl more))
+tried r s j k = grind arith
 
 -- at one place one fault is told
 one_at : (ps : List PlainProgram) (r : NameRule) (k : ℕ) (f g : NameFault) → NameBroken ps r k f → NameBroken ps r k g → f ≡ g
-one_at ps RepeatedName k f g p q =
-    let a = p.1 in let b = q.1 in let x = p.3 in let y = q.3 in cc
-one_at ps UnknownName k f g p q =
-    let a = p.1 in let b = q.1 in let x = p.3 in let y = q.3 in cc
-one_at ps WrongKind k f g p q =
-    let a = p.1 in let b = q.1 in let x = p.3 in let y = q.3 in cc
+one_at ps RepeatedName k f g p q = cc
+one_at ps UnknownName k f g p q = cc
+one_at ps WrongKind k f g p q = cc
 one_at ps ProgramTree k f g p q = p.2 ∙ sym q.2
-one_at ps ParentName k f g p q =
-    let a = p.1 in let b = q.1 in let x = p.3 in let y = q.3 in cc
-one_at ps Limits k f g p q =
-    let a = p.2 in let b = q.2 in let x = p.5 in let y = q.5 in cc
+one_at ps ParentName k f g p q = cc
+one_at ps Limits k f g p q = cc
 
 pub one_name_fault : (ps : List PlainProgram) (f g : NameFault) → IsFirstNameFault ps f → IsFirstNameFault ps g → f ≡ g
 one_name_fault ps f g p q = by (tried p.rule q.rule p.place q.place)

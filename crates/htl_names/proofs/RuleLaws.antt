@@ -1,13 +1,12 @@
 -- What the searches of single rules find, and the first fault over all rules.
-use Rattle.std.proofs.Common.{◌≡◌, ◌++◌, ◌<◌, ℕ, zero, suc, List, [], ◌∷◌, slice_get, Option, Some, None, refl, sym, ap, subst, arith, ◌≤◌, Result, Ok, Err, ◌∙◌, inl, inr, length, Bool, true, false, cond, leb, leb-true, le-leb}
+use Rattle.std.proofs.Common.{◌≡◌, ◌<◌, ℕ, zero, suc, List, [], ◌∷◌, slice_get, Option, Some, None, refl, sym, ap, subst, arith, ◌≤◌, Result, Ok, Err, ◌∙◌, inl, inr, length, Bool, true, false, cond, leb, leb-true, le-leb}
 use Rattle.std.specs.Prelude.{MatchOption}
-use Rattle.std.proofs.lemmas.Option.{none-some, slice_get_within}
+use Rattle.std.proofs.lemmas.Option.{none-some, same_Some, slice_get_within}
 use Rattle.htl_model.specs.Lists.{first_some}
 use Rattle.htl_names.specs.declared.fault.NameFault.{NameFault}
 use Rattle.std.proofs.Math.Nat.{eq-or-lt_of_le}
-use Rattle.std.specs.Result.{IsErrAnd, IfOk, MatchResult}
+use Rattle.std.specs.Result.{IsErrAnd}
 use Rattle.htl_text.specs.Nodes.{PlainProgram}
-use Rattle.htl_model.specs.Tables.{Tables}
 use Rattle.htl_names.specs.NameRules.{NameRule, RepeatedName, UnknownName, WrongKind, ProgramTree, ParentName, Limits, order_of, NameBroken, IsFirstNameFault, AreNamesRight, IsResolved}
 use Rattle.htl_names.specs.Told.{IsKept, KeptBelow, IsFirstOf, IsSearched, IsRefusal}
 use Rattle.std.proofs.lemmas.List.{length-map}
@@ -17,14 +16,12 @@ use Rattle.htl_names.specs.declared.key.Entry.{Entry}
 use Rattle.htl_names.specs.Entries.{entries}
 use Rattle.htl_names.specs.Excess.{IsFirstExcess}
 use Rattle.htl_names.specs.Flat.{symbols_of}
-use Rattle.htl_names.specs.Graph.{naming_rows, graph_by}
 use Rattle.htl_names.specs.Limits.{counts}
 use Rattle.htl_names.specs.declared.programs.Named.{Named}
 use Rattle.htl_names.specs.Named.{refined_at, AreRefined}
-use Rattle.htl_names.specs.Programs.{IsFirstMisplaced, Naming, Graph, links, program_links, refined_by}
-use Rattle.htl_names.specs.Repeats.{EntriesAreApart, IsFirstRepeat, IsRepeat}
-use Rattle.htl_names.proofs.Naming.{graph_is}
-use Rattle.htl_names.specs.Rows.{wrong_tokens}
+use Rattle.htl_names.specs.Programs.{IsFirstMisplaced, links, program_links, refined_by}
+use Rattle.htl_names.specs.Repeats.{EntriesAreApart, IsRepeat}
+use Rattle.htl_names.specs.Rows.{wrong_of, wrong_tokens}
 use Rattle.htl_names.specs.Kinds.{Judged, kinds, token_of, is_kind, IsWrongKind, wrong_token}
 use Rattle.htl_names.specs.declared.key.Use.{Use}
 use Rattle.htl_names.specs.Keys.{look_up}
@@ -55,54 +52,24 @@ pub first_bad : {A : Type 0} (Bad : A → Type 0) (token : A → ℕ) (fault : �
 first_bad {A} Bad token fault test [] tells = λ k f at. none-some at.0 at.1
 first_bad {A} Bad token fault test (y ∷ ys) tells = by (test y) (tells 0 y refl) (first_some test ys) (first_bad Bad token fault test ys (λ k x there. tells (suc k) x there))
   where
-    here : (x : A) → slice_get (y ∷ ys) 0 ≡ Some x → y ≡ x
-    here x there = cc
+    -- where the first is not bad, the others are left
+    behind : (Bad y → ⊥) → (k : ℕ) (f : NameFault) → IsBadAt Bad (λ x. fault (token x)) (y ∷ ys) k f → (j : ℕ) × (k ≡ suc j) × IsBadAt Bad (λ x. fault (token x)) ys j f
+    behind good zero f at = absurd (good (subst Bad (sym (same_Some y at.0 at.1)) at.2))
+    behind good (suc j) f at = (j, refl, at)
 
     by : (o : Option ℕ) → MatchOption o (Bad y → ⊥) (λ t. Bad y × (t ≡ token y)) → (rest : Option ℕ) → IsFirstBad Bad token fault ys rest
         → IsFirstBad Bad token fault (y ∷ ys) (elim o as (λ _. Option ℕ) [ Some t ↦ Some t | None ↦ rest ])
     by (Some t) bad rest later = (0, (y, refl, bad.0, ap fault bad.1), λ k f less at. absurd (omega (arith, less)))
-    by None good None later = all
-      where
-        all : (k : ℕ) (f : NameFault) → IsBadAt Bad (λ x. fault (token x)) (y ∷ ys) k f → ⊥
-        all zero f at = good (subst Bad (sym (here at.0 at.1)) at.2)
-        all (suc k) f at = later k f at
-    by None good (Some t) later = (suc later.0, later.1, before)
-      where
-        before : (k : ℕ) (f : NameFault) → k < suc later.0 → IsBadAt Bad (λ x. fault (token x)) (y ∷ ys) k f → ⊥
-        before zero f less at = good (subst Bad (sym (here at.0 at.1)) at.2)
-        before (suc k) f less at = later.2 k f (omega (arith, less)) at
-
--- ---- the rules by their numbers
-
-abbrev rule_at : ℕ → NameRule
-rule_at zero = RepeatedName
-rule_at (suc zero) = RepeatedName
-rule_at (suc (suc zero)) = UnknownName
-rule_at (suc (suc (suc zero))) = WrongKind
-rule_at (suc (suc (suc (suc zero)))) = ProgramTree
-rule_at (suc (suc (suc (suc (suc zero))))) = ParentName
-rule_at (suc (suc (suc (suc (suc (suc n)))))) = Limits
-
-record Numbered (r : NameRule) : Type 0 where
-  pub back : rule_at (order_of r) ≡ r
-  pub first : 0 < order_of r
-  pub last : order_of r < 7
-
-numbered : (r : NameRule) → Numbered r
-numbered RepeatedName = record { back = refl; first = omega arith; last = omega arith }
-numbered UnknownName = record { back = refl; first = omega arith; last = omega arith }
-numbered WrongKind = record { back = refl; first = omega arith; last = omega arith }
-numbered ProgramTree = record { back = refl; first = omega arith; last = omega arith }
-numbered ParentName = record { back = refl; first = omega arith; last = omega arith }
-numbered Limits = record { back = refl; first = omega arith; last = omega arith }
-
-pub same_rule : (r s : NameRule) → order_of r ≡ order_of s → r ≡ s
-same_rule r s h = sym (numbered r).back ∙ ap rule_at h ∙ (numbered s).back
+    by None good None later = λ k f at. let n = behind good k f at in later n.0 f n.2
+    by None good (Some t) later = (suc later.0, later.1, λ k f less at. let n = behind good k f at in later.2 n.0 f (let next = n.1 in omega (arith, next, less)) n.2)
 
 -- ---- rule after rule
 
+pub same_rule : (r s : NameRule) → order_of r ≡ order_of s → r ≡ s
+same_rule r s h = grind arith
+
 pub none_below : (ps : List PlainProgram) → KeptBelow ps 1
-none_below ps r less = let first = (numbered r).first in absurd (omega (arith, less, first))
+none_below ps r less = let first : 0 < order_of r = grind arith in absurd (omega (arith, less, first))
 
 pub kept_next : (ps : List PlainProgram) (rule : NameRule) → KeptBelow ps (order_of rule) → IsKept ps rule → KeptBelow ps (suc (order_of rule))
 kept_next ps rule before kept r less =
@@ -113,7 +80,7 @@ kept_next ps rule before kept r less =
     ]
 
 pub all_right : (ps : List PlainProgram) → KeptBelow ps 7 → AreNamesRight ps
-all_right ps kept r j f broken = kept r (numbered r).last j f broken
+all_right ps kept r j f broken = kept r (grind arith) j f broken
 
 pub first_fault : (ps : List PlainProgram) (rule : NameRule) (f : NameFault) → KeptBelow ps (order_of rule) → IsFirstOf ps rule f → IsFirstNameFault ps f
 first_fault ps rule f kept told =
@@ -129,80 +96,56 @@ first_fault ps rule f kept told =
     }
 
 -- a search that found a place is a refusal, and one that found none leaves one rule more that is kept
-pub found : {A : Type 0} (ps : List PlainProgram) (rule : NameRule) (fault : A → NameFault) (o : Option A) (x : A) → KeptBelow ps (order_of rule)
-    → IsSearched ps rule fault o → o ≡ Some x → IsRefusal ps (fault x)
-found {A} ps rule fault o x kept h is = inr (first_fault ps rule (fault x) kept (subst (λ (y : Option A). IsSearched ps rule fault y) is h))
-
-pub passed : {A : Type 0} (ps : List PlainProgram) (rule : NameRule) (fault : A → NameFault) (o : Option A) → KeptBelow ps (order_of rule)
-    → IsSearched ps rule fault o → o ≡ None → KeptBelow ps (suc (order_of rule))
-passed {A} ps rule fault o kept h is = kept_next ps rule kept (subst (λ (y : Option A). IsSearched ps rule fault y) is h)
+pub tried : {A : Type 0} (ps : List PlainProgram) (rule : NameRule) (fault : A → NameFault) (o : Option A) → KeptBelow ps (order_of rule) → IsSearched ps rule fault o
+    → MatchOption o (KeptBelow ps (suc (order_of rule))) (λ x. IsRefusal ps (fault x))
+tried ps rule fault None kept none = kept_next ps rule kept none
+tried ps rule fault (Some x) kept first = inr (first_fault ps rule (fault x) kept first)
 
 pub resolved_err : (ps : List PlainProgram) (f : NameFault) → IsRefusal ps f → IsResolved ps (Err f)
-resolved_err ps (fault.Twice token) (inl memory) = absurd cc
-resolved_err ps (fault.Twice token) (inr first) = first
-resolved_err ps (fault.Unknown token) (inl memory) = absurd cc
-resolved_err ps (fault.Unknown token) (inr first) = first
-resolved_err ps (fault.Kind token) (inl memory) = absurd cc
-resolved_err ps (fault.Kind token) (inr first) = first
-resolved_err ps (fault.NotATree program) (inl memory) = absurd cc
-resolved_err ps (fault.NotATree program) (inr first) = first
-resolved_err ps (fault.Limit which count) (inl memory) = absurd cc
-resolved_err ps (fault.Limit which count) (inr first) = first
-resolved_err ps fault.Memory (inl memory) = tt
-resolved_err ps fault.Memory (inr first) = tt
+resolved_err ps f (inl memory) = subst (λ (g : NameFault). IsResolved ps (Err g)) (sym memory) tt
+resolved_err ps f (inr first) = by f first
+  where
+    by : (g : NameFault) → IsFirstNameFault ps g → IsResolved ps (Err g)
+    by (fault.Twice token) told = told
+    by (fault.Unknown token) told = told
+    by (fault.Kind token) told = told
+    by (fault.NotATree program) told = told
+    by (fault.Limit which count) told = told
+    by fault.Memory told = tt
 
-pub resolved_by : (ps : List PlainProgram) (r : Result Tables NameFault) (f : NameFault) → IsErrAnd r (λ e. e ≡ f) → IsRefusal ps f → IsResolved ps r
-resolved_by ps (Ok x) f h told = absurd h
-resolved_by ps (Err e) f h told = resolved_err ps e (subst (IsRefusal ps) (sym h) told)
-
-pub refused : {A : Type 0} (P : A → Type 0) (ps : List PlainProgram) (r : Result A NameFault) (f : NameFault) → IsErrAnd r (λ e. e ≡ f) → IsRefusal ps f → MatchResult r P (IsRefusal ps)
-refused P ps (Ok x) f h told = absurd h
-refused P ps (Err e) f h told = subst (IsRefusal ps) (sym h) told
-
--- where there is an error, no tables are spoken of
-pub no_tables : (P : Tables → Type 0) (r : Result Tables NameFault) (f : NameFault) → IsErrAnd r (λ e. e ≡ f) → IfOk r P
-no_tables P (Ok x) f h = absurd h
-no_tables P (Err e) f h = tt
+pub is_err : {A : Type 0} (r : Result A NameFault) (f : NameFault) → IsErrAnd r (λ e. e ≡ f) → r ≡ Err f
+is_err (Ok x) f h = absurd h
+is_err (Err e) f h = cc
 
 -- ---- what the searches of single rules find, in the words of the rules
 
 pub names_repeated : (ps : List PlainProgram) (es : List Entry) (f : NameFault) → es ≡ entries ps → IsRepeat es f → IsRefusal ps f
-names_repeated ps es f are (inl memory) = inl memory
-names_repeated ps es f are (inr told) =
-    let r = subst (λ xs. IsFirstRepeat xs told.0) are told.2 in
-    inr (first_fault ps RepeatedName f (none_below ps) (r.0, (r.1, r.2, r.3, told.1 ∙ ap (λ t. fault.Twice t) r.4), λ k g less broken. r.5 k broken.0 less broken.1 broken.2))
+names_repeated ps es f are told =
+    elim (subst (λ xs. IsRepeat xs f) are told) [
+      | inl memory ↦ inl memory
+      | inr r ↦ inr (first_fault ps RepeatedName f (none_below ps) (r.0, (r.1, r.2, r.3, r.4), λ k g less broken. r.5 k broken.0 less broken.1 broken.2))
+    ]
 
 pub names_apart : (ps : List PlainProgram) (es : List Entry) → es ≡ entries ps → EntriesAreApart es → KeptBelow ps 2
 names_apart ps es are h =
     let r = subst EntriesAreApart are h in
-    kept_next ps RepeatedName (none_below ps) (λ k f broken. r k broken.0 broken.1 broken.2)
+    kept_next ps RepeatedName (none_below ps) (λ k f broken. r k broken.0 (slice_get_within (entries ps) k broken.0 broken.1) broken.1 broken.2)
 
-pub tree_searched : (ps : List PlainProgram) (symbols : List (Key × ℕ)) (rows : List (List Naming)) (o : Option ℕ) → symbols ≡ symbols_of ps → rows ≡ naming_rows symbols ps
-    → IsFirstMisplaced (graph_by rows) o → IsSearched ps ProgramTree (λ p. fault.NotATree p) o
-tree_searched ps symbols rows o same are h =
-    by o (subst (λ (g : Graph). IsFirstMisplaced g o) (ap graph_by are ∙ graph_is symbols 0 ps ∙ ap (λ s. links s ps) same) h)
-  where
-    names : List (Key × ℕ)
-    names = symbols_of ps
+pub tree_searched : (ps : List PlainProgram) (o : Option ℕ) → IsFirstMisplaced (links (symbols_of ps) ps) o → IsSearched ps ProgramTree (λ p. fault.NotATree p) o
+tree_searched ps None none = λ k f broken. none k (let within = broken.0 in omega (arith, within, length-map ps (program_links (symbols_of ps)))) broken.1
+tree_searched ps (Some p) first = (
+  p,
+  (let within = first.0 in omega (arith, within, length-map ps (program_links (symbols_of ps))), first.1, refl),
+  λ k g less broken. first.2 k less broken.1,
+)
 
-    size : length (links names ps) ≡ length ps
-    size = length-map ps (program_links names)
-
-    by : (x : Option ℕ) → IsFirstMisplaced (links names ps) x → IsSearched ps ProgramTree (λ p. fault.NotATree p) x
-    by None none = λ k f broken. none k (let within = broken.0 in omega (arith, within, size)) broken.1
-    by (Some p) first = (p, (let within = first.0 in omega (arith, within, size), first.1, refl), λ k g less broken. first.2 k less broken.1)
-
-limits_told : (ps : List PlainProgram) (o : Option Excess) → IsFirstExcess (counts (symbols_of ps) ps) o → IsSearched ps Limits (λ (e : Excess). fault.Limit e.which e.count) o
-limits_told ps None h = λ k g broken. let over = broken.4 in let within = h k broken.0 broken.1 broken.2 broken.3 in omega (arith, over, within)
-limits_told ps (Some e) h = (
+pub limits_searched : (ps : List PlainProgram) (o : Option Excess) → IsFirstExcess (counts (symbols_of ps) ps) o → IsSearched ps Limits (λ (e : Excess). fault.Limit e.which e.count) o
+limits_searched ps None h = λ k g broken. let over = broken.4 in let within = h k broken.0 broken.1 broken.2 broken.3 in omega (arith, over, within)
+limits_searched ps (Some e) h = (
   h.0,
   (h.1, h.2, h.3, h.4, h.5, ap (λ w. fault.Limit w e.count) (let which : e.which ≡ suc h.0 = omega (arith, h.6) in which) ∙ ap (λ n. fault.Limit (suc h.0) n) h.7),
   λ k g less broken. let over = broken.4 in let within = h.8 k broken.0 broken.1 less broken.2 broken.3 in omega (arith, over, within),
 )
-
-pub limits_searched : (ps : List PlainProgram) (symbols : List (Key × ℕ)) (o : Option Excess) → symbols ≡ symbols_of ps → IsFirstExcess (counts symbols ps) o
-    → IsSearched ps Limits (λ (e : Excess). fault.Limit e.which e.count) o
-limits_searched ps symbols o same h = limits_told ps o (subst (λ s. IsFirstExcess (counts s ps) o) same h)
 
 -- ---- the first value or number that is not of its kind, in the words of the rules
 
@@ -211,17 +154,13 @@ kind_tells true token = λ e. cc
 kind_tells false token = (refl, refl)
 
 first_wrong : (js : List Judged) → slice_get (wrong_tokens js) 0 ≡ first_some wrong_token js
+unfolding wrong_of
 first_wrong [] = refl
-first_wrong (j ∷ js) = by (is_kind j) (first_wrong js)
-  where
-    by : (b : Bool) → slice_get (wrong_tokens js) 0 ≡ first_some wrong_token js
-        → slice_get (cond b [] (token_of j ∷ []) ++ wrong_tokens js) 0 ≡ elim (cond b None (Some (token_of j))) as (λ _. Option ℕ) [ Some t ↦ Some t | None ↦ first_some wrong_token js ]
-    by true later = later
-    by false later = refl
+first_wrong (j ∷ js) = let rest = first_wrong js in grind arith
 
-pub kinds_searched : (ps : List PlainProgram) (ts : List ℕ) (o : Option ℕ) → ts ≡ wrong_tokens (kinds ps) → o ≡ slice_get ts 0 → IsSearched ps WrongKind (λ t. fault.Kind t) o
-kinds_searched ps ts o are is =
-    subst (λ (x : Option ℕ). IsSearched ps WrongKind (λ t. fault.Kind t) x) (sym (is ∙ ap (λ xs. slice_get xs 0) are ∙ first_wrong (kinds ps)))
+pub kinds_searched : (ps : List PlainProgram) (o : Option ℕ) → o ≡ slice_get (wrong_tokens (kinds ps)) 0 → IsSearched ps WrongKind (λ t. fault.Kind t) o
+kinds_searched ps o is =
+    subst (λ (x : Option ℕ). IsSearched ps WrongKind (λ t. fault.Kind t) x) (sym (is ∙ first_wrong (kinds ps)))
     (first_bad IsWrongKind token_of (λ t. fault.Kind t) wrong_token (kinds ps) (λ k j there. kind_tells (is_kind j) (token_of j)))
 
 -- ---- the first name that stands for nothing, in the words of the rules
@@ -239,12 +178,10 @@ use_tells (Some n) (Some b) token = by (leb b n) refl
     by true test = (leb-true b n test, refl)
     by false test = λ below. let e = le-leb b n below in cc
 
-pub uses_searched : (ps : List PlainProgram) (symbols : List (Key × ℕ)) (us : List Use) (o : Option ℕ) → symbols ≡ symbols_of ps → us ≡ uses ps
-    → o ≡ first_some (unknown_token symbols) us → IsSearched ps UnknownName (λ t. fault.Unknown t) o
-uses_searched ps symbols us o same are is =
+pub uses_searched : (ps : List PlainProgram) (o : Option ℕ) → o ≡ first_some (unknown_token (symbols_of ps)) (uses ps) → IsSearched ps UnknownName (λ t. fault.Unknown t) o
+uses_searched ps o is =
     let names = symbols_of ps in
-    subst (λ (x : Option ℕ). IsSearched ps UnknownName (λ t. fault.Unknown t) x)
-    (sym (is ∙ ap (λ s. first_some (unknown_token s) us) same ∙ ap (first_some (unknown_token names)) are))
+    subst (λ (x : Option ℕ). IsSearched ps UnknownName (λ t. fault.Unknown t) x) (sym is)
     (first_bad (IsUnknown names) (λ (u : Use). u.token) (λ t. fault.Unknown t) (unknown_token names) (uses ps) (λ k u there. use_tells (look_up u.key names) u.below u.token))
 
 -- ---- the first name after `parent` that stands for nothing, in the words of the rules
@@ -274,14 +211,12 @@ parent_tells symbols ps refined (suc p) id is =
     by None token = (refl, refl)
     by (Some n) token = λ e. cc
 
-pub parents_searched : (ps : List PlainProgram) (symbols : List (Key × ℕ)) (refined : List Named) (us : List ParentUse) (o : Option ℕ) → symbols ≡ symbols_of ps
-    → AreRefined symbols ps refined → us ≡ parents ps → o ≡ first_some (orphan_token symbols refined) us → IsSearched ps ParentName (λ t. fault.Unknown t) o
-parents_searched ps symbols refined us o same table are is =
+pub parents_searched : (ps : List PlainProgram) (refined : List Named) (o : Option ℕ) → AreRefined (symbols_of ps) ps refined
+    → o ≡ first_some (orphan_token (symbols_of ps) refined) (parents ps) → IsSearched ps ParentName (λ t. fault.Unknown t) o
+parents_searched ps refined o table is =
     let names = symbols_of ps in
-    let there : AreRefined names ps refined = subst (λ s. AreRefined s ps refined) same table in
-    subst (λ (x : Option ℕ). IsSearched ps ParentName (λ t. fault.Unknown t) x)
-    (sym (is ∙ ap (λ s. first_some (orphan_token s refined) us) same ∙ ap (first_some (orphan_token names refined)) are))
+    subst (λ (x : Option ℕ). IsSearched ps ParentName (λ t. fault.Unknown t) x) (sym is)
     (first_bad (λ (u : ParentUse). IsOrphan names ps u.program u.id) (λ (u : ParentUse). u.id.token) (λ t. fault.Unknown t) (orphan_token names refined) (parents ps)
     (λ k u at.
     parent_tells names ps refined u.program u.id
-    (there.says u.program (each_at (λ (x : ParentUse). x.program < length ps) (parents ps) k u (parents_below ps) at))))
+    (table.says u.program (each_at (λ (x : ParentUse). x.program < length ps) (parents ps) k u (parents_below ps) at))))

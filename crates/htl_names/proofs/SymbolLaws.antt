@@ -1,15 +1,13 @@
 -- The table of symbols: its look-ups, and names that repeat.
-use Rattle.std.proofs.Common.{◌≡◌, ℕ, cond, List, [], ◌∷◌, Some, refl, ap, ◌<◌, ◌≤◌, ◌+◌, ◌++◌, get_or, suc, take, map, slice_get, None, sym, ◌∙◌, arith, length, inl, inr}
+use Rattle.std.proofs.Common.{◌≡◌, ℕ, cond, List, [], ◌∷◌, Some, refl, ap, ◌<◌, ◌≤◌, suc, take, map, slice_get, None, sym, ◌∙◌, arith, inl, inr}
 use Rattle.std.specs.Map.{lookup}
 use Rattle.htl_names.specs.declared.key.Key.{Key}
 use Rattle.htl_names.specs.Keys.{same_key, look_up, pair_of}
 use Rattle.std.proofs.Math.Nat.{eq-or-lt_of_le}
-use Rattle.std.proofs.lemmas.List.{map-append, take_more}
-use Rattle.std.proofs.Math.Seq.{take-length}
-use Rattle.std.proofs.lemmas.Option.{none-some, slice_get_within}
+use Rattle.std.proofs.lemmas.Option.{none-some}
 use Rattle.htl_names.specs.declared.key.Entry.{Entry}
 use Rattle.htl_names.specs.Entries.{Repeats}
-use Rattle.htl_names.specs.Repeats.{AreApartTo, EntriesAreApart}
+use Rattle.htl_names.specs.Repeats.{AreApartTo}
 use Rattle.htl_names.proofs.FlatMaps.{in_front, at_front}
 use Rattle.htl_names.proofs.EntryLaws.{found, some}
 use Rattle.htl_names.specs.contracts.key.KeyPartialEq.TheImpl as key_impl
@@ -43,15 +41,3 @@ apart_here es k e seen are is here apart j d below there repeats = place j d (om
     place j d below there repeats =
         let within : j ≤ k = omega (arith, below) in
         elim (eq-or-lt_of_le within) [ inl same ↦ at_last j d same there repeats | inr less ↦ apart j d less there repeats ]
-
-pub all_apart : (es : List Entry) (k : ℕ) → k ≡ length es → AreApartTo k es → EntriesAreApart es
-all_apart es k whole apart j d there = apart j d (let within = slice_get_within es j d there in omega (arith, within, whole)) there
-
-pub seen_more : (es : List Entry) (k : ℕ) (e : Entry) (seen more : List (Key × ℕ)) → k < length es → e ≡ get_or es k e → seen ≡ map pair_of (take k es)
-    → more ≡ seen ++ (e.key, e.number) ∷ [] → more ≡ map pair_of (take (k + 1) es)
-seen_more es k e seen more within is are grown =
-    grown ∙ ap (λ xs. xs ++ pair_of e ∷ []) are ∙ sym (map-append pair_of (take k es) (e ∷ []))
-    ∙ ap (map pair_of) (ap (λ (x : Entry). take k es ++ x ∷ []) is ∙ sym (take_more es k e within))
-
-pub all_seen : (es : List Entry) (k : ℕ) (seen : List (Key × ℕ)) → k ≡ length es → seen ≡ map pair_of (take k es) → seen ≡ map pair_of es
-all_seen es k seen whole are = are ∙ ap (map pair_of) (ap (λ n. take n es) whole ∙ take-length es)

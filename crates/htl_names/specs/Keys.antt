@@ -20,7 +20,8 @@ space_code space.Invokes = 7
 
 abbrev pub same_key : Key → Key → Bool
 same_key a b =
-    eqb (space_code a.space) (space_code b.space) && eqb a.program b.program && eqb a.«module» b.«module» && eqb a.item b.item && bytes_eq a.name b.name
+    eqb (space_code a.scope.space) (space_code b.scope.space) && eqb a.scope.program b.scope.program && eqb a.scope.«module» b.scope.«module» && eqb a.scope.item b.scope.item
+    && bytes_eq a.name b.name
 
 -- the number of the first entry with the key
 abbrev pub look_up : Key → List (Key × ℕ) → Option ℕ
@@ -31,33 +32,36 @@ abbrev pub pair_of : Entry → Key × ℕ
 pair_of e = (e.key, e.number)
 
 abbrev pub key_in : Scope → List ℕ → Key
-key_in s n = record { space = s.space; program = s.program; «module» = s.«module»; item = s.item; name = n }
+key_in s n = record { scope = s; name = n }
 
 -- ---- the lists
 
+abbrev pub list_of : Space → ℕ → ℕ → ℕ → Scope
+list_of s p u i = record { space = s; program = p; «module» = u; item = i }
+
 abbrev pub program_key : List ℕ → Key
-program_key n = record { space = space.Programs; program = 0; «module» = 0; item = 0; name = n }
+program_key n = key_in (list_of space.Programs 0 0 0) n
 
 abbrev pub comm_key : List ℕ → Key
-comm_key n = record { space = space.Comms; program = 0; «module» = 0; item = 0; name = n }
+comm_key n = key_in (list_of space.Comms 0 0 0) n
 
 abbrev pub module_key : List ℕ → Key
-module_key n = record { space = space.Modules; program = 0; «module» = 0; item = 0; name = n }
+module_key n = key_in (list_of space.Modules 0 0 0) n
 
 -- of module u of program p
 abbrev pub task_key : ℕ → ℕ → List ℕ → Key
-task_key p u n = record { space = space.Tasks; program = p; «module» = u; item = 0; name = n }
+task_key p u n = key_in (list_of space.Tasks p u 0) n
 
 abbrev pub mode_key : ℕ → ℕ → List ℕ → Key
-mode_key p u n = record { space = space.Modes; program = p; «module» = u; item = 0; name = n }
+mode_key p u n = key_in (list_of space.Modes p u 0) n
 
 -- of its task k
 abbrev pub param_key : ℕ → ℕ → ℕ → List ℕ → Key
-param_key p u k n = record { space = space.Params; program = p; «module» = u; item = k; name = n }
+param_key p u k n = key_in (list_of space.Params p u k) n
 
 -- of its mode m
 abbrev pub port_key : ℕ → ℕ → ℕ → List ℕ → Key
-port_key p u m n = record { space = space.Ports; program = p; «module» = u; item = m; name = n }
+port_key p u m n = key_in (list_of space.Ports p u m) n
 
 abbrev pub invoke_key : ℕ → ℕ → ℕ → List ℕ → Key
-invoke_key p u m n = record { space = space.Invokes; program = p; «module» = u; item = m; name = n }
+invoke_key p u m n = key_in (list_of space.Invokes p u m) n

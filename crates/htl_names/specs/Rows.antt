@@ -1,35 +1,28 @@
 -- What one walk over a source leaves for the name rules: four lists, each in source order.
-use Rattle.std.specs.Prelude.{ℕ, suc, List, [], ◌∷◌, ◌++◌, cond, length, map, Some}
+use Rattle.std.specs.Prelude.{◌≡◌, ℕ, suc, List, [], ◌∷◌, ◌++◌, cond, map, Some}
 use Rattle.std.specs.List.{flat_map}
 use Rattle.htl_text.specs.Bounds.{names_of}
-use Rattle.htl_text.specs.Nodes.{PlainProgram}
-use Rattle.htl_text.specs.declared.tree.Id.{Id}
+use Rattle.htl_text.specs.Nodes.{PlainProgram, PlainOut, program_of, module_of, mode_of, task_of, out_of, switch_of}
 use Rattle.htl_text.specs.declared.tree.CommNode.{CommNode}
 use Rattle.htl_text.specs.declared.tree.ParamNode.{ParamNode}
 use Rattle.htl_text.specs.declared.tree.EndNode.{EndNode}
-use Rattle.htl_text.specs.declared.tree.EndNode.TheVariants as end
 use Rattle.htl_text.specs.declared.tree.InvokeNode.{InvokeNode}
 use Rattle.htl_text.specs.declared.tree.ModeNode.{ModeNode}
 use Rattle.htl_text.specs.declared.tree.ModuleNode.{ModuleNode}
 use Rattle.htl_text.specs.declared.tree.OutNode.{OutNode}
-use Rattle.htl_text.specs.declared.tree.OutNodes.{OutNodes}
-use Rattle.htl_text.specs.declared.tree.OutNodes.TheVariants as outs
 use Rattle.htl_text.specs.declared.tree.ProgramNode.{ProgramNode}
 use Rattle.htl_text.specs.declared.tree.SwitchNode.{SwitchNode}
 use Rattle.htl_text.specs.declared.tree.TaskNode.{TaskNode}
 use Rattle.htl_names.specs.declared.key.Scope.{Scope}
-use Rattle.htl_names.specs.declared.key.Space.{Space}
-use Rattle.htl_names.specs.declared.key.Space.TheVariants as space
 use Rattle.htl_names.specs.declared.key.Entry.{Entry}
 use Rattle.htl_names.specs.declared.key.Use.{Use}
 use Rattle.htl_names.specs.declared.rows.ParentName.{ParentName}
-use Rattle.htl_names.specs.Entries as entries
-use Rattle.htl_names.specs.Kinds as kinds
-use Rattle.htl_names.specs.Kinds.{Judged, Span, Instance, Initial}
+use Rattle.htl_names.specs.Entries.{entry, task_entries, invoke_entry, mode_entries, module_entries, comm_entry, entries_from, entries}
+use Rattle.htl_names.specs.Kinds.{Judged, is_kind, token_of, comm_kinds, end_kinds, invoke_kinds, mode_kinds, task_kind, module_kinds, program_kinds, kinds}
 use Rattle.htl_names.specs.Keys.{key_in}
-use Rattle.htl_names.specs.Parents as parents
-use Rattle.htl_names.specs.Parents.{ParentUse}
-use Rattle.htl_names.specs.Uses as uses
+use Rattle.htl_names.specs.Lists.{map_at, flat_map_at}
+use Rattle.htl_names.specs.Parents.{ParentUse, invoke_parent, mode_parents, module_parents, program_parents, parents}
+use Rattle.htl_names.specs.Uses.{use_in, task_uses, end_use, invoke_uses, switch_uses, mode_uses, module_uses, program_uses, uses}
 
 pub record Rows : Type 0 where
   pub entries : List Entry
@@ -45,8 +38,8 @@ parent_use_of n = record { program = n.program; id = n.id }
 -- ---- rows of one list, and rows behind rows
 
 -- the tokens of those that are not of their kind
-abbrev pub wrong_of : Judged → List ℕ
-wrong_of j = cond (kinds.is_kind j) [] (kinds.token_of j ∷ [])
+unfoldable pub wrong_of : Judged → List ℕ
+wrong_of j = cond (is_kind j) [] (token_of j ∷ [])
 
 abbrev pub wrong_tokens : List Judged → List ℕ
 wrong_tokens js = flat_map wrong_of js
@@ -72,74 +65,60 @@ refining ps = rows_with [] [] [] ps
 abbrev pub rows_joined : Rows → Rows → Rows
 rows_joined a b = rows_by (a.entries ++ b.entries) (a.uses ++ b.uses) (a.wrong ++ b.wrong) (a.parents ++ b.parents)
 
--- the rows of the items of a list, the first of them at place k
-abbrev pub all_rows : {A : Type 0} → (ℕ → A → Rows) → ℕ → List A → Rows
-all_rows f k [] = declaring []
-all_rows f k (x ∷ xs) = rows_joined (f k x) (all_rows f (suc k) xs)
+-- the rows of a list's items, by the place of the first, are each item's behind those of the items before it
+pub record AreInOrder {A : Type 0} (rows : ℕ → List A → Rows) : Type 0 where
+  pub none : (k : ℕ) → rows k [] ≡ declaring []
+  pub more : (k : ℕ) (x : A) (xs : List A) → rows k (x ∷ xs) ≡ rows_joined (rows k (x ∷ [])) (rows (suc k) xs)
 
--- ---- what each part of a source gives, at a place in a list of its owner's
+-- ---- what the parts of a source in a list give, the first of them at a place
 
-abbrev pub list_of : Space → ℕ → ℕ → ℕ → Scope
-list_of s p u i = record { space = s; program = p; «module» = u; item = i }
+abbrev pub comm_rows : Scope → ℕ → List CommNode → Rows
+comm_rows s c xs = rows_with (map_at comm_entry c xs) [] (flat_map comm_kinds xs) []
 
-abbrev pub declared : Scope → ℕ → Id → Rows
-declared s k id = declaring (entries.entry (key_in s id.name) k id ∷ [])
+abbrev pub param_entry_in : Scope → ℕ → ParamNode → Entry
+param_entry_in s j x = entry (key_in s x.name.name) j x.name
 
-abbrev pub used : Scope → Id → Rows
-used s id = using (uses.usage (key_in s id.name) id ∷ [])
+abbrev pub param_rows : Scope → ℕ → List ParamNode → Rows
+param_rows s j xs = declaring (map_at (param_entry_in s) j xs)
 
-abbrev pub comm_rows : Scope → ℕ → CommNode → Rows
-comm_rows s c x = rows_with (entries.entry (key_in s x.name.name) c x.name ∷ []) [] (kinds.comm_kinds x) []
+-- outputs of a task that has this number of inputs
+abbrev pub output_uses_in : Scope → ℕ → PlainOut → List Use
+output_uses_in s inputs o = map (use_in s (Some inputs)) (names_of o.value)
 
-abbrev pub param_rows : Scope → ℕ → ParamNode → Rows
-param_rows s j x = declared s j x.name
+abbrev pub out_rows : Scope → ℕ → ℕ → List OutNode → Rows
+out_rows s inputs j xs =
+    rows_with (map_at (param_entry_in s) j (map (λ o. o.param) (map out_of xs))) (flat_map (output_uses_in s inputs) (map out_of xs)) [] []
 
--- an output of a task that has this number of inputs
-abbrev pub out_rows : Scope → ℕ → ℕ → OutNode → Rows
-out_rows s inputs j x = rows_joined (param_rows s j x.param) (using (map (uses.use_in s (Some inputs)) (names_of x.value)))
+abbrev pub task_rows : Scope → ℕ → List TaskNode → Rows
+task_rows s k xs =
+    rows_with (flat_map_at (task_entries s.program s.«module») k (map task_of xs)) (flat_map_at (task_uses s.program s.«module») k (map task_of xs)) (map task_kind (map task_of xs)) []
 
-abbrev pub outputs_rows : Scope → ℕ → OutNodes → Rows
-outputs_rows s inputs (outs.Concrete xs) = all_rows (out_rows s inputs) inputs xs
-outputs_rows s inputs (outs.Abstract xs) = all_rows (param_rows s) inputs xs
+abbrev pub end_rows : Scope → ℕ → List EndNode → Rows
+end_rows s k xs = rows_with [] (map (end_use s.program s.«module» s.item) xs) (flat_map end_kinds xs) []
 
-abbrev pub task_rows : Scope → ℕ → TaskNode → Rows
-task_rows s k x =
-    let params : Scope = list_of space.Params s.program s.«module» k in
-    rows_joined (declared s k x.name) (rows_joined (judging (Span x.worst ∷ []))
-    (rows_joined (all_rows (param_rows params) 0 x.inputs) (outputs_rows params (length x.inputs) x.outputs)))
+abbrev pub invoke_rows : Scope → ℕ → List InvokeNode → Rows
+invoke_rows s j xs =
+    rows_with (map_at (invoke_entry s.program s.«module» s.item) j xs) (flat_map (invoke_uses s.program s.«module» s.item) xs) (flat_map invoke_kinds xs) (flat_map (invoke_parent s.program) xs)
 
-abbrev pub end_rows : Scope → ℕ → EndNode → Rows
-end_rows s k (end.Comm comm instance) = rows_with [] (uses.comm_use comm ∷ []) (Instance instance ∷ []) []
-end_rows s k (end.Port port) = used s port
+abbrev pub switch_rows : Scope → ℕ → List SwitchNode → Rows
+switch_rows s j xs = using (flat_map (switch_uses s.program s.«module») (map switch_of xs))
 
-abbrev pub invoke_rows : Scope → ℕ → InvokeNode → Rows
-invoke_rows s j x =
-    let ports : Scope = list_of space.Ports s.program s.«module» s.item in
-    rows_joined (declared s j x.task) (rows_joined (used (list_of space.Tasks s.program s.«module» 0) x.task)
-    (rows_joined (all_rows (end_rows ports) 0 x.reads) (rows_joined (all_rows (end_rows ports) 0 x.writes) (refining (parents.invoke_parent s.program x)))))
+abbrev pub mode_rows : Scope → ℕ → List ModeNode → Rows
+mode_rows s m xs =
+    rows_with (flat_map_at (mode_entries s.program s.«module») m (map mode_of xs)) (flat_map_at (mode_uses s.program s.«module») m (map mode_of xs)) (flat_map mode_kinds (map mode_of xs))
+    (flat_map (mode_parents s.program) (map mode_of xs))
 
-abbrev pub switch_rows : Scope → ℕ → SwitchNode → Rows
-switch_rows s j x = rows_joined (using (map uses.comm_use (names_of x.cond))) (used s x.target)
+abbrev pub module_rows : Scope → ℕ → List ModuleNode → Rows
+module_rows s u xs =
+    rows_with (flat_map_at (module_entries s.program) u (map module_of xs)) (flat_map_at (module_uses s.program) u (map module_of xs)) (flat_map module_kinds (map module_of xs))
+    (flat_map (module_parents s.program) (map module_of xs))
 
-abbrev pub mode_rows : Scope → ℕ → ModeNode → Rows
-mode_rows s m x =
-    rows_joined (declared s m x.name) (rows_joined (judging (Span x.period ∷ [])) (rows_joined (using (uses.program_use x.program))
-    (rows_joined (all_rows (param_rows (list_of space.Ports s.program s.«module» m)) 0 x.ports)
-    (rows_joined (all_rows (invoke_rows (list_of space.Invokes s.program s.«module» m)) 0 x.invokes) (all_rows (switch_rows s) 0 x.switches)))))
-
-abbrev pub module_rows : Scope → ℕ → ModuleNode → Rows
-module_rows s u x =
-    let modes : Scope = list_of space.Modes s.program u 0 in
-    rows_joined (declared (list_of space.Modules 0 0 0) u x.name) (rows_joined (used modes x.start)
-    (rows_joined (all_rows (task_rows (list_of space.Tasks s.program u 0)) 0 x.tasks) (all_rows (mode_rows modes) 0 x.modes)))
-
--- the first communicator of the program has this number
-abbrev pub program_rows : ℕ → ℕ → ProgramNode → Rows
-program_rows p first x =
-    rows_joined (declared (list_of space.Programs 0 0 0) p x.name)
-    (rows_joined (all_rows (comm_rows (list_of space.Comms 0 0 0)) first x.comms) (all_rows (module_rows (list_of space.Modules p 0 0)) 0 x.modules))
+-- programs from p on, whose first communicator has this number
+abbrev pub program_rows : ℕ → ℕ → List ProgramNode → Rows
+program_rows p first xs =
+    rows_with (entries_from p first (map program_of xs)) (flat_map_at program_uses p (map program_of xs)) (flat_map program_kinds (map program_of xs)) (flat_map_at program_parents p (map program_of xs))
 
 -- ---- the lists of a source
 
 abbrev pub rows : List PlainProgram → Rows
-rows ps = rows_with (entries.entries ps) (uses.uses ps) (kinds.kinds ps) (parents.parents ps)
+rows ps = rows_with (entries ps) (uses ps) (kinds ps) (parents ps)

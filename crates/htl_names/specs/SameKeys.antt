@@ -1,72 +1,42 @@
 -- The test of keys is true exactly where they are the same.
-use Rattle.std.specs.Prelude.{◌≡◌, ◌+◌, ◌*◌, ◌%◌, ◌^◌, ℕ, zero, suc, List, IsTrue, fold}
+use Rattle.std.specs.Prelude.{◌≡◌, ◌+◌, ◌*◌, ◌%◌, ◌^◌, ℕ, List, IsTrue, fold}
 use Rattle.std.specs.Bool.{Decides}
 use Rattle.std.specs.Hash as fed
-use Rattle.std.proofs.Common.{refl, sym, ◌∙◌, ap}
+use Rattle.std.proofs.Common.{arith, ap}
 use Rattle.std.proofs.lemmas.Bool.Decides.{Decides-and, Decides-eqb}
 use Rattle.std.proofs.lemmas.Slice.Eq.{bytes_eq-Decides}
 use Rattle.htl_names.specs.declared.key.Key.{Key}
+use Rattle.htl_names.specs.declared.key.Scope.{Scope}
 use Rattle.htl_names.specs.declared.key.Space.{Space}
-use Rattle.htl_names.specs.declared.key.Space.TheVariants as space
 use Rattle.htl_names.specs.Keys.{space_code, same_key}
 
--- the kind of list with a number
-abbrev space_at : ℕ → Space
-space_at zero = space.Programs
-space_at (suc zero) = space.Comms
-space_at (suc (suc zero)) = space.Modules
-space_at (suc (suc (suc zero))) = space.Tasks
-space_at (suc (suc (suc (suc zero)))) = space.Modes
-space_at (suc (suc (suc (suc (suc zero))))) = space.Params
-space_at (suc (suc (suc (suc (suc (suc zero)))))) = space.Ports
-space_at (suc (suc (suc (suc (suc (suc (suc n))))))) = space.Invokes
-
-space_back : (s : Space) → space_at (space_code s) ≡ s
-space_back space.Programs = refl
-space_back space.Comms = refl
-space_back space.Modules = refl
-space_back space.Tasks = refl
-space_back space.Modes = refl
-space_back space.Params = refl
-space_back space.Ports = refl
-space_back space.Invokes = refl
-
 same_space : (a b : Space) → space_code a ≡ space_code b → a ≡ b
-same_space a b e = sym (space_back a) ∙ ap space_at e ∙ space_back b
+same_space a b e = grind arith
 
-abbrev make : Space → ℕ → ℕ → ℕ → List ℕ → Key
-make s p u i n = record { space = s; program = p; «module» = u; item = i; name = n }
-
-made : (a b : Key) → a.space ≡ b.space → a.program ≡ b.program → a.«module» ≡ b.«module» → a.item ≡ b.item → a.name ≡ b.name → a ≡ b
-made a b s p u i n =
-    ap (λ x. make x a.program a.«module» a.item a.name) s
-    ∙ ap (λ x. make b.space x a.«module» a.item a.name) p
-    ∙ ap (λ x. make b.space b.program x a.item a.name) u
-    ∙ ap (λ x. make b.space b.program b.«module» x a.name) i
-    ∙ ap (λ x. make b.space b.program b.«module» b.item x) n
+made : (a b : Key) → a.scope.space ≡ b.scope.space → a.scope.program ≡ b.scope.program → a.scope.«module» ≡ b.scope.«module» → a.scope.item ≡ b.scope.item → a.name ≡ b.name → a ≡ b
+made a b s p u i n = grind arith
 
 pub same_key_decides : (a b : Key) → Decides (same_key a b) (a ≡ b)
 same_key_decides a b = (
-  λ h. let p = tests.0 h in made a b (same_space a.space b.space p.0.0.0.0) p.0.0.0.1 p.0.0.1 p.0.1 p.1,
-  λ e.
-      tests.1 ((((ap (λ (k : Key). space_code k.space) e, ap (λ (k : Key). k.program) e), ap (λ (k : Key). k.«module») e), ap (λ (k : Key). k.item) e), ap (λ (k : Key). k.name) e),
+  λ h. let p = tests.0 h in made a b (same_space a.scope.space b.scope.space p.0.0.0.0) p.0.0.0.1 p.0.0.1 p.0.1 p.1,
+  λ e. tests.1 ((((cc, cc), cc), cc), cc),
 )
   where
-    tests : Decides (same_key a b) (((((space_code a.space ≡ space_code b.space) × (a.program ≡ b.program)) × (a.«module» ≡ b.«module»)) × (a.item ≡ b.item)) × (a.name ≡ b.name))
+    tests : Decides (same_key a b) (((((space_code a.scope.space ≡ space_code b.scope.space) × (a.scope.program ≡ b.scope.program)) × (a.scope.«module» ≡ b.scope.«module»)) × (a.scope.item ≡ b.scope.item)) × (a.name ≡ b.name))
     tests =
-        Decides-and _ _ (Decides-and _ _ (Decides-and _ _ (Decides-and _ _ (Decides-eqb (space_code a.space) (space_code b.space)) (Decides-eqb a.program b.program))
-        (Decides-eqb a.«module» b.«module»)) (Decides-eqb a.item b.item)) (bytes_eq-Decides a.name b.name)
+        Decides-and _ _ (Decides-and _ _ (Decides-and _ _ (Decides-and _ _ (Decides-eqb (space_code a.scope.space) (space_code b.scope.space)) (Decides-eqb a.scope.program b.scope.program))
+        (Decides-eqb a.scope.«module» b.scope.«module»)) (Decides-eqb a.scope.item b.scope.item)) (bytes_eq-Decides a.name b.name)
 
 -- the list of a key as one number
 abbrev pub mixed : ℕ → ℕ → ℕ
 mixed a b = ((a * 1048583) % 2 ^ 64 + b) % 2 ^ 64
 
-abbrev pub owner_of : Key → ℕ
-owner_of k = mixed (mixed (mixed (space_code k.space) k.program) k.«module») k.item
+abbrev pub owner_of : Scope → ℕ
+owner_of s = mixed (mixed (mixed (space_code s.space) s.program) s.«module») s.item
 
 -- what the hash of a key is made from: that number with each byte of the name mixed in
 abbrev pub key_writes : Key → List (List ℕ)
-key_writes k = fed.usize (fold mixed (owner_of k) k.name)
+key_writes k = fed.usize (fold mixed (owner_of k.scope) k.name)
 
 pub hashed_alike : (a b : Key) → IsTrue (same_key a b) → key_writes a ≡ key_writes b
 hashed_alike a b h = ap key_writes ((same_key_decides a b).0 h)

@@ -67,14 +67,11 @@ IsUnknown symbols u = MatchOption (look_up u.key symbols) (Unit {0}) (λ n. Matc
 
 -- ---- names that stand for nothing, as a test
 
--- the token, where a place is not below a bound
-abbrev pub above : ℕ → Option ℕ → ℕ → Option ℕ
-above n None token = None
-above n (Some below) token = cond (leb below n) (Some token) None
-
+-- the token, where a name has no place, or none below a bound
 abbrev pub unknown_by : Option ℕ → Option ℕ → ℕ → Option ℕ
 unknown_by None below token = Some token
-unknown_by (Some n) below token = above n below token
+unknown_by (Some n) None token = None
+unknown_by (Some n) (Some below) token = cond (leb below n) (Some token) None
 
 -- the token of a use whose name stands for nothing
 abbrev pub unknown_token : List (Key × ℕ) → Use → Option ℕ

@@ -58,23 +58,14 @@ impl Scope {
     pub fn key(self, name: Name) -> Key
         ensures { result ≡ key_in self name }
     {
-        Key {
-            space: self.space,
-            program: self.program,
-            module: self.module,
-            item: self.item,
-            name,
-        }
+        Key { scope: self, name }
     }
 }
 
-/// A name in a list, which is given as in `Scope`. Only the bytes that a name has are compared and hashed.
+/// A name in a list. Only the bytes that a name has are compared and hashed.
 #[derive(Clone, Copy)]
 pub struct Key {
-    pub space: Space,
-    pub program: usize,
-    pub module: usize,
-    pub item: usize,
+    pub scope: Scope,
     pub name: Name,
 }
 
@@ -84,10 +75,11 @@ impl PartialEq for Key {
     ghost laws = { partial_equiv_from_equiv (decided same_key same_key_decides) };
 
     fn eq(&self, other: &Key) -> bool {
-        self.space as u8 == other.space as u8
-            && self.program == other.program
-            && self.module == other.module
-            && self.item == other.item
+        let (own, theirs) = (self.scope, other.scope);
+        own.space as u8 == theirs.space as u8
+            && own.program == theirs.program
+            && own.module == theirs.module
+            && own.item == theirs.item
             && self.name.as_bytes() == other.name.as_bytes()
     }
 }
@@ -102,8 +94,9 @@ impl Hash for Key {
     ghost respects_eq = { hashed_alike };
 
     fn hash<H: Hasher>(&self, state: &mut H) {
-        let program = mixed(self.space as usize, self.program);
-        let mut sum = mixed(mixed(program, self.module), self.item);
+        let scope = self.scope;
+        let program = mixed(scope.space as usize, scope.program);
+        let mut sum = mixed(mixed(program, scope.module), scope.item);
         let bytes = self.name.as_bytes();
         for k in 0..bytes.len() {
             sum = sum.wrapping_mul(1_048_583).wrapping_add(bytes[k] as usize);

@@ -1,11 +1,14 @@
 // Rows as a walk over a source records them.
+#![tactic(auto, unfolding(crate::specs::Rows::wrong_of))]
+
 ghost use Rattle.std.specs.Prelude.{◌≡◌, ◌≤◌, ◌^◌, ◌-◌, ◌∷◌, [], OnOk, cond, false, length, map};
 ghost use Rattle.htl_text.specs.Bounds.{names_of};
 ghost use Rattle.htl_names.specs.Entries.{entry};
 ghost use Rattle.htl_names.specs.Recorded.{Adds};
-ghost use Rattle.htl_names.specs.Rows.{declaring, using, judging, refining, rows_by, parent_use_of};
+ghost use Rattle.htl_names.specs.Rows.{declaring, using, judging, refining, rows_by, rows_with};
 ghost use Rattle.htl_names.specs.Kinds.{Span, Instance, Initial, is_span, is_instance};
 ghost use Rattle.htl_names.specs.Keys.{key_in};
+ghost use Rattle.htl_names.specs.Parents.{invoke_parent};
 ghost use Rattle.htl_names.specs.Uses.{use_in};
 
 use crate::Done;
@@ -13,7 +16,7 @@ use crate::key::{Entry, Scope, Use};
 use crate::rows::{ParentName, Rows};
 use htl_base::limits::MAX_PERIOD;
 use htl_base::{Ty, Value};
-use htl_text::{ConstNode, Expression, Id, Node, Num};
+use htl_text::{ConstNode, Expression, Id, InvokeNode, Node, Num};
 use std::alloc::{AllocError, Global};
 
 /// Rows as they come. Once memory was lacking they are of no use, and the end tells so.
@@ -94,18 +97,21 @@ impl Recorder {
         }
     }
 
-    /// A name after `parent`.
-    pub fn refine(&mut self, program: usize, id: Id)
-        ensures { Adds (refining (parent_use_of (record { program = program; id = id }) ∷ [])) self.old self.new }
+    /// The name after `parent`, where an invocation of a program has one.
+    pub fn refine(&mut self, program: usize, invoke: &InvokeNode)
+        ensures { Adds (refining (invoke_parent program invoke.now)) self.old self.new }
     {
-        self.lacks_memory |= self.rows.parents.push(ParentName { program, id }).is_err();
+        if let Some(id) = invoke.parent {
+            self.lacks_memory |= self.rows.parents.push(ParentName { program, id }).is_err();
+        }
     }
 
-    /// A period or worst case, in ticks.
-    pub fn span(&mut self, n: &Num)
-        ensures { Adds (judging (Span n.now ∷ [])) self.old self.new }
+    /// A name that is declared with a period or worst case, in ticks.
+    pub fn declare_with(&mut self, scope: Scope, number: usize, id: &Id, span: &Num)
+        ensures { Adds (rows_with (entry (key_in scope id.now.name) number id.now ∷ []) [] (Span span.now ∷ []) []) self.old self.new }
     {
-        self.judge(is_span(n.x), n.token);
+        self.declare(scope, number, id);
+        self.judge(is_span(span.x), span.token);
     }
 
     /// An instance of a communicator.

@@ -1,8 +1,8 @@
 // From the tree of a source to its tables.
-ghost use Rattle.std.specs.Prelude.{◌≡◌, List, MatchResult, IfOk};
+ghost use Rattle.std.specs.Prelude.{◌≡◌, MatchResult, IfOk};
 ghost use Rattle.htl_model.specs.Broken.{KeepsLimits};
 ghost use Rattle.htl_model.specs.Small.{AreSmall};
-ghost use Rattle.htl_text.specs.Nodes.{tree_of, PlainProgram};
+ghost use Rattle.htl_text.specs.Nodes.{tree_of};
 ghost use Rattle.htl_names.specs.Conditions.{MeetsBounds};
 ghost use Rattle.htl_names.specs.Flat.{symbols_of};
 ghost use Rattle.htl_names.specs.NameRules.{AreNamesRight, IsResolved};
@@ -14,7 +14,7 @@ use crate::limits::{Excess, first_exceeded};
 use crate::order::layout_of;
 use crate::programs::{first_misplaced, named_programs, naming_rows};
 use crate::rows::Rows;
-use crate::rules::{first_orphan, first_unknown, first_wrong_kind};
+use crate::rules::{first_orphan, first_unknown};
 use crate::symbols::{Symbols, declare};
 use crate::tables::parts_of;
 use crate::walk::rows_of;
@@ -55,38 +55,24 @@ fn names_of(alloc: Global, tree: &Tree) -> Result<Symbols, NameFault>
 {
     let rows = rows_of(alloc, tree)?;
     let symbols = declare(alloc, rows.entries.as_slice())?;
-    check_rows(&rows, &symbols)?;
-    check_programs(alloc, tree, &rows, &symbols)?;
+    check_rules(alloc, tree, &rows, &symbols)?;
     Ok(symbols)
 }
 
-// The rules on single rows.
-fn check_rows(rows: &Rows, symbols: &Symbols) -> Result<(), NameFault>
-    ensures { (ps : List PlainProgram) → rows.now ≡ rows_in ps → symbols.now ≡ symbols_of ps → KeptBelow ps 2
-        → MatchResult result (λ _. KeptBelow ps 4) (IsRefusal ps) }
+// The rules but the first, and the limits.
+fn check_rules(alloc: Global, tree: &Tree, rows: &Rows, symbols: &Symbols) -> Result<(), NameFault>
+    requires bounds { MeetsBounds (tree_of tree.now) }
+    requires rows { rows.now ≡ rows_in (tree_of tree.now) }
+    requires symbols { symbols.now ≡ symbols_of (tree_of tree.now) }
+    requires kept { KeptBelow (tree_of tree.now) 2 }
+    ensures { IsJudged (tree_of tree.now) result }
 {
     if let Some(token) = first_unknown(rows.uses.as_slice(), symbols) {
         return Err(NameFault::Unknown { token });
     }
-    if let Some(token) = first_wrong_kind(rows.wrong.as_slice()) {
+    if let Some(token) = rows.wrong.as_slice().first().copied() {
         return Err(NameFault::Kind { token });
     }
-    Ok(())
-}
-
-// The rules on the tree of programs, and the limits.
-fn check_programs(
-    alloc: Global,
-    tree: &Tree,
-    rows: &Rows,
-    symbols: &Symbols,
-) -> Result<(), NameFault>
-    requires bounds { MeetsBounds (tree_of tree.now) }
-    requires rows { rows.now ≡ rows_in (tree_of tree.now) }
-    requires symbols { symbols.now ≡ symbols_of (tree_of tree.now) }
-    requires kept { KeptBelow (tree_of tree.now) 4 }
-    ensures { IsJudged (tree_of tree.now) result }
-{
     let namings = naming_rows(alloc, tree, symbols)?;
     let named = named_programs(alloc, namings.as_slice())?;
     let table = named.as_slice();

@@ -12,22 +12,12 @@ pub struct ParentName {
 
 /// The names that a source declares, those that it uses, the tokens of its values and numbers that are not of their
 /// kind, and the names after `parent`, each list in source order.
+#[derive(Drop)]
 pub struct Rows {
     pub entries: Vec<Entry>,
     pub uses: Vec<Use>,
     pub wrong: Vec<u32>,
     pub parents: Vec<ParentName>,
-}
-
-impl Drop for Rows {
-    fn drop(self) {
-        let Self {
-            entries: _,
-            uses: _,
-            wrong: _,
-            parents: _,
-        } = self;
-    }
 }
 
 impl Model for Rows {

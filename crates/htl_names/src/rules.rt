@@ -1,9 +1,9 @@
 // The rules on single rows: each search is one loop over its rows.
-ghost use Rattle.std.specs.Prelude.{◌≡◌, map, slice_get};
+ghost use Rattle.std.specs.Prelude.{◌≡◌, map};
 ghost use Rattle.htl_model.specs.Lists.{first_some};
-ghost use Rattle.htl_names.specs.Parents.{orphan_at, orphan_token, parent_in};
+ghost use Rattle.htl_names.specs.Parents.{orphan_at, orphan_token};
 ghost use Rattle.htl_names.specs.Rows.{parent_use_of};
-ghost use Rattle.htl_names.specs.Uses.{above, unknown_token};
+ghost use Rattle.htl_names.specs.Uses.{unknown_token};
 
 use crate::key::{Space, Use};
 use crate::programs::{Named, refined_at};
@@ -30,28 +30,11 @@ fn unknown(used: &Use, symbols: &Symbols) -> Option<u32>
 {
     match symbols.get(&used.key) {
         None => Some(used.token),
-        Some(n) => above(n, used.below, used.token),
+        Some(n) => match used.below {
+            None => None,
+            Some(bound) => if bound <= n { Some(used.token) } else { None },
+        },
     }
-}
-
-// The token, where a place is not below a bound.
-fn above(n: usize, below: Option<usize>, token: u32) -> Option<u32>
-    ensures { result ≡ above n below token }
-{
-    match below {
-        None => None,
-        Some(bound) => if bound <= n { Some(token) } else { None },
-    }
-}
-
-// ---- values and numbers that are not of their kind
-
-/// The token of the first initial value that is not of its communicator's type, period or worst case outside 1 to
-/// 1,000,000, or instance above 1,000,000. `wrong` has the tokens of all of them.
-pub(crate) fn first_wrong_kind(wrong: &[u32]) -> Option<u32>
-    ensures { result ≡ slice_get wrong.now 0 }
-{
-    wrong.first().copied()
 }
 
 // ---- names after `parent`
@@ -77,17 +60,12 @@ pub(crate) fn first_orphan(
 fn orphan(p: usize, id: &Id, symbols: &Symbols, named: &[Named]) -> Option<u32>
     ensures { result ≡ orphan_at symbols.now named.now p id.now }
 {
-    if p == 0 {
-        return Some(id.token);
-    }
-    match refined_at(p, named) {
-        None => Some(id.token),
-        Some(a) => {
-            let key = Space::Invokes.of(a.program, a.module, a.mode).key(id.name);
-            match symbols.get(&key) {
-                None => Some(id.token),
-                Some(_) => None,
-            }
+    let refined = if p == 0 { None } else { refined_at(p, named) };
+    if let Some(a) = refined {
+        let key = Space::Invokes.of(a.program, a.module, a.mode).key(id.name);
+        if symbols.get(&key).is_some() {
+            return None;
         }
     }
+    Some(id.token)
 }

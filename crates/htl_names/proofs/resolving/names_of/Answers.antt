@@ -1,39 +1,22 @@
-use Rattle.std.proofs.Common.{◌≡◌, ◌∙◌, ap, List, ℕ, map}
-use Rattle.htl_text.specs.Nodes.{PlainProgram, tree_of}
-use Rattle.htl_names.specs.declared.key.Key.{Key}
-use Rattle.htl_names.specs.Flat.{symbols_of}
+use Rattle.std.proofs.Common.{◌∙◌, ap, map}
+use Rattle.htl_text.specs.Nodes.{tree_of}
 use Rattle.htl_names.specs.Keys.{pair_of}
-use Rattle.htl_names.specs.NameRules.{AreNamesRight}
 use Rattle.htl_names.specs.Rows.{Rows}
-use Rattle.htl_names.proofs.RuleLaws.{refused, names_repeated, names_apart}
+use Rattle.htl_names.proofs.RuleLaws.{is_err, names_repeated, names_apart}
 use Rattle.htl_names.proofs.resolving.names_of.Goals as goal
-
-abbrev AreMeant : List PlainProgram → List (Key × ℕ) → Type 0
-AreMeant ps symbols = (symbols ≡ symbols_of ps) × AreNamesRight ps
 
 pub returns-in_err-symbols : goal.returns-in_err-symbols
 returns-in_err-symbols c =
-    let ps = tree_of c.args.tree.now in
     let are = c.as_slice.ensures.value ∙ ap (λ (r : Rows). r.entries) (c.rows.view_is ∙ c.in_ok-rows.ensures) in
-    refused (AreMeant ps) ps c.from_residual-in_err-symbols.result c.in_err-symbols.field-0.0 c.from_residual-in_err-symbols.ensures.1
-    (names_repeated ps c.as_slice.result.now c.in_err-symbols.field-0.0 are c.in_err-symbols.ensures)
+    rw (is_err c.from_residual-in_err-symbols.result c.in_err-symbols.field-0.0 c.from_residual-in_err-symbols.ensures.1)
+    (names_repeated (tree_of c.args.tree.now) c.as_slice.result.now c.in_err-symbols.field-0.0 are c.in_err-symbols.ensures)
 
-pub returns-in_err-check_rows : goal.returns-in_err-check_rows
-returns-in_err-check_rows c =
-    let ps = tree_of c.args.tree.now in
+pub check_rules-requires-clause-kept : goal.check_rules-requires-clause-kept
+check_rules-requires-clause-kept c =
     let are = c.as_slice.ensures.value ∙ ap (λ (r : Rows). r.entries) (c.rows.view_is ∙ c.in_ok-rows.ensures) in
-    let same = c.in_ok-symbols.ensures.0 ∙ ap (map pair_of) are in
-    refused (AreMeant ps) ps c.from_residual-in_err-check_rows.result c.in_err-check_rows.field-0.0 c.from_residual-in_err-check_rows.ensures.1
-    (c.in_err-check_rows.ensures ps c.in_ok-rows.ensures same (names_apart ps c.as_slice.result.now are c.in_ok-symbols.ensures.1))
-
-pub check_programs-requires-clause-kept : goal.check_programs-requires-clause-kept
-check_programs-requires-clause-kept c =
-    let ps = tree_of c.args.tree.now in
-    let are = c.as_slice.ensures.value ∙ ap (λ (r : Rows). r.entries) (c.rows.view_is ∙ c.in_ok-rows.ensures) in
-    let same = c.in_ok-symbols.ensures.0 ∙ ap (map pair_of) are in
-    c.in_ok-check_rows.ensures ps c.in_ok-rows.ensures same (names_apart ps c.as_slice.result.now are c.in_ok-symbols.ensures.1)
+    names_apart (tree_of c.args.tree.now) c.as_slice.result.now are c.in_ok-symbols.ensures.1
 
 pub returns : goal.returns
 returns c =
     let are = c.as_slice.ensures.value ∙ ap (λ (r : Rows). r.entries) (c.rows.view_is ∙ c.in_ok-rows.ensures) in
-    (c.in_ok-symbols.ensures.0 ∙ ap (map pair_of) are, c.in_ok-check_programs.ensures)
+    (c.in_ok-symbols.ensures.0 ∙ ap (map pair_of) are, c.in_ok-check_rules.ensures)

@@ -8,19 +8,14 @@ use Rattle.htl_names.specs.Narrow.{IsNarrow}
 use Rattle.htl_names.proofs.InRange.{names-in-range}
 use Rattle.htl_names.proofs.KeepsLimits.{names-keep-limits}
 use Rattle.htl_names.proofs.Ordering.{layout_is, tables_are, names-narrow}
-use Rattle.htl_names.proofs.RuleLaws.{resolved_by, no_tables}
+use Rattle.htl_names.proofs.RuleLaws.{resolved_err, is_err}
 use Rattle.htl_names.proofs.SmallFunctions.{functions_small}
 use Rattle.htl_names.proofs.resolving.resolve.Goals as goal
 
 pub returns-in_err-symbols : goal.returns-in_err-symbols
 returns-in_err-symbols c =
-    let ps = tree_of c.args.tree.now in
-    let f = c.in_err-symbols.field-0.0 in
-    record {
-      resolved = resolved_by ps c.from_residual.result f c.from_residual.ensures.1 c.in_err-symbols.ensures;
-      limits = no_tables KeepsLimits c.from_residual.result f c.from_residual.ensures.1;
-      functions = no_tables AreSmall c.from_residual.result f c.from_residual.ensures.1;
-    }
+    rw (is_err c.from_residual.result c.in_err-symbols.field-0.0 c.from_residual.ensures.1)
+    (record { resolved = resolved_err (tree_of c.args.tree.now) c.in_err-symbols.field-0.0 c.in_err-symbols.ensures; limits = tt; functions = tt })
 
 pub parts_of-requires : goal.parts_of-requires
 parts_of-requires c =

@@ -1,7 +1,8 @@
 use Rattle.std.proofs.Common.{◌≡◌, ◌∙◌, length, refl, sym, arith, subst, add-one, ℕ, inr}
+use Rattle.std.proofs.lemmas.Grind.{common_steps}
 use Rattle.std.proofs.lemmas.Option.{slice_get_read}
 use Rattle.htl_names.specs.Repeats.{AreApartTo}
-use Rattle.htl_names.proofs.SymbolLaws.{repeats_here, apart_here, all_apart, seen_more, all_seen}
+use Rattle.htl_names.proofs.SymbolLaws.{repeats_here, apart_here}
 use Rattle.htl_names.proofs.symbols.declare.Goals as goal
 
 pub returns-in-Some : goal.returns-in-Some
@@ -11,7 +12,7 @@ returns-in-Some c =
     let e = c.index-entries-k.result in
     let here = slice_get_read es (length es) k e refl c.loop-k-test.true c.index-entries-k.is in
     let repeats = repeats_here es k e c.loop-k.symbols c.in-Some.field-0 c.loop-k.invariant.seen (sym c.in-Some.is ∙ c.in_ok-add.ensures.old) in
-    inr (e.token, refl, (k, e, here, repeats, refl, c.loop-k.invariant.apart))
+    inr (k, e, here, repeats, refl, c.loop-k.invariant.apart)
 
 pub loop-k-preserved : goal.loop-k-preserved
 loop-k-preserved c =
@@ -19,9 +20,9 @@ loop-k-preserved c =
     let k = c.loop-k.k in
     let e = c.index-entries-k.result in
     let here = slice_get_read es (length es) k e refl c.loop-k-test.true c.index-entries-k.is in
+    let added = c.in_ok-add.ensures.added c.in_default.is in
     record {
-      seen = seen_more es k e c.loop-k.symbols c.add.new.self c.loop-k-test.true c.index-entries-k.is c.loop-k.invariant.seen
-          (c.in_ok-add.ensures.added c.in_default.is);
+      seen = grind (arith, common_steps);
       apart = subst (λ (n : ℕ). AreApartTo n es) (sym (add-one k))
           (apart_here es k e c.loop-k.symbols c.loop-k.invariant.seen (sym c.in_ok-add.ensures.old ∙ c.in_default.is) here c.loop-k.invariant.apart);
     }
@@ -29,4 +30,4 @@ loop-k-preserved c =
 pub returns : goal.returns
 returns c =
     let whole : c.loop-k.k ≡ length c.args.entries.now = omega arith in
-    (all_seen c.args.entries.now c.loop-k.k c.loop-k.symbols whole c.loop-k.invariant.seen, all_apart c.args.entries.now c.loop-k.k whole c.loop-k.invariant.apart)
+    (grind (arith, common_steps), subst (λ (n : ℕ). AreApartTo n c.args.entries.now) whole c.loop-k.invariant.apart)

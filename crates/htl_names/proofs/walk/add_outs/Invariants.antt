@@ -1,8 +1,8 @@
 use Rattle.std.proofs.Common.{◌+◌, drop}
 use Rattle.htl_names.specs.Recorded.{AddsWith}
-use Rattle.htl_names.specs.Rows.{all_rows, out_rows}
+use Rattle.htl_names.specs.Rows.{out_rows}
 use Rattle.htl_names.proofs.walk.add_outs.Given as goal
 
 abbrev pub invariant-loop-j : goal.invariant-loop-j
 invariant-loop-j l =
-    AddsWith (all_rows (out_rows l.params l.inputs) (l.inputs + l.j) (drop l.j l.outs)) (all_rows (out_rows l.params l.inputs) l.inputs l.outs) l.initial.into l.into
+    AddsWith (out_rows l.params l.inputs (l.inputs + l.j) (drop l.j l.outs)) (out_rows l.params l.inputs l.inputs l.outs) l.initial.into l.into
