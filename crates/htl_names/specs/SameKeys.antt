@@ -1,5 +1,5 @@
 -- The test of keys is true exactly where they are the same.
-use Rattle.std.specs.Prelude.{◌≡◌, ◌+◌, ◌*◌, ◌%◌, ◌^◌, ℕ, List, IsTrue, fold}
+use Rattle.std.specs.Prelude.{◌≡◌, ◌+◌, ◌*◌, ◌%◌, ◌^◌, ℕ, List, [], ◌∷◌, ◌++◌, IsTrue}
 use Rattle.std.specs.Bool.{Decides}
 use Rattle.std.specs.Hash as fed
 use Rattle.std.proofs.Common.{arith, ap}
@@ -34,9 +34,9 @@ mixed a b = ((a * 1048583) % 2 ^ 64 + b) % 2 ^ 64
 abbrev pub owner_of : Scope → ℕ
 owner_of s = mixed (mixed (mixed (space_code s.space) s.program) s.«module») s.item
 
--- what the hash of a key is made from: that number with each byte of the name mixed in
+-- what the hash of a key is made from: that number, and the name
 abbrev pub key_writes : Key → List (List ℕ)
-key_writes k = fed.usize (fold mixed (owner_of k.scope) k.name)
+key_writes k = fed.usize (owner_of k.scope) ++ k.name ∷ []
 
 pub hashed_alike : (a b : Key) → IsTrue (same_key a b) → key_writes a ≡ key_writes b
 hashed_alike a b h = ap key_writes ((same_key_decides a b).0 h)

@@ -96,16 +96,12 @@ impl Hash for Key {
     fn hash<H: Hasher>(&self, state: &mut H) {
         let scope = self.scope;
         let program = mixed(scope.space as usize, scope.program);
-        let mut sum = mixed(mixed(program, scope.module), scope.item);
-        let bytes = self.name.as_bytes();
-        for k in 0..bytes.len() {
-            sum = sum.wrapping_mul(1_048_583).wrapping_add(bytes[k] as usize);
-        }
-        state.write_usize(sum);
+        state.write_usize(mixed(mixed(program, scope.module), scope.item));
+        state.write(self.name.as_bytes());
     }
 }
 
-// A key as one number: keys that have the same number cost time alone.
+// The list of a key as one number: lists that have the same number cost time alone.
 fn mixed(a: usize, b: usize) -> usize
     ensures { result ≡ mixed a b }
 {
