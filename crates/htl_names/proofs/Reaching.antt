@@ -1,12 +1,12 @@
 -- The search for the programs that are reached: which are marked, and which wait.
-use Rattle.std.proofs.Common.{◌≡◌, ◌<◌, ◌+◌, ◌⊎◌, ℕ, zero, suc, Bool, true, false, cond, List, [], ◌∷◌, ◌++◌, length, get_or, replicate, sym, ◌∙◌, ap, subst, arith}
+use Rattle.std.proofs.Common.{◌≡◌, ◌<◌, ◌+◌, ◌⊎◌, ℕ, zero, suc, Bool, true, false, cond, List, [], ◌∷◌, ◌++◌, length, map, get_or, replicate, sym, ◌∙◌, ap, subst, arith}
 use Rattle.std.proofs.Math.ListN.{set}
 use Rattle.std.proofs.lemmas.Bool.Decides.{nat_tests}
 use Rattle.std.proofs.lemmas.Grind.{common_steps}
 use Rattle.std.proofs.lemmas.List.{get_or-map, length-map}
 use Rattle.htl_names.proofs.ListLaws.{is_among}
-use Rattle.htl_names.specs.Graph.{targets, graph_by, MarksReached}
-use Rattle.htl_names.specs.Programs.{Graph, Naming, named_by, Reached, root, below}
+use Rattle.htl_names.specs.Named.{MarksReached}
+use Rattle.htl_names.specs.Programs.{Graph, Naming, targets, named_by, Reached, root, below}
 
 -- marked, or no program
 abbrev is_done : List Bool → ℕ → Bool
@@ -68,10 +68,10 @@ owed-set (b ∷ seen) (r ∷ g) (suc p) small len free = grind (arith, owed-set 
 
 -- the next that waits is not marked: it is, and what its row names waits, which is less to do
 pub search_asked : (rows : List (List Naming)) (seen : List Bool) (old rest new : List ℕ) (p : ℕ) (row : List Naming) → p < length seen → row ≡ get_or rows p row
-    → get_or seen p false ≡ false → old ≡ rest ++ p ∷ [] → new ≡ rest ++ targets row → Searches (graph_by rows) seen old
-    → Searches (graph_by rows) (set seen p true) new × (owed (set seen p true) (graph_by rows) + length new < owed seen (graph_by rows) + length old)
+    → get_or seen p false ≡ false → old ≡ rest ++ p ∷ [] → new ≡ rest ++ targets row → Searches (map targets rows) seen old
+    → Searches (map targets rows) (set seen p true) new × (owed (set seen p true) (map targets rows) + length new < owed seen (map targets rows) + length old)
 search_asked rows seen old rest new p row small is free was grew s =
-    let g = graph_by rows in
+    let g = map targets rows in
     let len = s.len in
     let size = length-map rows targets in
     let names : targets row ≡ named_by g p = ap targets is ∙ sym (get_or-map targets rows p row [] (omega (arith, small, len, size))) in
@@ -97,9 +97,4 @@ search_complete g seen s _ (below p q r named) =
 
 pub marks_reached : (g : Graph) (seen : List Bool) (waiting : List ℕ) → length waiting ≡ 0 → Searches g seen waiting → MarksReached g seen
 marks_reached g seen (p ∷ waiting) none s = absurd (omega (arith, none))
-marks_reached g seen [] none s =
-    record {
-      len = s.len;
-      says = λ p small h. s.says p h;
-      marks = λ p small r. let done = search_complete g seen s p r in grind (arith, common_steps);
-    }
+marks_reached g seen [] none s = record { len = s.len; says = s.says; marks = search_complete g seen s }

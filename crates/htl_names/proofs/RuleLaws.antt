@@ -17,13 +17,11 @@ use Rattle.htl_names.specs.declared.key.Entry.{Entry}
 use Rattle.htl_names.specs.Entries.{entries}
 use Rattle.htl_names.specs.Excess.{IsFirstExcess}
 use Rattle.htl_names.specs.Flat.{symbols_of}
-use Rattle.htl_names.specs.Graph.{naming_rows, graph_by}
 use Rattle.htl_names.specs.Limits.{counts}
 use Rattle.htl_names.specs.declared.programs.Named.{Named}
 use Rattle.htl_names.specs.Named.{refined_at, AreRefined}
-use Rattle.htl_names.specs.Programs.{IsFirstMisplaced, Naming, Graph, links, program_links, refined_by}
+use Rattle.htl_names.specs.Programs.{refined_by}
 use Rattle.htl_names.specs.Repeats.{EntriesAreApart, IsFirstRepeat, IsRepeat}
-use Rattle.htl_names.proofs.Naming.{graph_is}
 use Rattle.htl_names.specs.Rows.{wrong_tokens}
 use Rattle.htl_names.specs.Kinds.{Judged, kinds, token_of, is_kind, IsWrongKind, wrong_token}
 use Rattle.htl_names.specs.declared.key.Use.{Use}
@@ -176,21 +174,6 @@ pub names_apart : (ps : List PlainProgram) (es : List Entry) → es ≡ entries 
 names_apart ps es are h =
     let r = subst EntriesAreApart are h in
     kept_next ps RepeatedName (none_below ps) (λ k f broken. r k broken.0 broken.1 broken.2)
-
-pub tree_searched : (ps : List PlainProgram) (symbols : List (Key × ℕ)) (rows : List (List Naming)) (o : Option ℕ) → symbols ≡ symbols_of ps → rows ≡ naming_rows symbols ps
-    → IsFirstMisplaced (graph_by rows) o → IsSearched ps ProgramTree (λ p. fault.NotATree p) o
-tree_searched ps symbols rows o same are h =
-    by o (subst (λ (g : Graph). IsFirstMisplaced g o) (ap graph_by are ∙ graph_is symbols 0 ps ∙ ap (λ s. links s ps) same) h)
-  where
-    names : List (Key × ℕ)
-    names = symbols_of ps
-
-    size : length (links names ps) ≡ length ps
-    size = length-map ps (program_links names)
-
-    by : (x : Option ℕ) → IsFirstMisplaced (links names ps) x → IsSearched ps ProgramTree (λ p. fault.NotATree p) x
-    by None none = λ k f broken. none k (let within = broken.0 in omega (arith, within, size)) broken.1
-    by (Some p) first = (p, (let within = first.0 in omega (arith, within, size), first.1, refl), λ k g less broken. first.2 k less broken.1)
 
 limits_told : (ps : List PlainProgram) (o : Option Excess) → IsFirstExcess (counts (symbols_of ps) ps) o → IsSearched ps Limits (λ (e : Excess). fault.Limit e.which e.count) o
 limits_told ps None h = λ k g broken. let over = broken.4 in let within = h k broken.0 broken.1 broken.2 broken.3 in omega (arith, over, within)

@@ -1,19 +1,17 @@
 -- How modes name programs, and the test whether a program is out of place.
-use Rattle.std.proofs.Common.{◌≡◌, ◌<◌, ℕ, suc, zero, Bool, true, false, cond, eqb, List, [], ◌∷◌, length, Option, Some, None, refl, sym, ◌∙◌, ap, arith, inl, inr, get_or, fold, min, ◌+◌}
+use Rattle.std.proofs.Common.{◌≡◌, ◌<◌, ℕ, suc, zero, Bool, true, false, cond, eqb, List, [], ◌∷◌, length, Option, Some, None, refl, sym, ◌∙◌, ap, arith, inl, inr, get_or, fold, map, min, ◌+◌, subst}
 use Rattle.std.specs.List.{count_by}
 use Rattle.std.proofs.Math.ListN.{replicate}
 use Rattle.std.proofs.lemmas.Bool.Decides.{nat_tests}
 use Rattle.std.proofs.lemmas.Grind.{common_steps}
-use Rattle.std.proofs.lemmas.List.{length-map}
+use Rattle.std.proofs.lemmas.List.{get_or_default, length-map}
 use Rattle.std.proofs.lemmas.List.Sums.{fold-append, sum_by-cons}
 use Rattle.htl_text.specs.Nodes.{PlainProgram}
 use Rattle.htl_names.specs.declared.key.Key.{Key}
 use Rattle.htl_names.specs.declared.place.ModeAt.{ModeAt}
 use Rattle.htl_names.specs.declared.programs.Named.{Named}
-use Rattle.htl_names.specs.Graph.{naming_rows, targets, graph_by, MarksReached}
-use Rattle.htl_names.specs.Named.{unnamed, named_too, noted, is_misplaced, CountsNamings, AreRefined}
-use Rattle.htl_names.specs.Programs.{Graph, IsMisplaced, Naming, program_naming, naming, refined_in}
-use Rattle.htl_names.proofs.Naming.{flat, flat-count, flat-rows}
+use Rattle.htl_names.specs.Named.{unnamed, named_too, noted, is_misplaced, AreRefined, MarksReached}
+use Rattle.htl_names.specs.Programs.{IsMisplaced, Naming, Reached, program_naming, naming, naming_rows, targets, links, refined_in}
 use Rattle.htl_names.proofs.Walking.{length-map_at}
 
 -- ---- one program of the table
@@ -53,54 +51,39 @@ mode_of p n (x ∷ xs) = let rest = mode_of p (cond (eqb x.1 p) (named_too x.0 n
 
 -- ---- the whole table
 
--- the modes of one program after the other
-flat-noted : (table : List Named) (rows : List (List Naming)) → fold (fold noted) table rows ≡ fold noted table (flat rows)
-flat-noted table [] = refl
-flat-noted table (r ∷ rows) = flat-noted (fold noted table r) rows ∙ sym (fold-append noted table r (flat rows))
-
-module _ (rows : List (List Naming)) (table : List Named) (is : table ≡ fold (fold noted) (replicate (length rows) unnamed) rows) where
-  abbrev unnoted : List Named
-  unnoted = replicate (length rows) unnamed
-
-  length-table : length table ≡ length rows
-  length-table = let len = ap length (is ∙ flat-noted unnoted rows) ∙ length-noted unnoted (flat rows) in grind (arith, common_steps)
-
-  table-get : (p : ℕ) → p < length rows → get_or table p unnamed ≡ noted_for p unnamed (flat rows)
+module _ (symbols : List (Key × ℕ)) (ps : List PlainProgram) (table : List Named) (is : table ≡ fold noted (replicate (length ps) unnamed) (naming symbols ps)) where
+  table-get : (p : ℕ) → p < length ps → get_or table p unnamed ≡ noted_for p unnamed (naming symbols ps)
   table-get p small =
-      let all = ap (λ (t : List Named). get_or t p unnamed) (is ∙ flat-noted unnoted rows) ∙ all-get unnoted (flat rows) p (grind (arith, common_steps)) in
+      let all = ap (λ (t : List Named). get_or t p unnamed) is ∙ all-get (replicate (length ps) unnamed) (naming symbols ps) p (grind (arith, common_steps)) in
       grind (arith, common_steps)
 
-  pub counts_namings : CountsNamings (graph_by rows) table
-  counts_namings =
-      let size = length-map rows targets in
+  pub refined_table : AreRefined symbols ps table
+  refined_table =
       record {
-        len = omega (arith, length-table, size);
-        says = λ p small.
-            let count = ap (λ (n : Named). n.count) (table-get p (omega (arith, small, size))) in
-            let all = count_of p unnamed (flat rows) in
-            let counted = flat-count rows p in
-            omega (arith, count, all, counted);
-      }
-
-  pub refined_rows : (symbols : List (Key × ℕ)) (ps : List PlainProgram) → rows ≡ naming_rows symbols ps → AreRefined symbols ps table
-  refined_rows symbols ps are =
-      let size = ap length are ∙ length-map_at (program_naming symbols) 0 ps in
-      let same : flat rows ≡ naming symbols ps = ap flat are ∙ flat-rows (program_naming symbols) 0 ps in
-      record {
-        len = length-table ∙ size;
-        says = λ p small. ap (λ (n : Named). n.mode) (table-get p (omega (arith, small, size))) ∙ mode_of p unnamed (flat rows) ∙ ap (refined_in p) same;
+        len = let len = ap length is ∙ length-noted (replicate (length ps) unnamed) (naming symbols ps) in grind (arith, common_steps);
+        counts = λ p small. let count = ap (λ (n : Named). n.count) (table-get p small) in omega (arith, count, count_of p unnamed (naming symbols ps));
+        says = λ p small. ap (λ (n : Named). n.mode) (table-get p small) ∙ mode_of p unnamed (naming symbols ps);
       }
 
 -- ---- the test whether a program is out of place
 
-module _ (g : Graph) (table : List Named) (seen : List Bool) (counts : CountsNamings g table) (marks : MarksReached g seen) where
-  pub misplaced_here : (p : ℕ) → p < length g → (r : Bool) → r ≡ get_or seen p r → is_misplaced p (get_or table p unnamed).count r ≡ true → IsMisplaced g p
-  misplaced_here zero lt r is h = let said = counts.says 0 lt in grind (arith, nat_tests)
-  misplaced_here (suc p) lt true is h = let said = counts.says (suc p) lt in inl (λ one. grind (arith, nat_tests))
-  misplaced_here (suc p) lt false is h = inr (λ reached. let mark = marks.marks (suc p) lt reached in absurd cc)
+module _ (symbols : List (Key × ℕ)) (ps : List PlainProgram) (rows : List (List Naming)) (table : List Named) (seen : List Bool) (is : rows ≡ naming_rows symbols ps)
+    (are : AreRefined symbols ps table) (marked : MarksReached (map targets rows) seen) where
+  reached : (p : ℕ) → p < length table → (r : Bool) → r ≡ get_or seen p r → (r ≡ true → Reached (links symbols ps) p) × (Reached (links symbols ps) p → r ≡ true)
+  reached p below r at =
+      let size = length-map rows targets in
+      let same = ap length is ∙ length-map_at (program_naming symbols) 0 ps in
+      let m = subst (λ rs. MarksReached (map targets rs) seen) is marked in
+      let inside : p < length seen = omega (arith, below, size, same, marked.len, are.len) in
+      (λ yes. m.says p (get_or_default seen p false r inside ∙ sym at ∙ yes), λ h. at ∙ get_or_default seen p r true inside ∙ m.marks p h)
 
-  pub placed_here : (p : ℕ) → p < length g → (r : Bool) → r ≡ get_or seen p r → is_misplaced p (get_or table p unnamed).count r ≡ false → IsMisplaced g p → ⊥
-  placed_here zero lt r is h some = let said = counts.says 0 lt in grind (arith, nat_tests)
-  placed_here (suc p) lt r is h (inl other) = let said = counts.says (suc p) lt in other (grind (arith, nat_tests))
-  placed_here (suc p) lt true is h (inr lost) = let len = marks.len in lost (marks.says (suc p) lt (grind (arith, common_steps)))
-  placed_here (suc p) lt false is h (inr lost) = let said = counts.says (suc p) lt in grind (arith, nat_tests)
+  pub misplaced_here : (p : ℕ) → p < length table → (r : Bool) → r ≡ get_or seen p r → is_misplaced p (get_or table p unnamed).count r ≡ true → IsMisplaced symbols ps p
+  misplaced_here zero below r at h = let said = are.counts 0 (omega (arith, below, are.len)) in grind (arith, nat_tests)
+  misplaced_here (suc p) below true at h = let said = are.counts (suc p) (omega (arith, below, are.len)) in inl (λ one. grind (arith, nat_tests))
+  misplaced_here (suc p) below false at h = inr (λ yes. let same = (reached (suc p) below false at).1 yes in absurd cc)
+
+  pub placed_here : (p : ℕ) → p < length table → (r : Bool) → r ≡ get_or seen p r → is_misplaced p (get_or table p unnamed).count r ≡ false → IsMisplaced symbols ps p → ⊥
+  placed_here zero below r at h some = let said = are.counts 0 (omega (arith, below, are.len)) in grind (arith, nat_tests)
+  placed_here (suc p) below r at h (inl other) = let said = are.counts (suc p) (omega (arith, below, are.len)) in other (grind (arith, nat_tests))
+  placed_here (suc p) below true at h (inr lost) = lost ((reached (suc p) below true at).0 refl)
+  placed_here (suc p) below false at h (inr lost) = grind (arith, nat_tests)

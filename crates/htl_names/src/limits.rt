@@ -2,9 +2,9 @@
 ghost use Rattle.std.specs.Prelude.{◌≡◌, map, fold, get_or, ◌≤◌, ◌<◌, length};
 ghost use Rattle.htl_text.specs.Nodes.{mode_of, module_of, tree_of};
 ghost use Rattle.htl_names.specs.Excess.{IsFirstExcess};
-ghost use Rattle.htl_names.specs.LevelTable.{level_by, levels_by};
 ghost use Rattle.htl_names.specs.Limits.{counts, limits};
-ghost use Rattle.htl_names.specs.Named.{AreRefined};
+ghost use Rattle.htl_names.specs.Named.{refined_at, AreRefined};
+ghost use Rattle.htl_names.specs.Programs.{level_by, levels_by};
 ghost use Rattle.htl_names.specs.Tallies.{capped, with_mode, with_module, root_tally, IsTally};
 
 use crate::place::modules_at;
@@ -34,6 +34,18 @@ impl ModeTally {
         switches: 0,
         most_invokes: 0,
     };
+
+    fn with(self, mode: &ModeNode) -> ModeTally
+        ensures { result ≡ with_mode self (mode_of mode.now) }
+    {
+        let invokes = mode.invokes.as_slice().len();
+        ModeTally {
+            ports: self.ports.saturating_add(mode.ports.as_slice().len()),
+            invokes: self.invokes.saturating_add(invokes),
+            switches: self.switches.saturating_add(mode.switches.as_slice().len()),
+            most_invokes: self.most_invokes.max(invokes),
+        }
+    }
 }
 
 /// How many items modules have.
@@ -64,18 +76,7 @@ struct Tally {
 fn with_modes(t: ModeTally, modes: &[ModeNode]) -> ModeTally
     ensures { result ≡ fold with_mode t (map mode_of modes.now) }
 {
-    let mut sum = t;
-    for k in 0..modes.len() {
-        let mode = &modes[k];
-        let invokes = mode.invokes.as_slice().len();
-        sum = ModeTally {
-            ports: sum.ports.saturating_add(mode.ports.as_slice().len()),
-            invokes: sum.invokes.saturating_add(invokes),
-            switches: sum.switches.saturating_add(mode.switches.as_slice().len()),
-            most_invokes: sum.most_invokes.max(invokes),
-        };
-    }
-    sum
+    modes.iter().fold(t, |sum, mode| sum.with(mode))
 }
 
 /// The tally with these modules too.
@@ -144,7 +145,7 @@ fn tally_of(tree: &Tree) -> Tally
 
 /// How many programs lead from the root to a program, both counted.
 fn level(named: &[Named], program: usize) -> usize
-    ensures value { result ≡ level_by named.now (length named.now) program }
+    ensures value { result ≡ level_by (refined_at named.now) (length named.now) program }
     ensures few { result ≤ length named.now }
 {
     let mut at = program;
@@ -159,7 +160,7 @@ fn level(named: &[Named], program: usize) -> usize
 
 /// The greatest level of a program.
 fn levels(named: &[Named]) -> usize
-    ensures { result ≡ levels_by named.now }
+    ensures { result ≡ levels_by (refined_at named.now) (length named.now) }
 {
     let mut most = 0usize;
     for p in 0..named.len() {

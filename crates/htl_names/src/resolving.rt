@@ -12,7 +12,7 @@ ghost use Rattle.htl_names.specs.Told.{KeptBelow, IsRefusal, IsJudged};
 use crate::fault::NameFault;
 use crate::limits::{Excess, first_exceeded};
 use crate::order::layout_of;
-use crate::programs::{first_misplaced, named_programs, naming_rows};
+use crate::programs::{first_misplaced, namings_of};
 use crate::rows::Rows;
 use crate::rules::{first_orphan, first_unknown, first_wrong_kind};
 use crate::symbols::{Symbols, declare};
@@ -87,13 +87,12 @@ fn check_programs(
     requires kept { KeptBelow (tree_of tree.now) 4 }
     ensures { IsJudged (tree_of tree.now) result }
 {
-    let namings = naming_rows(alloc, tree, symbols)?;
-    let named = named_programs(alloc, namings.as_slice())?;
-    let table = named.as_slice();
-    let misplaced = first_misplaced(alloc, namings.as_slice(), table)?;
+    let namings = namings_of(alloc, tree, symbols)?;
+    let misplaced = first_misplaced(alloc, &namings)?;
     if let Some(program) = misplaced {
         return Err(NameFault::NotATree { program });
     }
+    let table = namings.named.as_slice();
     if let Some(token) = first_orphan(rows.parents.as_slice(), symbols, table) {
         return Err(NameFault::Unknown { token });
     }
