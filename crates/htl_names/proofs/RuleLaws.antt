@@ -12,12 +12,9 @@ use Rattle.htl_names.specs.NameRules.{NameRule, RepeatedName, UnknownName, Wrong
 use Rattle.htl_names.specs.Told.{IsKept, KeptBelow, IsFirstOf, IsSearched, IsRefusal}
 use Rattle.std.proofs.lemmas.List.{length-map}
 use Rattle.htl_names.specs.declared.key.Key.{Key}
-use Rattle.htl_names.specs.declared.limits.Excess.{Excess}
 use Rattle.htl_names.specs.declared.key.Entry.{Entry}
 use Rattle.htl_names.specs.Entries.{entries}
-use Rattle.htl_names.specs.Excess.{IsFirstExcess}
 use Rattle.htl_names.specs.Flat.{symbols_of}
-use Rattle.htl_names.specs.Limits.{counts}
 use Rattle.htl_names.specs.declared.programs.Named.{Named}
 use Rattle.htl_names.specs.Named.{refined_at, AreRefined}
 use Rattle.htl_names.specs.Programs.{refined_by}
@@ -174,18 +171,6 @@ pub names_apart : (ps : List PlainProgram) (es : List Entry) → es ≡ entries 
 names_apart ps es are h =
     let r = subst EntriesAreApart are h in
     kept_next ps RepeatedName (none_below ps) (λ k f broken. r k broken.0 broken.1 broken.2)
-
-limits_told : (ps : List PlainProgram) (o : Option Excess) → IsFirstExcess (counts (symbols_of ps) ps) o → IsSearched ps Limits (λ (e : Excess). fault.Limit e.which e.count) o
-limits_told ps None h = λ k g broken. let over = broken.4 in let within = h k broken.0 broken.1 broken.2 broken.3 in omega (arith, over, within)
-limits_told ps (Some e) h = (
-  h.0,
-  (h.1, h.2, h.3, h.4, h.5, ap (λ w. fault.Limit w e.count) (let which : e.which ≡ suc h.0 = omega (arith, h.6) in which) ∙ ap (λ n. fault.Limit (suc h.0) n) h.7),
-  λ k g less broken. let over = broken.4 in let within = h.8 k broken.0 broken.1 less broken.2 broken.3 in omega (arith, over, within),
-)
-
-pub limits_searched : (ps : List PlainProgram) (symbols : List (Key × ℕ)) (o : Option Excess) → symbols ≡ symbols_of ps → IsFirstExcess (counts symbols ps) o
-    → IsSearched ps Limits (λ (e : Excess). fault.Limit e.which e.count) o
-limits_searched ps symbols o same h = limits_told ps o (subst (λ s. IsFirstExcess (counts s ps) o) same h)
 
 -- ---- the first value or number that is not of its kind, in the words of the rules
 

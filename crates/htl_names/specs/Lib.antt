@@ -1,6 +1,5 @@
 pub mod Conditions
 pub mod Entries
-pub mod Excess
 pub mod Flat
 pub mod Keys
 pub mod Kinds

@@ -10,7 +10,7 @@ ghost use Rattle.htl_names.specs.Rows.{rows as rows_in};
 ghost use Rattle.htl_names.specs.Told.{KeptBelow, IsRefusal, IsJudged};
 
 use crate::fault::NameFault;
-use crate::limits::{Excess, first_exceeded};
+use crate::limits::first_exceeded;
 use crate::order::layout_of;
 use crate::programs::{first_misplaced, namings_of};
 use crate::rows::Rows;
@@ -96,8 +96,8 @@ fn check_programs(
     if let Some(token) = first_orphan(rows.parents.as_slice(), symbols, table) {
         return Err(NameFault::Unknown { token });
     }
-    if let Some(Excess { which, count }) = first_exceeded(tree, symbols, table) {
-        return Err(NameFault::Limit { which, count });
+    if let Some(fault) = first_exceeded(tree, table) {
+        return Err(fault);
     }
     Ok(())
 }

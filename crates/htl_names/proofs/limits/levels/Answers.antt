@@ -7,4 +7,4 @@ use Rattle.htl_names.proofs.limits.levels.Goals as goal
 pub loop-p-preserved : goal.loop-p-preserved
 loop-p-preserved c =
     levels-step (level_by (refined_at c.args.named.now) (length c.args.named.now)) c.loop-p.p c.loop-p.most c.level.result c.max-most.result
-    c.loop-p.invariant c.level.ensures.value c.max-most.ensures
+    c.loop-p.invariant c.level.ensures c.max-most.ensures

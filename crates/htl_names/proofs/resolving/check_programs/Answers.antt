@@ -1,12 +1,11 @@
 use Rattle.std.proofs.Common.{◌≡◌, ◌∙◌, None, sym, ap, arith, subst, length, map, List}
 use Rattle.htl_text.specs.Nodes.{tree_of}
-use Rattle.htl_names.specs.declared.limits.Excess.{Excess}
 use Rattle.htl_names.specs.NameRules.{ProgramTree, ParentName, Limits}
 use Rattle.htl_names.specs.Told.{KeptBelow, IsSearched}
 use Rattle.htl_names.specs.Named.{AreRefined}
 use Rattle.htl_names.specs.Programs.{program_naming, naming_rows}
 use Rattle.htl_names.specs.Rows.{Rows, parent_use_of}
-use Rattle.htl_names.proofs.RuleLaws.{parents_searched, limits_searched, found, passed, all_right}
+use Rattle.htl_names.proofs.RuleLaws.{parents_searched, found, passed, all_right}
 use Rattle.htl_names.proofs.Walking.{length-map_at}
 use Rattle.htl_names.specs.declared.fault.NameFault.TheVariants as fault
 use Rattle.htl_names.proofs.resolving.check_programs.Goals as goal
@@ -38,8 +37,8 @@ parents_told c =
 parents_kept : (c : After-first_orphan) → KeptBelow (tree_of c.args.tree.now) 5 → c.first_orphan.result ≡ None → KeptBelow (tree_of c.args.tree.now) 6
 parents_kept c kept none = passed (tree_of c.args.tree.now) ParentName (λ t. fault.Unknown t) c.first_orphan.result kept (parents_told c) none
 
-limits_told : (c : After-first_exceeded) → IsSearched (tree_of c.args.tree.now) Limits (λ (e : Excess). fault.Limit e.which e.count) c.first_exceeded.result
-limits_told c = limits_searched (tree_of c.args.tree.now) c.args.symbols.now c.first_exceeded.result c.requires.symbols c.first_exceeded.ensures
+limits_told : (c : After-first_exceeded) → IsSearched (tree_of c.args.tree.now) Limits (λ f. f) c.first_exceeded.result
+limits_told c = c.first_exceeded.ensures
 
 -- ---- the answers
 
@@ -56,10 +55,10 @@ pub returns-in-Some-first_exceeded : goal.returns-in-Some-first_exceeded
 returns-in-Some-first_exceeded c =
     let at = goal.at.returns-in-Some-first_exceeded c in
     let kept = parents_kept at.After-first_orphan (tree_kept at.In_ok-misplaced c.in_default.is) c.in_default-first_orphan.is in
-    found (tree_of c.args.tree.now) Limits (λ (e : Excess). fault.Limit e.which e.count) c.first_exceeded.result c.in-Some-first_exceeded.field-0 kept (limits_told at.After-first_exceeded) c.in-Some-first_exceeded.is
+    found (tree_of c.args.tree.now) Limits (λ f. f) c.first_exceeded.result c.in-Some-first_exceeded.fault kept (limits_told at.After-first_exceeded) c.in-Some-first_exceeded.is
 
 pub returns : goal.returns
 returns c =
     let at = goal.at.returns c in
     let kept = parents_kept at.After-first_orphan (tree_kept at.In_ok-misplaced c.in_default.is) c.in_default-first_orphan.is in
-    all_right (tree_of c.args.tree.now) (passed (tree_of c.args.tree.now) Limits (λ (e : Excess). fault.Limit e.which e.count) c.first_exceeded.result kept (limits_told at.After-first_exceeded) c.in_default-first_exceeded.is)
+    all_right (tree_of c.args.tree.now) (passed (tree_of c.args.tree.now) Limits (λ f. f) c.first_exceeded.result kept (limits_told at.After-first_exceeded) c.in_default-first_exceeded.is)
