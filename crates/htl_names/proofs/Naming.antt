@@ -120,10 +120,6 @@ refined_below n q a (x ∷ xs) h e = let here = h.0 in let later = refined_below
 
 -- ---- steps of the search
 
-pub greatest-push : (x : ℕ) (xs : List ℕ) (y : ℕ) → greatest x (xs ++ y ∷ []) ≡ max (greatest x xs) y
-greatest-push x [] y = refl
-greatest-push x (z ∷ xs) y = greatest-push (max x z) xs y
-
 -- one level up
 pub level-step : (refined : ℕ → Option ModeAt) (n k p whole : ℕ) (a : ModeAt) → k < n → refined p ≡ Some a
     → k + level_by refined (n - k) p ≡ whole → k + 1 + level_by refined (n - (k + 1)) a.program ≡ whole
@@ -131,13 +127,6 @@ level-step refined n k p whole a within up going =
     let left : n - k ≡ suc (n - (k + 1)) = omega arith in
     let more = ap (λ (m : ℕ). level_by refined m p) left in
     grind arith
-
--- one program more
-pub levels-step : (f : ℕ → ℕ) (p most here next : ℕ) → most ≡ greatest 0 (list_to f p) → here ≡ f p → next ≡ max most here
-    → next ≡ greatest 0 (list_to f (p + 1))
-levels-step f p most here next so_far is new =
-    new ∙ ap (λ (x : ℕ). max x here) so_far ∙ ap (max (greatest 0 (list_to f p))) is ∙ sym (greatest-push 0 (list_to f p) (f p))
-    ∙ ap (λ (k : ℕ). greatest 0 (list_to f k)) (sym (add-one p))
 
 -- ---- the table agrees with the definition
 

@@ -21,7 +21,7 @@ use htl_text::{ModeNode, ModuleNode, Tree};
 // ---- counts of items, each of which stops at `usize::MAX`
 
 /// How many items modes have, and the most invocations in one mode.
-#[derive(Clone, Copy)]
+#[derive(Clone, Copy, Default)]
 struct ModeTally {
     ports: usize,
     invokes: usize,
@@ -30,13 +30,6 @@ struct ModeTally {
 }
 
 impl ModeTally {
-    const NONE: ModeTally = ModeTally {
-        ports: 0,
-        invokes: 0,
-        switches: 0,
-        most_invokes: 0,
-    };
-
     /// The tally with these modes too.
     fn with(self, modes: &[ModeNode]) -> ModeTally
         ensures { result ≡ fold with_mode self (map mode_of modes.now) }
@@ -54,7 +47,7 @@ impl ModeTally {
 }
 
 /// How many items modules have.
-#[derive(Clone, Copy)]
+#[derive(Clone, Copy, Default)]
 struct ModuleTally {
     modes: usize,
     tasks: usize,
@@ -78,7 +71,7 @@ impl ModuleTally {
 }
 
 /// How much a source has.
-#[derive(Clone, Copy)]
+#[derive(Clone, Copy, Default)]
 struct Tally {
     comms: usize,
     modules: usize,
@@ -88,23 +81,17 @@ struct Tally {
 fn tally_of(tree: &Tree) -> Tally
     ensures { result ≡ fold with_program no_tally (tree_of tree.now) }
 {
-    let none = Tally {
-        comms: 0,
-        modules: 0,
-        of_modules: ModuleTally {
-            modes: 0,
-            tasks: 0,
-            of_modes: ModeTally::NONE,
-        },
-    };
-    tree.programs.as_slice().iter().fold(none, |sum, program| {
-        let modules = program.modules.as_slice();
-        Tally {
-            comms: sum.comms.saturating_add(program.comms.as_slice().len()),
-            modules: sum.modules.saturating_add(modules.len()),
-            of_modules: sum.of_modules.with(modules),
-        }
-    })
+    tree.programs
+        .as_slice()
+        .iter()
+        .fold(Tally::default(), |sum, program| {
+            let modules = program.modules.as_slice();
+            Tally {
+                comms: sum.comms.saturating_add(program.comms.as_slice().len()),
+                modules: sum.modules.saturating_add(modules.len()),
+                of_modules: sum.of_modules.with(modules),
+            }
+        })
 }
 
 /// How many root selections there are, none without root modules: a selection takes a mode of each.
@@ -123,7 +110,11 @@ fn positions(modules: &[ModuleNode]) -> usize
     ensures { result ≡ fold placed 0 (map module_of modules.now) }
 {
     modules.iter().fold(0usize, |n, module| {
-        n.saturating_add(ModeTally::NONE.with(module.modes.as_slice()).most_invokes)
+        n.saturating_add(
+            ModeTally::default()
+                .with(module.modes.as_slice())
+                .most_invokes,
+        )
     })
 }
 

@@ -76,7 +76,7 @@ fn program_naming(
 // ---- how modes name programs
 
 /// How modes name a program.
-#[derive(Clone, Copy)]
+#[derive(Clone, Copy, Default)]
 pub(crate) struct Named {
     /// How many modes name it, counted up to 255.
     pub count: u8,
@@ -119,11 +119,7 @@ pub(crate) fn namings_of(
     ensures named { IfOk result (λ n. AreRefined symbols.now (tree_of tree.now) n.named.items) }
 {
     let programs = tree.programs.as_slice();
-    let unnamed = Named {
-        count: 0,
-        mode: None,
-    };
-    let mut named = vec![in alloc; unnamed; programs.len()]?;
+    let mut named = vec![in alloc; Named::default(); programs.len()]?;
     let mut rows = Vec::new(alloc);
     for k in 0..programs.len() {
         let row = program_naming(alloc, k, &programs[k], symbols)?;
