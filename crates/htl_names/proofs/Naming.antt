@@ -8,10 +8,11 @@ use Rattle.std.proofs.lemmas.Option.{slice_get_within, none-some, same_Some}
 use Rattle.htl_text.specs.Nodes.{PlainProgram, PlainMode}
 use Rattle.htl_names.specs.declared.key.Key.{Key}
 use Rattle.htl_names.specs.declared.place.ModeAt.{ModeAt}
+use Rattle.htl_names.specs.Flat.{symbols_of}
 use Rattle.htl_names.specs.Order.{mode_at}
 use Rattle.htl_names.specs.Programs.{named_program, links, targets, named_by, named_from, namings, Naming, mode_naming, module_naming, program_naming, naming, refined_in, refined_by, level_by, level, levels_by, levels}
 use Rattle.htl_names.specs.declared.programs.Named.{Named}
-use Rattle.htl_names.specs.Named.{refined_at, AreRefined}
+use Rattle.htl_names.specs.Named.{refined_at, AreNamed}
 use Rattle.htl_names.specs.Lists.{map_at}
 use Rattle.htl_names.proofs.Members.{In, Each, in_next, in_part_at, each_at, each_flat_map_at, each_weaker}
 use Rattle.htl_names.proofs.Places.{program_of_module, module_of_mode}
@@ -134,20 +135,20 @@ same_below : (n : ℕ) (f g : ℕ → ℕ) → ((k : ℕ) → k < n → f k ≡ 
 same_below zero f g h = refl
 same_below (suc n) f g h = let front = same_below n f g (λ k small. h k (omega (arith, small))) in let last = h n (omega arith) in cc
 
-module _ (symbols : List (Key × ℕ)) (ps : List PlainProgram) (table : List Named) (are : AreRefined symbols ps table) where
-  table-level : (n p : ℕ) → p < length ps → level_by (refined_at table) n p ≡ level (naming symbols ps) n p
+module _ (ps : List PlainProgram) (table : List Named) (are : AreNamed ps table) where
+  table-level : (n p : ℕ) → p < length ps → level_by (refined_at table) n p ≡ level (naming (symbols_of ps) ps) n p
   table-level zero p small = refl
-  table-level (suc n) p small = by (refined_by symbols ps p) refl (table-level n)
+  table-level (suc n) p small = by (refined_by (symbols_of ps) ps p) refl (table-level n)
     where
-      by : (o : Option ModeAt) → refined_by symbols ps p ≡ o → ((q : ℕ) → q < length ps → level_by (refined_at table) n q ≡ level (naming symbols ps) n q)
-          → level_by (refined_at table) (suc n) p ≡ level (naming symbols ps) (suc n) p
-      by None e later = let same = are.says p small in grind arith
+      by : (o : Option ModeAt) → refined_by (symbols_of ps) ps p ≡ o → ((q : ℕ) → q < length ps → level_by (refined_at table) n q ≡ level (naming (symbols_of ps) ps) n q)
+          → level_by (refined_at table) (suc n) p ≡ level (naming (symbols_of ps) ps) (suc n) p
+      by None e later = let same = ap (λ (n : Named). n.mode) (are.says p small) in grind arith
       by (Some a) e later =
-          let same = are.says p small in
-          let above = later a.program (refined_below (length ps) p a (naming symbols ps) (naming_below symbols ps) e) in
+          let same = ap (λ (n : Named). n.mode) (are.says p small) in
+          let above = later a.program (refined_below (length ps) p a (naming (symbols_of ps) ps) (naming_below (symbols_of ps) ps) e) in
           grind arith
 
-  pub table-levels : levels_by (refined_at table) (length table) ≡ levels symbols ps
+  pub table-levels : levels_by (refined_at table) (length table) ≡ levels (symbols_of ps) ps
   table-levels =
       ap (levels_by (refined_at table)) are.len
-      ∙ ap (greatest 0) (same_below (length ps) (level_by (refined_at table) (length ps)) (level (naming symbols ps) (length ps)) (table-level (length ps)))
+      ∙ ap (greatest 0) (same_below (length ps) (level_by (refined_at table) (length ps)) (level (naming (symbols_of ps) ps) (length ps)) (table-level (length ps)))

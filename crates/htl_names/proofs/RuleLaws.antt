@@ -16,7 +16,7 @@ use Rattle.htl_names.specs.declared.key.Entry.{Entry}
 use Rattle.htl_names.specs.Entries.{entries}
 use Rattle.htl_names.specs.Flat.{symbols_of}
 use Rattle.htl_names.specs.declared.programs.Named.{Named}
-use Rattle.htl_names.specs.Named.{refined_at, AreRefined}
+use Rattle.htl_names.specs.Named.{refined_at, AreNamed}
 use Rattle.htl_names.specs.Programs.{refined_by}
 use Rattle.htl_names.specs.Repeats.{EntriesAreApart, IsFirstRepeat, IsRepeat}
 use Rattle.htl_names.specs.Rows.{wrong_tokens}
@@ -243,13 +243,12 @@ parent_tells symbols ps refined (suc p) id is =
     by (Some n) token = λ e. cc
 
 pub parents_searched : (ps : List PlainProgram) (symbols : List (Key × ℕ)) (refined : List Named) (us : List ParentUse) (o : Option ℕ) → symbols ≡ symbols_of ps
-    → AreRefined symbols ps refined → us ≡ parents ps → o ≡ first_some (orphan_token symbols refined) us → IsSearched ps ParentName (λ t. fault.Unknown t) o
+    → AreNamed ps refined → us ≡ parents ps → o ≡ first_some (orphan_token symbols refined) us → IsSearched ps ParentName (λ t. fault.Unknown t) o
 parents_searched ps symbols refined us o same table are is =
     let names = symbols_of ps in
-    let there : AreRefined names ps refined = subst (λ s. AreRefined s ps refined) same table in
     subst (λ (x : Option ℕ). IsSearched ps ParentName (λ t. fault.Unknown t) x)
     (sym (is ∙ ap (λ s. first_some (orphan_token s refined) us) same ∙ ap (first_some (orphan_token names refined)) are))
     (first_bad (λ (u : ParentUse). IsOrphan names ps u.program u.id) (λ (u : ParentUse). u.id.token) (λ t. fault.Unknown t) (orphan_token names refined) (parents ps)
     (λ k u at.
     parent_tells names ps refined u.program u.id
-    (there.says u.program (each_at (λ (x : ParentUse). x.program < length ps) (parents ps) k u (parents_below ps) at))))
+    (ap (λ (n : Named). n.mode) (table.says u.program (each_at (λ (x : ParentUse). x.program < length ps) (parents ps) k u (parents_below ps) at)))))

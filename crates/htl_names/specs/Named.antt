@@ -1,9 +1,9 @@
 -- How modes name programs: of each program how many do, counted up to 255, and the first of them; and which are reached.
 use Rattle.std.specs.Prelude.{◌≡◌, ◌<◌, ◌+◌, ◌||◌, ℕ, zero, suc, Bool, not, eqb, ltb, false, true, min, List, length, get_or, slice_set, Option, Some, None}
 use Rattle.htl_text.specs.Nodes.{PlainProgram}
-use Rattle.htl_names.specs.declared.key.Key.{Key}
 use Rattle.htl_names.specs.declared.place.ModeAt.{ModeAt}
 use Rattle.htl_names.specs.declared.programs.Named.{Named}
+use Rattle.htl_names.specs.Flat.{symbols_of}
 use Rattle.htl_names.specs.Programs.{Graph, Naming, Reached, namings, refined_by}
 
 -- named by no mode
@@ -28,10 +28,9 @@ is_misplaced zero count is_reached = ltb 0 count
 is_misplaced (suc p) count is_reached = not (eqb count 1) || not is_reached
 
 -- the table has how many modes name each program, counted up to 255, and the mode that it refines
-pub record AreRefined (symbols : List (Key × ℕ)) (ps : List PlainProgram) (table : List Named) : Type 0 where
+pub record AreNamed (ps : List PlainProgram) (table : List Named) : Type 0 where
   pub len : length table ≡ length ps
-  pub counts : (p : ℕ) → p < length ps → min (get_or table p unnamed).count 255 ≡ min (namings symbols ps p) 255
-  pub says : (p : ℕ) → p < length ps → refined_at table p ≡ refined_by symbols ps p
+  pub says : (p : ℕ) → p < length ps → get_or table p unnamed ≡ record { count = min (namings (symbols_of ps) ps p) 255; mode = refined_by (symbols_of ps) ps p }
 
 -- the marks are at the programs that are reached, and only there
 pub record MarksReached (g : Graph) (seen : List Bool) : Type 0 where

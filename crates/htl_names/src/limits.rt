@@ -4,7 +4,7 @@ ghost use Rattle.htl_text.specs.Nodes.{mode_of, module_of, tree_of};
 ghost use Rattle.htl_names.specs.Flat.{symbols_of};
 ghost use Rattle.htl_names.specs.Limits.{counts, limits};
 ghost use Rattle.htl_names.specs.NameRules.{Limits};
-ghost use Rattle.htl_names.specs.Named.{refined_at, AreRefined};
+ghost use Rattle.htl_names.specs.Named.{refined_at, AreNamed};
 ghost use Rattle.htl_names.specs.Programs.{level_by, levels_by};
 ghost use Rattle.htl_names.specs.Tallies.{capped, with_mode, with_module, with_program, no_tally, selected, placed, IsTally};
 ghost use Rattle.htl_names.specs.Told.{IsSearched};
@@ -150,7 +150,7 @@ fn levels(named: &[Named]) -> usize
 /// What there is of the kind that a limit is set to, and the limit; the limits are counted from 0.
 fn count_and_limit(limit: u8, sum: &Tally, tree: &Tree, named: &[Named]) -> (usize, usize)
     requires counted { IsTally (tree_of tree.now) sum.now }
-    requires refined { AreRefined (symbols_of (tree_of tree.now)) (tree_of tree.now) named.now }
+    requires refined { AreNamed (tree_of tree.now) named.now }
     requires within { limit < 11 }
     ensures count { capped result.0 ≡ capped (get_or (counts (symbols_of (tree_of tree.now)) (tree_of tree.now)) limit 0) }
     ensures limit { result.1 ≡ get_or limits limit 0 }
@@ -174,7 +174,7 @@ fn count_and_limit(limit: u8, sum: &Tally, tree: &Tree, named: &[Named]) -> (usi
 /// The first limit that is exceeded. `named` has how modes name each program. Levels are counted only where the limits
 /// before theirs are kept, so that there are few programs from which to climb.
 pub(crate) fn first_exceeded(tree: &Tree, named: &[Named]) -> Option<NameFault>
-    requires { AreRefined (symbols_of (tree_of tree.now)) (tree_of tree.now) named.now }
+    requires { AreNamed (tree_of tree.now) named.now }
     ensures { IsSearched (tree_of tree.now) Limits (λ f. f) result }
 {
     let sum = tally_of(tree);

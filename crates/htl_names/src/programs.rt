@@ -3,7 +3,7 @@ ghost use Rattle.std.specs.Prelude.{◌≡◌, ◌++◌, OnOk, IfOk, length, map
 ghost use Rattle.htl_text.specs.Nodes.{mode_of, module_of, program_of, tree_of, PlainProgram};
 ghost use Rattle.htl_names.specs.Flat.{symbols_of};
 ghost use Rattle.htl_names.specs.NameRules.{ProgramTree};
-ghost use Rattle.htl_names.specs.Named.{noted, refined_at, is_misplaced, AreRefined, MarksReached};
+ghost use Rattle.htl_names.specs.Named.{noted, refined_at, is_misplaced, AreNamed, MarksReached};
 ghost use Rattle.htl_names.specs.Programs.{named_program as program_of_mode, module_naming, program_naming, naming_rows, targets};
 ghost use Rattle.htl_names.specs.Told.{IsSearched};
 ghost use Rattle.htl_names.specs.declared.fault.NameFault.TheVariants.{NotATree};
@@ -115,8 +115,9 @@ pub(crate) fn namings_of(
     tree: &Tree,
     symbols: &Symbols,
 ) -> Result<Namings, AllocError>
-    ensures rows { IfOk result (λ n. n.rows.items ≡ naming_rows symbols.now (tree_of tree.now)) }
-    ensures named { IfOk result (λ n. AreRefined symbols.now (tree_of tree.now) n.named.items) }
+    requires { symbols.now ≡ symbols_of (tree_of tree.now) }
+    ensures rows { IfOk result (λ n. n.rows.items ≡ naming_rows (symbols_of (tree_of tree.now)) (tree_of tree.now)) }
+    ensures named { IfOk result (λ n. AreNamed (tree_of tree.now) n.named.items) }
 {
     let programs = tree.programs.as_slice();
     let mut named = vec![in alloc; Named::default(); programs.len()]?;
@@ -164,7 +165,7 @@ pub(crate) fn first_misplaced(alloc: Global, namings: &Namings) -> Result<Option
     requires few { length namings.now.named.items ≤ 1048576 }
     requires even { length namings.now.rows.items ≡ length namings.now.named.items }
     ensures { (ps : List PlainProgram) → namings.now.rows.items ≡ naming_rows (symbols_of ps) ps
-        → AreRefined (symbols_of ps) ps namings.now.named.items
+        → AreNamed ps namings.now.named.items
         → IfOk result (λ o. IsSearched ps ProgramTree (λ p. NotATree p) o) }
 {
     let named = namings.named.as_slice();

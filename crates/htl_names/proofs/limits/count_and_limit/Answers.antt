@@ -15,7 +15,7 @@ count ps k = capped (get_or (counts (symbols_of ps) ps) k 0)
 pub returns-in-8-clause-count : goal.returns-in-8-clause-count
 returns-in-8-clause-count c =
     let ps = tree_of c.args.tree.now in
-    ap capped (c.levels.ensures ∙ table-levels (symbols_of ps) ps c.args.named.now c.requires.refined) ∙ sym (ap (count ps) c.in-8.is)
+    ap capped (c.levels.ensures ∙ table-levels ps c.args.named.now c.requires.refined) ∙ sym (ap (count ps) c.in-8.is)
 
 pub returns-in-9-clause-count : goal.returns-in-9-clause-count
 returns-in-9-clause-count c =

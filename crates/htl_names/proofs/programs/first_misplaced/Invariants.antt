@@ -1,11 +1,11 @@
 use Rattle.std.proofs.Common.{◌≡◌, ◌<◌, ℕ, List}
 use Rattle.htl_text.specs.Nodes.{PlainProgram}
 use Rattle.htl_names.specs.Flat.{symbols_of}
-use Rattle.htl_names.specs.Named.{AreRefined}
+use Rattle.htl_names.specs.Named.{AreNamed}
 use Rattle.htl_names.specs.Programs.{IsMisplaced, naming_rows}
 use Rattle.htl_names.proofs.programs.first_misplaced.Given as goal
 
 abbrev pub invariant-loop-p : goal.invariant-loop-p
 invariant-loop-p l =
-    (ps : List PlainProgram) → l.namings.rows.items ≡ naming_rows (symbols_of ps) ps → AreRefined (symbols_of ps) ps l.namings.named.items
+    (ps : List PlainProgram) → l.namings.rows.items ≡ naming_rows (symbols_of ps) ps → AreNamed ps l.namings.named.items
     → (q : ℕ) → q < l.p → IsMisplaced (symbols_of ps) ps q → ⊥

@@ -2,8 +2,9 @@ use Rattle.std.proofs.Common.{◌≡◌, ◌∙◌, None, sym, ap, arith, subst,
 use Rattle.htl_text.specs.Nodes.{tree_of}
 use Rattle.htl_names.specs.NameRules.{ProgramTree, ParentName, Limits}
 use Rattle.htl_names.specs.Told.{KeptBelow, IsSearched}
-use Rattle.htl_names.specs.Named.{AreRefined}
-use Rattle.htl_names.specs.Programs.{program_naming, naming_rows}
+use Rattle.htl_names.specs.Named.{AreNamed}
+use Rattle.htl_names.specs.Programs.{program_naming}
+use Rattle.htl_names.specs.Flat.{symbols_of}
 use Rattle.htl_names.specs.Rows.{Rows, parent_use_of}
 use Rattle.htl_names.proofs.RuleLaws.{parents_searched, found, passed, all_right}
 use Rattle.htl_names.proofs.Walking.{length-map_at}
@@ -13,15 +14,13 @@ use Rattle.htl_names.proofs.resolving.check_programs.Goals.{In_ok-misplaced, Aft
 
 pub first_misplaced-requires : goal.first_misplaced-requires
 first_misplaced-requires c =
-    let size = ap length c.in_ok-namings.ensures.rows ∙ length-map_at (program_naming c.args.symbols.now) 0 (tree_of c.args.tree.now) in
+    let size = ap length c.in_ok-namings.ensures.rows ∙ length-map_at (program_naming (symbols_of (tree_of c.args.tree.now))) 0 (tree_of c.args.tree.now) in
     record { few = omega (arith, c.in_ok-namings.ensures.named.len, c.requires.bounds.programs); even = omega (arith, size, c.in_ok-namings.ensures.named.len) }
 
 -- ---- what each of the three searches tells, and what is kept behind it
 
 tree_told : (c : In_ok-misplaced) → IsSearched (tree_of c.args.tree.now) ProgramTree (λ p. fault.NotATree p) c.in_ok-misplaced.misplaced
-tree_told c =
-    let ps = tree_of c.args.tree.now in
-    c.in_ok-misplaced.ensures ps (c.in_ok-namings.ensures.rows ∙ ap (λ s. naming_rows s ps) c.requires.symbols) (subst (λ s. AreRefined s ps c.in_ok-namings.namings.named.items) c.requires.symbols c.in_ok-namings.ensures.named)
+tree_told c = c.in_ok-misplaced.ensures (tree_of c.args.tree.now) c.in_ok-namings.ensures.rows c.in_ok-namings.ensures.named
 
 tree_kept : (c : In_ok-misplaced) → c.in_ok-misplaced.misplaced ≡ None → KeptBelow (tree_of c.args.tree.now) 5
 tree_kept c none = passed (tree_of c.args.tree.now) ProgramTree (λ p. fault.NotATree p) c.in_ok-misplaced.misplaced c.requires.kept (tree_told c) none
@@ -30,7 +29,7 @@ parents_told : (c : After-first_orphan) → IsSearched (tree_of c.args.tree.now)
 parents_told c =
     let ps = tree_of c.args.tree.now in
     let names = c.args.symbols.now in
-    let table = subst (AreRefined names ps) (sym c.as_slice-table.ensures.value) c.in_ok-namings.ensures.named in
+    let table = subst (AreNamed ps) (sym c.as_slice-table.ensures.value) c.in_ok-namings.ensures.named in
     let rows = ap (map parent_use_of) c.as_slice.ensures.value ∙ ap (λ (r : Rows). r.parents) (c.rows.view_is ∙ c.requires.rows) in
     parents_searched ps names c.as_slice-table.result.now (map parent_use_of c.as_slice.result.now) c.first_orphan.result c.requires.symbols table rows c.first_orphan.ensures
 
