@@ -19,7 +19,7 @@ use Rattle.htl_names.specs.Told.{IsKept, IsFirstOf}
 use Rattle.htl_names.specs.Flat.{symbols_of}
 use Rattle.htl_names.specs.Limits.{counts, selections, most_invokes, limits, choices, most_positions, plain_root_modules}
 use Rattle.htl_names.specs.Order.{modules_at}
-use Rattle.htl_names.specs.Tallies.{capped, no_modes, no_modules, no_tally, with_mode, with_module, with_program, chosen, selected, placed, IsTally}
+use Rattle.htl_names.specs.Tallies.{capped, no_modes, no_tally, with_mode, with_module, with_program, chosen, selected, placed, IsTally}
 
 -- ---- folds
 
@@ -75,13 +75,13 @@ pub tallied : (ps : List PlainProgram) (t : Tally) → t ≡ fold with_program n
 tallied ps t is =
     let us = modules_of ps in
     let modules = folded (λ (t : Tally). t.of_modules) with_program with_module (λ p. p.modules) (λ t p. refl) no_tally ps t is in
-    let modes = folded (λ (t : ModuleTally). t.of_modes) with_module with_mode (λ u. u.modes) (λ t u. refl) no_modules us t.of_modules modules in
+    let modes = folded (λ (t : ModuleTally). t.of_modes) with_module with_mode (λ u. u.modes) (λ t u. refl) no_tally.of_modules us t.of_modules modules in
     record {
       comms = counted (λ (t : Tally). t.comms) with_program (λ p. p.comms) (λ t p. refl) no_tally ps t is refl;
       modules = counted (λ (t : Tally). t.modules) with_program (λ p. p.modules) (λ t p. refl) no_tally ps t is refl;
-      modes = counted (λ (t : ModuleTally). t.modes) with_module (λ u. u.modes) (λ t u. refl) no_modules us t.of_modules modules refl;
+      modes = counted (λ (t : ModuleTally). t.modes) with_module (λ u. u.modes) (λ t u. refl) no_tally.of_modules us t.of_modules modules refl;
       ports = counted (λ (t : ModeTally). t.ports) with_mode (λ m. m.ports) (λ t m. refl) no_modes (modes_of us) t.of_modules.of_modes modes refl;
-      tasks = counted (λ (t : ModuleTally). t.tasks) with_module (λ u. u.tasks) (λ t u. refl) no_modules us t.of_modules modules refl;
+      tasks = counted (λ (t : ModuleTally). t.tasks) with_module (λ u. u.tasks) (λ t u. refl) no_tally.of_modules us t.of_modules modules refl;
       invokes = counted (λ (t : ModeTally). t.invokes) with_mode (λ m. m.invokes) (λ t m. refl) no_modes (modes_of us) t.of_modules.of_modes modes refl;
       switches = counted (λ (t : ModeTally). t.switches) with_mode (λ m. m.switches) (λ t m. refl) no_modes (modes_of us) t.of_modules.of_modes modes refl;
       most_invokes = ap (λ (t : ModeTally). capped t.most_invokes) modes ∙ ap capped (most_of_modes no_modes (modes_of us));

@@ -15,11 +15,8 @@ capped n = min n (2 ^ 64 - 1)
 abbrev pub no_modes : ModeTally
 no_modes = record { ports = 0; invokes = 0; switches = 0; most_invokes = 0 }
 
-abbrev pub no_modules : ModuleTally
-no_modules = record { modes = 0; tasks = 0; of_modes = no_modes }
-
 abbrev pub no_tally : Tally
-no_tally = record { comms = 0; modules = 0; of_modules = no_modules }
+no_tally = record { comms = 0; modules = 0; of_modules = record { modes = 0; tasks = 0; of_modes = no_modes } }
 
 abbrev pub with_mode : ModeTally → PlainMode → ModeTally
 with_mode t x =
