@@ -138,15 +138,11 @@ same_below (suc n) f g h = let front = same_below n f g (λ k small. h k (omega 
 module _ (ps : List PlainProgram) (table : List Named) (are : AreNamed ps table) where
   table-level : (n p : ℕ) → p < length ps → level_by (refined_at table) n p ≡ level (naming (symbols_of ps) ps) n p
   table-level zero p small = refl
-  table-level (suc n) p small = by (refined_by (symbols_of ps) ps p) refl (table-level n)
-    where
-      by : (o : Option ModeAt) → refined_by (symbols_of ps) ps p ≡ o → ((q : ℕ) → q < length ps → level_by (refined_at table) n q ≡ level (naming (symbols_of ps) ps) n q)
-          → level_by (refined_at table) (suc n) p ≡ level (naming (symbols_of ps) ps) (suc n) p
-      by None e later = let same = ap (λ (n : Named). n.mode) (are.says p small) in grind arith
-      by (Some a) e later =
-          let same = ap (λ (n : Named). n.mode) (are.says p small) in
-          let above = later a.program (refined_below (length ps) p a (naming (symbols_of ps) ps) (naming_below (symbols_of ps) ps) e) in
-          grind arith
+  table-level (suc n) p small =
+      let same = ap (λ (m : Named). m.mode) (are.says p small) in
+      let above = table-level n in
+      let below = λ (a : ModeAt). refined_below (length ps) p a (naming (symbols_of ps) ps) (naming_below (symbols_of ps) ps) in
+      grind arith
 
   pub table-levels : levels_by (refined_at table) (length table) ≡ levels (symbols_of ps) ps
   table-levels =
