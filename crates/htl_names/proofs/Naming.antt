@@ -119,16 +119,6 @@ refined_below : (n q : ℕ) (a : ModeAt) (xs : List Naming) → Each (λ (x : Na
 refined_below n q a [] h e = absurd (none-some {A = ModeAt} a e)
 refined_below n q a (x ∷ xs) h e = let here = h.0 in let later = refined_below n q a xs h.1 in grind arith
 
--- ---- steps of the search
-
--- one level up
-pub level-step : (refined : ℕ → Option ModeAt) (n k p whole : ℕ) (a : ModeAt) → k < n → refined p ≡ Some a
-    → k + level_by refined (n - k) p ≡ whole → k + 1 + level_by refined (n - (k + 1)) a.program ≡ whole
-level-step refined n k p whole a within up going =
-    let left : n - k ≡ suc (n - (k + 1)) = omega arith in
-    let more = ap (λ (m : ℕ). level_by refined m p) left in
-    grind arith
-
 -- ---- the table agrees with the definition
 
 same_below : (n : ℕ) (f g : ℕ → ℕ) → ((k : ℕ) → k < n → f k ≡ g k) → list_to f n ≡ list_to g n

@@ -33,17 +33,13 @@ or_refined None o = o
 abbrev named_after : Named → ℕ → List Naming → Named
 named_after n p xs = record { count = min (n.count + count_by (λ (x : Naming). eqb p x.1) xs) 255; mode = or_refined n.mode (refined_in p xs) }
 
-after_none : (n : Named) (p : ℕ) → n.count ≤ 255 → n ≡ named_after n p []
-after_none n p few = grind arith
-
-after_one : (n : Named) (p : ℕ) (x : Naming) (xs : List Naming) → named_after (cond (eqb x.1 p) (named_too x.0 n) n) p xs ≡ named_after n p (x ∷ xs)
-after_one n p x xs = let more = sum_by-cons (λ (y : Naming). cond (eqb p y.1) 1 0) x xs in grind (arith, nat_tests)
-
 all-get : (table : List Named) (xs : List Naming) (p : ℕ) → p < length table → (get_or table p unnamed).count ≤ 255 → get_or (fold noted table xs) p unnamed ≡ named_after (get_or table p unnamed) p xs
-all-get table [] p small few = after_none (get_or table p unnamed) p few
+all-get table [] p small few = let n = get_or table p unnamed in grind arith
 all-get table (x ∷ xs) p small few =
     let next = noted-get table x p small in
-    all-get (noted table x) xs p (grind (arith, common_steps)) (grind arith) ∙ ap (λ (n : Named). named_after n p xs) next ∙ after_one (get_or table p unnamed) p x xs
+    let rest = all-get (noted table x) xs p (grind (arith, common_steps)) (grind arith) in
+    let more = sum_by-cons (λ (y : Naming). cond (eqb p y.1) 1 0) x xs in
+    grind (arith, nat_tests)
 
 pub named_table : (ps : List PlainProgram) (table : List Named) → table ≡ fold noted (replicate (length ps) unnamed) (naming (symbols_of ps) ps) → AreNamed ps table
 named_table ps table is =

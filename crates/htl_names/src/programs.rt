@@ -28,10 +28,8 @@ pub(crate) type NamingRow = Seq<Naming>;
 pub(crate) fn named_program(mode: &ModeNode, symbols: &Symbols) -> Option<usize>
     ensures { result ≡ program_of_mode symbols.now (mode_of mode.now) }
 {
-    match &mode.program {
-        Some(id) => symbols.get(&Space::Programs.of(0, 0, 0).key(id.name)),
-        None => None,
-    }
+    let id = mode.program?;
+    symbols.get(&Space::Programs.of(0, 0, 0).key(id.name))
 }
 
 fn push_module_naming(
