@@ -81,28 +81,24 @@ struct Tally {
 fn tally_of(tree: &Tree) -> Tally
     ensures { result ≡ fold with_program no_tally (tree_of tree.now) }
 {
-    tree.programs
-        .as_slice()
-        .iter()
-        .fold(Tally::default(), |sum, program| {
-            let modules = program.modules.as_slice();
-            Tally {
-                comms: sum.comms.saturating_add(program.comms.as_slice().len()),
-                modules: sum.modules.saturating_add(modules.len()),
-                of_modules: sum.of_modules.with(modules),
-            }
-        })
+    let programs = tree.programs.as_slice();
+    programs.iter().fold(Tally::default(), |sum, program| {
+        let modules = program.modules.as_slice();
+        Tally {
+            comms: sum.comms.saturating_add(program.comms.as_slice().len()),
+            modules: sum.modules.saturating_add(modules.len()),
+            of_modules: sum.of_modules.with(modules),
+        }
+    })
 }
 
 /// How many root selections there are, none without root modules: a selection takes a mode of each.
 fn selections(modules: &[ModuleNode]) -> usize
     ensures { result ≡ selected (map module_of modules.now) }
 {
-    let start = modules.len().min(1);
-    modules.iter().fold(
-        start,
-        |n, module| n.saturating_mul(module.modes.as_slice().len()),
-    )
+    modules.iter().fold(modules.len().min(1), |n, module| {
+        n.saturating_mul(module.modes.as_slice().len())
+    })
 }
 
 /// The most positions that a root selection has.
@@ -110,11 +106,8 @@ fn positions(modules: &[ModuleNode]) -> usize
     ensures { result ≡ fold placed 0 (map module_of modules.now) }
 {
     modules.iter().fold(0usize, |n, module| {
-        n.saturating_add(
-            ModeTally::default()
-                .with(module.modes.as_slice())
-                .most_invokes,
-        )
+        let tally = ModeTally::default().with(module.modes.as_slice());
+        n.saturating_add(tally.most_invokes)
     })
 }
 
