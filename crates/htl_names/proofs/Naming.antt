@@ -1,7 +1,6 @@
 -- The modes that name programs, and the levels of programs by the table of refined modes.
 use Rattle.std.proofs.Common.{◌≡◌, ℕ, zero, suc, ◌≤◌, ◌<◌, Bool, true, cond, eqb, List, [], ◌∷◌, map, length, slice_get, Option, Some, None, refl, sym, ◌∙◌, ap, subst, arith, eqb-true, inl, inr, ◌+◌, ◌-◌, max, ◌++◌, add-one}
 use Rattle.std.specs.List.{flat_map, list_any, count_by}
-use Rattle.std.proofs.lemmas.Bool.{or_cases}
 use Rattle.std.proofs.lemmas.Bool.Decides.{nat_tests}
 use Rattle.std.proofs.lemmas.List.Sums.{sum_by-append, sum_by-cons}
 use Rattle.std.proofs.lemmas.Option.{slice_get_within, none-some, same_Some}
@@ -14,7 +13,9 @@ use Rattle.htl_names.specs.Programs.{named_program, links, targets, named_by, na
 use Rattle.htl_names.specs.declared.programs.Named.{Named}
 use Rattle.htl_names.specs.Named.{refined_at, AreNamed}
 use Rattle.htl_names.specs.Lists.{map_at}
-use Rattle.htl_names.proofs.Members.{In, Each, in_next, in_part_at, each_at, each_flat_map_at, each_weaker}
+use Rattle.htl_names.proofs.Members.{In, Each, in_part_at, each_at, each_flat_map_at, each_weaker}
+use Rattle.htl_names.proofs.FlatMaps.{of_map}
+use Rattle.htl_names.proofs.ListLaws.{place_found}
 use Rattle.htl_names.proofs.Places.{program_of_module, module_of_mode}
 use Rattle.htl_model.specs.Lists.{list_to}
 use Rattle.htl_model.specs.Tables.{greatest}
@@ -97,12 +98,10 @@ row_at symbols k (x ∷ ps) zero q n is h = (x, refl, ap (λ (m : ℕ). list_any
 row_at symbols k (x ∷ ps) (suc p) q n is h = row_at symbols (suc k) ps p q n (omega (arith, is)) h
 
 target_of : (q : ℕ) (row : List Naming) → list_any (eqb q) (targets row) ≡ true → (a : ModeAt) × In {A = Naming} (a, q) row
-target_of q [] e = cc
-target_of q (y ∷ row) e =
-    elim (or_cases (eqb q y.1) _ e) [
-      | inl is ↦ (y.0, (0, ap (λ (n : ℕ). Some (y.0, n)) (sym (eqb-true q y.1 is))))
-      | inr later ↦ let r = target_of q row later in (r.0, in_next y row r.1)
-    ]
+target_of q row e =
+    let found = place_found (eqb q) (targets row) e in
+    let from = of_map (λ (x : Naming). x.1) row _ found.0 found.1 in
+    (from.0.0, (_, from.1 ∙ ap (λ (n : ℕ). Some (from.0.0, n)) (from.2 ∙ sym (eqb-true q found.0 found.2))))
 
 -- what a program names, one of its modes names
 pub link_names : (symbols : List (Key × ℕ)) (ps : List PlainProgram) (p q : ℕ) → list_any (eqb q) (named_by (links symbols ps) p) ≡ true
