@@ -10,7 +10,6 @@ use Rattle.htl_text.specs.Nodes.{PlainProgram}
 use Rattle.htl_model.specs.Tables.{Tables}
 use Rattle.htl_names.specs.NameRules.{NameRule, RepeatedName, UnknownName, WrongKind, ProgramTree, ParentName, Limits, order_of, NameBroken, IsFirstNameFault, AreNamesRight, IsResolved}
 use Rattle.htl_names.specs.Told.{IsKept, KeptBelow, IsFirstOf, IsSearched, IsRefusal}
-use Rattle.std.proofs.lemmas.List.{length-map}
 use Rattle.htl_names.specs.declared.key.Key.{Key}
 use Rattle.htl_names.specs.declared.key.Entry.{Entry}
 use Rattle.htl_names.specs.Entries.{entries}

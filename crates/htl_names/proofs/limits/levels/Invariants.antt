@@ -2,7 +2,7 @@ use Rattle.std.proofs.Common.{◌≡◌, length, drop}
 use Rattle.htl_model.specs.Lists.{list_to}
 use Rattle.htl_model.specs.Tables.{greatest}
 use Rattle.htl_names.specs.Named.{refined_at}
-use Rattle.htl_names.specs.Programs.{level_by, levels_by}
+use Rattle.htl_names.specs.Programs.{level_by}
 use Rattle.htl_names.proofs.limits.levels.Given as goal
 
 abbrev pub invariant-loop-p : goal.invariant-loop-p

@@ -1,4 +1,4 @@
-use Rattle.std.proofs.Common.{◌≡◌, ◌∙◌, None, sym, ap, arith, subst, length, map, List}
+use Rattle.std.proofs.Common.{◌≡◌, ◌∙◌, None, sym, ap, arith, subst, length, map}
 use Rattle.htl_text.specs.Nodes.{tree_of}
 use Rattle.htl_names.specs.NameRules.{ProgramTree, ParentName, Limits}
 use Rattle.htl_names.specs.Told.{KeptBelow, IsSearched}
