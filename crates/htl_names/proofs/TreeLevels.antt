@@ -105,14 +105,11 @@ named_among : (q : ℕ) (xs : List Naming) → 0 < count_by (λ (x : Naming). eq
 named_among q [] h = absurd (let none : count_by (λ (x : Naming). eqb q x.1) [] ≡ 0 = refl in omega (arith, h, none))
 named_among q (x ∷ xs) h = let first = sum_by-cons (λ (y : Naming). cond (eqb q y.1) 1 0) x xs in grind (arith, named_among q xs)
 
-one_naming : (symbols : List (Key × ℕ)) (p u m : ℕ) (x : PlainMode) → length (mode_naming symbols p u m x) ≤ 1
-one_naming symbols p u m x = grind arith
-
 module _ (symbols : List (Key × ℕ)) (ps : List PlainProgram) where
   naming_length : length (naming symbols ps) ≤ length (modes_of (modules_of ps))
   naming_length =
       let one = flat_map_at_shorter (program_naming symbols) (λ (x : PlainProgram). flat_map (λ (y : PlainModule). y.modes) x.modules)
-      (λ p x. flat_map_at_shorter (module_naming symbols p) (λ (y : PlainModule). y.modes) (λ u y. flat_map_at_single (mode_naming symbols p u) (one_naming symbols p u) 0 y.modes) 0 x.modules) 0 ps in
+      (λ p x. flat_map_at_shorter (module_naming symbols p) (λ (y : PlainModule). y.modes) (λ u y. flat_map_at_single (mode_naming symbols p u) (λ m z. grind arith) 0 y.modes) 0 x.modules) 0 ps in
       let two = ap length (flat_map_flat_map (λ (y : PlainModule). y.modes) (λ (x : PlainProgram). x.modules) ps) in
       omega (arith, one, two)
 

@@ -10,14 +10,14 @@ use Rattle.htl_names.proofs.RuleLaws.{parents_searched, found, passed, all_right
 use Rattle.htl_names.proofs.Walking.{length-map_at}
 use Rattle.htl_names.specs.declared.fault.NameFault.TheVariants as fault
 use Rattle.htl_names.proofs.resolving.check_programs.Goals as goal
-use Rattle.htl_names.proofs.resolving.check_programs.Goals.{In_ok-misplaced, After-first_orphan, After-first_exceeded}
+use Rattle.htl_names.proofs.resolving.check_programs.Goals.{In_ok-misplaced, After-first_orphan}
 
 pub first_misplaced-requires : goal.first_misplaced-requires
 first_misplaced-requires c =
     let size = ap length c.in_ok-namings.ensures.rows ∙ length-map_at (program_naming (symbols_of (tree_of c.args.tree.now))) 0 (tree_of c.args.tree.now) in
     record { few = omega (arith, c.in_ok-namings.ensures.named.len, c.requires.bounds.programs); even = omega (arith, size, c.in_ok-namings.ensures.named.len) }
 
--- ---- what each of the three searches tells, and what is kept behind it
+-- ---- what the first two searches tell, and what is kept behind them
 
 tree_told : (c : In_ok-misplaced) → IsSearched (tree_of c.args.tree.now) ProgramTree (λ p. fault.NotATree p) c.in_ok-misplaced.misplaced
 tree_told c = c.in_ok-misplaced.ensures (tree_of c.args.tree.now) c.in_ok-namings.ensures.rows c.in_ok-namings.ensures.named
@@ -36,9 +36,6 @@ parents_told c =
 parents_kept : (c : After-first_orphan) → KeptBelow (tree_of c.args.tree.now) 5 → c.first_orphan.result ≡ None → KeptBelow (tree_of c.args.tree.now) 6
 parents_kept c kept none = passed (tree_of c.args.tree.now) ParentName (λ t. fault.Unknown t) c.first_orphan.result kept (parents_told c) none
 
-limits_told : (c : After-first_exceeded) → IsSearched (tree_of c.args.tree.now) Limits (λ f. f) c.first_exceeded.result
-limits_told c = c.first_exceeded.ensures
-
 -- ---- the answers
 
 pub returns-in-Some : goal.returns-in-Some
@@ -54,10 +51,10 @@ pub returns-in-Some-first_exceeded : goal.returns-in-Some-first_exceeded
 returns-in-Some-first_exceeded c =
     let at = goal.at.returns-in-Some-first_exceeded c in
     let kept = parents_kept at.After-first_orphan (tree_kept at.In_ok-misplaced c.in_default.is) c.in_default-first_orphan.is in
-    found (tree_of c.args.tree.now) Limits (λ f. f) c.first_exceeded.result c.in-Some-first_exceeded.fault kept (limits_told at.After-first_exceeded) c.in-Some-first_exceeded.is
+    found (tree_of c.args.tree.now) Limits (λ f. f) c.first_exceeded.result c.in-Some-first_exceeded.fault kept c.first_exceeded.ensures c.in-Some-first_exceeded.is
 
 pub returns : goal.returns
 returns c =
     let at = goal.at.returns c in
     let kept = parents_kept at.After-first_orphan (tree_kept at.In_ok-misplaced c.in_default.is) c.in_default-first_orphan.is in
-    all_right (tree_of c.args.tree.now) (passed (tree_of c.args.tree.now) Limits (λ f. f) c.first_exceeded.result kept (limits_told at.After-first_exceeded) c.in_default-first_exceeded.is)
+    all_right (tree_of c.args.tree.now) (passed (tree_of c.args.tree.now) Limits (λ f. f) c.first_exceeded.result kept c.first_exceeded.ensures c.in_default-first_exceeded.is)
