@@ -55,8 +55,6 @@ pub refined_one : (a : ModeAt) (q : ℕ) (xs : List Naming) (k : ℕ) → slice_
 refined_one a q [] k h c = absurd (none-some {A = Naming} (a, q) h)
 refined_one a q (x ∷ xs) zero h c =
     let same = same_Some x (a, q) h in
-    let mode = ap (λ (y : Naming). y.0) same in
-    let program = ap (λ (y : Naming). y.1) same in
     grind (arith, nat_tests)
 refined_one a q (x ∷ xs) (suc k) h c =
     let first = sum_by-cons (λ y. cond (names_it q y) 1 0) x xs in
@@ -75,14 +73,11 @@ refined_none q (x ∷ xs) h = let first = sum_by-cons (λ y. cond (names_it q y)
 row_programs : (symbols : List (Key × ℕ)) (p : ℕ) (x : PlainProgram) → Each (λ (y : Naming). y.0.program ≡ p) (program_naming symbols p x)
 row_programs symbols p x =
     each_flat_map_at P (module_naming symbols p) 0 x.modules (λ u i y is its.
-    each_flat_map_at P (mode_naming symbols p u) 0 y.modes (λ m j z at own. one u m (named_program symbols z)))
+    each_flat_map_at P (mode_naming symbols p u) 0 y.modes (λ m j z at own.
+    elim (named_program symbols z) as (λ o. Each P (named_from (place_of p u m) o)) [ Some q ↦ (refl, tt) | None ↦ tt ]))
   where
     P : Naming → Type 0
     P y = y.0.program ≡ p
-
-    one : (u m : ℕ) (o : Option ℕ) → Each P (named_from (place_of p u m) o)
-    one u m (Some q) = (refl, tt)
-    one u m None = tt
 
 -- a mode that names a program stands in a program of the source
 pub naming_below : (symbols : List (Key × ℕ)) (ps : List PlainProgram) → Each (λ (x : Naming). x.0.program < length ps) (naming symbols ps)
