@@ -19,13 +19,13 @@ use Rattle.htl_names.specs.Lists.{flat_map_at, place_in}
 use Rattle.htl_names.specs.Narrow.{refined_place}
 use Rattle.htl_names.specs.Nth.{nth_module, mode_in}
 use Rattle.htl_names.specs.Order.{modules_at, modes_at, modules_in, mode_kids, kids, below, order, module_at, mode_at, module_modes, mode_order}
-use Rattle.htl_names.specs.Programs.{named_program, refined_by}
+use Rattle.htl_names.specs.Programs.{named_program, naming, refined_by}
 use Rattle.htl_names.proofs.FlatMaps.{at_part, same_part, flat_map_is, most_in_part}
 use Rattle.htl_names.proofs.ListLaws.{flat_map_flat_map, flat_map_places}
 use Rattle.htl_names.proofs.ModulePlaces.{Exists, Comes, top, under, kid, comes}
 use Rattle.htl_names.proofs.Places.{program_of_module, within, modes_there}
 use Rattle.htl_names.proofs.TreeLevels.{IsTree, refined_at, root_unnamed, root_not_named}
-use Rattle.htl_names.proofs.Naming.{Names, refined_none}
+use Rattle.htl_names.proofs.Naming.{Names, in_naming, refined_none}
 
 -- where one item passes at most, it is the first
 place_is : {A : Type 0} (test : A → Bool) (xs : List A) (k : ℕ) (x : A) → count_by test xs ≤ 1 → slice_get xs k ≡ Some x → test x ≡ true → place_in test xs ≡ k
@@ -113,12 +113,12 @@ module _ (symbols : List (Key × ℕ)) (ps : List PlainProgram) (tree : IsTree s
   once zero k s less h = absurd (omega (arith, less))
   once (suc n) k s less (top u y its) =
       let some = within ps 0 u y its in
-      let few = all 0 u None some (refined_none symbols ps 0 (root_unnamed symbols ps tree some)) in
+      let few = all 0 u None some (refined_none 0 (naming symbols ps) (root_unnamed symbols ps tree some)) in
       omega (arith, few, sum_by-le (λ r. cond (is_over None r) 1 0) 0 (order symbols ps) (λ k d below. omega arith))
   once (suc n) k s less (under j t r lower there (kid m q u y names its)) =
       let before = once n j t (omega (arith, lower, less)) (comes symbols ps j t there) in
       let few = all q u (Some (mode_in t m)) (within ps q u y its) (refined_at symbols ps tree (mode_in t m) q (within ps q u y its) names) in
-      let no_root = ne_eqb 0 q (λ is. root_not_named symbols ps tree (omega (arith, within ps q u y its)) (mode_in t m) (subst (Names symbols ps (mode_in t m)) (sym is) names)) in
+      let no_root = ne_eqb 0 q (λ is. root_not_named symbols ps tree (omega (arith, within ps q u y its)) (mode_in t m) (in_naming symbols ps (mode_in t m) 0 (subst (Names symbols ps (mode_in t m)) (sym is) names))) in
       omega (arith, few, before, ap {B = ℕ} (λ b. cond b 1 0) no_root)
 
   pub order_number : (k : ℕ) (s : ModuleAt) → slice_get (order symbols ps) k ≡ Some s → place_in (is_module s.program s.«module») (order symbols ps) ≡ k

@@ -140,8 +140,15 @@ pub take_length : {A B : Type 0} (f : A → List B) (k : ℕ) (xs : List A) → 
 take_length f k xs = omega (arith, simp (flat_map-append, length-append) at (ap (λ l. length (flat_map f l)) (take-append-drop k xs)))
 
 -- at most as many from each item
-pub flat_map_shorter : {A B C : Type 0} (f : A → List B) (g : A → List C) → ((x : A) → length (f x) ≤ length (g x)) → (xs : List A) → length (flat_map f xs) ≤ length (flat_map g xs)
-flat_map_shorter f g le xs = omega (arith, length-flat_map f xs, length-flat_map g xs, sum_by-le-sum_by (λ x. length (f x)) (λ x. length (g x)) xs le)
+pub flat_map_at_shorter : {A B C : Type 0} (f : ℕ → A → List B) (g : A → List C) → ((k : ℕ) (x : A) → length (f k x) ≤ length (g x)) → (k : ℕ) (xs : List A)
+    → length (flat_map_at f k xs) ≤ length (flat_map g xs)
+flat_map_at_shorter f g le k [] = omega arith
+flat_map_at_shorter f g le k (x ∷ xs) =
+    omega (arith, length-append (f k x) (flat_map_at f (suc k) xs), length-append (g x) (flat_map g xs), le k x, flat_map_at_shorter f g le (suc k) xs)
+
+pub flat_map_at_single : {A B : Type 0} (f : ℕ → A → List B) → ((k : ℕ) (x : A) → length (f k x) ≤ 1) → (k : ℕ) (xs : List A) → length (flat_map_at f k xs) ≤ length xs
+flat_map_at_single f le k [] = omega arith
+flat_map_at_single f le k (x ∷ xs) = omega (arith, length-append (f k x) (flat_map_at f (suc k) xs), le k x, flat_map_at_single f le (suc k) xs)
 
 -- ---- parts that know nothing of their place
 

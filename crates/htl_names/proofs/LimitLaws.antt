@@ -1,7 +1,7 @@
 -- A tally has the lengths of the lists of items, and the loop over the limits finds the first that is exceeded.
-use Rattle.std.proofs.Common.{◌≡◌, ◌+◌, ◌*◌, ◌-◌, ◌^◌, ℕ, min, List, [], ◌∷◌, length, map, fold, refl, sym, ◌∙◌, ap, arith, mul_assoc, ◌≤◌, ◌<◌, suc, Some, sum, get_or, None, length-append}
+use Rattle.std.proofs.Common.{◌≡◌, ◌+◌, ◌*◌, ◌-◌, ◌^◌, ℕ, min, List, [], ◌∷◌, length, map, fold, refl, sym, ◌∙◌, ap, ap₂, arith, mul_assoc, ◌≤◌, ◌<◌, suc, sum, get_or, length-append}
 use Rattle.std.specs.List.{flat_map}
-use Rattle.std.proofs.Math.Nat.{one-mul, zero-add}
+use Rattle.std.proofs.Math.Nat.{one-mul}
 use Rattle.std.proofs.lemmas.Grind.{fold-append}
 use Rattle.std.proofs.lemmas.List.Sums.{sum_by-cons}
 use Rattle.std.proofs.lemmas.Option.{get_or_from_slice_get, slice_get_within, slice_get-get_or}
@@ -11,12 +11,15 @@ use Rattle.htl_text.specs.Bounds.{modules_of, modes_of}
 use Rattle.htl_text.specs.Nodes.{PlainProgram, PlainModule, PlainMode}
 use Rattle.htl_names.specs.declared.limits.ModeTally.{ModeTally}
 use Rattle.htl_names.specs.declared.limits.ModuleTally.{ModuleTally}
-use Rattle.htl_names.specs.declared.limits.RootTally.{RootTally}
 use Rattle.htl_names.specs.declared.limits.Tally.{Tally}
-use Rattle.htl_names.specs.Excess.{AreWithin, IsFirstExcess}
-use Rattle.htl_names.specs.Limits.{most_invokes, limits, choices, most_positions, plain_root_modules}
+use Rattle.htl_names.specs.declared.fault.NameFault.{NameFault}
+use Rattle.htl_names.specs.declared.fault.NameFault.TheVariants as fault
+use Rattle.htl_names.specs.NameRules.{Limits, NameBroken}
+use Rattle.htl_names.specs.Told.{IsKept, IsFirstOf}
+use Rattle.htl_names.specs.Flat.{symbols_of}
+use Rattle.htl_names.specs.Limits.{counts, most_invokes, limits, choices, plain_root_modules}
 use Rattle.htl_names.specs.Order.{modules_at}
-use Rattle.htl_names.specs.Tallies.{capped, no_modes, no_modules, no_tally, with_mode, with_module, with_program, with_root, root_tally, IsTally}
+use Rattle.htl_names.specs.Tallies.{capped, no_modes, no_tally, with_mode, with_module, with_program, chosen, selected, placed, IsTally}
 
 -- ---- folds
 
@@ -44,23 +47,16 @@ most_of_modes t (x ∷ xs) = most_of_modes (with_mode t x) xs
 
 -- ---- root selections
 
-chosen : (t : RootTally) (xs : List PlainModule) → capped (fold with_root t xs).selections ≡ capped (t.selections * choices xs)
-chosen t [] = omega arith
-chosen t (x ∷ xs) =
-    chosen (with_root t x) xs ∙ product_capped (t.selections * length x.modes) (2 ^ 64 - 1) (choices xs)
-    ∙ ap capped (mul_assoc t.selections (length x.modes) (choices xs))
+chosen_all : (n : ℕ) (xs : List PlainModule) → capped (fold chosen n xs) ≡ capped (n * choices xs)
+chosen_all n [] = omega arith
+chosen_all n (x ∷ xs) =
+    chosen_all (chosen n x) xs ∙ product_capped (n * length x.modes) (2 ^ 64 - 1) (choices xs) ∙ ap capped (mul_assoc n (length x.modes) (choices xs))
 
-placed : (t : RootTally) (xs : List PlainModule) → capped (fold with_root t xs).positions ≡ capped (t.positions + sum (map (λ (x : PlainModule). most_invokes x.modes) xs))
-placed t [] = omega arith
-placed t (x ∷ xs) =
-    let all = sum_by-cons (λ (n : ℕ). n) (most_invokes x.modes) (map (λ (y : PlainModule). most_invokes y.modes) xs) in
-    omega (arith, placed (with_root t x) xs, most_of_modes no_modes x.modes, all)
-
--- ---- the tally of a tree
-
-rooted : (t : Tally) (ps : List PlainProgram) → (fold with_program t ps).of_root ≡ t.of_root
-rooted t [] = refl
-rooted t (x ∷ ps) = rooted (with_program t x) ps
+pub placed_all : (n : ℕ) (xs : List PlainModule) → capped (fold placed n xs) ≡ capped (n + sum (map (λ (x : PlainModule). most_invokes x.modes) xs))
+placed_all n [] = omega arith
+placed_all n (x ∷ xs) =
+    let all = sum_by-cons (λ (m : ℕ). m) (most_invokes x.modes) (map (λ (y : PlainModule). most_invokes y.modes) xs) in
+    omega (arith, placed_all (placed n x) xs, most_of_modes no_modes x.modes, all)
 
 pub root_modules_are : (ps : List PlainProgram) → modules_at ps 0 ≡ plain_root_modules ps
 root_modules_are [] = refl
@@ -70,37 +66,43 @@ some_chosen : (xs : List PlainModule) → min (length xs) 1 * choices xs ≡ eli
 some_chosen [] = refl
 some_chosen (x ∷ xs) = let one : min (suc (length xs)) 1 ≡ 1 = omega arith in ap (λ (n : ℕ). n * choices (x ∷ xs)) one ∙ one-mul (choices (x ∷ xs))
 
-pub tallied : (ps : List PlainProgram) (root : RootTally) (t : Tally) → root ≡ root_tally (modules_at ps 0) → t ≡ fold with_program (no_tally root) ps → IsTally ps t
-tallied ps root t of_root is =
+pub selected_all : (xs : List PlainModule) → capped (selected xs) ≡ capped (elim xs [ [] ↦ 0 | y ∷ ys ↦ choices (y ∷ ys) ])
+selected_all xs = chosen_all (min (length xs) 1) xs ∙ ap capped (some_chosen xs)
+
+-- ---- the tally of a tree
+
+pub tallied : (ps : List PlainProgram) (t : Tally) → t ≡ fold with_program no_tally ps → IsTally ps t
+tallied ps t is =
     let us = modules_of ps in
-    let rs = plain_root_modules ps in
-    let modules = folded (λ (t : Tally). t.of_modules) with_program with_module (λ p. p.modules) (λ t p. refl) (no_tally root) ps t is in
-    let modes = folded (λ (t : ModuleTally). t.of_modes) with_module with_mode (λ u. u.modes) (λ t u. refl) no_modules us t.of_modules modules in
-    let roots = ap (λ (t : Tally). t.of_root) is ∙ rooted (no_tally root) ps ∙ of_root ∙ ap root_tally (root_modules_are ps) in
+    let modules = folded (λ (t : Tally). t.of_modules) with_program with_module (λ p. p.modules) (λ t p. refl) no_tally ps t is in
+    let modes = folded (λ (t : ModuleTally). t.of_modes) with_module with_mode (λ u. u.modes) (λ t u. refl) no_tally.of_modules us t.of_modules modules in
     record {
-      comms = counted (λ (t : Tally). t.comms) with_program (λ p. p.comms) (λ t p. refl) (no_tally root) ps t is refl;
-      modules = counted (λ (t : Tally). t.modules) with_program (λ p. p.modules) (λ t p. refl) (no_tally root) ps t is refl;
-      modes = counted (λ (t : ModuleTally). t.modes) with_module (λ u. u.modes) (λ t u. refl) no_modules us t.of_modules modules refl;
+      comms = counted (λ (t : Tally). t.comms) with_program (λ p. p.comms) (λ t p. refl) no_tally ps t is refl;
+      modules = counted (λ (t : Tally). t.modules) with_program (λ p. p.modules) (λ t p. refl) no_tally ps t is refl;
+      modes = counted (λ (t : ModuleTally). t.modes) with_module (λ u. u.modes) (λ t u. refl) no_tally.of_modules us t.of_modules modules refl;
       ports = counted (λ (t : ModeTally). t.ports) with_mode (λ m. m.ports) (λ t m. refl) no_modes (modes_of us) t.of_modules.of_modes modes refl;
-      tasks = counted (λ (t : ModuleTally). t.tasks) with_module (λ u. u.tasks) (λ t u. refl) no_modules us t.of_modules modules refl;
+      tasks = counted (λ (t : ModuleTally). t.tasks) with_module (λ u. u.tasks) (λ t u. refl) no_tally.of_modules us t.of_modules modules refl;
       invokes = counted (λ (t : ModeTally). t.invokes) with_mode (λ m. m.invokes) (λ t m. refl) no_modes (modes_of us) t.of_modules.of_modes modes refl;
       switches = counted (λ (t : ModeTally). t.switches) with_mode (λ m. m.switches) (λ t m. refl) no_modes (modes_of us) t.of_modules.of_modes modes refl;
       most_invokes = ap (λ (t : ModeTally). capped t.most_invokes) modes ∙ ap capped (most_of_modes no_modes (modes_of us));
-      selections = ap (λ (r : RootTally). capped r.selections) roots ∙ chosen _ rs ∙ ap capped (some_chosen rs);
-      positions = ap (λ (r : RootTally). capped r.positions) roots ∙ placed _ rs ∙ ap capped (zero-add (most_positions ps));
     }
 
 -- ---- the first limit that is exceeded
 
 -- the counts before place n are within their limits
-module _ (cs : List ℕ) (n : ℕ) (before : (k : ℕ) → k < n → get_or cs k 0 ≤ get_or limits k 0) where
-  all_within : AreWithin cs n
-  all_within k c m below p q = omega (arith, before k below, get_or_from_slice_get cs k c 0 p, get_or_from_slice_get limits k m 0 q)
+module _ (ps : List PlainProgram) (n : ℕ) (before : (k : ℕ) → k < n → get_or (counts (symbols_of ps) ps) k 0 ≤ get_or limits k 0) where
+  none_before : (k : ℕ) (f : NameFault) → k < n → NameBroken ps Limits k f → ⊥
+  none_before k f below broken =
+      let over = broken.4 in
+      omega (arith, over, before k below, get_or_from_slice_get (counts (symbols_of ps) ps) k broken.0 0 broken.2, get_or_from_slice_get limits k broken.1 0 broken.3)
 
-  pub none_exceeded : length cs ≤ n → IsFirstExcess cs None
-  none_exceeded past k c m p q = all_within k c m (let inside = slice_get_within cs k c p in omega (arith, inside, past)) p q
+  pub none_exceeded : 11 ≤ n → IsKept ps Limits
+  none_exceeded past k f broken = none_before k f (omega (arith, past, slice_get_within limits k broken.1 broken.3)) broken
 
-  pub exceeded : n < length cs → n < length limits → (count limit told : ℕ) → capped count ≡ capped (get_or cs n 0) → limit ≡ get_or limits n 0 → limit ≤ 4096 → limit < count → told ≡ min count (2 ^ 32 - 1)
-      → IsFirstExcess cs (Some (record { which = n + 1; count = told }))
-  exceeded inside in_limits count limit told counted is small over same =
-      (n, get_or cs n 0, get_or limits n 0, slice_get-get_or cs n 0 inside, slice_get-get_or limits n 0 in_limits, omega arith, omega arith, omega arith, all_within)
+  pub exceeded : n < 11 → (count limit told : ℕ) → capped count ≡ capped (get_or (counts (symbols_of ps) ps) n 0) → limit ≡ get_or limits n 0 → limit ≤ 4096 → limit < count → told ≡ min count (2 ^ 32 - 1)
+      → IsFirstOf ps Limits (fault.Limit (n + 1) told)
+  exceeded inside count limit told counted is small over same =
+      let cs = counts (symbols_of ps) ps in
+      let which : n + 1 ≡ suc n = omega arith in
+      let what : told ≡ min (get_or cs n 0) (2 ^ 32 - 1) = omega arith in
+      (n, (get_or cs n 0, get_or limits n 0, slice_get-get_or cs n 0 inside, slice_get-get_or limits n 0 inside, omega arith, ap₂ fault.Limit which what), none_before)

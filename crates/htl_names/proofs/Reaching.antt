@@ -1,20 +1,16 @@
 -- The search for the programs that are reached: which are marked, and which wait.
-use Rattle.std.proofs.Common.{◌≡◌, ◌<◌, ◌+◌, ◌⊎◌, ℕ, zero, suc, Bool, true, false, cond, List, [], ◌∷◌, ◌++◌, length, get_or, replicate, sym, ◌∙◌, ap, subst, arith}
+use Rattle.std.proofs.Common.{◌≡◌, ◌<◌, ◌+◌, ◌⊎◌, ℕ, zero, suc, Bool, true, false, cond, List, [], ◌∷◌, ◌++◌, length, map, get_or, replicate, sym, ◌∙◌, ap, arith}
 use Rattle.std.proofs.Math.ListN.{set}
 use Rattle.std.proofs.lemmas.Bool.Decides.{nat_tests}
 use Rattle.std.proofs.lemmas.Grind.{common_steps}
 use Rattle.std.proofs.lemmas.List.{get_or-map, length-map}
 use Rattle.htl_names.proofs.ListLaws.{is_among}
-use Rattle.htl_names.specs.Graph.{targets, graph_by, MarksReached}
-use Rattle.htl_names.specs.Programs.{Graph, Naming, named_by, Reached, root, below}
+use Rattle.htl_names.specs.Named.{MarksReached}
+use Rattle.htl_names.specs.Programs.{Graph, Naming, targets, named_by, Reached, root, below}
 
--- marked, or no program
-abbrev is_done : List Bool → ℕ → Bool
-is_done seen q = get_or seen q true
-
--- done, or waits
+-- marked or no program, or waits
 abbrev pub Covered : List Bool → List ℕ → ℕ → Type 0
-Covered seen waiting q = (is_done seen q ≡ true) ⊎ (is_among waiting q ≡ true)
+Covered seen waiting q = (get_or seen q true ≡ true) ⊎ (is_among waiting q ≡ true)
 
 -- what is marked or waits is reached, and what a marked program names is done or waits
 pub record Searches (g : Graph) (seen : List Bool) (waiting : List ℕ) : Type 0 where
@@ -32,31 +28,17 @@ owed (b ∷ seen) (r ∷ g) = cond b 0 (length r) + owed seen g
 
 -- ---- the start
 
-unmarked : (n p : ℕ) → get_or (replicate n false) p false ≡ false
-unmarked n p = grind (arith, common_steps)
-
 pub search_start : (g : Graph) (seen : List Bool) (waiting : List ℕ) → seen ≡ replicate (length g) false → waiting ≡ 0 ∷ [] → Searches g seen waiting
 search_start g seen waiting free alone =
     record {
       len = grind (arith, common_steps);
-      says = λ p h. let none = unmarked (length g) p in grind (arith, common_steps);
+      says = λ p h. grind (arith, common_steps);
       waits = λ p h. grind (arith, common_steps, nat_tests, root);
       first = grind (arith, common_steps, nat_tests);
-      closed = λ p q h n. let none = unmarked (length g) p in grind (arith, common_steps);
+      closed = λ p q h n. grind (arith, common_steps);
     }
 
 -- ---- a program is taken off the list, is marked, and what it names waits
-
-marked : (g : Graph) (seen : List Bool) (rest : List ℕ) (p : ℕ) → p < length seen → Searches g seen (rest ++ p ∷ []) → Searches g (set seen p true) (rest ++ named_by g p)
-marked g seen rest p small s =
-    let here : Reached g p = s.waits p (grind (arith, common_steps, nat_tests)) in
-    record {
-      len = grind (arith, common_steps);
-      says = λ q h. grind (arith, common_steps, nat_tests);
-      waits = λ q h. grind (arith, common_steps, nat_tests, below);
-      first = grind (arith, common_steps, nat_tests, s.first);
-      closed = λ a q h n. let old = s.closed a q in grind (arith, common_steps, nat_tests);
-    }
 
 -- what a program that isn't marked names is owed no longer once it is
 owed-set : (seen : List Bool) (g : Graph) (p : ℕ) → p < length seen → length seen ≡ length g → get_or seen p false ≡ false
@@ -68,38 +50,36 @@ owed-set (b ∷ seen) (r ∷ g) (suc p) small len free = grind (arith, owed-set 
 
 -- the next that waits is not marked: it is, and what its row names waits, which is less to do
 pub search_asked : (rows : List (List Naming)) (seen : List Bool) (old rest new : List ℕ) (p : ℕ) (row : List Naming) → p < length seen → row ≡ get_or rows p row
-    → get_or seen p false ≡ false → old ≡ rest ++ p ∷ [] → new ≡ rest ++ targets row → Searches (graph_by rows) seen old
-    → Searches (graph_by rows) (set seen p true) new × (owed (set seen p true) (graph_by rows) + length new < owed seen (graph_by rows) + length old)
+    → get_or seen p false ≡ false → old ≡ rest ++ p ∷ [] → new ≡ rest ++ targets row → Searches (map targets rows) seen old
+    → Searches (map targets rows) (set seen p true) new × (owed (set seen p true) (map targets rows) + length new < owed seen (map targets rows) + length old)
 search_asked rows seen old rest new p row small is free was grew s =
-    let g = graph_by rows in
+    let g = map targets rows in
     let len = s.len in
     let size = length-map rows targets in
     let names : targets row ≡ named_by g p = ap targets is ∙ sym (get_or-map targets rows p row [] (omega (arith, small, len, size))) in
     let owes = owed-set seen g p small len free in
-    let more = length-map row (λ (x : Naming). x.1) in (
-      subst (Searches g (set seen p true)) (sym (grew ∙ ap (λ qs. rest ++ qs) names)) (marked g seen rest p small (subst (Searches g seen) was s)),
+    let more = length-map row (λ (x : Naming). x.1) in
+    let here : Reached g p = s.waits p (grind (arith, common_steps, nat_tests)) in (
+      record {
+        len = grind (arith, common_steps);
+        says = λ q h. grind (arith, common_steps, nat_tests);
+        waits = λ q h. grind (arith, common_steps, nat_tests, below);
+        first = grind (arith, common_steps, nat_tests, s.first);
+        closed = λ a q h n. let old = s.closed a q in grind (arith, common_steps, nat_tests);
+      },
       grind (arith, common_steps),
     )
 
 -- ---- nothing waits
 
--- what names a program is one
-named_small : (g : Graph) (p q : ℕ) → is_among (named_by g p) q ≡ true → p < length g
-named_small g p q h = grind (arith, common_steps)
-
-search_complete : (g : Graph) (seen : List Bool) → Searches g seen [] → (p : ℕ) → Reached g p → is_done seen p ≡ true
+search_complete : (g : Graph) (seen : List Bool) → Searches g seen [] → (p : ℕ) → Reached g p → get_or seen p true ≡ true
 search_complete g seen s _ root = grind (arith, s.first)
 search_complete g seen s _ (below p q r named) =
-    let small = named_small g p q named in
+    let small : p < length g = grind (arith, common_steps) in
     let up = search_complete g seen s p r in
     let more = s.closed p q in
     grind (arith, common_steps)
 
 pub marks_reached : (g : Graph) (seen : List Bool) (waiting : List ℕ) → length waiting ≡ 0 → Searches g seen waiting → MarksReached g seen
 marks_reached g seen (p ∷ waiting) none s = absurd (omega (arith, none))
-marks_reached g seen [] none s =
-    record {
-      len = s.len;
-      says = λ p small h. s.says p h;
-      marks = λ p small r. let done = search_complete g seen s p r in grind (arith, common_steps);
-    }
+marks_reached g seen [] none s = record { len = s.len; says = s.says; marks = search_complete g seen s }

@@ -9,17 +9,13 @@ use Rattle.std.specs.Result.{IsErrAnd}
 use Rattle.htl_text.specs.Nodes.{PlainProgram}
 use Rattle.htl_names.specs.NameRules.{NameRule, RepeatedName, UnknownName, WrongKind, ProgramTree, ParentName, Limits, order_of, NameBroken, IsFirstNameFault, AreNamesRight, IsResolved}
 use Rattle.htl_names.specs.Told.{IsKept, KeptBelow, IsFirstOf, IsSearched, IsRefusal}
-use Rattle.std.proofs.lemmas.List.{length-map}
 use Rattle.htl_names.specs.declared.key.Key.{Key}
-use Rattle.htl_names.specs.declared.limits.Excess.{Excess}
 use Rattle.htl_names.specs.declared.key.Entry.{Entry}
 use Rattle.htl_names.specs.Entries.{entries}
-use Rattle.htl_names.specs.Excess.{IsFirstExcess}
 use Rattle.htl_names.specs.Flat.{symbols_of}
-use Rattle.htl_names.specs.Limits.{counts}
 use Rattle.htl_names.specs.declared.programs.Named.{Named}
-use Rattle.htl_names.specs.Named.{refined_at, AreRefined}
-use Rattle.htl_names.specs.Programs.{IsFirstMisplaced, links, program_links, refined_by}
+use Rattle.htl_names.specs.Named.{refined_at, AreNamed}
+use Rattle.htl_names.specs.Programs.{refined_by}
 use Rattle.htl_names.specs.Repeats.{EntriesAreApart, IsRepeat}
 use Rattle.htl_names.specs.Rows.{wrong_of, wrong_tokens}
 use Rattle.htl_names.specs.Kinds.{Judged, kinds, token_of, is_kind, IsWrongKind, wrong_token}
@@ -131,22 +127,6 @@ names_apart ps es are h =
     let r = subst EntriesAreApart are h in
     kept_next ps RepeatedName (none_below ps) (λ k f broken. r k broken.0 (slice_get_within (entries ps) k broken.0 broken.1) broken.1 broken.2)
 
-pub tree_searched : (ps : List PlainProgram) (o : Option ℕ) → IsFirstMisplaced (links (symbols_of ps) ps) o → IsSearched ps ProgramTree (λ p. fault.NotATree p) o
-tree_searched ps None none = λ k f broken. none k (let within = broken.0 in omega (arith, within, length-map ps (program_links (symbols_of ps)))) broken.1
-tree_searched ps (Some p) first = (
-  p,
-  (let within = first.0 in omega (arith, within, length-map ps (program_links (symbols_of ps))), first.1, refl),
-  λ k g less broken. first.2 k less broken.1,
-)
-
-pub limits_searched : (ps : List PlainProgram) (o : Option Excess) → IsFirstExcess (counts (symbols_of ps) ps) o → IsSearched ps Limits (λ (e : Excess). fault.Limit e.which e.count) o
-limits_searched ps None h = λ k g broken. let over = broken.4 in let within = h k broken.0 broken.1 broken.2 broken.3 in omega (arith, over, within)
-limits_searched ps (Some e) h = (
-  h.0,
-  (h.1, h.2, h.3, h.4, h.5, ap (λ w. fault.Limit w e.count) (let which : e.which ≡ suc h.0 = omega (arith, h.6) in which) ∙ ap (λ n. fault.Limit (suc h.0) n) h.7),
-  λ k g less broken. let over = broken.4 in let within = h.8 k broken.0 broken.1 less broken.2 broken.3 in omega (arith, over, within),
-)
-
 -- ---- the first value or number that is not of its kind, in the words of the rules
 
 kind_tells : (kind : Bool) (token : ℕ) → MatchOption (cond kind None (Some token)) (kind ≡ false → ⊥) (λ t. (kind ≡ false) × (t ≡ token))
@@ -211,7 +191,7 @@ parent_tells symbols ps refined (suc p) id is =
     by None token = (refl, refl)
     by (Some n) token = λ e. cc
 
-pub parents_searched : (ps : List PlainProgram) (refined : List Named) (o : Option ℕ) → AreRefined (symbols_of ps) ps refined
+pub parents_searched : (ps : List PlainProgram) (refined : List Named) (o : Option ℕ) → AreNamed ps refined
     → o ≡ first_some (orphan_token (symbols_of ps) refined) (parents ps) → IsSearched ps ParentName (λ t. fault.Unknown t) o
 parents_searched ps refined o table is =
     let names = symbols_of ps in
@@ -219,4 +199,4 @@ parents_searched ps refined o table is =
     (first_bad (λ (u : ParentUse). IsOrphan names ps u.program u.id) (λ (u : ParentUse). u.id.token) (λ t. fault.Unknown t) (orphan_token names refined) (parents ps)
     (λ k u at.
     parent_tells names ps refined u.program u.id
-    (table.says u.program (each_at (λ (x : ParentUse). x.program < length ps) (parents ps) k u (parents_below ps) at))))
+    (ap (λ (n : Named). n.mode) (table.says u.program (each_at (λ (x : ParentUse). x.program < length ps) (parents ps) k u (parents_below ps) at)))))

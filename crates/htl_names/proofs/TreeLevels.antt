@@ -1,5 +1,5 @@
 -- A tree of programs: its levels, how many programs it has, and the table of refined modes.
-use Rattle.std.proofs.Common.{get_or, ◌≡◌, ℕ, zero, suc, ◌+◌, ◌≤◌, ◌<◌, inl, inr, Bool, true, eqb, List, [], ◌∷◌, length, Some, refl, sym, ◌∙◌, ap, subst, arith, cond, eq-or-lt_of_le}
+use Rattle.std.proofs.Common.{◌≡◌, ℕ, zero, suc, ◌+◌, ◌≤◌, ◌<◌, inl, inr, true, eqb, List, [], ◌∷◌, length, Some, refl, sym, ◌∙◌, ap, subst, arith, cond, eq-or-lt_of_le}
 use Rattle.std.specs.List.{list_any, flat_map, count_by}
 use Rattle.std.proofs.lemmas.Bool.Decides.{nat_tests}
 use Rattle.std.proofs.lemmas.Map.Steps.{le-length_from_below}
@@ -8,37 +8,39 @@ use Rattle.htl_model.proofs.Listed.{length-list_to}
 use Rattle.htl_text.specs.Nodes.{PlainProgram, PlainModule, PlainMode}
 use Rattle.htl_names.specs.declared.key.Key.{Key}
 use Rattle.htl_names.specs.declared.place.ModeAt.{ModeAt}
-use Rattle.htl_names.specs.Programs.{Reached, root, below as beneath, links, namings, IsMisplaced, naming, refined_by, level, mode_links, module_links, program_links}
+use Rattle.htl_names.specs.Programs.{Reached, root, below as beneath, Naming, mode_naming, module_naming, program_naming, naming, namings, targets, links, IsMisplaced, refined_by, level}
 use Rattle.htl_names.proofs.Places.{stable}
-use Rattle.htl_names.proofs.Naming.{Names, refined_is, refined_none, named_counts, link_names}
+use Rattle.htl_names.proofs.Naming.{Names, in_naming, naming_counts, naming_below, refined_one, refined_none, link_names}
+use Rattle.std.proofs.lemmas.List.{length-map}
 use Rattle.std.proofs.lemmas.List.Sums.{sum_by-cons}
 use Rattle.htl_text.specs.Bounds.{modules_of, modes_of}
-use Rattle.htl_names.proofs.Members.{sum_by_map, sum_by_flat_map}
+use Rattle.htl_names.proofs.Members.{In, each_at}
 use Rattle.htl_names.proofs.ListLaws.{among_at, flat_map_flat_map}
-use Rattle.htl_names.proofs.FlatMaps.{list_to_at, flat_map_shorter}
-use Rattle.std.proofs.lemmas.List.Concat.{length-flat_map}
-use Rattle.std.proofs.lemmas.List.Sums.{sum_by-le}
+use Rattle.htl_names.proofs.FlatMaps.{list_to_at, flat_map_at_shorter, flat_map_at_single}
 
 -- the programs make a tree
 abbrev pub IsTree : List (Key × ℕ) → List PlainProgram → Type 0
-IsTree symbols ps = (p : ℕ) → p < length ps → IsMisplaced (links symbols ps) p → ⊥
+IsTree symbols ps = (p : ℕ) → p < length ps → IsMisplaced symbols ps p → ⊥
 
 module _ (symbols : List (Key × ℕ)) (ps : List PlainProgram) (tree : IsTree symbols ps) where
-  pub root_unnamed : 0 < length ps → namings (links symbols ps) 0 ≡ 0
-  root_unnamed some = let no : 0 < namings (links symbols ps) 0 → ⊥ = tree 0 some in omega arith
+  pub root_unnamed : 0 < length ps → namings symbols ps 0 ≡ 0
+  root_unnamed some = let no : 0 < namings symbols ps 0 → ⊥ = tree 0 some in omega arith
 
   -- the root is named by no mode
-  pub root_not_named : 0 < length ps → (a : ModeAt) → Names symbols ps a 0 → ⊥
-  root_not_named some a h = omega (arith, root_unnamed some, named_counts symbols ps a 0 h)
+  pub root_not_named : 0 < length ps → (a : ModeAt) → In {A = Naming} (a, 0) (naming symbols ps) → ⊥
+  root_not_named some a h = omega (arith, root_unnamed some, naming_counts a 0 (naming symbols ps) h.0 h.1)
 
   -- another program is named by one mode
-  pub named_once : (q : ℕ) → suc q < length ps → namings (links symbols ps) (suc q) ≡ 1
+  pub named_once : (q : ℕ) → suc q < length ps → namings symbols ps (suc q) ≡ 1
   named_once q lt = stable _ _ (λ ne. tree (suc q) lt (inl ne))
+
+  refines : (a : ModeAt) (q : ℕ) → q < length ps → In {A = Naming} (a, q) (naming symbols ps) → refined_by symbols ps q ≡ Some a
+  refines a zero lt h = absurd (root_not_named lt a h)
+  refines a (suc q) lt h = refined_one a (suc q) (naming symbols ps) h.0 h.1 (named_once q lt)
 
   -- a program refines the mode that names it
   pub refined_at : (a : ModeAt) (q : ℕ) → q < length ps → Names symbols ps a q → refined_by symbols ps q ≡ Some a
-  refined_at a zero lt h = absurd (root_not_named lt a h)
-  refined_at a (suc q) lt h = refined_is symbols ps a (suc q) h (named_once q lt)
+  refined_at a q lt h = refines a q lt (in_naming symbols ps a q h)
 
   -- with more than so many steps back the level of q is one more
   abbrev Deep : ℕ → ℕ → Type 0
@@ -46,7 +48,7 @@ module _ (symbols : List (Key × ℕ)) (ps : List PlainProgram) (tree : IsTree s
 
   deep_root : 0 < length ps → Deep 0 0
   deep_root some zero lt = absurd (omega arith)
-  deep_root some (suc m) lt = let none = refined_none symbols ps 0 (root_unnamed some) in grind arith
+  deep_root some (suc m) lt = let none = refined_none 0 (naming symbols ps) (root_unnamed some) in grind arith
 
   deep_more : (d q : ℕ) (a : ModeAt) → refined_by symbols ps q ≡ Some a → Deep d a.program → Deep (suc d) q
   deep_more d q a e h zero lt = absurd (omega arith)
@@ -60,8 +62,8 @@ module _ (symbols : List (Key × ℕ)) (ps : List PlainProgram) (tree : IsTree s
   chain_of q root lt = (0, deep_root lt, λ k le. (0, lt, subst (λ j. Deep j 0) (omega (arith, le)) (deep_root lt)))
   chain_of q (beneath p r up by) lt =
       let n = link_names symbols ps p q by in
-      let c = chain_of p up n.0 in
-      let here = deep_more c.0 q n.1 (refined_at n.1 q lt n.3) (subst (Deep c.0) (sym n.2) c.1) in (
+      let c = chain_of p up (omega (arith, n.1, each_at (λ (x : Naming). x.0.program < length ps) (naming symbols ps) n.2.0 (n.0, q) (naming_below symbols ps) n.2.1)) in
+      let here = deep_more c.0 q n.0 (refines n.0 q lt n.2) (subst (Deep c.0) (sym n.1) c.1) in (
         suc c.0,
         here,
         λ k le. elim (eq-or-lt_of_le {n = k} {m = suc c.0} le) [ inl is ↦ (q, lt, subst (λ j. Deep j q) (sym is) here) | inr less ↦ c.2 k (omega (arith, less)) ],
@@ -87,7 +89,7 @@ module _ (symbols : List (Key × ℕ)) (ps : List PlainProgram) (tree : IsTree s
   -- one level more than the program of the mode that it refines
   pub level_step : (q : ℕ) (a : ModeAt) → q < length ps → Names symbols ps a q
       → level (naming symbols ps) (length ps) q ≡ suc (level (naming symbols ps) (length ps) a.program)
-  level_step zero a lt h = absurd (root_not_named lt a h)
+  level_step zero a lt h = absurd (root_not_named lt a (in_naming symbols ps a 0 h))
   level_step (suc q) a lt h =
       stable _ _ (λ no. tree (suc q) lt (inr (λ r.
       let d = chain_of (suc q) r lt in
@@ -99,33 +101,25 @@ module _ (symbols : List (Key × ℕ)) (ps : List PlainProgram) (tree : IsTree s
 
 -- ---- a tree of programs has at most one program more than modes
 
-any_counted : {A : Type 0} (test : A → Bool) (xs : List A) → 0 < count_by test xs → list_any test xs ≡ true
-any_counted test [] h = absurd (let none : count_by test [] ≡ 0 = refl in omega (arith, h, none))
-any_counted test (x ∷ xs) h = let first = sum_by-cons (λ y. cond (test y) 1 0) x xs in grind (arith, any_counted test xs)
-
-mode_links_one : (symbols : List (Key × ℕ)) (x : PlainMode) → length (mode_links symbols x) ≤ 1
-mode_links_one symbols x = grind arith
+named_among : (q : ℕ) (xs : List Naming) → 0 < count_by (λ (x : Naming). eqb q x.1) xs → list_any (eqb q) (targets xs) ≡ true
+named_among q [] h = absurd (let none : count_by (λ (x : Naming). eqb q x.1) [] ≡ 0 = refl in omega (arith, h, none))
+named_among q (x ∷ xs) h = let first = sum_by-cons (λ (y : Naming). cond (eqb q y.1) 1 0) x xs in grind (arith, named_among q xs)
 
 module _ (symbols : List (Key × ℕ)) (ps : List PlainProgram) where
-  links_length : length (flat_map (program_links symbols) ps) ≤ length (modes_of (modules_of ps))
-  links_length =
-      let one = flat_map_shorter (program_links symbols) (λ (x : PlainProgram). flat_map (λ (y : PlainModule). y.modes) x.modules)
-      (λ x. flat_map_shorter (module_links symbols) (λ (y : PlainModule). y.modes) (λ y. omega (arith, length-flat_map (mode_links symbols) y.modes, sum_by-le (λ x. length (mode_links symbols x)) 1 y.modes (λ k d below. mode_links_one symbols (get_or y.modes k d)))) x.modules) ps in
+  naming_length : length (naming symbols ps) ≤ length (modes_of (modules_of ps))
+  naming_length =
+      let one = flat_map_at_shorter (program_naming symbols) (λ (x : PlainProgram). flat_map (λ (y : PlainModule). y.modes) x.modules)
+      (λ p x. flat_map_at_shorter (module_naming symbols p) (λ (y : PlainModule). y.modes) (λ u y. flat_map_at_single (mode_naming symbols p u) (λ m z. grind arith) 0 y.modes) 0 x.modules) 0 ps in
       let two = ap length (flat_map_flat_map (λ (y : PlainModule). y.modes) (λ (x : PlainProgram). x.modules) ps) in
       omega (arith, one, two)
 
-  links_count : (q : ℕ) → count_by (eqb q) (flat_map (program_links symbols) ps) ≡ namings (links symbols ps) q
-  links_count q =
-      let test : ℕ → ℕ = λ y. cond (eqb q y) 1 0 in
-      sum_by_flat_map test (program_links symbols) ps ∙ sym (sum_by_map (λ (r : List ℕ). count_by (eqb q) r) (program_links symbols) ps)
-
   pub few_programs : IsTree symbols ps → length ps ≤ length (modes_of (modules_of ps)) + 1
   few_programs tree =
-      let all = le-length_from_below (0 ∷ flat_map (program_links symbols) ps) (length ps) there in
-      omega (arith, all, links_length)
+      let all = le-length_from_below (0 ∷ targets (naming symbols ps)) (length ps) there in
+      omega (arith, all, naming_length, length-map (naming symbols ps) (λ (x : Naming). x.1))
     where
-      there : (q : ℕ) → q < length ps → list_any (eqb q) (0 ∷ flat_map (program_links symbols) ps) ≡ true
+      there : (q : ℕ) → q < length ps → list_any (eqb q) (0 ∷ targets (naming symbols ps)) ≡ true
       there zero lt = refl
       there (suc q) lt =
-          let named = any_counted (eqb (suc q)) (flat_map (program_links symbols) ps) (omega (arith, links_count (suc q), named_once symbols ps tree q lt)) in
+          let named = named_among (suc q) (naming symbols ps) (omega (arith, named_once symbols ps tree q lt)) in
           grind (arith, nat_tests)

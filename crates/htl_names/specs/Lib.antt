@@ -1,11 +1,8 @@
 pub mod Conditions
 pub mod Entries
-pub mod Excess
 pub mod Flat
-pub mod Graph
 pub mod Keys
 pub mod Kinds
-pub mod LevelTable
 pub mod Limits
 pub mod Lists
 pub mod NameRules

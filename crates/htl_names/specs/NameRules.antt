@@ -11,7 +11,7 @@ use Rattle.htl_names.specs.Flat.{symbols_of, tables_of_tree}
 use Rattle.htl_names.specs.Kinds.{Judged, kinds, token_of, IsWrongKind}
 use Rattle.htl_names.specs.Limits.{counts, limits}
 use Rattle.htl_names.specs.Parents.{ParentUse, parents, IsOrphan}
-use Rattle.htl_names.specs.Programs.{links, IsMisplaced}
+use Rattle.htl_names.specs.Programs.{IsMisplaced}
 use Rattle.htl_names.specs.Uses.{uses, IsUnknown}
 
 -- the rules, in the order in which they are tried
@@ -40,7 +40,7 @@ NameBroken ps UnknownName k f =
     (u : Use) × (slice_get (uses ps) k ≡ Some u) × IsUnknown (symbols_of ps) u × (f ≡ fault.Unknown u.token)
 NameBroken ps WrongKind k f =
     (j : Judged) × (slice_get (kinds ps) k ≡ Some j) × IsWrongKind j × (f ≡ fault.Kind (token_of j))
-NameBroken ps ProgramTree k f = (k < length ps) × IsMisplaced (links (symbols_of ps) ps) k × (f ≡ fault.NotATree k)
+NameBroken ps ProgramTree k f = (k < length ps) × IsMisplaced (symbols_of ps) ps k × (f ≡ fault.NotATree k)
 NameBroken ps ParentName k f =
     (u : ParentUse) × (slice_get (parents ps) k ≡ Some u) × IsOrphan (symbols_of ps) ps u.program u.id × (f ≡ fault.Unknown u.id.token)
 NameBroken ps Limits k f =

@@ -1,10 +1,10 @@
--- How modes name programs: of each program how many do, counted up to 255, and the first of them.
-use Rattle.std.specs.Prelude.{◌≡◌, ◌<◌, ◌+◌, ◌||◌, ℕ, zero, suc, Bool, not, eqb, ltb, min, List, length, get_or, slice_set, Option, Some, None}
+-- How modes name programs: of each program how many do, counted up to 255, and the first of them; and which are reached.
+use Rattle.std.specs.Prelude.{◌≡◌, ◌<◌, ◌+◌, ◌||◌, ℕ, zero, suc, Bool, not, eqb, ltb, false, true, min, List, length, get_or, slice_set, Option, Some, None}
 use Rattle.htl_text.specs.Nodes.{PlainProgram}
-use Rattle.htl_names.specs.declared.key.Key.{Key}
 use Rattle.htl_names.specs.declared.place.ModeAt.{ModeAt}
 use Rattle.htl_names.specs.declared.programs.Named.{Named}
-use Rattle.htl_names.specs.Programs.{Graph, namings, Naming, refined_by}
+use Rattle.htl_names.specs.Flat.{symbols_of}
+use Rattle.htl_names.specs.Programs.{Graph, Naming, Reached, namings, refined_by}
 
 -- named by no mode
 abbrev pub unnamed : Named
@@ -27,11 +27,13 @@ abbrev pub is_misplaced : ℕ → ℕ → Bool → Bool
 is_misplaced zero count is_reached = ltb 0 count
 is_misplaced (suc p) count is_reached = not (eqb count 1) || not is_reached
 
-pub record CountsNamings (g : Graph) (table : List Named) : Type 0 where
-  pub len : length table ≡ length g
-  pub says : (p : ℕ) → p < length g → min (get_or table p unnamed).count 255 ≡ min (namings g p) 255
-
--- the table has the mode that each program refines
-pub record AreRefined (symbols : List (Key × ℕ)) (ps : List PlainProgram) (table : List Named) : Type 0 where
+-- the table has how many modes name each program, counted up to 255, and the mode that it refines
+pub record AreNamed (ps : List PlainProgram) (table : List Named) : Type 0 where
   pub len : length table ≡ length ps
-  pub says : (p : ℕ) → p < length ps → refined_at table p ≡ refined_by symbols ps p
+  pub says : (p : ℕ) → p < length ps → get_or table p unnamed ≡ record { count = min (namings (symbols_of ps) ps p) 255; mode = refined_by (symbols_of ps) ps p }
+
+-- the marks are at the programs that are reached, and only there
+pub record MarksReached (g : Graph) (seen : List Bool) : Type 0 where
+  pub len : length seen ≡ length g
+  pub says : (p : ℕ) → get_or seen p false ≡ true → Reached g p
+  pub marks : (p : ℕ) → Reached g p → get_or seen p true ≡ true

@@ -2,10 +2,9 @@
 use Rattle.std.specs.Prelude.{ℕ, ◌≡◌, ◌+◌, ◌*◌, ◌-◌, ◌^◌, min, max, List, length, fold}
 use Rattle.htl_text.specs.Bounds.{comms_of, modules_of, modes_of, ports_of, tasks_of, invokes_of, switches_of}
 use Rattle.htl_text.specs.Nodes.{PlainProgram, PlainModule, PlainMode}
-use Rattle.htl_names.specs.Limits.{selections, most_invokes, most_positions}
+use Rattle.htl_names.specs.Limits.{most_invokes}
 use Rattle.htl_names.specs.declared.limits.ModeTally.{ModeTally}
 use Rattle.htl_names.specs.declared.limits.ModuleTally.{ModuleTally}
-use Rattle.htl_names.specs.declared.limits.RootTally.{RootTally}
 use Rattle.htl_names.specs.declared.limits.Tally.{Tally}
 
 -- up to the greatest count
@@ -16,11 +15,8 @@ capped n = min n (2 ^ 64 - 1)
 abbrev pub no_modes : ModeTally
 no_modes = record { ports = 0; invokes = 0; switches = 0; most_invokes = 0 }
 
-abbrev pub no_modules : ModuleTally
-no_modules = record { modes = 0; tasks = 0; of_modes = no_modes }
-
-abbrev pub no_tally : RootTally → Tally
-no_tally root = record { comms = 0; modules = 0; of_modules = no_modules; of_root = root }
+abbrev pub no_tally : Tally
+no_tally = record { comms = 0; modules = 0; of_modules = record { modes = 0; tasks = 0; of_modes = no_modes } }
 
 abbrev pub with_mode : ModeTally → PlainMode → ModeTally
 with_mode t x =
@@ -41,21 +37,22 @@ with_module t x =
 
 abbrev pub with_program : Tally → PlainProgram → Tally
 with_program t x =
-    record t {
+    record {
       comms = capped (t.comms + length x.comms);
       modules = capped (t.modules + length x.modules);
       of_modules = fold with_module t.of_modules x.modules;
     }
 
-abbrev pub with_root : RootTally → PlainModule → RootTally
-with_root t x =
-    record {
-      selections = capped (t.selections * length x.modes);
-      positions = capped (t.positions + (fold with_mode no_modes x.modes).most_invokes);
-    }
+-- so many choices of modes, and one of this module
+abbrev pub chosen : ℕ → PlainModule → ℕ
+chosen n x = capped (n * length x.modes)
 
-abbrev pub root_tally : List PlainModule → RootTally
-root_tally xs = fold with_root (record { selections = min (length xs) 1; positions = 0 }) xs
+abbrev pub selected : List PlainModule → ℕ
+selected xs = fold chosen (min (length xs) 1) xs
+
+-- so many positions, and the most of this module
+abbrev pub placed : ℕ → PlainModule → ℕ
+placed n x = capped (n + (fold with_mode no_modes x.modes).most_invokes)
 
 -- each count is that of the tree, up to the greatest
 pub record IsTally (ps : List PlainProgram) (t : Tally) : Type 0 where
@@ -67,5 +64,3 @@ pub record IsTally (ps : List PlainProgram) (t : Tally) : Type 0 where
   pub invokes : capped t.of_modules.of_modes.invokes ≡ capped (length (invokes_of (modes_of (modules_of ps))))
   pub switches : capped t.of_modules.of_modes.switches ≡ capped (length (switches_of (modes_of (modules_of ps))))
   pub most_invokes : capped t.of_modules.of_modes.most_invokes ≡ capped (most_invokes (modes_of (modules_of ps)))
-  pub selections : capped t.of_root.selections ≡ capped (selections ps)
-  pub positions : capped t.of_root.positions ≡ capped (most_positions ps)

@@ -1,10 +1,12 @@
 // The tree of programs: the modes that name programs, the first program that is out of place, and the mode that each refines.
-ghost use Rattle.std.specs.Prelude.{◌≡◌, ◌++◌, OnOk, IfOk, length, fold, ◌≤◌, ℕ, List};
+ghost use Rattle.std.specs.Prelude.{◌≡◌, ◌++◌, OnOk, IfOk, length, map, fold, ◌≤◌, List};
 ghost use Rattle.htl_text.specs.Nodes.{mode_of, module_of, program_of, tree_of, PlainProgram};
-ghost use Rattle.htl_names.specs.Graph.{naming_rows, targets, graph_by, MarksReached};
-ghost use Rattle.htl_names.specs.Programs.{IsFirstMisplaced, named_program as program_of_mode, module_naming, program_naming};
-ghost use Rattle.htl_names.specs.Named.{noted, refined_at, is_misplaced, CountsNamings, AreRefined};
-ghost use Rattle.htl_names.specs.declared.key.Key.{Key};
+ghost use Rattle.htl_names.specs.Flat.{symbols_of};
+ghost use Rattle.htl_names.specs.NameRules.{ProgramTree};
+ghost use Rattle.htl_names.specs.Named.{noted, refined_at, is_misplaced, AreNamed, MarksReached};
+ghost use Rattle.htl_names.specs.Programs.{named_program as program_of_mode, module_naming, program_naming, naming_rows, targets};
+ghost use Rattle.htl_names.specs.Told.{IsSearched};
+ghost use Rattle.htl_names.specs.declared.fault.NameFault.TheVariants.{NotATree};
 
 use crate::Done;
 use crate::key::Space;
@@ -26,10 +28,8 @@ pub(crate) type NamingRow = Seq<Naming>;
 pub(crate) fn named_program(mode: &ModeNode, symbols: &Symbols) -> Option<usize>
     ensures { result ≡ program_of_mode symbols.now (mode_of mode.now) }
 {
-    match &mode.program {
-        Some(id) => symbols.get(&Space::Programs.of(0, 0, 0).key(id.name)),
-        None => None,
-    }
+    let id = mode.program?;
+    symbols.get(&Space::Programs.of(0, 0, 0).key(id.name))
 }
 
 fn push_module_naming(
@@ -71,60 +71,24 @@ fn program_naming(
     Ok(row)
 }
 
-/// The modes that name programs, by the program that they stand in.
-pub(crate) fn naming_rows(
-    alloc: Global,
-    tree: &Tree,
-    symbols: &Symbols,
-) -> Result<Vec<NamingRow>, AllocError>
-    ensures { IfOk result (λ v. v.items ≡ naming_rows symbols.now (tree_of tree.now)) }
-{
-    let mut rows = Vec::new(alloc);
-    let programs = tree.programs.as_slice();
-    for k in 0..programs.len() {
-        let row = program_naming(alloc, k, &programs[k], symbols)?;
-        rows.push(Seq::new(row))?;
-    }
-    Ok(rows)
-}
-
-// ---- the programs that are reached
-
-/// Puts the programs that modes name behind others.
-fn put_named(row: &[Naming], into: &mut Vec<usize>) -> Done
-    ensures { OnOk result (into.new.items ≡ into.old.items ++ targets row.now) }
-{
-    for k in 0..row.len() {
-        into.push(row[k].1)?;
-    }
-    Ok(())
-}
-
-/// Marks the programs that are reached from the root. Each is asked once. A number of no program is passed over.
-fn reach(alloc: Global, rows: &[NamingRow]) -> Result<Vec<bool>, AllocError>
-    ensures { IfOk result (λ v. MarksReached (graph_by rows.now) v.items) }
-{
-    let mut seen = vec![in alloc; false; rows.len()]?;
-    let mut waiting = Vec::new(alloc);
-    waiting.push(0)?;
-    while let Some(p) = waiting.pop() {
-        if p < seen.len() && !seen[p] {
-            seen[p] = true;
-            put_named(rows[p].as_slice(), &mut waiting)?;
-        }
-    }
-    Ok(seen)
-}
-
-// ---- the tree of programs
+// ---- how modes name programs
 
 /// How modes name a program.
-#[derive(Clone, Copy)]
+#[derive(Clone, Copy, Default)]
 pub(crate) struct Named {
     /// How many modes name it, counted up to 255.
     pub count: u8,
     /// The mode that it refines: the first that names it.
     pub mode: Option<ModeAt>,
+}
+
+/// The modes of a source that name programs, and how they name each program.
+#[derive(Drop)]
+pub(crate) struct Namings {
+    /// The modes that name programs, by the program that they stand in.
+    rows: Vec<NamingRow>,
+    /// How each program is named.
+    pub named: Vec<Named>,
 }
 
 /// Notes how the modes of a program name programs. A number of no program is passed over.
@@ -143,35 +107,68 @@ fn note_row(row: &[Naming], into: &mut Vec<Named>)
     }
 }
 
-/// How the modes of a source name each of its programs.
-pub(crate) fn named_programs(alloc: Global, rows: &[NamingRow]) -> Result<Vec<Named>, AllocError>
-    ensures counts { IfOk result (λ v. CountsNamings (graph_by rows.now) v.items) }
-    ensures modes { (symbols : List (Key × ℕ)) (ps : List PlainProgram) → rows.now ≡ naming_rows symbols ps
-        → IfOk result (λ v. AreRefined symbols ps v.items) }
+/// How the modes of a source name its programs.
+pub(crate) fn namings_of(
+    alloc: Global,
+    tree: &Tree,
+    symbols: &Symbols,
+) -> Result<Namings, AllocError>
+    requires { symbols.now ≡ symbols_of (tree_of tree.now) }
+    ensures rows { IfOk result (λ n. n.rows.items ≡ naming_rows (symbols_of (tree_of tree.now)) (tree_of tree.now)) }
+    ensures named { IfOk result (λ n. AreNamed (tree_of tree.now) n.named.items) }
 {
-    let unnamed = Named {
-        count: 0,
-        mode: None,
-    };
-    let mut named = vec![in alloc; unnamed; rows.len()]?;
-    for k in 0..rows.len() {
-        note_row(rows[k].as_slice(), &mut named);
+    let programs = tree.programs.as_slice();
+    let mut named = vec![in alloc; Named::default(); programs.len()]?;
+    let mut rows = Vec::new(alloc);
+    for k in 0..programs.len() {
+        let row = program_naming(alloc, k, &programs[k], symbols)?;
+        note_row(&row, &mut named);
+        rows.push(Seq::new(row))?;
     }
-    Ok(named)
+    Ok(Namings { rows, named })
 }
 
-/// The first program that is out of place.
-pub(crate) fn first_misplaced(
-    alloc: Global,
-    rows: &[NamingRow],
-    named: &[Named],
-) -> Result<Option<u32>, AllocError>
-    requires small { length rows.now ≤ 1048576 }
-    requires counts { CountsNamings (graph_by rows.now) named.now }
-    ensures { IfOk result (λ o. IsFirstMisplaced (graph_by rows.now) o) }
+// ---- the programs that are reached
+
+/// Puts the programs that modes name behind others.
+fn put_named(row: &[Naming], into: &mut Vec<usize>) -> Done
+    ensures { OnOk result (into.new.items ≡ into.old.items ++ targets row.now) }
 {
-    let seen = reach(alloc, rows)?;
-    for p in 0..rows.len() {
+    for k in 0..row.len() {
+        into.push(row[k].1)?;
+    }
+    Ok(())
+}
+
+/// Marks the programs that are reached from the root. Each is asked once. A number of no program is passed over.
+fn reach(alloc: Global, rows: &[NamingRow]) -> Result<Vec<bool>, AllocError>
+    ensures { IfOk result (λ v. MarksReached (map targets rows.now) v.items) }
+{
+    let mut seen = vec![in alloc; false; rows.len()]?;
+    let mut waiting = Vec::new(alloc);
+    waiting.push(0)?;
+    while let Some(p) = waiting.pop() {
+        if p < seen.len() && !seen[p] {
+            seen[p] = true;
+            put_named(rows[p].as_slice(), &mut waiting)?;
+        }
+    }
+    Ok(seen)
+}
+
+// ---- the tree of programs
+
+/// The first program that is out of place.
+pub(crate) fn first_misplaced(alloc: Global, namings: &Namings) -> Result<Option<u32>, AllocError>
+    requires few { length namings.now.named.items ≤ 1048576 }
+    requires even { length namings.now.rows.items ≡ length namings.now.named.items }
+    ensures { (ps : List PlainProgram) → namings.now.rows.items ≡ naming_rows (symbols_of ps) ps
+        → AreNamed ps namings.now.named.items
+        → IfOk result (λ o. IsSearched ps ProgramTree (λ p. NotATree p) o) }
+{
+    let named = namings.named.as_slice();
+    let seen = reach(alloc, namings.rows.as_slice())?;
+    for p in 0..named.len() {
         if is_misplaced(p, named[p].count, seen[p]) {
             return Ok(Some(p as u32));
         }

@@ -10,9 +10,9 @@ ghost use Rattle.htl_names.specs.Rows.{rows as rows_in};
 ghost use Rattle.htl_names.specs.Told.{KeptBelow, IsRefusal, IsJudged};
 
 use crate::fault::NameFault;
-use crate::limits::{Excess, first_exceeded};
+use crate::limits::first_exceeded;
 use crate::order::layout_of;
-use crate::programs::{first_misplaced, named_programs, naming_rows};
+use crate::programs::{first_misplaced, namings_of};
 use crate::rows::Rows;
 use crate::rules::{first_orphan, first_unknown};
 use crate::symbols::{Symbols, declare};
@@ -73,18 +73,17 @@ fn check_rules(alloc: Global, tree: &Tree, rows: &Rows, symbols: &Symbols) -> Re
     if let Some(token) = rows.wrong.as_slice().first().copied() {
         return Err(NameFault::Kind { token });
     }
-    let namings = naming_rows(alloc, tree, symbols)?;
-    let named = named_programs(alloc, namings.as_slice())?;
-    let table = named.as_slice();
-    let misplaced = first_misplaced(alloc, namings.as_slice(), table)?;
+    let namings = namings_of(alloc, tree, symbols)?;
+    let misplaced = first_misplaced(alloc, &namings)?;
     if let Some(program) = misplaced {
         return Err(NameFault::NotATree { program });
     }
+    let table = namings.named.as_slice();
     if let Some(token) = first_orphan(rows.parents.as_slice(), symbols, table) {
         return Err(NameFault::Unknown { token });
     }
-    if let Some(Excess { which, count }) = first_exceeded(tree, symbols, table) {
-        return Err(NameFault::Limit { which, count });
+    if let Some(fault) = first_exceeded(tree, table) {
+        return Err(fault);
     }
     Ok(())
 }

@@ -1,12 +1,30 @@
-use Rattle.std.proofs.Common.{◌≡◌, ℕ, arith, ap, get_or}
-use Rattle.htl_text.specs.Nodes.{tree_of}
-use Rattle.htl_names.specs.Limits.{counts}
-use Rattle.htl_names.specs.Programs.{levels}
+use Rattle.std.proofs.Common.{◌≡◌, ◌∙◌, ℕ, arith, ap, sym, get_or, fold, List}
+use Rattle.std.proofs.Math.Nat.{zero-add}
+use Rattle.htl_text.specs.Nodes.{PlainProgram, tree_of}
+use Rattle.htl_names.specs.Flat.{symbols_of}
+use Rattle.htl_names.specs.Limits.{counts, most_positions, plain_root_modules}
+use Rattle.htl_names.specs.Tallies.{capped, selected, placed}
+use Rattle.htl_names.proofs.LimitLaws.{selected_all, placed_all, root_modules_are}
 use Rattle.htl_names.proofs.Naming.{table-levels}
 use Rattle.htl_names.proofs.limits.count_and_limit.Goals as goal
+
+-- the count of this limit
+abbrev count : List PlainProgram → ℕ → ℕ
+count ps k = capped (get_or (counts (symbols_of ps) ps) k 0)
 
 pub returns-in-8-clause-count : goal.returns-in-8-clause-count
 returns-in-8-clause-count c =
     let ps = tree_of c.args.tree.now in
-    let is : get_or (counts c.args.symbols.now ps) c.args.limit 0 ≡ levels c.args.symbols.now ps = ap (λ (k : ℕ). get_or (counts c.args.symbols.now ps) k 0) c.in-8.is in
-    omega (arith, is, c.levels.ensures, table-levels c.args.symbols.now ps c.args.named.now c.requires.refined)
+    ap capped (c.levels.ensures ∙ table-levels ps c.args.named.now c.requires.refined) ∙ sym (ap (count ps) c.in-8.is)
+
+pub returns-in-9-clause-count : goal.returns-in-9-clause-count
+returns-in-9-clause-count c =
+    let ps = tree_of c.args.tree.now in
+    ap capped (c.selections.ensures ∙ ap selected (c.modules_at.ensures ∙ root_modules_are ps)) ∙ selected_all (plain_root_modules ps) ∙ sym (ap (count ps) c.in-9.is)
+
+pub returns-in_default-clause-count : goal.returns-in_default-clause-count
+returns-in_default-clause-count c =
+    let ps = tree_of c.args.tree.now in
+    let last : c.args.limit ≡ 10 = omega arith in
+    ap capped (c.positions.ensures ∙ ap (fold placed 0) (c.modules_at-in_default.ensures ∙ root_modules_are ps)) ∙ placed_all 0 (plain_root_modules ps)
+    ∙ ap capped (zero-add (most_positions ps)) ∙ sym (ap (count ps) last)

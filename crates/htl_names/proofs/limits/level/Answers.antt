@@ -1,7 +1,11 @@
-use Rattle.std.proofs.Common.{sym, length}
-use Rattle.htl_names.proofs.Naming.{level-step}
+use Rattle.std.proofs.Common.{◌≡◌, ℕ, suc, ◌+◌, ◌-◌, ap, arith, length}
+use Rattle.htl_names.specs.Named.{refined_at}
+use Rattle.htl_names.specs.Programs.{level_by}
 use Rattle.htl_names.proofs.limits.level.Goals as goal
 
 pub loop-k-preserved : goal.loop-k-preserved
 loop-k-preserved c =
-    level-step c.args.named.now (length c.args.named.now) c.loop-k.k c.loop-k.at _ c.in-Some.mode c.loop-k-test.true (sym c.in-Some.ensures) c.loop-k.invariant
+    let n = length c.args.named.now in
+    let left : n - c.loop-k.k ≡ suc (n - (c.loop-k.k + 1)) = omega arith in
+    let here = ap (λ (m : ℕ). level_by (refined_at c.args.named.now) m c.loop-k.at) left in
+    grind arith

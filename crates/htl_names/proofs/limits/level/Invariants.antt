@@ -1,6 +1,7 @@
 use Rattle.std.proofs.Common.{◌≡◌, ◌+◌, ◌-◌, length}
-use Rattle.htl_names.specs.LevelTable.{level_by}
+use Rattle.htl_names.specs.Named.{refined_at}
+use Rattle.htl_names.specs.Programs.{level_by}
 use Rattle.htl_names.proofs.limits.level.Given as goal
 
 abbrev pub invariant-loop-k : goal.invariant-loop-k
-invariant-loop-k l = l.k + level_by l.named (length l.named - l.k) l.at ≡ level_by l.named (length l.named) l.program
+invariant-loop-k l = l.k + level_by (refined_at l.named) (length l.named - l.k) l.at ≡ level_by (refined_at l.named) (length l.named) l.program

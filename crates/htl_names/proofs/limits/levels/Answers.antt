@@ -1,9 +1,15 @@
-use Rattle.std.proofs.Common.{length}
-use Rattle.htl_names.specs.LevelTable.{level_by}
-use Rattle.htl_names.proofs.Naming.{levels-step}
+use Rattle.std.proofs.Common.{arith, length}
+use Rattle.std.proofs.lemmas.Grind.{common_steps}
+use Rattle.htl_model.proofs.Listed.{length-list_to, get_list_to}
+use Rattle.htl_names.specs.Named.{refined_at}
+use Rattle.htl_names.specs.Programs.{level_by}
 use Rattle.htl_names.proofs.limits.levels.Goals as goal
 
 pub loop-p-preserved : goal.loop-p-preserved
 loop-p-preserved c =
-    levels-step (level_by c.args.named.now (length c.args.named.now)) c.loop-p.p c.loop-p.most c.level.result c.max-most.result
-    c.loop-p.invariant c.level.ensures.value c.max-most.ensures
+    let n = length c.args.named.now in
+    let here = get_list_to (level_by (refined_at c.args.named.now) n) n c.loop-p.p 0 in
+    grind (arith, common_steps, length-list_to)
+
+pub returns : goal.returns
+returns c = grind (arith, common_steps, length-list_to)

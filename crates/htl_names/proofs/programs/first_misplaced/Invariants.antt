@@ -1,7 +1,11 @@
-use Rattle.std.proofs.Common.{ℕ, ◌<◌}
-use Rattle.htl_names.specs.Graph.{graph_by}
-use Rattle.htl_names.specs.Programs.{IsMisplaced}
+use Rattle.std.proofs.Common.{◌≡◌, ◌<◌, ℕ, List}
+use Rattle.htl_text.specs.Nodes.{PlainProgram}
+use Rattle.htl_names.specs.Flat.{symbols_of}
+use Rattle.htl_names.specs.Named.{AreNamed}
+use Rattle.htl_names.specs.Programs.{IsMisplaced, naming_rows}
 use Rattle.htl_names.proofs.programs.first_misplaced.Given as goal
 
 abbrev pub invariant-loop-p : goal.invariant-loop-p
-invariant-loop-p l = (q : ℕ) → q < l.p → IsMisplaced (graph_by l.rows) q → ⊥
+invariant-loop-p l =
+    (ps : List PlainProgram) → l.namings.rows.items ≡ naming_rows (symbols_of ps) ps → AreNamed ps l.namings.named.items
+    → (q : ℕ) → q < l.p → IsMisplaced (symbols_of ps) ps q → ⊥

@@ -3,8 +3,8 @@ use Rattle.htl_text.specs.declared.tree.Id.{Id}
 use Rattle.htl_names.specs.Keys.{look_up, key_in, program_key}
 use Rattle.htl_names.proofs.programs.named_program.Goals as goal
 
-pub returns-in-Some : goal.returns-in-Some
-returns-in-Some c =
+pub returns : goal.returns
+returns c =
     let names = c.args.symbols.now in
-    c.get.ensures ∙ ap (λ k. look_up k names) (c.key.ensures ∙ ap (λ s. key_in s c.in-Some.id.name) c.of.ensures)
-    ∙ sym (ap (λ (o : Option Id). elim o [ Some id ↦ look_up (program_key id.name) names | None ↦ None ]) c.in-Some.is)
+    c.get.ensures ∙ ap (λ k. look_up k names) (c.key.ensures ∙ ap (λ s. key_in s c.in_ok-id.id.name) c.of.ensures)
+    ∙ sym (ap (λ (o : Option Id). elim o [ Some id ↦ look_up (program_key id.name) names | None ↦ None ]) c.in_ok-id.was)

@@ -1,20 +1,20 @@
-use Rattle.std.proofs.Common.{◌<◌, ◌+◌, ◌∷◌, ◌++◌, ◌∙◌, [], length, true, false, replicate, sym, ap, arith}
+use Rattle.std.proofs.Common.{◌<◌, ◌+◌, ◌∷◌, ◌++◌, ◌∙◌, [], length, true, false, map, replicate, sym, ap, arith}
 use Rattle.std.proofs.Math.ListN.{set}
 use Rattle.std.proofs.lemmas.List.{length-map, get_or_default}
-use Rattle.htl_names.specs.Graph.{targets, graph_by}
+use Rattle.htl_names.specs.Programs.{targets}
 use Rattle.htl_names.proofs.Reaching.{Searches, owed, search_start, search_asked, marks_reached}
 use Rattle.htl_names.proofs.programs.reach.Goals as goal
 
 pub loop-p-init : goal.loop-p-init
 loop-p-init c =
     let rows = c.args.rows.now in
-    search_start (graph_by rows) c.in_ok-seen.seen.items c.push.new.self.items
+    search_start (map targets rows) c.in_ok-seen.seen.items c.push.new.self.items
     (c.in_ok-seen.ensures.items_if_clones_equal (λ y same. same) ∙ ap (λ n. replicate n false) (sym (length-map rows targets)))
     (c.in_ok-push.ensures.items ∙ ap (λ xs. xs ++ 0 ∷ []) c.new-waiting.ensures.items)
 
-step : (c : goal.In_ok-put_named) → Searches (graph_by c.args.rows.now) (set c.loop-p.seen.items c.in-Some.p true) c.put_named.new.into.items
-    × (owed (set c.loop-p.seen.items c.in-Some.p true) (graph_by c.args.rows.now) + length c.put_named.new.into.items
-    < owed c.loop-p.seen.items (graph_by c.args.rows.now) + length c.loop-p.waiting.items)
+step : (c : goal.In_ok-put_named) → Searches (map targets c.args.rows.now) (set c.loop-p.seen.items c.in-Some.p true) c.put_named.new.into.items
+    × (owed (set c.loop-p.seen.items c.in-Some.p true) (map targets c.args.rows.now) + length c.put_named.new.into.items
+    < owed c.loop-p.seen.items (map targets c.args.rows.now) + length c.loop-p.waiting.items)
 step c =
     let seen = c.loop-p.seen.items in
     let p = c.in-Some.p in
@@ -30,4 +30,4 @@ pub loop-p-preserved-then-not-index : goal.loop-p-preserved-then-not-index
 loop-p-preserved-then-not-index c = (step c).0
 
 pub returns : goal.returns
-returns c = marks_reached (graph_by c.args.rows.now) c.loop-p.seen.items c.loop-p.waiting.items (omega (arith, c.loop-p.waiting.ok.0, c.in_default.ensures.cases.0)) c.loop-p.invariant
+returns c = marks_reached (map targets c.args.rows.now) c.loop-p.seen.items c.loop-p.waiting.items (omega (arith, c.loop-p.waiting.ok.0, c.in_default.ensures.cases.0)) c.loop-p.invariant

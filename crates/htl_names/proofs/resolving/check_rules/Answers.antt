@@ -1,21 +1,17 @@
-use Rattle.std.proofs.Common.{◌∙◌, sym, ap, subst, map, ℕ, List}
+use Rattle.std.proofs.Common.{◌∙◌, sym, ap, subst, map, ℕ, List, arith, length}
 use Rattle.std.specs.Prelude.{MatchOption}
 use Rattle.htl_text.specs.Nodes.{tree_of}
 use Rattle.htl_names.specs.declared.key.Key.{Key}
-use Rattle.htl_names.specs.declared.limits.Excess.{Excess}
-use Rattle.htl_names.specs.Excess.{IsFirstExcess}
 use Rattle.htl_model.specs.Lists.{first_some}
 use Rattle.htl_names.specs.Parents.{orphan_token}
 use Rattle.htl_names.specs.Flat.{symbols_of}
-use Rattle.htl_names.specs.Graph.{graph_by}
-use Rattle.htl_names.specs.Limits.{counts}
-use Rattle.htl_names.specs.Named.{AreRefined}
+use Rattle.htl_names.specs.Named.{AreNamed}
 use Rattle.htl_names.specs.NameRules.{UnknownName, WrongKind, ProgramTree, ParentName, Limits}
-use Rattle.htl_names.specs.Programs.{Graph, IsFirstMisplaced, links}
+use Rattle.htl_names.specs.Programs.{program_naming}
 use Rattle.htl_names.specs.Rows.{Rows, parent_use_of}
 use Rattle.htl_names.specs.Told.{KeptBelow, IsRefusal}
-use Rattle.htl_names.proofs.Naming.{graph_is}
-use Rattle.htl_names.proofs.RuleLaws.{uses_searched, kinds_searched, parents_searched, tree_searched, limits_searched, tried, all_right}
+use Rattle.htl_names.proofs.RuleLaws.{uses_searched, kinds_searched, parents_searched, tried, all_right}
+use Rattle.htl_names.proofs.Walking.{length-map_at}
 use Rattle.htl_names.specs.declared.fault.NameFault.TheVariants as fault
 use Rattle.htl_names.proofs.resolving.check_rules.Goals as goal
 use Rattle.htl_names.proofs.resolving.check_rules.Goals.{After-first_unknown, After-copied, In_ok-misplaced, After-first_orphan, After-first_exceeded}
@@ -34,27 +30,26 @@ kinds c kept =
 
 programs : (c : In_ok-misplaced) → KeptBelow (tree_of c.args.tree.now) 4 → MatchOption c.in_ok-misplaced.misplaced (KeptBelow (tree_of c.args.tree.now) 5) (λ p. IsRefusal (tree_of c.args.tree.now) (fault.NotATree p))
 programs c kept =
-    let ps = tree_of c.args.tree.now in
-    let graph = ap graph_by (c.as_slice-4.ensures.value ∙ c.in_ok-namings.ensures) ∙ graph_is c.args.symbols.now 0 ps ∙ ap (λ s. links s ps) c.requires.symbols in
-    tried ps ProgramTree (λ p. fault.NotATree p) c.in_ok-misplaced.misplaced kept
-    (tree_searched ps c.in_ok-misplaced.misplaced (subst (λ (g : Graph). IsFirstMisplaced g c.in_ok-misplaced.misplaced) graph c.in_ok-misplaced.ensures))
+    tried (tree_of c.args.tree.now) ProgramTree (λ p. fault.NotATree p) c.in_ok-misplaced.misplaced kept
+    (c.in_ok-misplaced.ensures (tree_of c.args.tree.now) c.in_ok-namings.ensures.rows c.in_ok-namings.ensures.named)
 
 parents : (c : After-first_orphan) → KeptBelow (tree_of c.args.tree.now) 5 → MatchOption c.first_orphan.result (KeptBelow (tree_of c.args.tree.now) 6) (λ t. IsRefusal (tree_of c.args.tree.now) (fault.Unknown t))
 parents c kept =
     let ps = tree_of c.args.tree.now in
-    let table = c.in_ok-named.ensures.modes c.args.symbols.now ps (c.as_slice-3.ensures.value ∙ c.in_ok-namings.ensures) in
-    let named = subst (λ (s : List (Key × ℕ)). AreRefined s ps c.as_slice-table.result.now) c.requires.symbols (subst (AreRefined c.args.symbols.now ps) (sym c.as_slice-table.ensures.value) table) in
-    let rows = ap (map parent_use_of) c.as_slice-5.ensures.value ∙ ap (λ (r : Rows). r.parents) (c.rows.view_is ∙ c.requires.rows) in
+    let named = subst (AreNamed ps) (sym c.as_slice-table.ensures.value) c.in_ok-namings.ensures.named in
+    let rows = ap (map parent_use_of) c.as_slice-3.ensures.value ∙ ap (λ (r : Rows). r.parents) (c.rows.view_is ∙ c.requires.rows) in
     tried ps ParentName (λ t. fault.Unknown t) c.first_orphan.result kept
     (parents_searched ps c.as_slice-table.result.now c.first_orphan.result named (c.first_orphan.ensures
-    ∙ ap (λ (s : List (Key × ℕ)). first_some (orphan_token s c.as_slice-table.result.now) (map parent_use_of c.as_slice-5.result.now)) c.requires.symbols
+    ∙ ap (λ (s : List (Key × ℕ)). first_some (orphan_token s c.as_slice-table.result.now) (map parent_use_of c.as_slice-3.result.now)) c.requires.symbols
     ∙ ap (first_some (orphan_token (symbols_of ps) c.as_slice-table.result.now)) rows))
 
-limits : (c : After-first_exceeded) → KeptBelow (tree_of c.args.tree.now) 6 → MatchOption c.first_exceeded.result (KeptBelow (tree_of c.args.tree.now) 7) (λ e. IsRefusal (tree_of c.args.tree.now) (fault.Limit e.which e.count))
-limits c kept =
-    let ps = tree_of c.args.tree.now in
-    tried ps Limits (λ (e : Excess). fault.Limit e.which e.count) c.first_exceeded.result kept
-    (limits_searched ps c.first_exceeded.result (subst (λ s. IsFirstExcess (counts s ps) c.first_exceeded.result) c.requires.symbols c.first_exceeded.ensures))
+limits : (c : After-first_exceeded) → KeptBelow (tree_of c.args.tree.now) 6 → MatchOption c.first_exceeded.result (KeptBelow (tree_of c.args.tree.now) 7) (λ f. IsRefusal (tree_of c.args.tree.now) f)
+limits c kept = tried (tree_of c.args.tree.now) Limits (λ f. f) c.first_exceeded.result kept c.first_exceeded.ensures
+
+pub first_misplaced-requires : goal.first_misplaced-requires
+first_misplaced-requires c =
+    let size = ap length c.in_ok-namings.ensures.rows ∙ length-map_at (program_naming (symbols_of (tree_of c.args.tree.now))) 0 (tree_of c.args.tree.now) in
+    record { few = omega (arith, c.in_ok-namings.ensures.named.len, c.requires.bounds.programs); even = omega (arith, size, c.in_ok-namings.ensures.named.len) }
 
 -- ---- the answers
 
