@@ -10,7 +10,7 @@ ghost use Rattle.htl_names.specs.Flat.{size_of, value_of, comm_item, comm_items,
 ghost use Rattle.htl_names.specs.Lists.{flat_map_at};
 
 use crate::Done;
-use crate::functions::{Inputs, put_outputs};
+use crate::functions::put_outputs;
 use crate::place::ModuleAt;
 use crate::tables::Source;
 use htl_base::{Seq, Ty, Value};
@@ -120,12 +120,7 @@ pub fn put_tasks(
 {
     for k in 0..nodes.len() {
         let node = &nodes[k];
-        let inputs = Inputs {
-            source: *source,
-            at,
-            task: k,
-        };
-        put_outputs(&inputs, &node.outputs, functions)?;
+        put_outputs(source, at, k, &node.outputs, functions)?;
         into.push(task(source.alloc, node, number as u16)?)?;
     }
     Ok(())

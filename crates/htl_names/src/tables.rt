@@ -25,20 +25,11 @@ use std::marker::Model;
 // ---- the order of the tables
 
 /// What the flat tables are made by: the symbols, and the modules and modes by their numbers in the tables.
+#[derive(Drop)]
 pub struct Layout {
     pub symbols: Symbols,
     pub modules: Vec<ModuleAt>,
     pub modes: Vec<ModeAt>,
-}
-
-impl Drop for Layout {
-    fn drop(self) {
-        let Self {
-            symbols: _,
-            modules: _,
-            modes: _,
-        } = self;
-    }
 }
 
 impl Model for Layout {
