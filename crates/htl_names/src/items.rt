@@ -55,17 +55,15 @@ fn put_program_comms(nodes: &[CommNode], into: &mut Vec<Comm>) -> Done
     requires { All (λ (c : ACommNode). size_of c.period.x ≤ 1000000) nodes.now }
     ensures { OnOk result (into.new.items ≡ into.old.items ++ map comm_item nodes.now) }
 {
-    for k in 0..nodes.len() {
-        let node = &nodes[k];
-        into.push(Comm {
+    into.extend(
+        nodes.iter().map(|node| Comm {
             name: node.name.name,
             ty: node.ty,
             sensor: node.sensor,
             period: size_of(node.period.x),
             init: value_of(node.init),
-        })?;
-    }
-    Ok(())
+        }),
+    )
 }
 
 /// Puts the modes of the module with this number behind others.
@@ -74,15 +72,13 @@ pub fn put_modes(number: usize, nodes: &[ModeNode], into: &mut Vec<Mode>) -> Don
     requires periods { All (λ (x : AModeNode). size_of x.period.x ≤ 1000000) nodes.now }
     ensures { OnOk result (into.new.items ≡ into.old.items ++ map (mode_item number) (map mode_of nodes.now)) }
 {
-    for k in 0..nodes.len() {
-        let node = &nodes[k];
-        into.push(Mode {
+    into.extend(
+        nodes.iter().map(|node| Mode {
             name: node.name.name,
             module: number as u16,
             period: size_of(node.period.x),
-        })?;
-    }
-    Ok(())
+        }),
+    )
 }
 
 /// Puts the ports of the mode with this number behind others.
@@ -90,15 +86,13 @@ pub fn put_ports(number: usize, nodes: &[ParamNode], into: &mut Vec<Port>) -> Do
     requires { number ≤ 256 }
     ensures { OnOk result (into.new.items ≡ into.old.items ++ map (port_item number) nodes.now) }
 {
-    for k in 0..nodes.len() {
-        let node = &nodes[k];
-        into.push(Port {
+    into.extend(
+        nodes.iter().map(|node| Port {
             name: node.name.name,
             mode: number as u16,
             ty: node.ty,
-        })?;
-    }
-    Ok(())
+        }),
+    )
 }
 
 // ---- tasks
@@ -149,19 +143,11 @@ fn output_types(alloc: Global, outputs: &OutNodes) -> Result<Vec<Ty>, AllocError
         OutNodes::Concrete { outs } => outs.as_slice(),
         OutNodes::Abstract { outs } => return types_of(alloc, outs.as_slice()),
     };
-    let mut types = Vec::new(alloc);
-    for k in 0..outs.len() {
-        types.push(outs[k].param.ty)?;
-    }
-    Ok(types)
+    outs.iter().map(|out| out.param.ty).collect(alloc)
 }
 
 fn types_of(alloc: Global, params: &[ParamNode]) -> Result<Vec<Ty>, AllocError>
     ensures { IfOk result (λ v. v.items ≡ types_of params.now) }
 {
-    let mut types = Vec::new(alloc);
-    for k in 0..params.len() {
-        types.push(params[k].ty)?;
-    }
-    Ok(types)
+    params.iter().map(|param| param.ty).collect(alloc)
 }
