@@ -31,10 +31,8 @@ pub struct ModuleAt {
 pub fn modules_at(tree: &Tree, program: usize) -> &[ModuleNode]
     ensures { map module_of result.now ≡ modules_at (tree_of tree.now) program }
 {
-    match tree.programs.as_slice().get(program) {
-        Some(node) => node.modules.as_slice(),
-        None => &[],
-    }
+    let node = tree.programs.as_slice().get(program);
+    node.map_or(&[], |node| node.modules.as_slice())
 }
 
 /// A module.
@@ -49,10 +47,8 @@ pub fn module_at(tree: &Tree, program: usize, module: usize) -> Option<&ModuleNo
 pub fn modes_at(tree: &Tree, program: usize, module: usize) -> &[ModeNode]
     ensures { map mode_of result.now ≡ modes_at (tree_of tree.now) program «module» }
 {
-    match module_at(tree, program, module) {
-        Some(node) => node.modes.as_slice(),
-        None => &[],
-    }
+    let node = module_at(tree, program, module);
+    node.map_or(&[], |node| node.modes.as_slice())
 }
 
 /// A mode.
@@ -79,29 +75,25 @@ pub fn module_before(source: &Source<'_>, program: usize, module: usize) -> Befo
     ensures modes { result.modes ≡ modes_before source.now.layout.now (tree_of source.now.tree.now) (module_number source.now.layout.now program «module») }
     ensures tasks { result.tasks ≡ tasks_before source.now.layout.now (tree_of source.now.tree.now) (module_number source.now.layout.now program «module») }
 {
-    let mut modes: usize = 0;
-    let mut tasks: usize = 0;
+    let mut before = Before {
+        number: 0,
+        modes: 0,
+        tasks: 0,
+    };
     let layout = source.layout;
     let modules = layout.modules.as_slice();
     for k in 0..modules.len() {
         let at = modules[k];
         if at.program == program && at.module == module {
-            return Before {
-                number: k,
-                modes,
-                tasks,
-            };
+            return before;
         }
+        before.number += 1;
         if let Some(node) = module_at(source.tree, at.program, at.module) {
-            modes += node.modes.as_slice().len();
-            tasks += node.tasks.as_slice().len();
+            before.modes += node.modes.as_slice().len();
+            before.tasks += node.tasks.as_slice().len();
         }
     }
-    Before {
-        number: modules.len(),
-        modes,
-        tasks,
-    }
+    before
 }
 
 /// How many invocations the modes below a number have.

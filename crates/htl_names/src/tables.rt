@@ -130,8 +130,7 @@ fn put_module(source: &Source<'_>, number: usize, at: ModuleAt, into: &mut Modul
         node.tasks.as_slice(),
         &mut into.tasks,
         &mut into.functions,
-    )?;
-    Ok(())
+    )
 }
 
 // ---- the lists by mode
@@ -179,10 +178,8 @@ fn put_mode(source: &Source<'_>, number: usize, at: ModeAt, into: &mut ModeLists
     };
     let layout = source.layout;
     let module = module_before(source, at.program, at.module);
-    let refined = match layout.modules.as_slice().get(module.number) {
-        Some(module) => module.parent,
-        None => None,
-    };
+    let own = layout.modules.as_slice().get(module.number);
+    let refined = own.and_then(|module| module.parent);
     let parent = match refined {
         Some(at) => invokes_before(source, mode_number(source, at)),
         None => 0,
@@ -199,8 +196,7 @@ fn put_mode(source: &Source<'_>, number: usize, at: ModeAt, into: &mut ModeLists
     put_ports(number, node.ports.as_slice(), &mut into.ports)?;
     put_invocations(&home, node.invokes.as_slice(), &mut into.invs)?;
     let switches = node.switches.as_slice();
-    put_switches(&home, switches, &mut into.switches, &mut into.functions)?;
-    Ok(())
+    put_switches(&home, switches, &mut into.switches, &mut into.functions)
 }
 
 // ---- the tables
