@@ -3,10 +3,9 @@ ghost use Rattle.std.specs.Prelude.{◌≡◌, ◌≤◌, ◌++◌, All, IfOk, O
 ghost use Rattle.htl_model.specs.Tables.{fun_of};
 ghost use Rattle.htl_text.specs.Bounds.{out_params};
 ghost use Rattle.htl_text.specs.Nodes.{tree_of, mode_of, task_of, outs_of};
-ghost use Rattle.htl_text.specs.declared.tree.CommNode.{CommNode as ACommNode};
 ghost use Rattle.htl_text.specs.declared.tree.ModeNode.{ModeNode as AModeNode};
 ghost use Rattle.htl_text.specs.declared.tree.TaskNode.{TaskNode as ATaskNode};
-ghost use Rattle.htl_names.specs.Flat.{size_of, value_of, comm_item, comm_items, mode_item, port_item, types_of, task_item, task_functions};
+ghost use Rattle.htl_names.specs.Flat.{size_of, value_of, comm_items, mode_item, port_item, types_of, task_item, task_functions};
 ghost use Rattle.htl_names.specs.Lists.{flat_map_at};
 
 use crate::Done;
@@ -15,7 +14,7 @@ use crate::place::ModuleAt;
 use crate::tables::Source;
 use htl_base::{Seq, Ty, Value};
 use htl_model::{Comm, Function, Mode, Port, Task};
-use htl_text::{CommNode, ConstNode, ModeNode, OutNodes, ParamNode, TaskNode};
+use htl_text::{ConstNode, ModeNode, OutNodes, ParamNode, TaskNode};
 use std::alloc::{AllocError, Global};
 
 // ---- literals
@@ -46,24 +45,18 @@ pub fn put_comms(source: &Source<'_>, into: &mut Vec<Comm>) -> Done
 {
     let programs = source.tree.programs.as_slice();
     for k in 0..programs.len() {
-        put_program_comms(programs[k].comms.as_slice(), into)?;
+        let nodes = programs[k].comms.as_slice();
+        into.extend(
+            nodes.iter().map(|node| Comm {
+                name: node.name.name,
+                ty: node.ty,
+                sensor: node.sensor,
+                period: size_of(node.period.x),
+                init: value_of(node.init),
+            }),
+        )?;
     }
     Ok(())
-}
-
-fn put_program_comms(nodes: &[CommNode], into: &mut Vec<Comm>) -> Done
-    requires { All (λ (c : ACommNode). size_of c.period.x ≤ 1000000) nodes.now }
-    ensures { OnOk result (into.new.items ≡ into.old.items ++ map comm_item nodes.now) }
-{
-    into.extend(
-        nodes.iter().map(|node| Comm {
-            name: node.name.name,
-            ty: node.ty,
-            sensor: node.sensor,
-            period: size_of(node.period.x),
-            init: value_of(node.init),
-        }),
-    )
 }
 
 /// Puts the modes of the module with this number behind others.
