@@ -3,7 +3,7 @@ ghost use Rattle.std.specs.List.{flat_map};
 ghost use Rattle.std.specs.Prelude.{◌≡◌, ◌++◌, OnOk, IfOk};
 ghost use Rattle.htl_text.specs.Nodes.{tree_of};
 ghost use Rattle.htl_names.specs.Flat.{layout_by};
-ghost use Rattle.htl_names.specs.Order.{program_modules, below, order, module_modes, mode_order};
+ghost use Rattle.htl_names.specs.Order.{program_modules, below, order, mode_order};
 
 use crate::Done;
 use crate::place::{ModeAt, ModuleAt, modes_at, modules_at};
@@ -74,27 +74,18 @@ fn put_module(
 
 // ---- modes
 
-/// Puts the modes of a module behind others.
-fn put_module_modes(tree: &Tree, module: ModuleAt, into: &mut Vec<ModeAt>) -> Done
-    ensures { OnOk result (into.new.items ≡ into.old.items ++ module_modes (tree_of tree.now) «module») }
-{
-    let modes = modes_at(tree, module.program, module.module);
-    for mode in 0..modes.len() {
-        into.push(ModeAt {
-            program: module.program,
-            module: module.module,
-            mode,
-        })?;
-    }
-    Ok(())
-}
-
 /// Puts the modes of modules behind others, by module.
 fn put_modes(tree: &Tree, modules: &[ModuleAt], into: &mut Vec<ModeAt>) -> Done
     ensures { OnOk result (into.new.items ≡ into.old.items ++ mode_order (tree_of tree.now) modules.now) }
 {
     for k in 0..modules.len() {
-        put_module_modes(tree, modules[k], into)?;
+        let at = modules[k];
+        let modes = modes_at(tree, at.program, at.module).len();
+        into.extend((0..modes).map(|mode| ModeAt {
+            program: at.program,
+            module: at.module,
+            mode,
+        }))?;
     }
     Ok(())
 }
