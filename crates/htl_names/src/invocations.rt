@@ -36,7 +36,7 @@ fn invocation(home: &ModeHome<'_>, node: &InvokeNode) -> Result<Inv, AllocError>
     Ok(Inv {
         mode: home.number as u16,
         task: (home.module.tasks + home.source.layout.meaning(tasks, node.task.name)) as u16,
-        parent: match (home.refined, node.parent) {
+        parent: match (home.module.refined, node.parent) {
             (Some(b), Some(id)) => {
                 let invokes = Space::Invokes.of(b.program, b.module, b.mode);
                 Some((home.parent + home.source.layout.meaning(invokes, id.name)) as u16)

@@ -2,6 +2,7 @@
 ghost use Rattle.std.specs.Prelude.{◌≡◌, map, MatchOption, None, Some, ◌≤◌};
 ghost use Rattle.htl_text.specs.Nodes.{tree_of, module_of, mode_of};
 ghost use Rattle.htl_names.specs.Flat.{module_number, modes_before, tasks_before, ports_before, invokes_before, mode_number, refined_mode, first_parent};
+ghost use Rattle.htl_names.specs.Narrow.{IsNarrowParent};
 ghost use Rattle.htl_names.specs.Order.{modules_at, module_at, modes_at, mode_at};
 
 use crate::tables::Source;
@@ -61,33 +62,34 @@ pub fn mode_at(tree: &Tree, at: ModeAt) -> Option<&ModeNode>
 
 // ---- numbers in the tables
 
-/// The number of a module, and how many modes and tasks stand before its own.
+/// How many modes and tasks stand before those of a module, and the mode that its program refines.
 #[derive(Clone, Copy)]
 pub struct Before {
-    pub number: usize,
     pub modes: usize,
     pub tasks: usize,
+    pub refined: Option<ModeAt>,
 }
 
 /// A module by its place; behind all others where it stands nowhere.
 pub fn module_before(source: &Source<'_>, program: usize, module: usize) -> Before
-    ensures number { result.number ≡ module_number source.now.layout.now program «module» }
     ensures modes { result.modes ≡ modes_before source.now.layout.now (tree_of source.now.tree.now) (module_number source.now.layout.now program «module») }
     ensures tasks { result.tasks ≡ tasks_before source.now.layout.now (tree_of source.now.tree.now) (module_number source.now.layout.now program «module») }
+    ensures refined { result.refined ≡ refined_mode source.now.layout.now program «module» }
+    ensures narrow { IsNarrowParent result.refined }
 {
     let mut before = Before {
-        number: 0,
         modes: 0,
         tasks: 0,
+        refined: None,
     };
     let layout = source.layout;
     let modules = layout.modules.as_slice();
     for k in 0..modules.len() {
         let at = modules[k];
         if at.program == program && at.module == module {
+            before.refined = at.parent;
             return before;
         }
-        before.number += 1;
         if let Some(node) = module_at(source.tree, at.program, at.module) {
             before.modes += node.modes.as_slice().len();
             before.tasks += node.tasks.as_slice().len();
@@ -122,8 +124,8 @@ pub fn mode_number(source: &Source<'_>, at: ModeAt) -> usize
 
 // ---- a mode with what its items need
 
-/// A mode of a source, with its number, that of its first port, its module, and the mode that its program refines, with
-/// the number of the first invocation of that.
+/// A mode of a source, with its number, that of its first port, its module, and the number of the first invocation of the
+/// mode that its program refines.
 #[derive(Clone, Copy)]
 pub struct ModeHome<'a> {
     pub source: Source<'a>,
@@ -131,12 +133,11 @@ pub struct ModeHome<'a> {
     pub at: ModeAt,
     pub port: usize,
     pub module: Before,
-    pub refined: Option<ModeAt>,
     pub parent: usize,
     ghost few: { number ≤ 256 },
     ghost ports: { port ≡ ports_before source.layout.now (tree_of source.tree.now) number },
     ghost modes: { «module».modes ≡ modes_before source.layout.now (tree_of source.tree.now) (module_number source.layout.now at.program at.«module») },
     ghost tasks: { «module».tasks ≡ tasks_before source.layout.now (tree_of source.tree.now) (module_number source.layout.now at.program at.«module») },
-    ghost refines: { refined ≡ refined_mode source.layout.now at.program at.«module» },
-    ghost parents: { parent ≡ first_parent source.layout.now (tree_of source.tree.now) refined },
+    ghost refines: { «module».refined ≡ refined_mode source.layout.now at.program at.«module» },
+    ghost parents: { parent ≡ first_parent source.layout.now (tree_of source.tree.now) «module».refined },
 }

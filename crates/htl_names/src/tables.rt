@@ -176,11 +176,8 @@ fn put_mode(source: &Source<'_>, number: usize, at: ModeAt, into: &mut ModeLists
     let Some(node) = mode_at(source.tree, at) else {
         return Ok(());
     };
-    let layout = source.layout;
     let module = module_before(source, at.program, at.module);
-    let own = layout.modules.as_slice().get(module.number);
-    let refined = own.and_then(|module| module.parent);
-    let parent = match refined {
+    let parent = match module.refined {
         Some(at) => invokes_before(source, mode_number(source, at)),
         None => 0,
     };
@@ -190,7 +187,6 @@ fn put_mode(source: &Source<'_>, number: usize, at: ModeAt, into: &mut ModeLists
         at,
         port: into.ports.len(),
         module,
-        refined,
         parent,
     };
     put_ports(number, node.ports.as_slice(), &mut into.ports)?;
