@@ -46,15 +46,14 @@ pub fn put_comms(source: &Source<'_>, into: &mut Vec<Comm>) -> Done
     let programs = source.tree.programs.as_slice();
     for k in 0..programs.len() {
         let nodes = programs[k].comms.as_slice();
-        into.extend(
-            nodes.iter().map(|node| Comm {
-                name: node.name.name,
-                ty: node.ty,
-                sensor: node.sensor,
-                period: size_of(node.period.x),
-                init: value_of(node.init),
-            }),
-        )?;
+        let comms = nodes.iter().map(|node| Comm {
+            name: node.name.name,
+            ty: node.ty,
+            sensor: node.sensor,
+            period: size_of(node.period.x),
+            init: value_of(node.init),
+        });
+        into.extend(comms)?;
     }
     Ok(())
 }
@@ -65,13 +64,12 @@ pub fn put_modes(number: usize, nodes: &[ModeNode], into: &mut Vec<Mode>) -> Don
     requires periods { All (λ (x : AModeNode). size_of x.period.x ≤ 1000000) nodes.now }
     ensures { OnOk result (into.new.items ≡ into.old.items ++ map (mode_item number) (map mode_of nodes.now)) }
 {
-    into.extend(
-        nodes.iter().map(|node| Mode {
-            name: node.name.name,
-            module: number as u16,
-            period: size_of(node.period.x),
-        }),
-    )
+    let modes = nodes.iter().map(|node| Mode {
+        name: node.name.name,
+        module: number as u16,
+        period: size_of(node.period.x),
+    });
+    into.extend(modes)
 }
 
 /// Puts the ports of the mode with this number behind others.
@@ -79,13 +77,12 @@ pub fn put_ports(number: usize, nodes: &[ParamNode], into: &mut Vec<Port>) -> Do
     requires { number ≤ 256 }
     ensures { OnOk result (into.new.items ≡ into.old.items ++ map (port_item number) nodes.now) }
 {
-    into.extend(
-        nodes.iter().map(|node| Port {
-            name: node.name.name,
-            mode: number as u16,
-            ty: node.ty,
-        }),
-    )
+    let ports = nodes.iter().map(|node| Port {
+        name: node.name.name,
+        mode: number as u16,
+        ty: node.ty,
+    });
+    into.extend(ports)
 }
 
 // ---- tasks

@@ -26,7 +26,7 @@ extend-requires c =
 pub loop-k-preserved : goal.loop-k-preserved
 loop-k-preserved c =
     let nodes = c.as_slice-nodes.result.now in
-    let taken = YieldsList-at c.map.ensures.source (YieldsList-from_slice nodes cc) in
-    let h = items_from_extend c.extend.result c.extend.ensures.ran (YieldsList-from_map _ comm_item taken c.map.ensures.closure (λ x r q k. search rules)) in
+    let taken = YieldsList-at c.map-comms.ensures.source (YieldsList-from_slice nodes cc) in
+    let h = items_from_extend c.extend.result c.extend.ensures.ran (YieldsList-from_map _ comm_item taken c.map-comms.ensures.closure (λ x r q k. search rules)) in
     let put : c.extend.new.self.items ≡ c.loop-k.into.items ++ map comm_item nodes = search rules in
     grind (arith, common_steps)
