@@ -1,15 +1,14 @@
--- What a loop puts behind a list, item by item.
-use Rattle.std.proofs.Common.{arith, ◌≡◌, ◌+◌, ◌<◌, ℕ, suc, List, ◌∷◌, ◌++◌, length, drop, get_or, sym, ap, ◌∙◌, append_assoc}
-use Rattle.std.proofs.lemmas.List.{drop_more}
+-- What loops put behind lists, item by item, and what is put for each item that is put for each item of a list.
+use Rattle.std.proofs.Common.{arith, ◌≡◌, ◌<◌, ◌+◌, ℕ, suc, List, [], ◌∷◌, ◌++◌, length, map, drop, get_or, refl, ap, ◌∙◌}
+use Rattle.std.specs.List.{flat_map}
+use Rattle.std.proofs.lemmas.Grind.{common_steps, flat_map-append}
 use Rattle.htl_names.specs.Lists.{flat_map_at}
 
--- the part of the item at place k was put; `all` is what the items from there on give, and `later` what those behind it do
-pub put-item : {A B : Type 0} (xs : List A) (k : ℕ) (x : A) → k < length xs → x ≡ get_or xs k x → (all later : List A → List B) (part : List B)
-    → ((ys : List A) → all (x ∷ ys) ≡ part ++ later ys) → (old new whole : List B) → new ≡ old ++ part → old ++ all (drop k xs) ≡ whole
-    → new ++ later (drop (k + 1) xs) ≡ whole
-put-item {A} {B} xs k x below is all later part cut old new whole grew so =
-    ap (λ (bs : List B). bs ++ later (drop (k + 1) xs)) grew ∙ append_assoc old part (later (drop (k + 1) xs))
-    ∙ ap (λ (bs : List B). old ++ bs) (sym (cut (drop (k + 1) xs)) ∙ ap (λ (y : A). all (y ∷ drop (k + 1) xs)) is ∙ ap all (sym (drop_more xs k x below))) ∙ so
+pub flat_map_inside : {A B C : Type 0} (f : B → List C) (g : ℕ → A → List B) (k : ℕ) (xs : List A) → flat_map f (flat_map_at g k xs) ≡ flat_map_at (λ i x. flat_map f (g i x)) k xs
+flat_map_inside f g k [] = refl
+flat_map_inside f g k (x ∷ xs) = flat_map-append f (g k x) (flat_map_at g (suc k) xs) ∙ ap (λ r. flat_map f (g k x) ++ r) (flat_map_inside f g (suc k) xs)
 
-pub first-part : {A B : Type 0} (f : ℕ → A → List B) (k : ℕ) (x : A) (ys : List A) → flat_map_at f k (x ∷ ys) ≡ f k x ++ flat_map_at f (k + 1) ys
-first-part {B = B} f k x ys = let next : suc k ≡ k + 1 = omega arith in ap (λ (n : ℕ). f k x ++ flat_map_at f n ys) next
+-- what the item at place k gives was put
+pub next_item : {A B C : Type 0} (f : ℕ → B → List C) (g : A → B) (xs : List A) (k : ℕ) (x : A) (old new whole : List C) → k < length xs → x ≡ get_or xs k x
+    → new ≡ old ++ f k (g x) → old ++ flat_map_at f k (map g (drop k xs)) ≡ whole → new ++ flat_map_at f (k + 1) (map g (drop (k + 1) xs)) ≡ whole
+next_item f g xs k x old new whole within is put so = grind (arith, common_steps)

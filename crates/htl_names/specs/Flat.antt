@@ -25,6 +25,8 @@ use Rattle.htl_text.specs.declared.tree.ParamNode.{ParamNode}
 use Rattle.htl_text.specs.declared.tree.EndNode.{EndNode}
 use Rattle.htl_text.specs.declared.tree.EndNode.TheVariants as end
 use Rattle.htl_text.specs.declared.tree.InvokeNode.{InvokeNode}
+use Rattle.htl_names.specs.declared.functions.Arguments.{Arguments}
+use Rattle.htl_names.specs.declared.functions.Arguments.TheVariants.{Inputs, Reads}
 use Rattle.htl_names.specs.declared.key.Key.{Key}
 use Rattle.htl_names.specs.declared.place.ModeAt.{ModeAt}
 use Rattle.htl_names.specs.declared.place.ModuleAt.{ModuleAt}
@@ -235,6 +237,11 @@ module_functions l ps s = flat_map_at (task_functions l s.program s.«module») 
 -- in the function of a switch a name is a place among the communicators that it reads
 abbrev pub read_place : Layout → List ℕ → Id → ℕ
 read_place l reads id = place_in (eqb (meaning l (comm_key id.name))) reads
+
+-- what a name of an expression stands for
+abbrev pub argument_place : Layout → Arguments → Id → ℕ
+argument_place l (Inputs s k) = input_place l s.program s.«module» k
+argument_place l (Reads reads) = read_place l reads.now
 
 abbrev pub flat_switch_function : Layout → PlainSwitch → Fun
 flat_switch_function l s = Formula s.first (term_by (read_place l (comms_in l s.cond)) s.cond)

@@ -44,12 +44,12 @@ switches_at ps a = elim (mode_at ps a) [ Some x ↦ x.switches | None ↦ [] ]
 abbrev pub modules_in : List PlainProgram → Option ModeAt → ℕ → List ModuleAt
 modules_in ps parent q = list_to (λ u. record { program = q; «module» = u; parent = parent }) (length (modules_at ps q))
 
+-- those of no program where there is none
+abbrev pub program_modules : List PlainProgram → Option ModeAt → Option ℕ → List ModuleAt
+program_modules ps parent o = elim o [ Some q ↦ modules_in ps parent q | None ↦ [] ]
+
 abbrev pub mode_kids : List (Key × ℕ) → List PlainProgram → ℕ → ℕ → ℕ → PlainMode → List ModuleAt
-mode_kids symbols ps p u m x =
-    elim (named_program symbols x) [
-      | Some q ↦ modules_in ps (Some (record { program = p; «module» = u; mode = m })) q
-      | None ↦ []
-    ]
+mode_kids symbols ps p u m x = program_modules ps (Some (record { program = p; «module» = u; mode = m })) (named_program symbols x)
 
 -- the modules of the programs that refine the modes of a module
 abbrev pub kids : List (Key × ℕ) → List PlainProgram → ModuleAt → List ModuleAt

@@ -4,122 +4,97 @@ ghost use Rattle.htl_model.specs.Functions.{term_of};
 ghost use Rattle.htl_model.specs.Tables.{fun_of};
 ghost use Rattle.htl_text.specs.Nodes.{outs_of};
 ghost use Rattle.htl_text.specs.declared.tree.Id.{Id as AnId};
-ghost use Rattle.htl_names.specs.Flat.{term_by, input_place, read_place, outs_functions};
+ghost use Rattle.htl_names.specs.Flat.{argument_place, term_by, outs_functions};
 
 use crate::Done;
 use crate::key::Space;
 use crate::place::ModuleAt;
-use crate::tables::Source;
+use crate::tables::{Layout, Source};
 use htl_model::{Expr, Function};
 use htl_text::{Id, Operand, OutNodes, Part};
-use std::alloc::{AllocError, Global};
+use std::alloc::AllocError;
 
 // ---- expressions
 
 /// What the names of an expression stand for.
-pub trait Arguments {
-    ghost place: { Self → AnId → ℕ };
-
-    /// The place of the argument that a name means.
-    fn place(&self, id: &Id) -> u16
-        requires { place self.now id.now ≤ 4097 }
-        ensures { result ≡ place self.now id.now };
+#[derive(Clone, Copy)]
+pub enum Arguments<'a> {
+    /// The inputs of this task of a module.
+    Inputs(ModuleAt, usize),
+    /// The communicators that a switch reads.
+    Reads(&'a [u16]),
 }
 
-/// The inputs of a task.
-#[derive(Drop)]
-pub struct Inputs<'a> {
-    pub source: Source<'a>,
-    pub at: ModuleAt,
-    pub task: usize,
-}
-
-impl Arguments for Inputs<'_> {
-    ghost place = { λ s. input_place s.source.layout.now s.at.program s.at.«module» s.task };
-
-    fn place(&self, id: &Id) -> u16 {
-        let scope = Space::Params.of(self.at.program, self.at.module, self.task);
-        self.source.layout.meaning(scope, id.name) as u16
-    }
-}
-
-/// The communicators that a switch reads.
-#[derive(Drop)]
-pub struct Reads<'a> {
-    pub source: Source<'a>,
-    pub comms: &'a [u16],
-}
-
-impl Arguments for Reads<'_> {
-    ghost place = { λ s. read_place s.source.layout.now s.comms.now };
-
-    fn place(&self, id: &Id) -> u16 {
-        let comm = self.source.layout.comm(id);
-        let comms = self.comms;
-        for k in 0..comms.len() {
-            if comms[k] as usize == comm {
-                return k as u16;
-            }
+/// The place of the argument that a name means.
+fn place(layout: &Layout, arguments: Arguments<'_>, id: &Id) -> u16
+    requires { argument_place layout.now arguments id.now ≤ 4097 }
+    ensures { result ≡ argument_place layout.now arguments.entry id.now }
+{
+    let reads = match arguments {
+        Arguments::Inputs(at, task) => {
+            let inputs = Space::Params.of(at.program, at.module, task);
+            return layout.meaning(inputs, id.name) as u16;
         }
-        comms.len() as u16
+        Arguments::Reads(reads) => reads,
+    };
+    let comm = layout.comm(id);
+    for k in 0..reads.len() {
+        if reads[k] as usize == comm {
+            return k as u16;
+        }
     }
+    reads.len() as u16
 }
 
 /// The expression with the places of its names.
-#[cycle(formula)]
-pub fn formula<A: Arguments>(
-    alloc: Global,
-    arguments: &A,
+pub fn formula(
+    source: &Source<'_>,
+    arguments: Arguments<'_>,
     e: &Operand<'_>,
 ) -> Result<Expr, AllocError>
-    requires { (id : AnId) → A.place arguments.now id ≤ 4097 }
-    ensures { IfOk result (λ x. term_of x ≡ term_by (A.place arguments.now) e.now) }
+    requires { (id : AnId) → argument_place source.now.layout.now arguments id ≤ 4097 }
+    ensures { IfOk result (λ x. term_of x ≡ term_by (argument_place source.now.layout.now arguments.entry) e.now) }
 {
+    let alloc = source.alloc;
     match e.part() {
         Part::Int { token, x } => Ok(Expr::Int { token, x }),
         Part::Bool { token, x } => Ok(Expr::Bool { token, x }),
         Part::Named { id } => Ok(Expr::Arg {
             token: id.token,
-            k: arguments.place(&id),
+            k: place(source.layout, arguments, &id),
         }),
         Part::Unary { token, op, e } => Ok(Expr::Unary {
             token,
             op,
-            e: boxed(alloc, arguments, e)?,
+            e: Box::new(alloc, formula(source, arguments, &e)?)?,
         }),
         Part::Binary { token, op, l, r } => Ok(Expr::Binary {
             token,
             op,
-            l: boxed(alloc, arguments, l)?,
-            r: boxed(alloc, arguments, r)?,
+            l: Box::new(alloc, formula(source, arguments, &l)?)?,
+            r: Box::new(alloc, formula(source, arguments, &r)?)?,
         }),
         Part::Choose { token, c, a, b } => Ok(Expr::Choose {
             token,
-            c: boxed(alloc, arguments, c)?,
-            a: boxed(alloc, arguments, a)?,
-            b: boxed(alloc, arguments, b)?,
+            c: Box::new(alloc, formula(source, arguments, &c)?)?,
+            a: Box::new(alloc, formula(source, arguments, &a)?)?,
+            b: Box::new(alloc, formula(source, arguments, &b)?)?,
         }),
     }
 }
 
-#[cycle(formula)]
-fn boxed<A: Arguments>(
-    alloc: Global,
-    arguments: &A,
-    e: Operand<'_>,
-) -> Result<Box<Expr>, AllocError>
-    requires { (id : AnId) → A.place arguments.now id ≤ 4097 }
-    ensures { IfOk result (λ x. term_of x.value ≡ term_by (A.place arguments.now) e.entry) }
-{
-    Ok(Box::new(alloc, formula(alloc, arguments, &e)?)?)
-}
-
 // ---- the functions of outputs
 
-/// Puts one for each output of the task with these inputs behind others: none of an abstract one.
-pub fn put_outputs(inputs: &Inputs<'_>, outputs: &OutNodes, into: &mut Vec<Function>) -> Done
+/// Puts one for each output of a task of a module behind others: none of an abstract one.
+pub fn put_outputs(
+    source: &Source<'_>,
+    at: ModuleAt,
+    task: usize,
+    outputs: &OutNodes,
+    into: &mut Vec<Function>,
+) -> Done
     ensures { OnOk result (map fun_of into.new.items ≡ map fun_of into.old.items
-        ++ outs_functions inputs.now.source.layout.now inputs.now.at.program inputs.now.at.«module» inputs.now.task (outs_of outputs.now)) }
+        ++ outs_functions source.now.layout.now at.program at.«module» task (outs_of outputs.now)) }
 {
     let OutNodes::Concrete { outs } = outputs else {
         return Ok(());
@@ -127,7 +102,7 @@ pub fn put_outputs(inputs: &Inputs<'_>, outputs: &OutNodes, into: &mut Vec<Funct
     let outs = outs.as_slice();
     for k in 0..outs.len() {
         let out = &outs[k];
-        let e = formula(inputs.source.alloc, inputs, &out.value.whole())?;
+        let e = formula(source, Arguments::Inputs(at, task), &out.value.whole())?;
         let first = out.first;
         into.push(Function::Expr { first, e })?;
     }

@@ -2,6 +2,7 @@
 ghost use Rattle.std.specs.Prelude.{◌≡◌, ◌++◌, None, Some, OnOk, IfOk, All, map};
 ghost use Rattle.htl_text.specs.Nodes.{tree_of};
 ghost use Rattle.htl_names.specs.Flat.{end_item, invoke_item};
+ghost use Rattle.htl_names.specs.Order.{invokes_at};
 ghost use Rattle.htl_names.specs.Narrow.{IsNarrowEnd, IsNarrowInvoke};
 
 use crate::Done;
@@ -15,7 +16,7 @@ use std::alloc::AllocError;
 
 /// Puts the invocations of a mode behind others, in source order.
 pub fn put_invocations(home: &ModeHome<'_>, nodes: &[InvokeNode], into: &mut Vec<Inv>) -> Done
-    requires { All IsNarrowInvoke nodes.now }
+    requires { invokes_at (tree_of home.now.source.tree.now) home.now.at ≡ nodes.now }
     ensures { OnOk result (into.new.items ≡ into.old.items
         ++ map (invoke_item home.now.source.layout.now (tree_of home.now.source.tree.now) home.now.number home.now.at) nodes.now) }
 {
@@ -35,7 +36,7 @@ fn invocation(home: &ModeHome<'_>, node: &InvokeNode) -> Result<Inv, AllocError>
     Ok(Inv {
         mode: home.number as u16,
         task: (home.module.tasks + home.source.layout.meaning(tasks, node.task.name)) as u16,
-        parent: match (home.refined, node.parent) {
+        parent: match (home.module.refined, node.parent) {
             (Some(b), Some(id)) => {
                 let invokes = Space::Invokes.of(b.program, b.module, b.mode);
                 Some((home.parent + home.source.layout.meaning(invokes, id.name)) as u16)
@@ -52,11 +53,8 @@ fn ends(home: &ModeHome<'_>, nodes: &[EndNode]) -> Result<Vec<End>, AllocError>
     requires { All IsNarrowEnd nodes.now }
     ensures { IfOk result (λ v. v.items ≡ map (end_item home.now.source.layout.now (tree_of home.now.source.tree.now) home.now.number home.now.at) nodes.now) }
 {
-    let mut found = Vec::new(home.source.alloc);
-    for k in 0..nodes.len() {
-        found.push(end(home, &nodes[k]))?;
-    }
-    Ok(found)
+    let found = nodes.iter().map(|node| end(home, node));
+    found.collect(home.source.alloc)
 }
 
 fn end(home: &ModeHome<'_>, node: &EndNode) -> End

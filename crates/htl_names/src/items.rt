@@ -3,19 +3,18 @@ ghost use Rattle.std.specs.Prelude.{◌≡◌, ◌≤◌, ◌++◌, All, IfOk, O
 ghost use Rattle.htl_model.specs.Tables.{fun_of};
 ghost use Rattle.htl_text.specs.Bounds.{out_params};
 ghost use Rattle.htl_text.specs.Nodes.{tree_of, mode_of, task_of, outs_of};
-ghost use Rattle.htl_text.specs.declared.tree.CommNode.{CommNode as ACommNode};
 ghost use Rattle.htl_text.specs.declared.tree.ModeNode.{ModeNode as AModeNode};
 ghost use Rattle.htl_text.specs.declared.tree.TaskNode.{TaskNode as ATaskNode};
-ghost use Rattle.htl_names.specs.Flat.{size_of, value_of, comm_item, comm_items, mode_item, port_item, types_of, task_item, task_functions};
+ghost use Rattle.htl_names.specs.Flat.{size_of, value_of, comm_items, mode_item, port_item, types_of, task_item, task_functions};
 ghost use Rattle.htl_names.specs.Lists.{flat_map_at};
 
 use crate::Done;
-use crate::functions::{Inputs, put_outputs};
+use crate::functions::put_outputs;
 use crate::place::ModuleAt;
 use crate::tables::Source;
 use htl_base::{Seq, Ty, Value};
 use htl_model::{Comm, Function, Mode, Port, Task};
-use htl_text::{CommNode, ConstNode, ModeNode, OutNodes, ParamNode, TaskNode};
+use htl_text::{ConstNode, ModeNode, OutNodes, ParamNode, TaskNode};
 use std::alloc::{AllocError, Global};
 
 // ---- literals
@@ -46,24 +45,15 @@ pub fn put_comms(source: &Source<'_>, into: &mut Vec<Comm>) -> Done
 {
     let programs = source.tree.programs.as_slice();
     for k in 0..programs.len() {
-        put_program_comms(programs[k].comms.as_slice(), into)?;
-    }
-    Ok(())
-}
-
-fn put_program_comms(nodes: &[CommNode], into: &mut Vec<Comm>) -> Done
-    requires { All (λ (c : ACommNode). size_of c.period.x ≤ 1000000) nodes.now }
-    ensures { OnOk result (into.new.items ≡ into.old.items ++ map comm_item nodes.now) }
-{
-    for k in 0..nodes.len() {
-        let node = &nodes[k];
-        into.push(Comm {
+        let nodes = programs[k].comms.as_slice();
+        let comms = nodes.iter().map(|node| Comm {
             name: node.name.name,
             ty: node.ty,
             sensor: node.sensor,
             period: size_of(node.period.x),
             init: value_of(node.init),
-        })?;
+        });
+        into.extend(comms)?;
     }
     Ok(())
 }
@@ -74,15 +64,12 @@ pub fn put_modes(number: usize, nodes: &[ModeNode], into: &mut Vec<Mode>) -> Don
     requires periods { All (λ (x : AModeNode). size_of x.period.x ≤ 1000000) nodes.now }
     ensures { OnOk result (into.new.items ≡ into.old.items ++ map (mode_item number) (map mode_of nodes.now)) }
 {
-    for k in 0..nodes.len() {
-        let node = &nodes[k];
-        into.push(Mode {
-            name: node.name.name,
-            module: number as u16,
-            period: size_of(node.period.x),
-        })?;
-    }
-    Ok(())
+    let modes = nodes.iter().map(|node| Mode {
+        name: node.name.name,
+        module: number as u16,
+        period: size_of(node.period.x),
+    });
+    into.extend(modes)
 }
 
 /// Puts the ports of the mode with this number behind others.
@@ -90,15 +77,12 @@ pub fn put_ports(number: usize, nodes: &[ParamNode], into: &mut Vec<Port>) -> Do
     requires { number ≤ 256 }
     ensures { OnOk result (into.new.items ≡ into.old.items ++ map (port_item number) nodes.now) }
 {
-    for k in 0..nodes.len() {
-        let node = &nodes[k];
-        into.push(Port {
-            name: node.name.name,
-            mode: number as u16,
-            ty: node.ty,
-        })?;
-    }
-    Ok(())
+    let ports = nodes.iter().map(|node| Port {
+        name: node.name.name,
+        mode: number as u16,
+        ty: node.ty,
+    });
+    into.extend(ports)
 }
 
 // ---- tasks
@@ -120,12 +104,7 @@ pub fn put_tasks(
 {
     for k in 0..nodes.len() {
         let node = &nodes[k];
-        let inputs = Inputs {
-            source: *source,
-            at,
-            task: k,
-        };
-        put_outputs(&inputs, &node.outputs, functions)?;
+        put_outputs(source, at, k, &node.outputs, functions)?;
         into.push(task(source.alloc, node, number as u16)?)?;
     }
     Ok(())
@@ -154,19 +133,11 @@ fn output_types(alloc: Global, outputs: &OutNodes) -> Result<Vec<Ty>, AllocError
         OutNodes::Concrete { outs } => outs.as_slice(),
         OutNodes::Abstract { outs } => return types_of(alloc, outs.as_slice()),
     };
-    let mut types = Vec::new(alloc);
-    for k in 0..outs.len() {
-        types.push(outs[k].param.ty)?;
-    }
-    Ok(types)
+    outs.iter().map(|out| out.param.ty).collect(alloc)
 }
 
 fn types_of(alloc: Global, params: &[ParamNode]) -> Result<Vec<Ty>, AllocError>
     ensures { IfOk result (λ v. v.items ≡ types_of params.now) }
 {
-    let mut types = Vec::new(alloc);
-    for k in 0..params.len() {
-        types.push(params[k].ty)?;
-    }
-    Ok(types)
+    params.iter().map(|param| param.ty).collect(alloc)
 }

@@ -3,7 +3,7 @@ ghost use Rattle.std.specs.List.{flat_map};
 ghost use Rattle.std.specs.Prelude.{◌≡◌, ◌++◌, OnOk, IfOk};
 ghost use Rattle.htl_text.specs.Nodes.{tree_of};
 ghost use Rattle.htl_names.specs.Flat.{layout_by};
-ghost use Rattle.htl_names.specs.Order.{modules_in, below, order, module_modes, mode_order};
+ghost use Rattle.htl_names.specs.Order.{program_modules, below, order, mode_order};
 
 use crate::Done;
 use crate::place::{ModeAt, ModuleAt, modes_at, modules_at};
@@ -17,18 +17,21 @@ use std::alloc::{AllocError, Global};
 
 // The levels of a tree of programs are few, so the calls below don't go deep.
 
-/// Puts the modules of a program behind others, each with those below it, at most so many levels down.
+/// Puts the modules of a program, if there is one, behind others, each with those below it, at most so many levels down.
 #[cycle(below)]
 fn put_program(
     tree: &Tree,
     symbols: &Symbols,
     parent: Option<ModeAt>,
-    program: usize,
+    program: Option<usize>,
     steps: usize,
     into: &mut Vec<ModuleAt>,
 ) -> Done
-    ensures { OnOk result (into.new.items ≡ into.old.items ++ flat_map (below steps symbols.now (tree_of tree.now)) (modules_in (tree_of tree.now) parent program)) }
+    ensures { OnOk result (into.new.items ≡ into.old.items ++ flat_map (below steps symbols.now (tree_of tree.now)) (program_modules (tree_of tree.now) parent program)) }
 {
+    let Some(program) = program else {
+        return Ok(());
+    };
     let modules = modules_at(tree, program);
     for u in 0..modules.len() {
         let module = ModuleAt {
@@ -58,41 +61,31 @@ fn put_module(
     }
     let modes = modes_at(tree, module.program, module.module);
     for k in 0..modes.len() {
-        if let Some(q) = named_program(&modes[k], symbols) {
-            let place = ModeAt {
-                program: module.program,
-                module: module.module,
-                mode: k,
-            };
-            put_program(tree, symbols, Some(place), q, steps - 1, into)?;
-        }
+        let place = ModeAt {
+            program: module.program,
+            module: module.module,
+            mode: k,
+        };
+        let program = named_program(&modes[k], symbols);
+        put_program(tree, symbols, Some(place), program, steps - 1, into)?;
     }
     Ok(())
 }
 
 // ---- modes
 
-/// Puts the modes of a module behind others.
-fn put_module_modes(tree: &Tree, module: ModuleAt, into: &mut Vec<ModeAt>) -> Done
-    ensures { OnOk result (into.new.items ≡ into.old.items ++ module_modes (tree_of tree.now) «module») }
-{
-    let modes = modes_at(tree, module.program, module.module);
-    for mode in 0..modes.len() {
-        into.push(ModeAt {
-            program: module.program,
-            module: module.module,
-            mode,
-        })?;
-    }
-    Ok(())
-}
-
 /// Puts the modes of modules behind others, by module.
 fn put_modes(tree: &Tree, modules: &[ModuleAt], into: &mut Vec<ModeAt>) -> Done
     ensures { OnOk result (into.new.items ≡ into.old.items ++ mode_order (tree_of tree.now) modules.now) }
 {
     for k in 0..modules.len() {
-        put_module_modes(tree, modules[k], into)?;
+        let at = modules[k];
+        let modes = modes_at(tree, at.program, at.module).len();
+        into.extend((0..modes).map(|mode| ModeAt {
+            program: at.program,
+            module: at.module,
+            mode,
+        }))?;
     }
     Ok(())
 }
@@ -106,7 +99,7 @@ pub(crate) fn layout_of(alloc: Global, tree: &Tree, symbols: Symbols) -> Result<
 {
     let mut modules = Vec::new(alloc);
     let steps = tree.programs.as_slice().len();
-    put_program(tree, &symbols, None, 0, steps, &mut modules)?;
+    put_program(tree, &symbols, None, Some(0), steps, &mut modules)?;
     let mut modes = Vec::new(alloc);
     put_modes(tree, &modules, &mut modes)?;
     Ok(Layout {

@@ -2,6 +2,7 @@
 ghost use Rattle.std.specs.Prelude.{◌≡◌, map, MatchOption, None, Some, ◌≤◌};
 ghost use Rattle.htl_text.specs.Nodes.{tree_of, module_of, mode_of};
 ghost use Rattle.htl_names.specs.Flat.{module_number, modes_before, tasks_before, ports_before, invokes_before, mode_number, refined_mode, first_parent};
+ghost use Rattle.htl_names.specs.Narrow.{IsNarrowParent};
 ghost use Rattle.htl_names.specs.Order.{modules_at, module_at, modes_at, mode_at};
 
 use crate::tables::Source;
@@ -31,10 +32,8 @@ pub struct ModuleAt {
 pub fn modules_at(tree: &Tree, program: usize) -> &[ModuleNode]
     ensures { map module_of result.now ≡ modules_at (tree_of tree.now) program }
 {
-    match tree.programs.as_slice().get(program) {
-        Some(node) => node.modules.as_slice(),
-        None => &[],
-    }
+    let node = tree.programs.as_slice().get(program);
+    node.map_or(&[], |node| node.modules.as_slice())
 }
 
 /// A module.
@@ -49,10 +48,8 @@ pub fn module_at(tree: &Tree, program: usize, module: usize) -> Option<&ModuleNo
 pub fn modes_at(tree: &Tree, program: usize, module: usize) -> &[ModeNode]
     ensures { map mode_of result.now ≡ modes_at (tree_of tree.now) program «module» }
 {
-    match module_at(tree, program, module) {
-        Some(node) => node.modes.as_slice(),
-        None => &[],
-    }
+    let node = module_at(tree, program, module);
+    node.map_or(&[], |node| node.modes.as_slice())
 }
 
 /// A mode.
@@ -65,43 +62,40 @@ pub fn mode_at(tree: &Tree, at: ModeAt) -> Option<&ModeNode>
 
 // ---- numbers in the tables
 
-/// The number of a module, and how many modes and tasks stand before its own.
+/// How many modes and tasks stand before those of a module, and the mode that its program refines.
 #[derive(Clone, Copy)]
 pub struct Before {
-    pub number: usize,
     pub modes: usize,
     pub tasks: usize,
+    pub refined: Option<ModeAt>,
 }
 
 /// A module by its place; behind all others where it stands nowhere.
 pub fn module_before(source: &Source<'_>, program: usize, module: usize) -> Before
-    ensures number { result.number ≡ module_number source.now.layout.now program «module» }
     ensures modes { result.modes ≡ modes_before source.now.layout.now (tree_of source.now.tree.now) (module_number source.now.layout.now program «module») }
     ensures tasks { result.tasks ≡ tasks_before source.now.layout.now (tree_of source.now.tree.now) (module_number source.now.layout.now program «module») }
+    ensures refined { result.refined ≡ refined_mode source.now.layout.now program «module» }
+    ensures narrow { IsNarrowParent result.refined }
 {
-    let mut modes: usize = 0;
-    let mut tasks: usize = 0;
+    let mut before = Before {
+        modes: 0,
+        tasks: 0,
+        refined: None,
+    };
     let layout = source.layout;
     let modules = layout.modules.as_slice();
     for k in 0..modules.len() {
         let at = modules[k];
         if at.program == program && at.module == module {
-            return Before {
-                number: k,
-                modes,
-                tasks,
-            };
+            before.refined = at.parent;
+            return before;
         }
         if let Some(node) = module_at(source.tree, at.program, at.module) {
-            modes += node.modes.as_slice().len();
-            tasks += node.tasks.as_slice().len();
+            before.modes += node.modes.as_slice().len();
+            before.tasks += node.tasks.as_slice().len();
         }
     }
-    Before {
-        number: modules.len(),
-        modes,
-        tasks,
-    }
+    before
 }
 
 /// How many invocations the modes below a number have.
@@ -130,8 +124,8 @@ pub fn mode_number(source: &Source<'_>, at: ModeAt) -> usize
 
 // ---- a mode with what its items need
 
-/// A mode of a source, with its number, that of its first port, its module, and the mode that its program refines, with
-/// the number of the first invocation of that.
+/// A mode of a source, with its number, that of its first port, its module, and the number of the first invocation of the
+/// mode that its program refines.
 #[derive(Clone, Copy)]
 pub struct ModeHome<'a> {
     pub source: Source<'a>,
@@ -139,12 +133,11 @@ pub struct ModeHome<'a> {
     pub at: ModeAt,
     pub port: usize,
     pub module: Before,
-    pub refined: Option<ModeAt>,
     pub parent: usize,
     ghost few: { number ≤ 256 },
     ghost ports: { port ≡ ports_before source.layout.now (tree_of source.tree.now) number },
     ghost modes: { «module».modes ≡ modes_before source.layout.now (tree_of source.tree.now) (module_number source.layout.now at.program at.«module») },
     ghost tasks: { «module».tasks ≡ tasks_before source.layout.now (tree_of source.tree.now) (module_number source.layout.now at.program at.«module») },
-    ghost refines: { refined ≡ refined_mode source.layout.now at.program at.«module» },
-    ghost parents: { parent ≡ first_parent source.layout.now (tree_of source.tree.now) refined },
+    ghost refines: { «module».refined ≡ refined_mode source.layout.now at.program at.«module» },
+    ghost parents: { parent ≡ first_parent source.layout.now (tree_of source.tree.now) «module».refined },
 }

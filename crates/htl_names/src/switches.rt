@@ -7,7 +7,7 @@ ghost use Rattle.htl_names.specs.Lists.{with_new};
 ghost use Rattle.htl_names.specs.Flat.{comms_in, flat_switch_function, meaning, switch_item};
 
 use crate::Done;
-use crate::functions::{Reads, formula};
+use crate::functions::{Arguments, formula};
 use crate::key::Space;
 use crate::place::ModeHome;
 use crate::tables::Source;
@@ -33,11 +33,8 @@ pub fn put_switches(
     for k in 0..nodes.len() {
         let node = &nodes[k];
         let comms = comms_in(source, &node.cond)?;
-        let reads = Reads {
-            source: *source,
-            comms: comms.as_slice(),
-        };
-        let e = formula(source.alloc, &reads, &node.cond.whole())?;
+        let reads = Arguments::Reads(comms.as_slice());
+        let e = formula(source, reads, &node.cond.whole())?;
         let first = node.first;
         functions.push(Function::Expr { first, e })?;
         into.push(Switch {

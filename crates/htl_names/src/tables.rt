@@ -25,20 +25,11 @@ use std::marker::Model;
 // ---- the order of the tables
 
 /// What the flat tables are made by: the symbols, and the modules and modes by their numbers in the tables.
+#[derive(Drop)]
 pub struct Layout {
     pub symbols: Symbols,
     pub modules: Vec<ModuleAt>,
     pub modes: Vec<ModeAt>,
-}
-
-impl Drop for Layout {
-    fn drop(self) {
-        let Self {
-            symbols: _,
-            modules: _,
-            modes: _,
-        } = self;
-    }
 }
 
 impl Model for Layout {
@@ -139,8 +130,7 @@ fn put_module(source: &Source<'_>, number: usize, at: ModuleAt, into: &mut Modul
         node.tasks.as_slice(),
         &mut into.tasks,
         &mut into.functions,
-    )?;
-    Ok(())
+    )
 }
 
 // ---- the lists by mode
@@ -186,13 +176,8 @@ fn put_mode(source: &Source<'_>, number: usize, at: ModeAt, into: &mut ModeLists
     let Some(node) = mode_at(source.tree, at) else {
         return Ok(());
     };
-    let layout = source.layout;
     let module = module_before(source, at.program, at.module);
-    let refined = match layout.modules.as_slice().get(module.number) {
-        Some(module) => module.parent,
-        None => None,
-    };
-    let parent = match refined {
+    let parent = match module.refined {
         Some(at) => invokes_before(source, mode_number(source, at)),
         None => 0,
     };
@@ -202,14 +187,12 @@ fn put_mode(source: &Source<'_>, number: usize, at: ModeAt, into: &mut ModeLists
         at,
         port: into.ports.len(),
         module,
-        refined,
         parent,
     };
     put_ports(number, node.ports.as_slice(), &mut into.ports)?;
     put_invocations(&home, node.invokes.as_slice(), &mut into.invs)?;
     let switches = node.switches.as_slice();
-    put_switches(&home, switches, &mut into.switches, &mut into.functions)?;
-    Ok(())
+    put_switches(&home, switches, &mut into.switches, &mut into.functions)
 }
 
 // ---- the tables

@@ -1,7 +1,7 @@
-use Rattle.std.proofs.Common.{◌≡◌, ◌+◌, ◌*◌, ◌-◌, ◌++◌, map, drop}
+use Rattle.std.proofs.Common.{◌≡◌, ◌+◌, ◌*◌, ◌-◌, ◌++◌, ℕ, map, drop}
 use Rattle.std.specs.List.{flat_map}
 use Rattle.htl_model.specs.Lists.{list_to}
-use Rattle.htl_text.specs.Nodes.{mode_of, tree_of}
+use Rattle.htl_text.specs.Nodes.{mode_of, tree_of, PlainMode}
 use Rattle.htl_names.specs.Lists.{flat_map_at}
 use Rattle.htl_names.specs.Nth.{nth_module}
 use Rattle.htl_names.specs.Order.{below, mode_kids}
@@ -19,6 +19,5 @@ invariant-put_program-loop-u l =
 
 abbrev pub invariant-put_module-loop-k : goal.invariant-put_module-loop-k
 invariant-put_module-loop-k l =
-    l.into.items
-    ++ flat_map (below (l.steps - 1) l.symbols (tree_of l.tree)) (flat_map_at (mode_kids l.symbols (tree_of l.tree) l.«module».program l.«module».«module») l.k (map mode_of (drop l.k l.modes)))
-    ≡ l.fn.into.items ++ below l.steps l.symbols (tree_of l.tree) l.«module»
+    let under = λ (m : ℕ) (x : PlainMode). flat_map (below (l.steps - 1) l.symbols (tree_of l.tree)) (mode_kids l.symbols (tree_of l.tree) l.«module».program l.«module».«module» m x) in
+    l.into.items ++ flat_map_at under l.k (map mode_of (drop l.k l.modes)) ≡ l.initial.into.items ++ flat_map_at under 0 (map mode_of l.modes)

@@ -2,7 +2,7 @@ use Rattle.std.proofs.Common.{◌≡◌, ◌++◌, ◌+◌, ◌∙◌, ap, sym, 
 use Rattle.htl_text.specs.Nodes.{mode_of}
 use Rattle.htl_names.specs.Lists.{flat_map_at}
 use Rattle.htl_names.specs.Programs.{Naming, mode_naming, named_from}
-use Rattle.htl_names.proofs.Growing.{put-item, first-part}
+use Rattle.htl_names.proofs.Growing.{next_item}
 use Rattle.htl_names.proofs.programs.push_module_naming.Goals as goal
 use Rattle.htl_names.proofs.programs.push_module_naming.Goals.{in-Some+in_ok-push, in_default}
 
@@ -13,10 +13,8 @@ loop-k-preserved c =
     let old = c.loop-k.into.items in
     let with : Option ℕ → List Naming = λ o. old ++ named_from (record { program = c.args.program; «module» = c.args.«module»; mode = c.loop-k.k }) o in
     let next = λ (o : Option ℕ) (is : c.named_program.result ≡ o) (grown : c.match-named_program.into.items ≡ with o).
-    put-item modes c.loop-k.k c.index-modes-k.result c.loop-k-test.true c.index-modes-k.is
-    (λ ms. flat_map_at naming c.loop-k.k (map mode_of ms)) (λ ms. flat_map_at naming (c.loop-k.k + 1) (map mode_of ms)) (naming c.loop-k.k (mode_of c.index-modes-k.result))
-    (λ ms. first-part naming c.loop-k.k (mode_of c.index-modes-k.result) (map mode_of ms)) old c.match-named_program.into.items (c.args.into.now.items ++ flat_map_at naming 0 (map mode_of modes))
-    (grown ∙ ap with (sym is ∙ c.named_program.ensures)) c.loop-k.invariant in
+    next_item naming mode_of modes c.loop-k.k c.index-modes-k.result old c.match-named_program.into.items (c.args.into.now.items ++ flat_map_at naming 0 (map mode_of modes))
+    c.loop-k-test.true c.index-modes-k.is (grown ∙ ap with (sym is ∙ c.named_program.ensures)) c.loop-k.invariant in
     elim c.match-named_program.branch [
       | in-Some+in_ok-push w ↦ next (Some w.in-Some.q) w.in-Some.is (ap (λ v. v.items) w.into-is ∙ w.in_ok-push.ensures.items)
       | in_default w ↦ next None w.in_default.is (ap (λ v. v.items) w.into-is ∙ sym (append-nil old))
