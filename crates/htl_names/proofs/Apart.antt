@@ -1,25 +1,8 @@
 -- In a tree of programs each module stands once in the order, so the modules in order have no more of a kind than the source.
-use Rattle.std.proofs.Common.{◌≡◌, inl, inr, ℕ, zero, suc, ◌+◌, ◌≤◌, ◌<◌, Bool, true, false, cond, eqb, List, [], ◌∷◌, length, take, slice_get, Option, Some, None, refl, sym, ◌∙◌, ap, ap₂, subst, arith, ◌≢◌, map, set, sum, sum_by, length-set, get_or-set_other}
-use Rattle.std.specs.List.{flat_map, count_by}
-use Rattle.std.specs.Prelude.{ltb}
-use Rattle.std.proofs.lemmas.Bool.{cases_eq, ne_eqb}
-use Rattle.std.proofs.lemmas.Bool.Decides.{nat_tests}
-use Rattle.std.proofs.lemmas.Option.{same_Some, slice_get_within, get_or_from_slice_get, slice_get-get_or}
-use Rattle.std.proofs.lemmas.List.Concat.{length-flat_map}
-use Rattle.std.proofs.lemmas.List.Sums.{sum_by-le, sum-map, sum_by-cons, sum_by-append, sum_by_push, sum_by-set, get_or-le-sum_by}
-use Rattle.htl_model.specs.Lists.{list_to}
-use Rattle.htl_model.proofs.PlaceLaws.{get_mapped}
-use Rattle.htl_text.specs.Bounds.{modules_of, modes_of}
-use Rattle.htl_text.specs.Nodes.{PlainProgram, PlainMode, PlainModule}
-use Rattle.htl_names.specs.declared.key.Key.{Key}
-use Rattle.htl_names.specs.declared.place.ModeAt.{ModeAt}
-use Rattle.htl_names.specs.declared.place.ModuleAt.{ModuleAt}
-use Rattle.htl_names.specs.Flat.{is_module}
-use Rattle.htl_names.specs.Lists.{flat_map_at, place_in}
-use Rattle.htl_names.specs.Narrow.{refined_place}
-use Rattle.htl_names.specs.Nth.{nth_module, mode_in}
-use Rattle.htl_names.specs.Order.{modules_at, modes_at, modules_in, mode_kids, kids, below, order, module_at, mode_at, module_modes, mode_order}
-use Rattle.htl_names.specs.Programs.{named_program, naming, refined_by}
+use Rattle.std.proofs.Common.{◌≡◌, inl, inr, ℕ, zero, suc, ◌+◌, ◌≤◌, ◌<◌, Bool, true, false, cond, eqb, List, [], ◌∷◌, length, take, slice_get, Option, Some, None, refl, sym, ◌∙◌, ap, ap₂, subst, arith, ◌≢◌, map, set, sum, sum_by, length-set, get_or-set_other, flat_map, count_by, ltb}
+use Rattle.htl_names.proofs.Words.{cases_eq, ne_eqb, nat_tests, same_Some, slice_get_within, get_or_from_slice_get, slice_get-get_or, length-flat_map, sum_by-le, sum-map, sum_by-cons, sum_by-append, sum_by_push, sum_by-set, get_or-le-sum_by, list_to, get_mapped, modules_of, PlainProgram, PlainMode, PlainModule, Key, ModeAt, ModuleAt, is_module, flat_map_at, place_in, refined_place, nth_module, mode_in, modules_at, modes_at, modules_in, mode_kids, kids, order, module_at, mode_at, module_modes, mode_order, named_program, naming, refined_by}
+use Rattle.htl_text.specs.Bounds.{modes_of}
+use Rattle.htl_names.specs.Order.{below}
 use Rattle.htl_names.proofs.FlatMaps.{at_part, same_part, flat_map_is, most_in_part}
 use Rattle.htl_names.proofs.ListLaws.{flat_map_flat_map, flat_map_places}
 use Rattle.htl_names.proofs.ModulePlaces.{Exists, Comes, top, under, kid, comes}

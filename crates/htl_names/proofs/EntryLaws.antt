@@ -1,24 +1,8 @@
 -- The names that a source declares: where they stand, what they mean, how their numbers are bounded.
 use Rattle.std.proofs.Common.{◌≡◌, ℕ, suc, ◌+◌, List, [], ◌∷◌, length, take, slice_get, Some, refl, ◌∙◌, ap, arith, length-append, zero, subst, map, sym, inl, inr, ◌≤◌, Option, None, All, ap₂, ◌++◌}
-use Rattle.std.proofs.lemmas.Bool.{cond_both, cond-true}
-use Rattle.std.proofs.lemmas.Option.{slice_get_within, none-some, same_Some}
-use Rattle.htl_text.specs.Bounds.{comms_of, modules_of, modes_of, tasks_of, ports_of, invokes_of, out_params}
-use Rattle.htl_text.specs.Nodes.{PlainProgram, PlainModule, PlainMode, PlainTask}
-use Rattle.htl_text.specs.declared.tree.CommNode.{CommNode}
-use Rattle.htl_text.specs.declared.tree.ParamNode.{ParamNode}
-use Rattle.htl_text.specs.declared.tree.InvokeNode.{InvokeNode}
-use Rattle.htl_names.specs.declared.key.Entry.{Entry}
-use Rattle.htl_names.specs.Entries.{entry, params_of, param_entry, task_entries, port_entry, invoke_entry, mode_entries, module_entries, comm_entry, program_entries, entries_from, entries}
-use Rattle.htl_names.specs.Keys.{program_key, module_key, task_key, mode_key, same_key, look_up, pair_of}
-use Rattle.htl_names.specs.Lists.{flat_map_at, map_at}
-use Rattle.htl_names.specs.Order.{module_at, tasks_at, modes_at, mode_at, ports_at, invokes_at}
-use Rattle.htl_names.specs.declared.place.ModeAt.{ModeAt}
-use Rattle.htl_names.specs.declared.key.Key.{Key}
-use Rattle.htl_names.specs.declared.key.Space.{Space}
-use Rattle.htl_names.specs.Flat.{symbols_of, layout, meaning}
-use Rattle.htl_names.specs.NameRules.{AreNamesRight, RepeatedName}
+use Rattle.htl_names.proofs.Words.{cond_both, cond-true, slice_get_within, none-some, same_Some, comms_of, modules_of, tasks_of, ports_of, invokes_of, out_params, PlainProgram, PlainModule, PlainMode, PlainTask, CommNode, ParamNode, InvokeNode, Entry, entry, params_of, param_entry, task_entries, port_entry, invoke_entry, mode_entries, module_entries, comm_entry, program_entries, entries_from, entries, program_key, module_key, task_key, mode_key, same_key, look_up, pair_of, flat_map_at, map_at, module_at, tasks_at, modes_at, mode_at, ports_at, invokes_at, ModeAt, Key, Space, symbols_of, layout, meaning, AreNamesRight, RepeatedName, MeetsTaskBounds}
+use Rattle.htl_text.specs.Bounds.{modes_of}
 use Rattle.htl_names.specs.SameKeys.{same_key_decides}
-use Rattle.htl_names.specs.Conditions.{MeetsTaskBounds}
 use Rattle.htl_names.specs.declared.fault.NameFault.TheVariants as fault
 use Rattle.htl_names.specs.declared.key.Space.TheVariants as space
 use Rattle.htl_names.proofs.FlatMaps.{at_flat, flat_part}

@@ -1,19 +1,7 @@
 -- Small sources and the name rules that they break, worked out by the definitions.
-use Rattle.std.specs.Prelude.{◌≡◌, ◌+◌, ◌∷◌, ℕ, List, [], Some, None, pos, refl}
-use Rattle.std.proofs.Common.{arith}
-use Rattle.htl_model.specs.Lists.{first_some}
-use Rattle.htl_text.specs.Expressions.{Variable}
-use Rattle.htl_text.specs.Nodes.{PlainProgram, PlainModule, PlainMode, PlainTask, Concrete}
-use Rattle.htl_text.specs.declared.tree.Id.{Id}
-use Rattle.htl_text.specs.declared.tree.InvokeNode.{InvokeNode}
+use Rattle.std.proofs.Common.{◌≡◌, ◌+◌, ◌∷◌, ℕ, List, [], Some, None, pos, refl, arith}
+use Rattle.htl_names.proofs.Words.{first_some, Variable, PlainProgram, PlainModule, PlainMode, PlainTask, Concrete, Id, InvokeNode, ParamNode, entry, symbols_of, module_key, NameBroken, RepeatedName, UnknownName, WrongKind, ParentName, Span, unknown_token, uses, input_use}
 use Rattle.htl_text.specs.declared.tree.Num.{Num}
-use Rattle.htl_text.specs.declared.tree.ParamNode.{ParamNode}
-use Rattle.htl_names.specs.Entries.{entry}
-use Rattle.htl_names.specs.Flat.{symbols_of}
-use Rattle.htl_names.specs.Keys.{module_key}
-use Rattle.htl_names.specs.NameRules.{NameBroken, RepeatedName, UnknownName, WrongKind, ParentName}
-use Rattle.htl_names.specs.Kinds.{Span}
-use Rattle.htl_names.specs.Uses.{unknown_token, uses, input_use}
 use Rattle.htl_base.specs.declared.Ty.TheVariants as ty
 use Rattle.htl_names.specs.declared.fault.NameFault.TheVariants as fault
 

@@ -1,17 +1,7 @@
 -- Where the items of lists and of their parts stand, and whose they are.
 use Rattle.std.proofs.Common.{◌≡◌, ℕ, zero, suc, ◌+◌, ◌<◌, ◌≤◌, ◌⊎◌, inl, inr, List, [], ◌∷◌, ◌++◌, length, take, slice_get, Some, refl, sym, ◌∙◌, ap, ap₂, subst, arith, length-append, drop, take-append-drop, get_or, map, cond, Bool, eqb, leb, flat_map, count_by}
-use Rattle.std.proofs.lemmas.List.{length-map, length-take, get_or-take}
-use Rattle.std.proofs.lemmas.Option.{slice_get_within, same_Some, none-some, slice_get-get_or, get_or_from_slice_get}
-use Rattle.std.proofs.lemmas.Grind.{flat_map-append}
+use Rattle.htl_names.proofs.Words.{length-map, length-take, get_or-take, slice_get_within, same_Some, none-some, slice_get-get_or, get_or_from_slice_get, flat_map-append, cases_lt, nat_tests, sum_by-cons, sum_by-append, list_to, length-list_to, get_list_to, get_mapped, flat_map_at}
 use Rattle.std.specs.List.Sorted.{IsNonDecreasing}
-use Rattle.std.proofs.lemmas.Bool.{cases_lt}
-use Rattle.std.proofs.lemmas.Bool.Decides.{nat_tests}
-use Rattle.std.proofs.lemmas.List.Sums.{sum_by-cons, sum_by-append, sum_by-le-sum_by}
-use Rattle.std.proofs.lemmas.List.Concat.{length-flat_map}
-use Rattle.htl_model.specs.Lists.{list_to}
-use Rattle.htl_model.proofs.Listed.{length-list_to, get_list_to}
-use Rattle.htl_model.proofs.PlaceLaws.{get_mapped}
-use Rattle.htl_names.specs.Lists.{flat_map_at}
 
 -- ---- the front and the back of a list
 

@@ -1,8 +1,6 @@
 -- What loops put behind lists, item by item, and what is put for each item that is put for each item of a list.
-use Rattle.std.proofs.Common.{arith, ◌≡◌, ◌<◌, ◌+◌, ℕ, suc, List, [], ◌∷◌, ◌++◌, length, map, drop, get_or, refl, ap, ◌∙◌}
-use Rattle.std.specs.List.{flat_map}
-use Rattle.std.proofs.lemmas.Grind.{common_steps, flat_map-append}
-use Rattle.htl_names.specs.Lists.{flat_map_at}
+use Rattle.std.proofs.Common.{arith, ◌≡◌, ◌<◌, ◌+◌, ℕ, suc, List, [], ◌∷◌, ◌++◌, length, map, drop, get_or, refl, ap, ◌∙◌, flat_map}
+use Rattle.htl_names.proofs.Words.{common_steps, flat_map-append, flat_map_at}
 
 pub flat_map_inside : {A B C : Type 0} (f : B → List C) (g : ℕ → A → List B) (k : ℕ) (xs : List A) → flat_map f (flat_map_at g k xs) ≡ flat_map_at (λ i x. flat_map f (g i x)) k xs
 flat_map_inside f g k [] = refl

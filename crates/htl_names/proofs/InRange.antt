@@ -1,45 +1,18 @@
 -- The names of the tables of a tree differ, and the tables are in range.
 use Rattle.std.proofs.Common.{◌≤◌, ◌≡◌, ◌<◌, ◌+◌, ℕ, List, map, length, take, slice_get, Some, refl, sym, ◌∙◌, ap, ap₂, subst, arith, None, Option, IfSome, All}
-use Rattle.std.proofs.lemmas.Option.{slice_get_within, same_Some}
-use Rattle.std.proofs.lemmas.List.{length-map}
-use Rattle.std.proofs.lemmas.List.Elements.{All-map}
-use Rattle.htl_model.specs.Lists.{AreApart}
+use Rattle.htl_names.proofs.Words.{slice_get_within, same_Some, length-map, All-map, AreApart, Mode, Module, Task, Inv, IsModeInRange, IsTaskInRange, IsCommInRange, AreInRange, IsPortInRange, IsEndInRange, IsInvInRange, IsModeThat, IsSwitchInRange, mode_module, out_params, comms_of, modules_of, invokes_of, names_of, InvokeNode, PlainProgram, PlainModule, PlainTask, PlainMode, PlainSwitch, Id, EndNode, ModeAt, Entry, entry, module_entries, comm_entry, entries, layout, symbols_of, meaning, comm_item, comm_items, mode_item, mode_items, module_items, port_item, port_items, task_item, task_items, invoke_item, invoke_items, switch_item, tables_of_tree, module_number, modes_before, tasks_before, mode_number, end_item, refined_mode, parent_number, comms_in, comm_key, module_key, task_key, mode_key, port_key, invoke_key, flat_map_at, AreNamesRight, module_at, tasks_at, ports_at, invokes_at, switches_at, usage, uses, comm_use, end_use, MeetsBounds, MeetsInvokeBounds, IsNarrowEnd, IsNarrowInvoke, mode_in, ModuleAt, refined_by}
 use Rattle.htl_model.specs.declared.parts.Comm.{Comm}
-use Rattle.htl_model.specs.declared.parts.Mode.{Mode}
-use Rattle.htl_model.specs.declared.parts.Module.{Module}
 use Rattle.htl_model.specs.declared.parts.Port.{Port}
-use Rattle.htl_model.specs.declared.parts.Task.{Task}
-use Rattle.htl_model.specs.declared.parts.Inv.{Inv}
 use Rattle.htl_model.specs.declared.parts.Switch.{Switch}
 use Rattle.htl_model.proofs.Apart.{different, different_owned, different_pairs, different_numbers}
-use Rattle.htl_model.specs.Ranges.{IsModeInRange, IsTaskInRange, IsCommInRange, AreInRange, IsPortInRange, IsEndInRange, IsInvInRange, IsModeThat, IsSwitchInRange}
-use Rattle.htl_model.specs.Tables.{mode_module}
-use Rattle.htl_text.specs.Bounds.{out_params, comms_of, modules_of, modes_of, invokes_of, names_of}
-use Rattle.htl_text.specs.declared.tree.InvokeNode.{InvokeNode}
-use Rattle.htl_text.specs.Nodes.{PlainProgram, PlainModule, PlainTask, PlainMode, PlainSwitch}
-use Rattle.htl_text.specs.declared.tree.Id.{Id}
-use Rattle.htl_text.specs.declared.tree.EndNode.{EndNode}
+use Rattle.htl_text.specs.Bounds.{modes_of}
 use Rattle.htl_text.specs.declared.tree.EndNode.TheVariants as end
-use Rattle.htl_names.specs.declared.place.ModeAt.{ModeAt}
-use Rattle.htl_names.specs.declared.key.Entry.{Entry}
-use Rattle.htl_names.specs.Entries.{entry, module_entries, comm_entry, entries}
-use Rattle.htl_names.specs.Flat.{layout, symbols_of, meaning, comm_item, comm_items, mode_item, mode_items, module_items, port_item, port_items, task_item, task_items, invoke_item, invoke_items, switch_item, tables_of_tree, module_number, modes_before, tasks_before, mode_number, end_item, refined_mode, parent_number, comms_in}
-use Rattle.htl_names.specs.Keys.{comm_key, module_key, task_key, mode_key, port_key, invoke_key}
-use Rattle.htl_names.specs.Lists.{flat_map_at}
-use Rattle.htl_names.specs.NameRules.{AreNamesRight}
-use Rattle.htl_names.specs.Order.{module_at, tasks_at, ports_at, invokes_at, switches_at}
-use Rattle.htl_names.specs.Uses.{usage, uses, comm_use, end_use}
-use Rattle.htl_names.specs.Conditions.{MeetsBounds, MeetsInvokeBounds}
-use Rattle.htl_names.specs.Narrow.{IsNarrowEnd, IsNarrowInvoke}
-use Rattle.htl_names.specs.Nth.{mode_in}
-use Rattle.htl_names.specs.declared.place.ModuleAt.{ModuleAt}
 use Rattle.htl_names.proofs.EntryLaws.{declared, one_place, one_entry, source_entries, entries_are, Origin, of_comm, of_module, of_task, of_mode as mode_origin, of_port, of_invoke}
 use Rattle.htl_names.proofs.FlatMaps.{at_part, same_part, part_of, given, of_map, counted, few_owned, owners_order, stands as item_stands}
 use Rattle.htl_names.proofs.SmallFunctions.{functions_in_range, functions_counted}
 use Rattle.htl_names.proofs.Numbered.{task_small, switch_small, each_mode, each_module, module_in_range, mode_count, module_count, mode_number_is, all_in_modes, mode_numbered, mode_owner, mode_stands, mode_meant}
 use Rattle.htl_names.proofs.ModulePlaces.{Comes, top, under, kid, comes}
 use Rattle.htl_names.proofs.TreeLevels.{refined_at}
-use Rattle.htl_names.specs.Programs.{refined_by}
 use Rattle.htl_names.proofs.Members.{In, in_next, in_second, in_part_at, All-from_places, in_first, in_mapped, All-at, all_given}
 use Rattle.htl_names.proofs.NameUses.{mode_period_span, worst_span, known, used_in_invoke, comm_period_span, initial_fits, used_in_switch, parent_stands}
 use Rattle.htl_names.proofs.Places.{modes_in, tasks_in, program_of_module, within as inside, part_in_source}

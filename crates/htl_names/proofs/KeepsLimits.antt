@@ -1,26 +1,9 @@
 -- The root selections of a tree's tables are as many as the tree's, and have no more positions than the limit.
-use Rattle.std.proofs.Common.{◌≡◌, ◌<◌, ◌≤◌, ◌+◌, ◌*◌, cond, ℕ, suc, Bool, true, false, List, [], ◌∷◌, ◌++◌, map, length, slice_get, Option, Some, None, filter, sum, refl, sym, ◌∙◌, ap, subst, arith, length-append}
-use Rattle.std.specs.List.{flat_map, AllZip}
+use Rattle.std.proofs.Common.{◌≡◌, ◌<◌, ◌≤◌, ◌+◌, ◌*◌, cond, ℕ, suc, Bool, true, false, List, [], ◌∷◌, ◌++◌, map, length, slice_get, Option, Some, None, filter, sum, refl, sym, ◌∙◌, ap, subst, arith, length-append, flat_map}
+use Rattle.htl_names.proofs.Words.{AllZip, sum_by-cons, slice_get_within, same_Some, KeepsLimits, places_from, Tables, mode_module, Inv, Mode, PlainProgram, PlainModule, PlainMode, MeetsBounds, Layout, layout, symbols_of, mode_item, module_item, module_items_at, invoke_item, tables_of_tree, most_invokes, most_positions, selections, choices, plain_root_modules, flat_map_at, AreNamesRight, modules_at, invokes_at, nth_module, mode_in, ModeAt, ModuleAt, Module}
 use Rattle.std.proofs.lemmas.Nat.{mul-le}
-use Rattle.std.proofs.lemmas.List.Sums.{sum_by-cons}
-use Rattle.std.proofs.lemmas.Option.{slice_get_within, same_Some}
-use Rattle.htl_model.specs.Broken.{KeepsLimits}
-use Rattle.htl_model.specs.Lists.{places_from}
 use Rattle.htl_model.specs.Selections.{is_root, root_modules, mode_of_module, inv_of_mode, modes_of, invs_of, choices_from, root_mode}
-use Rattle.htl_model.specs.Tables.{Tables, mode_module}
-use Rattle.htl_model.specs.declared.parts.Inv.{Inv}
-use Rattle.htl_model.specs.declared.parts.Mode.{Mode}
 use Rattle.htl_model.proofs.RootModeLaws.{own_mode}
-use Rattle.htl_text.specs.Nodes.{PlainProgram, PlainModule, PlainMode}
-use Rattle.htl_names.specs.Conditions.{MeetsBounds}
-use Rattle.htl_names.specs.Flat.{Layout, layout, symbols_of, mode_item, module_item, module_items_at, invoke_item, tables_of_tree}
-use Rattle.htl_names.specs.Limits.{most_invokes, most_positions, selections, choices, plain_root_modules}
-use Rattle.htl_names.specs.Lists.{flat_map_at}
-use Rattle.htl_names.specs.NameRules.{AreNamesRight}
-use Rattle.htl_names.specs.Order.{modules_at, invokes_at}
-use Rattle.htl_names.specs.Nth.{nth_module, mode_in}
-use Rattle.htl_names.specs.declared.place.ModeAt.{ModeAt}
-use Rattle.htl_names.specs.declared.place.ModuleAt.{ModuleAt}
 use Rattle.htl_names.proofs.InRange.{names-in-range}
 use Rattle.htl_names.proofs.Numbered.{module_count, each_mode, mode_owner, one_module}
 use Rattle.htl_names.proofs.ModulePlaces.{is_root_module, exist, roots_of}
@@ -30,7 +13,6 @@ use Rattle.htl_names.proofs.ListLaws.{invokes_most, map_places, length-places}
 use Rattle.htl_names.proofs.Places.{modes_in, modes_there, part_is}
 use Rattle.htl_names.proofs.LimitLaws.{root_modules_are}
 use Rattle.htl_names.proofs.Members.{at_place}
-use Rattle.htl_model.specs.declared.parts.Module.{Module}
 
 -- root module u of the tables has no more modes, and in each selection no more positions than the most of one of these
 record IsRoot (t : Tables) (u : ℕ) (xs : List PlainMode) : Type 0 where

@@ -1,32 +1,12 @@
 -- Lists: different numbers and how many a switch reads, values by places, items in pairs, items that pass a test.
-use Rattle.std.proofs.Common.{◌<◌, ◌≡◌, inl, inr, ℕ, zero, suc, Bool, true, cond, ◌||◌, eqb, List, [], ◌∷◌, ◌++◌, slice_get, Some, fold, refl, sym, ◌∙◌, ap, ap₂, subst, eq-eqb, eqb-true, ◌≤◌, map, length, arith, ◌+◌, max, Option, IsSomeAnd}
-use Rattle.std.proofs.lemmas.Slice.Zip.{AllZip-left}
-use Rattle.std.specs.List.{AllZip, IsDistinct, list_any, flat_map, count_by}
+use Rattle.std.proofs.Common.{◌<◌, ◌≡◌, inl, inr, ℕ, zero, suc, Bool, true, cond, ◌||◌, eqb, List, [], ◌∷◌, ◌++◌, slice_get, Some, fold, refl, sym, ◌∙◌, ap, ap₂, subst, eq-eqb, eqb-true, ◌≤◌, map, length, arith, ◌+◌, max, Option, IsSomeAnd, flat_map, count_by, bytes_eq}
+use Rattle.htl_names.proofs.Words.{AllZip-left, AllZip, list_any, nat_tests, length-from_keys, or_cases, cond_both, list_any-append, flat_map-map, MatchOption-at_some, slice_get_within, get_or_from_slice_get, none-some, same_Some, length-le_from_distinct_below, sum_by-cons, AreApart, list_to, places_from, greatest, names_of, Expr, PlainProgram, PlainMode, most_invokes, get_mapped, Id, flat_map_at, with_new, distinct, place_in, layout, meaning, comms_in, Layout, read_place, comm_key, Key}
+use Rattle.std.specs.List.{IsDistinct}
 use Rattle.std.proofs.Math.Bool.{or-false}
 use Rattle.std.specs.Set.{distinct_count}
-use Rattle.std.proofs.lemmas.Bool.Decides.{nat_tests}
-use Rattle.std.proofs.lemmas.Map.Made.{length-from_keys}
-use Rattle.std.proofs.lemmas.Bool.{or_cases, cond_both}
 use Rattle.std.proofs.lemmas.Cmp.{nat_eq_equiv}
-use Rattle.std.proofs.lemmas.List.Folds.{list_any-append, flat_map-map}
 use Rattle.std.proofs.lemmas.Map.Keys.{IsDistinct-push, apart_from_distinct, any_passes_from_place}
-use Rattle.std.proofs.lemmas.Option.{MatchOption-at_some, slice_get_within, get_or_from_slice_get, none-some, same_Some}
-use Rattle.std.specs.Str.{bytes_eq}
 use Rattle.std.proofs.lemmas.Slice.Eq.{bytes_eq-Decides}
-use Rattle.std.proofs.lemmas.Map.Steps.{length-le_from_distinct_below}
-use Rattle.std.proofs.lemmas.List.Sums.{sum_by-cons}
-use Rattle.htl_model.specs.Lists.{AreApart, list_to, places_from}
-use Rattle.htl_model.specs.Tables.{greatest}
-use Rattle.htl_text.specs.Bounds.{names_of}
-use Rattle.htl_text.specs.Expressions.{Expr}
-use Rattle.htl_text.specs.Nodes.{PlainProgram, PlainMode}
-use Rattle.htl_names.specs.Limits.{most_invokes}
-use Rattle.htl_model.proofs.PlaceLaws.{get_mapped}
-use Rattle.htl_text.specs.declared.tree.Id.{Id}
-use Rattle.htl_names.specs.Lists.{flat_map_at, with_new, distinct, place_in}
-use Rattle.htl_names.specs.Flat.{layout, meaning, comms_in, Layout, read_place}
-use Rattle.htl_names.specs.Keys.{comm_key}
-use Rattle.htl_names.specs.declared.key.Key.{Key}
 use Rattle.htl_names.proofs.Members.{In}
 use Rattle.htl_names.proofs.FlatMaps.{of_map, flat_map_is, flat_map_parts}
 

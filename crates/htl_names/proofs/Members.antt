@@ -1,12 +1,6 @@
 -- Lists: what holds of each item, and which items there are.
-use Rattle.std.proofs.Common.{◌≡◌, ℕ, zero, suc, ◌+◌, ◌<◌, List, [], ◌∷◌, ◌++◌, map, slice_get, Some, All, refl, sym, ◌∙◌, ap, subst, arith, length, get_or, sum, flat_map, sum_by}
-use Rattle.std.proofs.lemmas.List.Elements.{All-nil, All-cons, All-get_or}
-use Rattle.std.proofs.lemmas.List.Sums.{sum_by-cons, sum_by-append, sum-map}
-use Rattle.std.proofs.lemmas.Simd.{map-map}
-use Rattle.std.proofs.lemmas.Option.{none-some, same_Some, slice_get_within, slice_get-get_or, get_or_from_slice_get}
-use Rattle.std.proofs.lemmas.List.Concat.{flat_map_single}
-use Rattle.htl_model.proofs.PlaceLaws.{get_mapped}
-use Rattle.htl_names.specs.Lists.{flat_map_at, map_at}
+use Rattle.std.proofs.Common.{◌≡◌, ℕ, zero, suc, ◌+◌, ◌<◌, List, [], ◌∷◌, ◌++◌, map, slice_get, Some, All, refl, sym, ◌∙◌, ap, subst, arith, length, get_or, flat_map}
+use Rattle.htl_names.proofs.Words.{All-nil, All-cons, All-get_or, none-some, same_Some, slice_get_within, slice_get-get_or, get_or_from_slice_get, flat_map_single, get_mapped, flat_map_at, map_at}
 use Rattle.htl_names.proofs.FlatMaps.{get_front, get_back, at_part, at_flat, part_of, of_map, given, flat_map_parts}
 
 -- P holds of each item
@@ -109,14 +103,6 @@ pub map_flat_map_at : {A B C : Type 0} (h : B → C) (f : ℕ → A → List B) 
     → (k : ℕ) (xs : List A) → map h (flat_map_at f k xs) ≡ flat_map g xs
 map_flat_map_at h f g e k xs =
     sym (flat_map_single h (flat_map_at f k xs)) ∙ flat_map_parts (λ y. h y ∷ []) f g (λ i x. flat_map_single h (f i x) ∙ e i x) k xs
-
-pub sum_by_map : {A B : Type 0} (f : B → ℕ) (h : A → B) (xs : List A) → sum_by f (map h xs) ≡ sum_by (λ x. f (h x)) xs
-sum_by_map f h xs = sym (sum-map f (map h xs)) ∙ ap sum (map-map f h xs) ∙ sum-map (λ x. f (h x)) xs
-
-pub sum_by_flat_map : {A B : Type 0} (f : B → ℕ) (h : A → List B) (xs : List A) → sum_by f (flat_map h xs) ≡ sum_by (λ x. sum_by f (h x)) xs
-sum_by_flat_map f h [] = refl
-sum_by_flat_map f h (x ∷ xs) =
-    sum_by-append f (h x) (flat_map h xs) ∙ ap (λ n. sum_by f (h x) + n) (sum_by_flat_map f h xs) ∙ sym (sum_by-cons (λ y. sum_by f (h y)) x xs)
 
 -- ---- what holds of each item, at one of them
 

@@ -1,16 +1,7 @@
 -- The modules in the order of the tables: where each comes from, and which of them are root modules.
-use Rattle.std.proofs.Common.{◌≡◌, ◌⊎◌, inl, inr, ℕ, zero, suc, ◌+◌, ◌<◌, Bool, true, false, cond, List, [], ◌∷◌, length, take, slice_get, Option, Some, None, filter, refl, ◌∙◌, ap, subst, sym, arith}
-use Rattle.std.specs.List.{flat_map}
-use Rattle.std.proofs.lemmas.Grind.{common_steps}
-use Rattle.std.proofs.lemmas.List.Elements.{filter-append}
-use Rattle.std.proofs.lemmas.Option.{none-some, same_Some}
-use Rattle.htl_text.specs.Nodes.{PlainProgram, PlainModule, PlainMode}
-use Rattle.htl_names.specs.declared.key.Key.{Key}
-use Rattle.htl_names.specs.declared.place.ModeAt.{ModeAt}
-use Rattle.htl_names.specs.declared.place.ModuleAt.{ModuleAt}
-use Rattle.htl_names.specs.Order.{module_at, modules_at, modes_at, modules_in, mode_kids, kids, below, order}
-use Rattle.htl_names.specs.Programs.{named_program}
-use Rattle.htl_names.specs.Nth.{nth_module, mode_in}
+use Rattle.std.proofs.Common.{◌≡◌, ◌⊎◌, inl, inr, ℕ, zero, suc, ◌+◌, ◌<◌, Bool, true, false, cond, List, [], ◌∷◌, length, take, slice_get, Option, Some, None, filter, refl, ◌∙◌, ap, subst, sym, arith, flat_map}
+use Rattle.htl_names.proofs.Words.{common_steps, filter-append, none-some, same_Some, PlainProgram, PlainModule, PlainMode, Key, ModeAt, ModuleAt, module_at, modules_at, modes_at, modules_in, mode_kids, kids, order, named_program, nth_module, mode_in}
+use Rattle.htl_names.specs.Order.{below}
 use Rattle.htl_names.proofs.Naming.{Names}
 use Rattle.htl_names.proofs.Members.{In}
 use Rattle.htl_names.proofs.FlatMaps.{there_is, at_flat, flat_part, part_of, of_list_to}

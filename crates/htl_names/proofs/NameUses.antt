@@ -1,33 +1,12 @@
 -- Where no name rule is broken, what the names mean that a tree uses stands in their lists, those after `parent` too, and
 -- its numbers and values are of their kinds.
 use Rattle.std.proofs.Common.{arith, ◌≡◌, ◌<◌, ◌≤◌, ℕ, List, slice_get, Some, None, refl, ap, inl, inr, ℤ, pos, negsuc, true, false, leb, leb-true, zero, suc, [], ◌∷◌, ◌∙◌, Option, MatchOption, flat_map}
-use Rattle.std.proofs.lemmas.Bool.{and_parts, true_from_ne_false}
-use Rattle.htl_base.specs.declared.Ty.{Ty}
+use Rattle.htl_names.proofs.Words.{and_parts, true_from_ne_false, Ty, IsSpan, FitsType, comms_of, PlainProgram, PlainModule, PlainMode, PlainTask, PlainSwitch, Id, InvokeNode, CommNode, ConstNode, EndNode, Use, symbols_of, layout, meaning, size_of, value_of, ModeAt, look_up, invoke_key, AreNamesRight, UnknownName, WrongKind, ParentName, module_at, tasks_at, modes_at, mode_at, invokes_at, switches_at, task_uses, invoke_uses, switch_uses, program_use, mode_uses, module_uses, program_uses, uses, Judged, Span, Instance, Initial, token_of, is_span, is_instance, has_type, IsWrongKind, comm_kinds, end_kinds, invoke_kinds, mode_kinds, task_kind, module_kinds, program_kinds, ParentUse, parents, IsOrphan, parent_in, invoke_parent, mode_parents, module_parents, program_parents, refined_by, Key, IsNarrowEnd, IsNarrowInvoke}
 use Rattle.htl_base.specs.declared.Ty.TheVariants as ty
-use Rattle.htl_model.specs.Ranges.{IsSpan, FitsType}
-use Rattle.htl_text.specs.Bounds.{comms_of}
-use Rattle.htl_text.specs.Nodes.{PlainProgram, PlainModule, PlainMode, PlainTask, PlainSwitch}
-use Rattle.htl_text.specs.declared.tree.Id.{Id}
-use Rattle.htl_text.specs.declared.tree.InvokeNode.{InvokeNode}
-use Rattle.htl_text.specs.declared.tree.CommNode.{CommNode}
-use Rattle.htl_text.specs.declared.tree.ConstNode.{ConstNode}
 use Rattle.htl_text.specs.declared.tree.ConstNode.TheVariants as const
-use Rattle.htl_text.specs.declared.tree.EndNode.{EndNode}
 use Rattle.htl_text.specs.declared.tree.EndNode.TheVariants as end
-use Rattle.htl_names.specs.declared.key.Use.{Use}
-use Rattle.htl_names.specs.Flat.{symbols_of, layout, meaning, size_of, value_of}
-use Rattle.htl_names.specs.declared.place.ModeAt.{ModeAt}
-use Rattle.htl_names.specs.Keys.{look_up, invoke_key}
-use Rattle.htl_names.specs.NameRules.{AreNamesRight, UnknownName, WrongKind, ParentName}
-use Rattle.htl_names.specs.Order.{module_at, tasks_at, modes_at, mode_at, invokes_at, switches_at}
-use Rattle.htl_names.specs.Uses.{task_uses, invoke_uses, switch_uses, program_use, mode_uses, module_uses, program_uses, uses}
-use Rattle.htl_names.specs.Kinds.{Judged, Span, Instance, Initial, token_of, is_span, is_instance, has_type, IsWrongKind, comm_kinds, end_kinds, invoke_kinds, mode_kinds, task_kind, module_kinds, program_kinds}
-use Rattle.htl_names.specs.Parents.{ParentUse, parents, IsOrphan, parent_in, invoke_parent, mode_parents, module_parents, program_parents}
-use Rattle.htl_names.specs.Programs.{refined_by}
-use Rattle.htl_names.specs.declared.key.Key.{Key}
 use Rattle.htl_names.specs.declared.fault.NameFault.TheVariants as fault
 use Rattle.htl_names.proofs.EntryLaws.{Stands, means}
-use Rattle.htl_names.specs.Narrow.{IsNarrowEnd, IsNarrowInvoke}
 use Rattle.htl_names.proofs.Members.{All-from_places, In, in_next, in_first, in_second, in_mapped, in_part, in_part_at}
 use Rattle.htl_names.proofs.Places.{part_there, program_of_module, module_of_task, module_of_mode}
 use Rattle.htl_names.proofs.FlatMaps.{flat_part}

@@ -1,23 +1,7 @@
 -- Which items the numbers of the tables name; the modules of the tables are in range.
 use Rattle.std.proofs.Common.{◌≡◌, ◌<◌, ◌+◌, ℕ, zero, suc, true, List, [], ◌∷◌, length, take, slice_get, Some, None, refl, sym, ◌∙◌, ap, subst, arith, length-append, ◌≤◌, Option, IfSome, All}
-use Rattle.std.proofs.lemmas.List.{length-take-le}
-use Rattle.std.proofs.lemmas.Option.{slice_get_within, same_Some}
-use Rattle.htl_model.specs.declared.parts.Module.{Module}
-use Rattle.htl_model.specs.Ranges.{IsModeThat, IsModuleInRange, parent_of, is_within}
-use Rattle.htl_model.specs.Tables.{mode_module}
-use Rattle.htl_text.specs.Nodes.{PlainProgram, PlainModule, PlainMode, PlainTask, PlainSwitch}
-use Rattle.htl_text.specs.Bounds.{modules_of, tasks_of, switches_of, modes_of}
-use Rattle.htl_names.specs.declared.place.ModeAt.{ModeAt}
-use Rattle.htl_names.specs.declared.place.ModuleAt.{ModuleAt}
-use Rattle.htl_names.specs.Flat.{Layout, modes_before, mode_item, mode_items, module_item, module_items_at, module_items, layout, symbols_of, meaning, mode_number, tables_of_tree}
-use Rattle.htl_names.specs.Lists.{flat_map_at}
-use Rattle.htl_names.specs.Order.{module_at, tasks_at, module_modes, switches_at}
-use Rattle.htl_names.specs.Conditions.{MeetsBounds, MeetsTaskBounds, MeetsSwitchBounds}
-use Rattle.htl_names.specs.Keys.{mode_key}
-use Rattle.htl_names.specs.NameRules.{AreNamesRight}
-use Rattle.htl_names.specs.Programs.{naming, Naming, level}
-use Rattle.htl_names.specs.Uses.{usage, uses}
-use Rattle.htl_names.specs.Nth.{mode_in}
+use Rattle.htl_names.proofs.Words.{length-take-le, slice_get_within, same_Some, Module, IsModeThat, IsModuleInRange, parent_of, is_within, mode_module, PlainProgram, PlainModule, PlainMode, PlainTask, PlainSwitch, modules_of, tasks_of, switches_of, ModeAt, ModuleAt, Layout, modes_before, mode_item, mode_items, module_item, module_items_at, module_items, layout, symbols_of, meaning, mode_number, tables_of_tree, flat_map_at, module_at, tasks_at, module_modes, switches_at, MeetsBounds, MeetsTaskBounds, MeetsSwitchBounds, mode_key, AreNamesRight, naming, Naming, level, usage, uses, mode_in, Id}
+use Rattle.htl_text.specs.Bounds.{modes_of}
 use Rattle.htl_names.proofs.FlatMaps.{in_front, at_part, at_flat, flat_part, there_is, list_to_at, of_list_to, counted, given, stands}
 use Rattle.htl_names.proofs.NameUses.{known, used_in_module}
 use Rattle.htl_names.proofs.Places.{modes_in, mode_parts, within, item_in_source, part_in_source}
@@ -25,7 +9,6 @@ use Rattle.htl_names.proofs.ModulePlaces.{Comes, top, under, kid, comes, exist}
 use Rattle.htl_names.proofs.Ordering.{right_tree, number_is, low}
 use Rattle.htl_names.proofs.TreeLevels.{level_step}
 use Rattle.htl_names.proofs.Members.{In, All-at, all_given}
-use Rattle.htl_text.specs.declared.tree.Id.{Id}
 
 -- ---- modes by their numbers
 

@@ -1,15 +1,8 @@
 -- What tests tell, what stands at a place of a tree, and where among all of its kind.
 use Rattle.std.proofs.Common.{◌≡◌, ℕ, ◌<◌, ◌⊎◌, inl, inr, arith, refl, ◌+◌, List, [], length, slice_get, Option, Some, None, ◌∙◌, ap, sym, flat_map}
-use Rattle.std.proofs.lemmas.Bool.{cases_eq}
-use Rattle.std.proofs.lemmas.Option.{none-some, slice_get_within}
-use Rattle.htl_text.specs.Bounds.{modules_of, modes_of}
-use Rattle.htl_text.specs.Nodes.{PlainProgram, PlainModule, PlainMode, PlainTask}
-use Rattle.htl_names.specs.Order.{module_at, tasks_at, modes_at, mode_at, module_modes, mode_order}
-use Rattle.htl_names.specs.declared.place.ModeAt.{ModeAt}
+use Rattle.htl_names.proofs.Words.{cases_eq, none-some, slice_get_within, modules_of, PlainProgram, PlainModule, PlainMode, PlainTask, module_at, tasks_at, modes_at, mode_at, module_modes, mode_order, ModeAt, mode_in, ModuleAt, length-list_to}
+use Rattle.htl_text.specs.Bounds.{modes_of}
 use Rattle.htl_names.proofs.FlatMaps.{at_flat, flat_map_is, same_length}
-use Rattle.htl_names.specs.Nth.{mode_in}
-use Rattle.htl_names.specs.declared.place.ModuleAt.{ModuleAt}
-use Rattle.htl_model.proofs.Listed.{length-list_to}
 
 pub stable : (m n : ℕ) → ((m ≡ n → ⊥) → ⊥) → m ≡ n
 stable m n h = elim (cases_eq m n) [ inl p ↦ p | inr q ↦ absurd (h q) ]

@@ -1,12 +1,10 @@
 -- The search for the programs that are reached: which are marked, and which wait.
 use Rattle.std.proofs.Common.{◌≡◌, ◌<◌, ◌+◌, ◌⊎◌, ℕ, zero, suc, Bool, true, false, cond, List, [], ◌∷◌, ◌++◌, length, map, get_or, replicate, sym, ◌∙◌, ap, arith}
+use Rattle.htl_names.proofs.Words.{nat_tests, common_steps, length-map, MarksReached, Graph, Naming, targets, named_by, Reached, root}
 use Rattle.std.proofs.Math.ListN.{set}
-use Rattle.std.proofs.lemmas.Bool.Decides.{nat_tests}
-use Rattle.std.proofs.lemmas.Grind.{common_steps}
-use Rattle.std.proofs.lemmas.List.{get_or-map, length-map}
+use Rattle.std.proofs.lemmas.List.{get_or-map}
 use Rattle.htl_names.proofs.ListLaws.{is_among}
-use Rattle.htl_names.specs.Named.{MarksReached}
-use Rattle.htl_names.specs.Programs.{Graph, Naming, targets, named_by, Reached, root, below}
+use Rattle.htl_names.specs.Programs.{below}
 
 -- marked or no program, or waits
 abbrev pub Covered : List Bool → List ℕ → ℕ → Type 0

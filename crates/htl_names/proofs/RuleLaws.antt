@@ -1,30 +1,10 @@
 -- What the searches of single rules find, and the first fault over all rules.
-use Rattle.std.proofs.Common.{◌≡◌, ◌<◌, ℕ, zero, suc, List, [], ◌∷◌, slice_get, Option, Some, None, refl, sym, ap, subst, arith, ◌≤◌, Result, Ok, Err, ◌∙◌, inl, inr, length, Bool, true, false, cond, leb, leb-true, le-leb}
-use Rattle.std.specs.Prelude.{MatchOption}
-use Rattle.std.proofs.lemmas.Option.{none-some, same_Some, slice_get_within}
-use Rattle.htl_model.specs.Lists.{first_some}
-use Rattle.htl_names.specs.declared.fault.NameFault.{NameFault}
+use Rattle.std.proofs.Common.{◌≡◌, ◌<◌, ℕ, zero, suc, List, [], ◌∷◌, slice_get, Option, Some, None, refl, sym, ap, subst, arith, ◌≤◌, Result, Ok, Err, ◌∙◌, inl, inr, length, Bool, true, false, cond, leb, leb-true, le-leb, MatchOption, IsErrAnd}
+use Rattle.htl_names.proofs.Words.{none-some, same_Some, slice_get_within, first_some, NameFault, PlainProgram, NameRule, RepeatedName, UnknownName, WrongKind, ParentName, NameBroken, IsFirstNameFault, AreNamesRight, IsResolved, IsKept, KeptBelow, IsFirstOf, IsSearched, IsRefusal, Key, Entry, entries, symbols_of, Named, AreNamed, refined_by, EntriesAreApart, IsRepeat, wrong_tokens, Judged, kinds, token_of, is_kind, IsWrongKind, wrong_token, Use, look_up, unknown_by, unknown_token, uses, IsUnknown, Id, ModeAt, absent, orphan_at, orphan_token, ParentUse, invoke_parent, mode_parents, module_parents, program_parents, parents, parent_in, IsOrphan}
 use Rattle.std.proofs.Math.Nat.{eq-or-lt_of_le}
-use Rattle.std.specs.Result.{IsErrAnd}
-use Rattle.htl_text.specs.Nodes.{PlainProgram}
-use Rattle.htl_names.specs.NameRules.{NameRule, RepeatedName, UnknownName, WrongKind, ProgramTree, ParentName, Limits, order_of, NameBroken, IsFirstNameFault, AreNamesRight, IsResolved}
-use Rattle.htl_names.specs.Told.{IsKept, KeptBelow, IsFirstOf, IsSearched, IsRefusal}
-use Rattle.htl_names.specs.declared.key.Key.{Key}
-use Rattle.htl_names.specs.declared.key.Entry.{Entry}
-use Rattle.htl_names.specs.Entries.{entries}
-use Rattle.htl_names.specs.Flat.{symbols_of}
-use Rattle.htl_names.specs.declared.programs.Named.{Named}
-use Rattle.htl_names.specs.Named.{refined_at, AreNamed}
-use Rattle.htl_names.specs.Programs.{refined_by}
-use Rattle.htl_names.specs.Repeats.{EntriesAreApart, IsRepeat}
-use Rattle.htl_names.specs.Rows.{wrong_of, wrong_tokens}
-use Rattle.htl_names.specs.Kinds.{Judged, kinds, token_of, is_kind, IsWrongKind, wrong_token}
-use Rattle.htl_names.specs.declared.key.Use.{Use}
-use Rattle.htl_names.specs.Keys.{look_up}
-use Rattle.htl_names.specs.Uses.{unknown_by, unknown_token, uses, IsUnknown}
-use Rattle.htl_text.specs.declared.tree.Id.{Id}
-use Rattle.htl_names.specs.declared.place.ModeAt.{ModeAt}
-use Rattle.htl_names.specs.Parents.{absent, orphan_at, orphan_token, ParentUse, invoke_parent, mode_parents, module_parents, program_parents, parents, parent_in, IsOrphan}
+use Rattle.htl_names.specs.NameRules.{order_of}
+use Rattle.htl_names.specs.Named.{refined_at}
+use Rattle.htl_names.specs.Rows.{wrong_of}
 use Rattle.htl_names.proofs.Members.{Each, each_at, each_always, each_flat_map, each_flat_map_at}
 use Rattle.htl_names.specs.declared.fault.NameFault.TheVariants as fault
 

@@ -1,17 +1,7 @@
 -- How modes name programs, and the test whether a program is out of place.
-use Rattle.std.proofs.Common.{◌≡◌, ◌<◌, ℕ, suc, zero, Bool, true, false, cond, eqb, List, [], ◌∷◌, length, Option, Some, None, refl, sym, ◌∙◌, ap, arith, inl, inr, get_or, fold, map, min, ◌+◌, ◌≤◌, subst}
-use Rattle.std.specs.List.{count_by}
+use Rattle.std.proofs.Common.{◌≡◌, ◌<◌, ℕ, suc, zero, Bool, true, false, cond, eqb, List, [], ◌∷◌, length, Option, Some, None, refl, sym, ◌∙◌, ap, arith, inl, inr, get_or, fold, map, min, ◌+◌, ◌≤◌, subst, count_by}
+use Rattle.htl_names.proofs.Words.{nat_tests, common_steps, get_or_default, length-map, sum_by-cons, PlainProgram, symbols_of, ModeAt, Named, unnamed, named_too, noted, is_misplaced, AreNamed, MarksReached, IsMisplaced, Naming, namings, Reached, program_naming, naming, naming_rows, targets, links, refined_in}
 use Rattle.std.proofs.Math.ListN.{replicate}
-use Rattle.std.proofs.lemmas.Bool.Decides.{nat_tests}
-use Rattle.std.proofs.lemmas.Grind.{common_steps}
-use Rattle.std.proofs.lemmas.List.{get_or_default, length-map}
-use Rattle.std.proofs.lemmas.List.Sums.{sum_by-cons}
-use Rattle.htl_text.specs.Nodes.{PlainProgram}
-use Rattle.htl_names.specs.Flat.{symbols_of}
-use Rattle.htl_names.specs.declared.place.ModeAt.{ModeAt}
-use Rattle.htl_names.specs.declared.programs.Named.{Named}
-use Rattle.htl_names.specs.Named.{unnamed, named_too, noted, is_misplaced, AreNamed, MarksReached}
-use Rattle.htl_names.specs.Programs.{IsMisplaced, Naming, namings, Reached, program_naming, naming, naming_rows, targets, links, refined_in}
 use Rattle.htl_names.proofs.Walking.{length-map_at}
 
 -- ---- one program of the table

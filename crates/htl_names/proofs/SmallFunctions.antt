@@ -1,31 +1,8 @@
 -- The functions of a source have few nodes, and arguments that are there.
-use Rattle.std.proofs.Common.{◌≡◌, ◌≤◌, ◌<◌, ◌+◌, ℕ, zero, suc, length-append, cond, eqb, List, [], ◌∷◌, length, map, slice_get, Some, refl, sym, ◌∙◌, ap, ap₂, subst, arith}
-use Rattle.std.specs.List.{flat_map, All, AllZip}
-use Rattle.std.proofs.lemmas.List.Folds.{flat_map-map}
-use Rattle.std.proofs.lemmas.Simd.{map-map}
-use Rattle.std.proofs.lemmas.Option.{slice_get_within}
-use Rattle.std.proofs.lemmas.Slice.Zip.{AllZip-long}
-use Rattle.std.proofs.lemmas.List.{length-map}
+use Rattle.std.proofs.Common.{◌≡◌, ◌≤◌, ◌<◌, ◌+◌, ℕ, zero, suc, length-append, cond, eqb, List, [], ◌∷◌, length, map, slice_get, Some, refl, sym, ◌∙◌, ap, ap₂, subst, arith, flat_map, All}
+use Rattle.htl_names.proofs.Words.{AllZip, flat_map-map, map-map, slice_get_within, AllZip-long, length-map, IsSmallFunction, AreSmall, ArgumentsBelow, nodes, AreInRange, IsFunInRange, Tables, Fun, Formula, Compiled, function_count, count_before, Task, get_mapped, ParamNode, names_of, out_params, out_values, tree_nodes, Expr, Number, Flag, Variable, Prefix, Infix, Choice, PlainProgram, PlainTask, PlainOut, PlainOuts, PlainSwitch, Concrete, Abstract, Id, MeetsBounds, MeetsTaskBounds, Layout, layout, meaning, term_by, types_of, is_abstract, task_item, task_items, module_task_items, switch_items, function_items, input_place, flat_output_function, outs_functions, task_functions, module_functions, comms_in, switch_item, mode_switch_items, read_place, flat_switch_function, mode_functions, tables_of_tree, comm_key, AreNamesRight, tasks_at, switches_at, input_use, output_uses, outputs_uses, ModeAt, ModuleAt}
 use Rattle.htl_base.specs.declared.Ty.TheVariants.{Bool as BoolTy}
 use Rattle.htl_model.specs.FunctionTypes.{FunctionType, output_type, task_types, switch_type, comm_type, function_types}
-use Rattle.htl_model.specs.Small.{IsSmallFunction, AreSmall, ArgumentsBelow, nodes}
-use Rattle.htl_model.specs.Ranges.{AreInRange, IsFunInRange}
-use Rattle.htl_model.specs.Tables.{Tables, Fun, Formula, Compiled, function_count, count_before}
-use Rattle.htl_model.specs.declared.parts.Task.{Task}
-use Rattle.htl_model.proofs.PlaceLaws.{get_mapped}
-use Rattle.htl_text.specs.declared.tree.ParamNode.{ParamNode}
-use Rattle.htl_text.specs.Bounds.{names_of, out_params, out_values, tree_nodes}
-use Rattle.htl_text.specs.Expressions.{Expr, Number, Flag, Variable, Prefix, Infix, Choice}
-use Rattle.htl_text.specs.Nodes.{PlainProgram, PlainTask, PlainOut, PlainOuts, PlainSwitch, Concrete, Abstract}
-use Rattle.htl_text.specs.declared.tree.Id.{Id}
-use Rattle.htl_names.specs.Conditions.{MeetsBounds, MeetsTaskBounds}
-use Rattle.htl_names.specs.Flat.{Layout, layout, meaning, term_by, types_of, is_abstract, task_item, task_items, module_task_items, switch_items, function_items, input_place, flat_output_function, outs_functions, task_functions, module_functions, comms_in, switch_item, mode_switch_items, read_place, flat_switch_function, mode_functions, tables_of_tree}
-use Rattle.htl_names.specs.Keys.{comm_key}
-use Rattle.htl_names.specs.NameRules.{AreNamesRight}
-use Rattle.htl_names.specs.Order.{tasks_at, switches_at}
-use Rattle.htl_names.specs.Uses.{input_use, output_uses, outputs_uses}
-use Rattle.htl_names.specs.declared.place.ModeAt.{ModeAt}
-use Rattle.htl_names.specs.declared.place.ModuleAt.{ModuleAt}
 use Rattle.htl_names.proofs.ListLaws.{zip_append, zip_map, zip_parts, zip_at, distinct_has, among_at, place_within, few_reads}
 use Rattle.htl_names.proofs.FlatMaps.{there_is, flat_map_is, flat_map_parts}
 use Rattle.htl_names.proofs.Members.{All-from_places, In, in_first, in_second, in_part, in_mapped, at_place, All-at, map_flat_map_at}

@@ -1,13 +1,8 @@
 -- The table of symbols: its look-ups, and names that repeat.
 use Rattle.std.proofs.Common.{◌≡◌, ℕ, cond, List, [], ◌∷◌, Some, refl, ap, ◌<◌, ◌≤◌, suc, take, map, slice_get, None, sym, ◌∙◌, arith, inl, inr}
+use Rattle.htl_names.proofs.Words.{Key, same_key, look_up, pair_of, none-some, Entry, Repeats, AreApartTo}
 use Rattle.std.specs.Map.{lookup}
-use Rattle.htl_names.specs.declared.key.Key.{Key}
-use Rattle.htl_names.specs.Keys.{same_key, look_up, pair_of}
 use Rattle.std.proofs.Math.Nat.{eq-or-lt_of_le}
-use Rattle.std.proofs.lemmas.Option.{none-some}
-use Rattle.htl_names.specs.declared.key.Entry.{Entry}
-use Rattle.htl_names.specs.Entries.{Repeats}
-use Rattle.htl_names.specs.Repeats.{AreApartTo}
 use Rattle.htl_names.proofs.FlatMaps.{in_front, at_front}
 use Rattle.htl_names.proofs.EntryLaws.{found, some}
 use Rattle.htl_names.specs.contracts.key.KeyPartialEq.TheImpl as key_impl

@@ -1,17 +1,9 @@
 -- The trees that a source gives meet the conditions under which names are resolved.
-use Rattle.std.proofs.Common.{List, map, All, arith}
-use Rattle.std.specs.List.{flat_map}
-use Rattle.std.proofs.lemmas.List.{length-map}
-use Rattle.std.proofs.lemmas.List.Elements.{All-weaker}
+use Rattle.std.proofs.Common.{List, map, All, arith, flat_map, bytes_eq}
+use Rattle.htl_names.proofs.Words.{length-map, All-weaker, distinct_count-le, MeetsTaskBounds, MeetsInvokeBounds, MeetsSwitchBounds, MeetsBounds, names_of, modules_of, IsBounded, PlainProgram, PlainTask, PlainSwitch, Id, InvokeNode}
 use Rattle.htl_names.proofs.FlatMaps.{flat_part}
 use Rattle.htl_names.proofs.Members.{All-from_places, All-at}
-use Rattle.std.proofs.lemmas.Map.Made.{distinct_count-le}
-use Rattle.std.specs.Str.{bytes_eq}
-use Rattle.htl_names.specs.Conditions.{MeetsTaskBounds, MeetsInvokeBounds, MeetsSwitchBounds, MeetsBounds}
-use Rattle.htl_text.specs.Bounds.{names_of, modules_of, modes_of, IsBoundedTask, IsBoundedInvoke, IsBoundedSwitch, IsBoundedMode, IsBoundedModule, IsBoundedProgram, IsBounded}
-use Rattle.htl_text.specs.Nodes.{PlainProgram, PlainTask, PlainSwitch}
-use Rattle.htl_text.specs.declared.tree.Id.{Id}
-use Rattle.htl_text.specs.declared.tree.InvokeNode.{InvokeNode}
+use Rattle.htl_text.specs.Bounds.{modes_of, IsBoundedTask, IsBoundedInvoke, IsBoundedSwitch, IsBoundedMode, IsBoundedModule, IsBoundedProgram}
 
 -- ---- the parts
 

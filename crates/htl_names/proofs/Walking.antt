@@ -1,15 +1,7 @@
 -- Steps of walks along lists, and down the tree of programs.
-use Rattle.std.proofs.Common.{◌≡◌, ◌+◌, ◌≤◌, ℕ, suc, List, [], ◌∷◌, ◌++◌, length, map, refl, sym, ◌∙◌, ap, arith, append_assoc, append-nil, length-append, ◌<◌, ◌-◌}
-use Rattle.std.specs.List.{flat_map}
-use Rattle.std.proofs.lemmas.Grind.{flat_map-append, common_steps}
-use Rattle.std.proofs.lemmas.List.Concat.{flat_map-cons}
-use Rattle.htl_text.specs.Nodes.{mode_of, PlainProgram}
-use Rattle.htl_text.specs.declared.tree.ModeNode.{ModeNode}
-use Rattle.htl_names.specs.Lists.{map_at, flat_map_at}
-use Rattle.std.proofs.lemmas.List.{map-append}
-use Rattle.htl_names.specs.declared.key.Key.{Key}
-use Rattle.htl_names.specs.declared.place.ModuleAt.{ModuleAt}
-use Rattle.htl_names.specs.Order.{below, mode_kids, modes_at}
+use Rattle.std.proofs.Common.{◌≡◌, ◌+◌, ◌≤◌, ℕ, suc, List, [], ◌∷◌, ◌++◌, length, map, refl, sym, ◌∙◌, ap, arith, append_assoc, append-nil, length-append, ◌<◌, ◌-◌, flat_map}
+use Rattle.htl_names.proofs.Words.{flat_map-append, common_steps, flat_map-cons, mode_of, PlainProgram, ModeNode, map_at, flat_map_at, map-append, Key, ModuleAt, mode_kids, modes_at}
+use Rattle.htl_names.specs.Order.{below}
 
 pub map_at-append : {A B : Type 0} (g : ℕ → A → B) (k n : ℕ) (xs ys : List A) → n ≡ k + length xs → map_at g k (xs ++ ys) ≡ map_at g k xs ++ map_at g n ys
 map_at-append g k n [] ys is = let same : k ≡ n = omega (arith, is) in ap (λ m. map_at g m ys) same

@@ -2,9 +2,7 @@
 use Rattle.std.specs.Prelude.{◌≤◌, List, All, length, map}
 use Rattle.std.specs.Set.{distinct_count}
 use Rattle.std.specs.Str.{bytes_eq}
-use Rattle.htl_text.specs.Bounds.{tree_nodes, names_of, out_params, out_values, modules_of, modes_of, tasks_of, invokes_of, switches_of, IsBounded}
-use Rattle.htl_text.specs.Nodes.{PlainProgram, PlainTask, PlainSwitch}
-use Rattle.htl_text.specs.declared.tree.InvokeNode.{InvokeNode}
+use Rattle.htl_names.specs.Trees.{tree_nodes, names_of, out_params, out_values, modules_of, modes_of, tasks_of, invokes_of, switches_of, IsBounded, PlainProgram, PlainTask, PlainSwitch, InvokeNode}
 
 pub record MeetsTaskBounds (t : PlainTask) : Type 0 where
   pub inputs : length t.inputs ≤ 256

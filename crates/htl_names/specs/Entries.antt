@@ -1,13 +1,6 @@
 -- The names that a source declares, in source order.
 use Rattle.std.specs.Prelude.{ℕ, suc, ◌+◌, ◌≡◌, ◌<◌, ◌∷◌, ◌++◌, List, [], length, slice_get, Some}
-use Rattle.htl_text.specs.Bounds.{out_params}
-use Rattle.htl_text.specs.Nodes.{PlainProgram, PlainModule, PlainMode, PlainTask}
-use Rattle.htl_text.specs.declared.tree.Id.{Id}
-use Rattle.htl_text.specs.declared.tree.CommNode.{CommNode}
-use Rattle.htl_text.specs.declared.tree.ParamNode.{ParamNode}
-use Rattle.htl_text.specs.declared.tree.InvokeNode.{InvokeNode}
-use Rattle.htl_names.specs.declared.key.Key.{Key}
-use Rattle.htl_names.specs.declared.key.Entry.{Entry}
+use Rattle.htl_names.specs.Trees.{out_params, PlainProgram, PlainModule, PlainMode, PlainTask, Id, CommNode, ParamNode, InvokeNode, Key, Entry}
 use Rattle.htl_names.specs.Keys.{program_key, comm_key, module_key, task_key, mode_key, param_key, port_key, invoke_key}
 use Rattle.htl_names.specs.Lists.{flat_map_at, map_at}
 

@@ -2,7 +2,7 @@
 use Rattle.std.specs.Prelude.{ℕ, ℤ, pos, negsuc, Bool, true, false, ◌+◌, ◌&&◌, eqb, cond, List, [], ◌∷◌, ◌++◌, length, map, take, slice_get, Option, Some, None}
 use Rattle.std.specs.Int.{int_wrapping_neg, w64}
 use Rattle.std.specs.List.{flat_map}
-use Rattle.htl_base.specs.declared.Ty.{Ty}
+use Rattle.htl_names.specs.Trees.{Ty, Tables, Fun, Formula, names_of, out_params, PlainProgram, PlainModule, PlainMode, PlainTask, PlainOut, PlainOuts, PlainSwitch, Concrete, Abstract, Id, CommNode, ConstNode, ParamNode, EndNode, InvokeNode, Key, ModeAt, ModuleAt}
 use Rattle.htl_model.specs.declared.parts.Comm.{Comm}
 use Rattle.htl_model.specs.declared.parts.Mode.{Mode}
 use Rattle.htl_model.specs.declared.parts.Module.{Module}
@@ -13,23 +13,11 @@ use Rattle.htl_model.specs.declared.parts.Switch.{Switch}
 use Rattle.htl_model.specs.declared.parts.End.{End}
 use Rattle.htl_model.specs.declared.parts.End.TheVariants as E
 use Rattle.htl_model.specs.Functions.{Term, Number as TermNumber, Truth, Arg, Unary, Binary, Choose}
-use Rattle.htl_model.specs.Tables.{Tables, Fun, Formula}
-use Rattle.htl_text.specs.Bounds.{names_of, out_params}
 use Rattle.htl_text.specs.Expressions.{Expr, Number, Flag, Variable, Prefix, Infix, Choice}
-use Rattle.htl_text.specs.Nodes.{PlainProgram, PlainModule, PlainMode, PlainTask, PlainOut, PlainOuts, PlainSwitch, Concrete, Abstract}
-use Rattle.htl_text.specs.declared.tree.Id.{Id}
-use Rattle.htl_text.specs.declared.tree.CommNode.{CommNode}
-use Rattle.htl_text.specs.declared.tree.ConstNode.{ConstNode}
 use Rattle.htl_text.specs.declared.tree.ConstNode.TheVariants as const
-use Rattle.htl_text.specs.declared.tree.ParamNode.{ParamNode}
-use Rattle.htl_text.specs.declared.tree.EndNode.{EndNode}
 use Rattle.htl_text.specs.declared.tree.EndNode.TheVariants as end
-use Rattle.htl_text.specs.declared.tree.InvokeNode.{InvokeNode}
 use Rattle.htl_names.specs.declared.functions.Arguments.{Arguments}
 use Rattle.htl_names.specs.declared.functions.Arguments.TheVariants.{Inputs, Reads}
-use Rattle.htl_names.specs.declared.key.Key.{Key}
-use Rattle.htl_names.specs.declared.place.ModeAt.{ModeAt}
-use Rattle.htl_names.specs.declared.place.ModuleAt.{ModuleAt}
 use Rattle.htl_names.specs.Entries.{entries}
 use Rattle.htl_names.specs.Keys.{look_up, pair_of, comm_key, task_key, mode_key, param_key, port_key, invoke_key}
 use Rattle.htl_names.specs.Lists.{flat_map_at, place_in, distinct}

@@ -1,11 +1,8 @@
 -- Keys, and what a name means: the first item of its list with that name.
 use Rattle.std.specs.Prelude.{ℕ, Bool, cond, eqb, ◌&&◌, Option, Some, None, List, [], ◌∷◌}
 use Rattle.std.specs.Str.{bytes_eq}
-use Rattle.htl_names.specs.declared.key.Space.{Space}
+use Rattle.htl_names.specs.Trees.{Space, Key, Scope, Entry}
 use Rattle.htl_names.specs.declared.key.Space.TheVariants as space
-use Rattle.htl_names.specs.declared.key.Key.{Key}
-use Rattle.htl_names.specs.declared.key.Scope.{Scope}
-use Rattle.htl_names.specs.declared.key.Entry.{Entry}
 
 -- a number for each kind of list
 abbrev pub space_code : Space → ℕ

@@ -1,16 +1,11 @@
 -- The values and numbers of a source that have to be of a kind, in source order.
 use Rattle.std.specs.Prelude.{ℕ, ℤ, pos, negsuc, ◌≡◌, Bool, true, false, cond, leb, ◌&&◌, ◌∷◌, ◌++◌, List, [], map, Option, Some, None}
 use Rattle.std.specs.List.{flat_map}
-use Rattle.htl_base.specs.declared.Ty.{Ty}
+use Rattle.htl_names.specs.Trees.{Ty, PlainProgram, PlainModule, PlainMode, PlainTask, CommNode, ConstNode, EndNode, InvokeNode}
 use Rattle.htl_base.specs.declared.Ty.TheVariants as ty
-use Rattle.htl_text.specs.Nodes.{PlainProgram, PlainModule, PlainMode, PlainTask}
 use Rattle.htl_text.specs.declared.tree.Num.{Num}
-use Rattle.htl_text.specs.declared.tree.CommNode.{CommNode}
-use Rattle.htl_text.specs.declared.tree.ConstNode.{ConstNode}
 use Rattle.htl_text.specs.declared.tree.ConstNode.TheVariants as const
-use Rattle.htl_text.specs.declared.tree.EndNode.{EndNode}
 use Rattle.htl_text.specs.declared.tree.EndNode.TheVariants as end
-use Rattle.htl_text.specs.declared.tree.InvokeNode.{InvokeNode}
 
 -- a period or worst case; an instance; an initial value with the type that it has to have
 pub data Judged : Type 0 where

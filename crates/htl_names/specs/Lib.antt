@@ -20,3 +20,4 @@ pub mod Tallies
 pub mod Told
 pub mod Uses
 pub mod Laws
+pub mod Trees

@@ -1,9 +1,6 @@
 -- How much of each kind a source has, and how much it may have.
 use Rattle.std.specs.Prelude.{ℕ, ◌*◌, List, [], ◌∷◌, length, map, sum}
-use Rattle.htl_model.specs.Tables.{greatest}
-use Rattle.htl_text.specs.Bounds.{comms_of, modules_of, modes_of, ports_of, tasks_of, invokes_of, switches_of}
-use Rattle.htl_text.specs.Nodes.{PlainProgram, PlainModule, PlainMode}
-use Rattle.htl_names.specs.declared.key.Key.{Key}
+use Rattle.htl_names.specs.Trees.{greatest, comms_of, modules_of, modes_of, ports_of, tasks_of, invokes_of, switches_of, PlainProgram, PlainModule, PlainMode, Key}
 use Rattle.htl_names.specs.Programs.{levels}
 
 -- the modules of the root program

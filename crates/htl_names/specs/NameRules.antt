@@ -1,11 +1,7 @@
 -- When a name rule is broken, where, and which fault is the first.
 use Rattle.std.specs.Prelude.{ℕ, suc, ◌≡◌, ◌<◌, ◌⊎◌, ◌-◌, ◌^◌, min, List, length, slice_get, Some, Result, Ok, Err}
-use Rattle.htl_model.specs.Tables.{Tables}
-use Rattle.htl_text.specs.Nodes.{PlainProgram}
-use Rattle.htl_names.specs.declared.fault.NameFault.{NameFault}
+use Rattle.htl_names.specs.Trees.{Tables, PlainProgram, NameFault, Entry, Use}
 use Rattle.htl_names.specs.declared.fault.NameFault.TheVariants as fault
-use Rattle.htl_names.specs.declared.key.Entry.{Entry}
-use Rattle.htl_names.specs.declared.key.Use.{Use}
 use Rattle.htl_names.specs.Entries.{entries, Repeats}
 use Rattle.htl_names.specs.Flat.{symbols_of, tables_of_tree}
 use Rattle.htl_names.specs.Kinds.{Judged, kinds, token_of, IsWrongKind}

@@ -1,8 +1,6 @@
 -- How modes name programs: of each program how many do, counted up to 255, and the first of them; and which are reached.
 use Rattle.std.specs.Prelude.{◌≡◌, ◌<◌, ◌+◌, ◌||◌, ℕ, zero, suc, Bool, not, eqb, ltb, false, true, min, List, length, get_or, slice_set, Option, Some, None}
-use Rattle.htl_text.specs.Nodes.{PlainProgram}
-use Rattle.htl_names.specs.declared.place.ModeAt.{ModeAt}
-use Rattle.htl_names.specs.declared.programs.Named.{Named}
+use Rattle.htl_names.specs.Trees.{PlainProgram, ModeAt, Named}
 use Rattle.htl_names.specs.Flat.{symbols_of}
 use Rattle.htl_names.specs.Programs.{Graph, Naming, Reached, namings, refined_by}
 

@@ -1,13 +1,7 @@
 -- Bounds by which the numbers of a layout fit the fields of the tables.
 use Rattle.std.specs.Prelude.{ℕ, ◌≤◌, All, List, length, Option, Some, None}
-use Rattle.htl_text.specs.Bounds.{comms_of}
-use Rattle.htl_text.specs.Nodes.{PlainProgram}
-use Rattle.htl_text.specs.declared.tree.EndNode.{EndNode}
+use Rattle.htl_names.specs.Trees.{comms_of, PlainProgram, EndNode, InvokeNode, Key, ModeAt, ModuleAt}
 use Rattle.htl_text.specs.declared.tree.EndNode.TheVariants as end
-use Rattle.htl_text.specs.declared.tree.InvokeNode.{InvokeNode}
-use Rattle.htl_names.specs.declared.key.Key.{Key}
-use Rattle.htl_names.specs.declared.place.ModeAt.{ModeAt}
-use Rattle.htl_names.specs.declared.place.ModuleAt.{ModuleAt}
 use Rattle.htl_names.specs.Flat.{Layout, meaning, modes_before, tasks_before, ports_before, invokes_before, size_of}
 use Rattle.htl_names.specs.Order.{modes_at, tasks_at, invokes_at}
 

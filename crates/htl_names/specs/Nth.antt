@@ -1,7 +1,6 @@
 -- A module of a program, and a mode of a module, by their places.
 use Rattle.std.specs.Prelude.{ℕ, Option}
-use Rattle.htl_names.specs.declared.place.ModeAt.{ModeAt}
-use Rattle.htl_names.specs.declared.place.ModuleAt.{ModuleAt}
+use Rattle.htl_names.specs.Trees.{ModeAt, ModuleAt}
 
 abbrev pub nth_module : ℕ → Option ModeAt → ℕ → ModuleAt
 nth_module program parent u = record { program = program; «module» = u; parent = parent }

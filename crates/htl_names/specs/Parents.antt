@@ -1,12 +1,7 @@
 -- The names after `parent`, in source order, and those that stand for nothing.
 use Rattle.std.specs.Prelude.{ℕ, zero, suc, ◌≡◌, ◌∷◌, List, [], Option, Some, None}
 use Rattle.std.specs.List.{flat_map}
-use Rattle.htl_text.specs.Nodes.{PlainProgram, PlainModule, PlainMode}
-use Rattle.htl_text.specs.declared.tree.Id.{Id}
-use Rattle.htl_text.specs.declared.tree.InvokeNode.{InvokeNode}
-use Rattle.htl_names.specs.declared.key.Key.{Key}
-use Rattle.htl_names.specs.declared.place.ModeAt.{ModeAt}
-use Rattle.htl_names.specs.declared.programs.Named.{Named}
+use Rattle.htl_names.specs.Trees.{PlainProgram, PlainModule, PlainMode, Id, InvokeNode, Key, ModeAt, Named}
 use Rattle.htl_names.specs.Keys.{look_up, invoke_key}
 use Rattle.htl_names.specs.Lists.{flat_map_at}
 use Rattle.htl_names.specs.Named.{refined_at}

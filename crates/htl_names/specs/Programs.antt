@@ -1,11 +1,7 @@
 -- The tree of programs: each program but the root refines the one mode that names it.
 use Rattle.std.specs.Prelude.{ℕ, zero, suc, ◌≡◌, ◌≢◌, ◌<◌, ◌⊎◌, true, false, eqb, ◌∷◌, List, [], map, length, get_or, Option, Some, None}
 use Rattle.std.specs.List.{list_any, count_by}
-use Rattle.htl_model.specs.Lists.{list_to}
-use Rattle.htl_model.specs.Tables.{greatest}
-use Rattle.htl_text.specs.Nodes.{PlainProgram, PlainModule, PlainMode}
-use Rattle.htl_names.specs.declared.key.Key.{Key}
-use Rattle.htl_names.specs.declared.place.ModeAt.{ModeAt}
+use Rattle.htl_names.specs.Trees.{list_to, greatest, PlainProgram, PlainModule, PlainMode, Key, ModeAt}
 use Rattle.htl_names.specs.Keys.{look_up, program_key}
 use Rattle.htl_names.specs.Lists.{map_at, flat_map_at}
 

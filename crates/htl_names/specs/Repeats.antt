@@ -1,7 +1,6 @@
 -- The first name that repeats an earlier one.
 use Rattle.std.specs.Prelude.{ℕ, ◌≡◌, ◌<◌, ◌⊎◌, List, length, slice_get, Some}
-use Rattle.htl_names.specs.declared.key.Entry.{Entry}
-use Rattle.htl_names.specs.declared.fault.NameFault.{NameFault}
+use Rattle.htl_names.specs.Trees.{Entry, NameFault}
 use Rattle.htl_names.specs.declared.fault.NameFault.TheVariants as fault
 use Rattle.htl_names.specs.Entries.{Repeats}
 

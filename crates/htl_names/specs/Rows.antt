@@ -1,21 +1,13 @@
 -- What one walk over a source leaves for the name rules: four lists, each in source order.
 use Rattle.std.specs.Prelude.{◌≡◌, ℕ, suc, List, [], ◌∷◌, ◌++◌, cond, map, Some}
 use Rattle.std.specs.List.{flat_map}
-use Rattle.htl_text.specs.Bounds.{names_of}
-use Rattle.htl_text.specs.Nodes.{PlainProgram, PlainOut, program_of, module_of, mode_of, task_of, out_of, switch_of}
-use Rattle.htl_text.specs.declared.tree.CommNode.{CommNode}
-use Rattle.htl_text.specs.declared.tree.ParamNode.{ParamNode}
-use Rattle.htl_text.specs.declared.tree.EndNode.{EndNode}
-use Rattle.htl_text.specs.declared.tree.InvokeNode.{InvokeNode}
+use Rattle.htl_names.specs.Trees.{names_of, PlainProgram, PlainOut, program_of, module_of, mode_of, task_of, out_of, switch_of, CommNode, ParamNode, EndNode, InvokeNode, Scope, Entry, Use}
 use Rattle.htl_text.specs.declared.tree.ModeNode.{ModeNode}
 use Rattle.htl_text.specs.declared.tree.ModuleNode.{ModuleNode}
 use Rattle.htl_text.specs.declared.tree.OutNode.{OutNode}
 use Rattle.htl_text.specs.declared.tree.ProgramNode.{ProgramNode}
 use Rattle.htl_text.specs.declared.tree.SwitchNode.{SwitchNode}
 use Rattle.htl_text.specs.declared.tree.TaskNode.{TaskNode}
-use Rattle.htl_names.specs.declared.key.Scope.{Scope}
-use Rattle.htl_names.specs.declared.key.Entry.{Entry}
-use Rattle.htl_names.specs.declared.key.Use.{Use}
 use Rattle.htl_names.specs.declared.rows.ParentName.{ParentName}
 use Rattle.htl_names.specs.Entries.{entry, task_entries, invoke_entry, mode_entries, module_entries, comm_entry, entries_from, entries}
 use Rattle.htl_names.specs.Kinds.{Judged, is_kind, token_of, comm_kinds, end_kinds, invoke_kinds, mode_kinds, task_kind, module_kinds, program_kinds, kinds}

@@ -5,9 +5,7 @@ use Rattle.std.specs.Hash as fed
 use Rattle.std.proofs.Common.{arith, ap}
 use Rattle.std.proofs.lemmas.Bool.Decides.{Decides-and, Decides-eqb}
 use Rattle.std.proofs.lemmas.Slice.Eq.{bytes_eq-Decides}
-use Rattle.htl_names.specs.declared.key.Key.{Key}
-use Rattle.htl_names.specs.declared.key.Scope.{Scope}
-use Rattle.htl_names.specs.declared.key.Space.{Space}
+use Rattle.htl_names.specs.Trees.{Key, Scope, Space}
 use Rattle.htl_names.specs.Keys.{space_code, same_key}
 
 same_space : (a b : Space) → space_code a ≡ space_code b → a ≡ b

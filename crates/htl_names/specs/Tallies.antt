@@ -1,7 +1,6 @@
 -- How many items of each kind a tree has, counted up to 2 ^ 64 - 1 in one pass.
 use Rattle.std.specs.Prelude.{ℕ, ◌≡◌, ◌+◌, ◌*◌, ◌-◌, ◌^◌, min, max, List, length, fold}
-use Rattle.htl_text.specs.Bounds.{comms_of, modules_of, modes_of, ports_of, tasks_of, invokes_of, switches_of}
-use Rattle.htl_text.specs.Nodes.{PlainProgram, PlainModule, PlainMode}
+use Rattle.htl_names.specs.Trees.{comms_of, modules_of, modes_of, ports_of, tasks_of, invokes_of, switches_of, PlainProgram, PlainModule, PlainMode}
 use Rattle.htl_names.specs.Limits.{most_invokes}
 use Rattle.htl_names.specs.declared.limits.ModeTally.{ModeTally}
 use Rattle.htl_names.specs.declared.limits.ModuleTally.{ModuleTally}

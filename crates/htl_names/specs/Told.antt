@@ -1,7 +1,6 @@
 -- What the test of one name rule tells.
 use Rattle.std.specs.Prelude.{ℕ, ◌≡◌, ◌<◌, ◌⊎◌, List, MatchOption, MatchResult, Option, Result}
-use Rattle.htl_text.specs.Nodes.{PlainProgram}
-use Rattle.htl_names.specs.declared.fault.NameFault.{NameFault}
+use Rattle.htl_names.specs.Trees.{PlainProgram, NameFault}
 use Rattle.htl_names.specs.declared.fault.NameFault.TheVariants as fault
 use Rattle.htl_names.specs.NameRules.{NameRule, order_of, NameBroken, AreNamesRight, IsFirstNameFault}
 

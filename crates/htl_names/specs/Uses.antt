@@ -1,16 +1,9 @@
 -- The names that a source uses, in source order, but for those after `parent`; and those that stand for nothing.
 use Rattle.std.specs.Prelude.{ℕ, ◌≤◌, MatchOption, ◌∷◌, ◌++◌, List, [], map, length, Option, Some, None, cond, leb}
 use Rattle.std.specs.List.{flat_map}
-use Rattle.htl_text.specs.Bounds.{names_of}
-use Rattle.htl_text.specs.Nodes.{PlainProgram, PlainModule, PlainMode, PlainTask, PlainOut, PlainOuts, PlainSwitch, Concrete, Abstract}
-use Rattle.htl_text.specs.declared.tree.Id.{Id}
-use Rattle.htl_text.specs.declared.tree.EndNode.{EndNode}
-use Rattle.htl_text.specs.declared.tree.InvokeNode.{InvokeNode}
-use Rattle.htl_names.specs.declared.key.Key.{Key}
-use Rattle.htl_names.specs.declared.key.Use.{Use}
+use Rattle.htl_names.specs.Trees.{names_of, PlainProgram, PlainModule, PlainMode, PlainTask, PlainOut, PlainOuts, PlainSwitch, Concrete, Abstract, Id, EndNode, InvokeNode, Key, Use, Scope}
 use Rattle.htl_names.specs.Keys.{look_up, program_key, comm_key, task_key, mode_key, param_key, port_key, key_in}
 use Rattle.htl_names.specs.Lists.{flat_map_at}
-use Rattle.htl_names.specs.declared.key.Scope.{Scope}
 use Rattle.htl_text.specs.declared.tree.EndNode.TheVariants as end
 
 -- any item of the list will do

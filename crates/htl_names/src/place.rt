@@ -70,7 +70,7 @@ pub struct Before {
     pub refined: Option<ModeAt>,
 }
 
-/// A module by its place; behind all others where it stands nowhere.
+/// What stands before a module, by its place, and what it refines; all there is where it stands nowhere.
 pub fn module_before(source: &Source<'_>, program: usize, module: usize) -> Before
     ensures modes { result.modes ≡ modes_before source.now.layout.now (tree_of source.now.tree.now) (module_number source.now.layout.now program «module») }
     ensures tasks { result.tasks ≡ tasks_before source.now.layout.now (tree_of source.now.tree.now) (module_number source.now.layout.now program «module») }

@@ -1,4 +1,4 @@
-use Rattle.htl_text.specs.Bounds.{tree_nodes}
+use Rattle.htl_names.proofs.Words.{tree_nodes}
 use Rattle.htl_names.proofs.functions.+formula.Given as goal
 
 abbrev pub decreases-formula : goal.decreases-formula

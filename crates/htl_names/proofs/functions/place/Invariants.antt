@@ -1,5 +1,5 @@
 use Rattle.std.proofs.Common.{◌≡◌, ◌+◌, eqb, drop}
-use Rattle.htl_names.specs.Lists.{place_in}
+use Rattle.htl_names.proofs.Words.{place_in}
 use Rattle.htl_names.proofs.functions.place.Given as goal
 
 abbrev pub invariant-loop-k : goal.invariant-loop-k

@@ -1,7 +1,5 @@
 use Rattle.std.proofs.Common.{◌≡◌, ◌++◌, drop, map}
-use Rattle.htl_model.specs.Tables.{fun_of}
-use Rattle.htl_text.specs.Nodes.{out_of}
-use Rattle.htl_names.specs.Flat.{flat_output_function}
+use Rattle.htl_names.proofs.Words.{fun_of, out_of, flat_output_function}
 use Rattle.htl_names.proofs.functions.put_outputs.Given as goal
 
 abbrev pub invariant-loop-k : goal.invariant-loop-k

@@ -1,6 +1,5 @@
-use Rattle.std.proofs.Common.{sym, subst}
-use Rattle.std.specs.List.{All}
-use Rattle.htl_names.specs.Narrow.{IsNarrowInvoke}
+use Rattle.std.proofs.Common.{sym, subst, All}
+use Rattle.htl_names.proofs.Words.{IsNarrowInvoke}
 use Rattle.htl_names.proofs.invocations.put_invocations.Goals as goal
 
 pub invocation-requires : goal.invocation-requires

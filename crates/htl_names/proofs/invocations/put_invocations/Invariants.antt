@@ -1,6 +1,5 @@
 use Rattle.std.proofs.Common.{◌≡◌, ◌++◌, drop, map}
-use Rattle.htl_text.specs.Nodes.{tree_of}
-use Rattle.htl_names.specs.Flat.{invoke_item}
+use Rattle.htl_names.proofs.Words.{tree_of, invoke_item}
 use Rattle.htl_names.proofs.invocations.put_invocations.Given as goal
 
 abbrev pub invariant-loop-k : goal.invariant-loop-k

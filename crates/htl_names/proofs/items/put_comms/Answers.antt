@@ -1,15 +1,7 @@
-use Rattle.std.proofs.Common.{arith, ◌≡◌, ◌≤◌, ◌++◌, map, subst, sym, List, rules}
-use Rattle.std.specs.List.{All, flat_map}
+use Rattle.std.proofs.Common.{arith, ◌≡◌, ◌≤◌, ◌++◌, map, subst, sym, List, rules, All, flat_map}
+use Rattle.htl_names.proofs.Words.{common_steps, YieldsList-from_map, YieldsList-from_slice, items_from_extend, YieldsList-at, flat_map-map, PlainProgram, program_of, CommNode, comm_item, size_of}
 use Rattle.std.proofs.iter.Serving.{serving}
-use Rattle.std.proofs.lemmas.Grind.{common_steps}
-use Rattle.std.proofs.lemmas.Iterator.{YieldsList-from_map, YieldsList-from_slice}
-use Rattle.std.proofs.lemmas.Iterator.Adapters.{items_from_extend}
-use Rattle.std.proofs.lemmas.Iterator.Consumers.{YieldsList-at}
-use Rattle.std.proofs.lemmas.List.Folds.{flat_map-map}
-use Rattle.htl_text.specs.Nodes.{PlainProgram, program_of}
-use Rattle.htl_text.specs.declared.tree.CommNode.{CommNode}
 use Rattle.htl_text.specs.declared.tree.ProgramNode.{ProgramNode}
-use Rattle.htl_names.specs.Flat.{comm_item, size_of}
 use Rattle.htl_names.proofs.Members.{all_part}
 use Rattle.htl_names.proofs.items.put_comms.Goals as goal
 

@@ -1,7 +1,5 @@
-use Rattle.std.proofs.Common.{◌≡◌, ◌++◌, drop, map}
-use Rattle.std.specs.List.{flat_map}
-use Rattle.htl_text.specs.Nodes.{PlainProgram, program_of}
-use Rattle.htl_names.specs.Flat.{comm_item}
+use Rattle.std.proofs.Common.{◌≡◌, ◌++◌, drop, map, flat_map}
+use Rattle.htl_names.proofs.Words.{PlainProgram, program_of, comm_item}
 use Rattle.htl_names.proofs.items.put_comms.Given as goal
 
 abbrev pub invariant-loop-k : goal.invariant-loop-k

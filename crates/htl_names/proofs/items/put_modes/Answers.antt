@@ -1,11 +1,5 @@
 use Rattle.std.proofs.Common.{rules}
-use Rattle.std.proofs.lemmas.Iterator.{YieldsList-from_map, YieldsList-from_slice}
-use Rattle.std.proofs.lemmas.Iterator.Consumers.{YieldsList-at}
-use Rattle.std.proofs.lemmas.Iterator.Adapters.{items_from_extend}
-use Rattle.std.proofs.lemmas.Simd.{map-map}
-use Rattle.htl_text.specs.Nodes.{mode_of}
-use Rattle.htl_text.specs.declared.tree.ModeNode.{ModeNode}
-use Rattle.htl_names.specs.Flat.{mode_item}
+use Rattle.htl_names.proofs.Words.{YieldsList-from_map, YieldsList-from_slice, YieldsList-at, items_from_extend, map-map, mode_of, ModeNode, mode_item}
 use Rattle.htl_names.proofs.items.put_modes.Goals as goal
 
 pub returns : goal.returns

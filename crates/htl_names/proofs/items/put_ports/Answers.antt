@@ -1,8 +1,5 @@
 use Rattle.std.proofs.Common.{rules}
-use Rattle.std.proofs.lemmas.Iterator.{YieldsList-from_map, YieldsList-from_slice}
-use Rattle.std.proofs.lemmas.Iterator.Consumers.{YieldsList-at}
-use Rattle.std.proofs.lemmas.Iterator.Adapters.{items_from_extend}
-use Rattle.htl_names.specs.Flat.{port_item}
+use Rattle.htl_names.proofs.Words.{YieldsList-from_map, YieldsList-from_slice, YieldsList-at, items_from_extend, port_item}
 use Rattle.htl_names.proofs.items.put_ports.Goals as goal
 
 pub returns : goal.returns

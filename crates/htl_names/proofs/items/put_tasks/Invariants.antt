@@ -1,8 +1,5 @@
 use Rattle.std.proofs.Common.{◌≡◌, ◌++◌, drop, map}
-use Rattle.htl_model.specs.Tables.{fun_of}
-use Rattle.htl_text.specs.Nodes.{task_of}
-use Rattle.htl_names.specs.Flat.{task_item, task_functions}
-use Rattle.htl_names.specs.Lists.{flat_map_at}
+use Rattle.htl_names.proofs.Words.{fun_of, task_of, task_item, task_functions, flat_map_at}
 use Rattle.htl_names.proofs.items.put_tasks.Given as goal
 
 abbrev pub invariant-loop-k : goal.invariant-loop-k

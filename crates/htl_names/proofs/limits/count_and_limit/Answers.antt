@@ -1,9 +1,5 @@
 use Rattle.std.proofs.Common.{◌≡◌, ◌∙◌, ℕ, arith, ap, sym, get_or, fold, List}
-use Rattle.std.proofs.Math.Nat.{zero-add}
-use Rattle.htl_text.specs.Nodes.{PlainProgram, tree_of}
-use Rattle.htl_names.specs.Flat.{symbols_of}
-use Rattle.htl_names.specs.Limits.{counts, most_positions, plain_root_modules}
-use Rattle.htl_names.specs.Tallies.{capped, selected, placed}
+use Rattle.htl_names.proofs.Words.{zero-add, PlainProgram, tree_of, symbols_of, counts, most_positions, plain_root_modules, capped, selected, placed}
 use Rattle.htl_names.proofs.LimitLaws.{selected_all, placed_all, root_modules_are}
 use Rattle.htl_names.proofs.Naming.{table-levels}
 use Rattle.htl_names.proofs.limits.count_and_limit.Goals as goal

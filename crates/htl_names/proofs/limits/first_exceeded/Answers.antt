@@ -1,4 +1,4 @@
-use Rattle.htl_text.specs.Nodes.{tree_of}
+use Rattle.htl_names.proofs.Words.{tree_of}
 use Rattle.htl_names.proofs.LimitLaws.{tallied, none_exceeded, exceeded}
 use Rattle.htl_names.proofs.limits.first_exceeded.Goals as goal
 

@@ -1,7 +1,5 @@
 use Rattle.std.proofs.Common.{ℕ, ◌<◌, ◌≤◌, get_or}
-use Rattle.htl_text.specs.Nodes.{tree_of}
-use Rattle.htl_names.specs.Flat.{symbols_of}
-use Rattle.htl_names.specs.Limits.{counts, limits}
+use Rattle.htl_names.proofs.Words.{tree_of, symbols_of, counts, limits}
 use Rattle.htl_names.proofs.limits.first_exceeded.Given as goal
 
 abbrev pub invariant-loop-k : goal.invariant-loop-k

@@ -1,8 +1,6 @@
 use Rattle.std.proofs.Common.{arith, length}
-use Rattle.std.proofs.lemmas.Grind.{common_steps}
-use Rattle.htl_model.proofs.Listed.{length-list_to, get_list_to}
+use Rattle.htl_names.proofs.Words.{common_steps, length-list_to, get_list_to, level_by}
 use Rattle.htl_names.specs.Named.{refined_at}
-use Rattle.htl_names.specs.Programs.{level_by}
 use Rattle.htl_names.proofs.limits.levels.Goals as goal
 
 pub loop-p-preserved : goal.loop-p-preserved

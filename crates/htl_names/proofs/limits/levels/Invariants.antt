@@ -1,8 +1,6 @@
 use Rattle.std.proofs.Common.{◌≡◌, length, drop}
-use Rattle.htl_model.specs.Lists.{list_to}
-use Rattle.htl_model.specs.Tables.{greatest}
+use Rattle.htl_names.proofs.Words.{list_to, greatest, level_by}
 use Rattle.htl_names.specs.Named.{refined_at}
-use Rattle.htl_names.specs.Programs.{level_by}
 use Rattle.htl_names.proofs.limits.levels.Given as goal
 
 abbrev pub invariant-loop-p : goal.invariant-loop-p

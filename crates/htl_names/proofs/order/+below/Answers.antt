@@ -1,12 +1,6 @@
-use Rattle.std.proofs.Common.{arith, ◌≡◌, ◌<◌, ◌+◌, ◌-◌, ◌++◌, ℕ, List, Option, Some, length, map, drop, get_or, sym, ap, ◌∙◌}
-use Rattle.std.specs.List.{flat_map}
-use Rattle.std.proofs.lemmas.Grind.{common_steps}
-use Rattle.htl_text.specs.Nodes.{mode_of, tree_of, PlainMode}
-use Rattle.htl_text.specs.declared.tree.ModeNode.{ModeNode}
-use Rattle.htl_names.specs.Lists.{flat_map_at}
-use Rattle.htl_names.specs.Nth.{mode_in}
-use Rattle.htl_names.specs.Order.{below, mode_kids, program_modules}
-use Rattle.htl_names.specs.declared.place.ModuleAt.{ModuleAt}
+use Rattle.std.proofs.Common.{arith, ◌≡◌, ◌-◌, ◌++◌, ℕ, List, Option, Some, map, sym, ap, ◌∙◌, flat_map}
+use Rattle.htl_names.proofs.Words.{common_steps, mode_of, tree_of, PlainMode, flat_map_at, mode_in, mode_kids, program_modules, ModuleAt}
+use Rattle.htl_names.specs.Order.{below}
 use Rattle.htl_names.proofs.Growing.{flat_map_inside, next_item}
 use Rattle.htl_names.proofs.Walking.{kids_start}
 use Rattle.htl_names.proofs.order.+below.Goals as goal

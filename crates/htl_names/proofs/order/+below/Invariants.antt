@@ -1,10 +1,6 @@
-use Rattle.std.proofs.Common.{◌≡◌, ◌+◌, ◌*◌, ◌-◌, ◌++◌, ℕ, map, drop}
-use Rattle.std.specs.List.{flat_map}
-use Rattle.htl_model.specs.Lists.{list_to}
-use Rattle.htl_text.specs.Nodes.{mode_of, tree_of, PlainMode}
-use Rattle.htl_names.specs.Lists.{flat_map_at}
-use Rattle.htl_names.specs.Nth.{nth_module}
-use Rattle.htl_names.specs.Order.{below, mode_kids}
+use Rattle.std.proofs.Common.{◌≡◌, ◌+◌, ◌*◌, ◌-◌, ◌++◌, ℕ, map, drop, flat_map}
+use Rattle.htl_names.proofs.Words.{list_to, mode_of, tree_of, PlainMode, flat_map_at, nth_module, mode_kids}
+use Rattle.htl_names.specs.Order.{below}
 use Rattle.htl_names.proofs.order.+below.Given as goal
 
 abbrev pub decreases-put_module : goal.decreases-put_module

@@ -1,16 +1,6 @@
 use Rattle.std.proofs.Common.{arith, ◌≡◌, ◌+◌, ◌++◌, ℕ, zero, suc, List, [], ◌∷◌, None, length, get_or, map, refl, sym, ap, ◌∙◌, rules}
-use Rattle.std.specs.List.{range_with_len}
-use Rattle.std.proofs.lemmas.Grind.{common_steps}
-use Rattle.std.proofs.lemmas.Iterator.{YieldsList-from_map, YieldsList-from_range}
-use Rattle.std.proofs.lemmas.Iterator.Adapters.{items_from_extend}
-use Rattle.std.proofs.lemmas.Iterator.Consumers.{YieldsList-at}
-use Rattle.std.proofs.lemmas.List.{length-map}
+use Rattle.htl_names.proofs.Words.{range_with_len, common_steps, YieldsList-from_map, YieldsList-from_range, items_from_extend, YieldsList-at, length-map, list_to, tree_of, mode_of, mode_in, modes_at, ModeAt}
 use Rattle.std.proofs.lemmas.List.FromFn.{map-range_with_len_more}
-use Rattle.htl_model.specs.Lists.{list_to}
-use Rattle.htl_text.specs.Nodes.{tree_of, mode_of}
-use Rattle.htl_names.specs.Nth.{mode_in}
-use Rattle.htl_names.specs.Order.{modes_at}
-use Rattle.htl_names.specs.declared.place.ModeAt.{ModeAt}
 use Rattle.htl_names.proofs.order.put_modes.Goals as goal
 
 listed : {A : Type 0} (f : ℕ → A) (n : ℕ) → map f (range_with_len 0 n) ≡ list_to f n

@@ -1,6 +1,5 @@
 use Rattle.std.proofs.Common.{◌≡◌, ◌++◌, drop}
-use Rattle.htl_text.specs.Nodes.{tree_of}
-use Rattle.htl_names.specs.Order.{mode_order}
+use Rattle.htl_names.proofs.Words.{tree_of, mode_order}
 use Rattle.htl_names.proofs.order.put_modes.Given as goal
 
 abbrev pub invariant-loop-k : goal.invariant-loop-k

@@ -1,6 +1,5 @@
 use Rattle.std.proofs.Common.{◌≡◌}
-use Rattle.htl_text.specs.Nodes.{tree_of}
-use Rattle.htl_names.specs.Flat.{invokes_before}
+use Rattle.htl_names.proofs.Words.{tree_of, invokes_before}
 use Rattle.htl_names.proofs.place.invokes_before.Given as goal
 
 abbrev pub invariant-loop-k : goal.invariant-loop-k

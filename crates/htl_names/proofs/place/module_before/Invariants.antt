@@ -1,8 +1,5 @@
 use Rattle.std.proofs.Common.{◌≡◌, ◌+◌, Option, None, Some, drop, slice_get}
-use Rattle.htl_text.specs.Nodes.{tree_of}
-use Rattle.htl_names.specs.Flat.{is_module, module_number, modes_before, tasks_before, refined_mode}
-use Rattle.htl_names.specs.Lists.{place_in}
-use Rattle.htl_names.specs.declared.place.ModeAt.{ModeAt}
+use Rattle.htl_names.proofs.Words.{tree_of, is_module, module_number, modes_before, tasks_before, refined_mode, place_in, ModeAt}
 use Rattle.htl_names.proofs.place.module_before.Given as goal
 
 abbrev pub invariant-loop-k : goal.invariant-loop-k

@@ -1,7 +1,5 @@
 use Rattle.std.proofs.Common.{◌∙◌, refl, sym, subst, arith, below_more}
-use Rattle.htl_names.specs.Flat.{symbols_of}
-use Rattle.htl_names.specs.Named.{AreNamed}
-use Rattle.htl_names.specs.Programs.{IsMisplaced}
+use Rattle.htl_names.proofs.Words.{symbols_of, AreNamed, IsMisplaced}
 use Rattle.htl_names.proofs.Searches.{misplaced_here, placed_here}
 use Rattle.htl_names.proofs.programs.first_misplaced.Goals as goal
 

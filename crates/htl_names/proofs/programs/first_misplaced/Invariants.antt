@@ -1,8 +1,5 @@
 use Rattle.std.proofs.Common.{◌≡◌, ◌<◌, ℕ, List}
-use Rattle.htl_text.specs.Nodes.{PlainProgram}
-use Rattle.htl_names.specs.Flat.{symbols_of}
-use Rattle.htl_names.specs.Named.{AreNamed}
-use Rattle.htl_names.specs.Programs.{IsMisplaced, naming_rows}
+use Rattle.htl_names.proofs.Words.{PlainProgram, symbols_of, AreNamed, IsMisplaced, naming_rows}
 use Rattle.htl_names.proofs.programs.first_misplaced.Given as goal
 
 abbrev pub invariant-loop-p : goal.invariant-loop-p

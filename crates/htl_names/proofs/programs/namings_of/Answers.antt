@@ -1,8 +1,5 @@
 use Rattle.std.proofs.Common.{◌≡◌, ◌∙◌, ap, arith, fold, length, replicate}
-use Rattle.std.proofs.lemmas.Grind.{common_steps}
-use Rattle.htl_text.specs.Nodes.{tree_of}
-use Rattle.htl_names.specs.Named.{noted, unnamed}
-use Rattle.htl_names.specs.Programs.{naming, naming_rows}
+use Rattle.htl_names.proofs.Words.{common_steps, tree_of, noted, unnamed, naming, naming_rows}
 use Rattle.htl_names.proofs.Searches.{named_table}
 use Rattle.htl_names.proofs.programs.namings_of.Goals as goal
 

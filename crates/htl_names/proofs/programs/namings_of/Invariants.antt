@@ -1,8 +1,5 @@
 use Rattle.std.proofs.Common.{◌≡◌, ◌++◌, map, drop, fold, replicate, length}
-use Rattle.htl_text.specs.Nodes.{program_of}
-use Rattle.htl_names.specs.Lists.{map_at, flat_map_at}
-use Rattle.htl_names.specs.Named.{noted, unnamed}
-use Rattle.htl_names.specs.Programs.{program_naming}
+use Rattle.htl_names.proofs.Words.{program_of, map_at, flat_map_at, noted, unnamed, program_naming}
 use Rattle.htl_names.proofs.programs.namings_of.Given as goal
 
 abbrev pub invariant-loop-k : goal.invariant-loop-k

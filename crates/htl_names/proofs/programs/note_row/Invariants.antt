@@ -1,5 +1,5 @@
 use Rattle.std.proofs.Common.{◌≡◌, drop, fold}
-use Rattle.htl_names.specs.Named.{noted}
+use Rattle.htl_names.proofs.Words.{noted}
 use Rattle.htl_names.proofs.programs.note_row.Given as goal
 
 abbrev pub invariant-loop-k : goal.invariant-loop-k

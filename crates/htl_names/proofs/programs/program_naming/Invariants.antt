@@ -1,7 +1,5 @@
 use Rattle.std.proofs.Common.{◌≡◌, ◌++◌, map, drop}
-use Rattle.htl_text.specs.Nodes.{module_of}
-use Rattle.htl_names.specs.Lists.{flat_map_at}
-use Rattle.htl_names.specs.Programs.{module_naming}
+use Rattle.htl_names.proofs.Words.{module_of, flat_map_at, module_naming}
 use Rattle.htl_names.proofs.programs.program_naming.Given as goal
 
 abbrev pub invariant-loop-k : goal.invariant-loop-k

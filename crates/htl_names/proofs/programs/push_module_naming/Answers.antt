@@ -1,7 +1,5 @@
-use Rattle.std.proofs.Common.{◌≡◌, ◌++◌, ◌+◌, ◌∙◌, ap, sym, append-nil, map, ℕ, List, Option, Some, None}
-use Rattle.htl_text.specs.Nodes.{mode_of}
-use Rattle.htl_names.specs.Lists.{flat_map_at}
-use Rattle.htl_names.specs.Programs.{Naming, mode_naming, named_from}
+use Rattle.std.proofs.Common.{◌≡◌, ◌++◌, ◌∙◌, ap, sym, append-nil, map, ℕ, List, Option, Some, None}
+use Rattle.htl_names.proofs.Words.{mode_of, flat_map_at, Naming, mode_naming, named_from}
 use Rattle.htl_names.proofs.Growing.{next_item}
 use Rattle.htl_names.proofs.programs.push_module_naming.Goals as goal
 use Rattle.htl_names.proofs.programs.push_module_naming.Goals.{in-Some+in_ok-push, in_default}

@@ -1,7 +1,5 @@
 use Rattle.std.proofs.Common.{◌≡◌, ◌++◌, map, drop}
-use Rattle.htl_text.specs.Nodes.{mode_of}
-use Rattle.htl_names.specs.Lists.{flat_map_at}
-use Rattle.htl_names.specs.Programs.{mode_naming}
+use Rattle.htl_names.proofs.Words.{mode_of, flat_map_at, mode_naming}
 use Rattle.htl_names.proofs.programs.push_module_naming.Given as goal
 
 abbrev pub invariant-loop-k : goal.invariant-loop-k

@@ -1,5 +1,5 @@
 use Rattle.std.proofs.Common.{◌≡◌, ◌++◌, drop}
-use Rattle.htl_names.specs.Programs.{targets}
+use Rattle.htl_names.proofs.Words.{targets}
 use Rattle.htl_names.proofs.programs.put_named.Given as goal
 
 abbrev pub invariant-loop-k : goal.invariant-loop-k

@@ -1,5 +1,5 @@
 use Rattle.std.proofs.Common.{◌+◌, map, length}
-use Rattle.htl_names.specs.Programs.{targets}
+use Rattle.htl_names.proofs.Words.{targets}
 use Rattle.htl_names.proofs.Reaching.{Searches, owed}
 use Rattle.htl_names.proofs.programs.reach.Given as goal
 

@@ -1,15 +1,5 @@
-use Rattle.std.proofs.Common.{◌∙◌, sym, ap, subst, map, ℕ, List, arith, length}
-use Rattle.std.specs.Prelude.{MatchOption}
-use Rattle.htl_text.specs.Nodes.{tree_of}
-use Rattle.htl_names.specs.declared.key.Key.{Key}
-use Rattle.htl_model.specs.Lists.{first_some}
-use Rattle.htl_names.specs.Parents.{orphan_token}
-use Rattle.htl_names.specs.Flat.{symbols_of}
-use Rattle.htl_names.specs.Named.{AreNamed}
-use Rattle.htl_names.specs.NameRules.{UnknownName, WrongKind, ProgramTree, ParentName, Limits}
-use Rattle.htl_names.specs.Programs.{program_naming}
-use Rattle.htl_names.specs.Rows.{Rows, parent_use_of}
-use Rattle.htl_names.specs.Told.{KeptBelow, IsRefusal}
+use Rattle.std.proofs.Common.{◌∙◌, sym, ap, subst, map, ℕ, List, arith, length, MatchOption}
+use Rattle.htl_names.proofs.Words.{tree_of, Key, first_some, orphan_token, symbols_of, AreNamed, UnknownName, WrongKind, ProgramTree, ParentName, Limits, program_naming, Rows, parent_use_of, KeptBelow, IsRefusal}
 use Rattle.htl_names.proofs.RuleLaws.{uses_searched, kinds_searched, parents_searched, tried, all_right}
 use Rattle.htl_names.proofs.Walking.{length-map_at}
 use Rattle.htl_names.specs.declared.fault.NameFault.TheVariants as fault

@@ -1,7 +1,5 @@
 use Rattle.std.proofs.Common.{◌∙◌, ap, map}
-use Rattle.htl_text.specs.Nodes.{tree_of}
-use Rattle.htl_names.specs.Keys.{pair_of}
-use Rattle.htl_names.specs.Rows.{Rows}
+use Rattle.htl_names.proofs.Words.{tree_of, pair_of, Rows}
 use Rattle.htl_names.proofs.RuleLaws.{is_err, names_repeated, names_apart}
 use Rattle.htl_names.proofs.resolving.names_of.Goals as goal
 

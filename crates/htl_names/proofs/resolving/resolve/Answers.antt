@@ -1,10 +1,5 @@
 use Rattle.std.proofs.Common.{◌∙◌, sym, subst}
-use Rattle.htl_model.specs.Broken.{KeepsLimits}
-use Rattle.htl_model.specs.Ranges.{AreInRange}
-use Rattle.htl_model.specs.Small.{AreSmall}
-use Rattle.htl_model.specs.Tables.{tables_of}
-use Rattle.htl_text.specs.Nodes.{tree_of}
-use Rattle.htl_names.specs.Narrow.{IsNarrow}
+use Rattle.htl_names.proofs.Words.{KeepsLimits, AreInRange, AreSmall, tables_of, tree_of, IsNarrow}
 use Rattle.htl_names.proofs.InRange.{names-in-range}
 use Rattle.htl_names.proofs.KeepsLimits.{names-keep-limits}
 use Rattle.htl_names.proofs.Ordering.{layout_is, tables_are, names-narrow}

@@ -1,7 +1,5 @@
 use Rattle.std.proofs.Common.{◌≡◌, map, drop}
-use Rattle.htl_model.specs.Lists.{first_some}
-use Rattle.htl_names.specs.Parents.{orphan_token}
-use Rattle.htl_names.specs.Rows.{parent_use_of}
+use Rattle.htl_names.proofs.Words.{first_some, orphan_token, parent_use_of}
 use Rattle.htl_names.proofs.rules.first_orphan.Given as goal
 
 abbrev pub invariant-loop-k : goal.invariant-loop-k

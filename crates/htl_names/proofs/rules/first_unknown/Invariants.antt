@@ -1,6 +1,5 @@
 use Rattle.std.proofs.Common.{◌≡◌, drop}
-use Rattle.htl_model.specs.Lists.{first_some}
-use Rattle.htl_names.specs.Uses.{unknown_token}
+use Rattle.htl_names.proofs.Words.{first_some, unknown_token}
 use Rattle.htl_names.proofs.rules.first_unknown.Given as goal
 
 abbrev pub invariant-loop-k : goal.invariant-loop-k

@@ -1,10 +1,5 @@
-use Rattle.std.proofs.Common.{◌≡◌, drop, map}
-use Rattle.std.specs.Prelude.{fold}
-use Rattle.htl_text.specs.Postfix.{names_in}
-use Rattle.htl_text.specs.declared.tree.Id.{Id}
-use Rattle.htl_names.specs.Keys.{comm_key}
-use Rattle.htl_names.specs.Lists.{with_new, distinct}
-use Rattle.htl_names.specs.Flat.{meaning}
+use Rattle.std.proofs.Common.{◌≡◌, drop, map, fold}
+use Rattle.htl_names.proofs.Words.{names_in, Id, comm_key, with_new, distinct, meaning}
 use Rattle.htl_names.proofs.switches.comms_in.Given as goal
 
 abbrev pub invariant-loop-k : goal.invariant-loop-k

@@ -1,5 +1,5 @@
 use Rattle.std.proofs.Common.{◌≡◌, ◌≤◌, sym, subst, List, ℕ, rules}
-use Rattle.htl_names.specs.Flat.{comms_in, read_place}
+use Rattle.htl_names.proofs.Words.{comms_in, read_place}
 use Rattle.htl_names.proofs.ListLaws.{read_place-le}
 use Rattle.htl_names.proofs.switches.put_switches.Goals as goal
 

@@ -1,7 +1,5 @@
 use Rattle.std.proofs.Common.{◌≡◌, ◌++◌, drop, map}
-use Rattle.htl_model.specs.Tables.{fun_of}
-use Rattle.htl_text.specs.Nodes.{tree_of, switch_of}
-use Rattle.htl_names.specs.Flat.{switch_item, flat_switch_function}
+use Rattle.htl_names.proofs.Words.{fun_of, tree_of, switch_of, switch_item, flat_switch_function}
 use Rattle.htl_names.proofs.switches.put_switches.Given as goal
 
 abbrev pub invariant-loop-k : goal.invariant-loop-k

@@ -1,7 +1,5 @@
 use Rattle.std.proofs.Common.{◌≡◌, ◌∙◌, length, refl, sym, arith, subst, add-one, ℕ, inr}
-use Rattle.std.proofs.lemmas.Grind.{common_steps}
-use Rattle.std.proofs.lemmas.Option.{slice_get_read}
-use Rattle.htl_names.specs.Repeats.{AreApartTo}
+use Rattle.htl_names.proofs.Words.{common_steps, slice_get_read, AreApartTo}
 use Rattle.htl_names.proofs.SymbolLaws.{repeats_here, apart_here}
 use Rattle.htl_names.proofs.symbols.declare.Goals as goal
 

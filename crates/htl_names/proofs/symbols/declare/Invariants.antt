@@ -1,6 +1,5 @@
 use Rattle.std.proofs.Common.{◌≡◌, map, take}
-use Rattle.htl_names.specs.Keys.{pair_of}
-use Rattle.htl_names.specs.Repeats.{AreApartTo}
+use Rattle.htl_names.proofs.Words.{pair_of, AreApartTo}
 use Rattle.htl_names.proofs.symbols.declare.Given as goal
 
 abbrev pub invariant-loop-k : goal.invariant-loop-k

@@ -1,9 +1,5 @@
-use Rattle.std.proofs.Common.{◌≡◌, ◌++◌, drop, length, map}
-use Rattle.std.specs.List.{flat_map}
-use Rattle.htl_model.specs.Tables.{fun_of}
-use Rattle.htl_text.specs.Nodes.{tree_of}
-use Rattle.htl_names.specs.Flat.{ports_before, mode_port_items, port_items, mode_invoke_items, invoke_items, mode_switch_items, switch_items, mode_functions}
-use Rattle.htl_names.specs.Lists.{flat_map_at}
+use Rattle.std.proofs.Common.{◌≡◌, ◌++◌, drop, length, map, flat_map}
+use Rattle.htl_names.proofs.Words.{fun_of, tree_of, ports_before, mode_port_items, port_items, mode_invoke_items, invoke_items, mode_switch_items, switch_items, mode_functions, flat_map_at}
 use Rattle.htl_names.proofs.tables.by_mode.Given as goal
 
 abbrev pub invariant-loop-k : goal.invariant-loop-k

@@ -1,9 +1,5 @@
-use Rattle.std.proofs.Common.{◌≡◌, ◌++◌, drop, length, map}
-use Rattle.std.specs.List.{flat_map}
-use Rattle.htl_model.specs.Tables.{fun_of}
-use Rattle.htl_text.specs.Nodes.{tree_of}
-use Rattle.htl_names.specs.Flat.{modes_before, module_mode_items, mode_items, module_items_at, module_items, module_task_items, task_items, module_functions}
-use Rattle.htl_names.specs.Lists.{flat_map_at}
+use Rattle.std.proofs.Common.{◌≡◌, ◌++◌, drop, length, map, flat_map}
+use Rattle.htl_names.proofs.Words.{fun_of, tree_of, modes_before, module_mode_items, mode_items, module_items_at, module_items, module_task_items, task_items, module_functions, flat_map_at}
 use Rattle.htl_names.proofs.tables.by_module.Given as goal
 
 abbrev pub invariant-loop-k : goal.invariant-loop-k

@@ -1,5 +1,5 @@
 use Rattle.std.proofs.Common.{◌+◌, drop}
-use Rattle.htl_names.specs.Recorded.{AddsWith}
+use Rattle.htl_names.proofs.Words.{AddsWith}
 use Rattle.htl_names.proofs.walk.add_all.Given as goal
 
 abbrev pub invariant-loop-k : goal.invariant-loop-k

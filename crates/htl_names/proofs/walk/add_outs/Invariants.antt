@@ -1,6 +1,5 @@
 use Rattle.std.proofs.Common.{◌+◌, drop}
-use Rattle.htl_names.specs.Recorded.{AddsWith}
-use Rattle.htl_names.specs.Rows.{out_rows}
+use Rattle.htl_names.proofs.Words.{AddsWith, out_rows}
 use Rattle.htl_names.proofs.walk.add_outs.Given as goal
 
 abbrev pub invariant-loop-j : goal.invariant-loop-j

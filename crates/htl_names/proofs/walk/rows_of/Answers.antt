@@ -1,7 +1,6 @@
 use Rattle.std.proofs.Common.{arith, length-append}
-use Rattle.std.proofs.lemmas.List.{drop_more}
+use Rattle.htl_names.proofs.Words.{drop_more, common_steps}
 use Rattle.htl_names.proofs.Walking.{length-map_at}
-use Rattle.std.proofs.lemmas.Grind.{common_steps}
 use Rattle.htl_names.proofs.walk.rows_of.Goals as goal
 
 pub loop-p-preserved : goal.loop-p-preserved

@@ -1,6 +1,5 @@
 use Rattle.std.proofs.Common.{◌≡◌, ◌≤◌, drop, map, length}
-use Rattle.htl_text.specs.Nodes.{program_of}
-use Rattle.htl_names.specs.Rows.{rows_joined, rows, program_rows}
+use Rattle.htl_names.proofs.Words.{program_of, rows_joined, rows, program_rows}
 use Rattle.htl_names.proofs.walk.rows_of.Given as goal
 
 abbrev pub invariant-loop-p : goal.invariant-loop-p

@@ -1,8 +1,5 @@
 use Rattle.std.proofs.Common.{drop, map}
-use Rattle.htl_text.specs.Postfix.{names_in}
-use Rattle.htl_names.specs.Recorded.{AddsWith}
-use Rattle.htl_names.specs.Rows.{using}
-use Rattle.htl_names.specs.Uses.{use_in}
+use Rattle.htl_names.proofs.Words.{names_in, AddsWith, using, use_in}
 use Rattle.htl_names.proofs.recorder.Recorder.mention_all.Given as goal
 
 abbrev pub invariant-loop-k : goal.invariant-loop-k

@@ -1,5 +1,5 @@
 use Rattle.std.proofs.Common.{◌∙◌, ap}
-use Rattle.htl_names.specs.Keys.{look_up}
+use Rattle.htl_names.proofs.Words.{look_up}
 use Rattle.htl_names.proofs.SymbolLaws.{lookup_is}
 use Rattle.htl_names.proofs.symbols.Symbols.get.Goals as goal
 

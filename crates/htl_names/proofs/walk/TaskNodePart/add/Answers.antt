@@ -1,7 +1,5 @@
 use Rattle.std.proofs.Common.{append_assoc, append-nil, ◌∷◌, ◌++◌, map, ap, ◌∙◌}
-use Rattle.htl_text.specs.Nodes.{out_of}
-use Rattle.htl_names.specs.Entries.{entry, param_entry}
-use Rattle.htl_names.specs.Keys.{task_key}
+use Rattle.htl_names.proofs.Words.{out_of, entry, param_entry, task_key}
 use Rattle.htl_names.proofs.Walking.{map_at_all}
 use Rattle.htl_names.proofs.walk.TaskNodePart.add.Goals as goal
 

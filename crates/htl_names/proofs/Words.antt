@@ -1,0 +1,55 @@
+-- The words that several proofs cite, of this crate and of those below it, passed on from one place. Declares nothing.
+pub use Rattle.htl_model.proofs.Listed.{get_list_to, length-list_to}
+pub use Rattle.htl_model.proofs.PlaceLaws.{get_mapped}
+pub use Rattle.htl_model.specs.Broken.{KeepsLimits}
+pub use Rattle.htl_model.specs.Lists.{AreApart, first_some, places_from}
+pub use Rattle.htl_model.specs.Ranges.{AreInRange, FitsType, IsCommInRange, IsEndInRange, IsFunInRange, IsInvInRange, IsModeInRange, IsModeThat, IsModuleInRange, IsPortInRange, IsSpan, IsSwitchInRange, IsTaskInRange, is_within, parent_of}
+pub use Rattle.htl_model.specs.Small.{AreSmall, ArgumentsBelow, IsSmallFunction, nodes}
+pub use Rattle.htl_model.specs.Tables.{Compiled, count_before, fun_of, function_count, mode_module, tables_of}
+pub use Rattle.htl_model.specs.declared.parts.Inv.{Inv}
+pub use Rattle.htl_model.specs.declared.parts.Mode.{Mode}
+pub use Rattle.htl_model.specs.declared.parts.Module.{Module}
+pub use Rattle.htl_model.specs.declared.parts.Task.{Task}
+pub use Rattle.htl_names.specs.Conditions.{MeetsBounds, MeetsInvokeBounds, MeetsSwitchBounds, MeetsTaskBounds}
+pub use Rattle.htl_names.specs.Entries.{Repeats, comm_entry, entries, entries_from, entry, invoke_entry, mode_entries, module_entries, param_entry, params_of, port_entry, program_entries, task_entries}
+pub use Rattle.htl_names.specs.Flat.{Layout, comm_item, comm_items, comms_in, end_item, flat_output_function, flat_switch_function, function_items, input_place, invoke_item, invoke_items, invokes_before, is_abstract, is_module, layout, layout_by, meaning, mode_functions, mode_invoke_items, mode_item, mode_items, mode_number, mode_port_items, mode_switch_items, modes_before, module_functions, module_item, module_items, module_items_at, module_mode_items, module_number, module_task_items, outs_functions, parent_number, port_item, port_items, ports_before, read_place, refined_mode, size_of, switch_item, switch_items, symbols_of, tables_by, tables_of_tree, task_functions, task_item, task_items, tasks_before, term_by, types_of, value_of}
+pub use Rattle.htl_names.specs.Keys.{comm_key, invoke_key, key_in, look_up, mode_key, module_key, pair_of, port_key, program_key, same_key, task_key}
+pub use Rattle.htl_names.specs.Kinds.{Initial, Instance, IsWrongKind, Judged, Span, comm_kinds, end_kinds, has_type, invoke_kinds, is_instance, is_kind, is_span, kinds, mode_kinds, module_kinds, program_kinds, task_kind, token_of, wrong_token}
+pub use Rattle.htl_names.specs.Limits.{choices, counts, limits, most_invokes, most_positions, plain_root_modules, selections}
+pub use Rattle.htl_names.specs.Lists.{distinct, flat_map_at, map_at, place_in, with_new}
+pub use Rattle.htl_names.specs.NameRules.{AreNamesRight, IsFirstNameFault, IsResolved, Limits, NameBroken, NameRule, ParentName, ProgramTree, RepeatedName, TriedBefore, UnknownName, WrongKind}
+pub use Rattle.htl_names.specs.Named.{AreNamed, MarksReached, is_misplaced, named_too, noted, unnamed}
+pub use Rattle.htl_names.specs.Narrow.{IsNarrow, IsNarrowEnd, IsNarrowInvoke, IsNarrowParent, refined_place}
+pub use Rattle.htl_names.specs.Nth.{mode_in, nth_module}
+pub use Rattle.htl_names.specs.Order.{invokes_at, kids, mode_at, mode_kids, mode_order, modes_at, module_at, module_modes, modules_at, modules_in, order, ports_at, program_modules, switches_at, tasks_at}
+pub use Rattle.htl_names.specs.Parents.{IsOrphan, ParentUse, absent, invoke_parent, mode_parents, module_parents, orphan_at, orphan_token, parent_in, parents, program_parents}
+pub use Rattle.htl_names.specs.Programs.{Graph, IsMisplaced, Naming, Reached, level, level_by, levels, levels_by, links, mode_naming, module_naming, named_by, named_from, named_program, naming, naming_rows, namings, program_naming, refined_by, refined_in, root, targets}
+pub use Rattle.htl_names.specs.Recorded.{AddsWith}
+pub use Rattle.htl_names.specs.Repeats.{AreApartTo, EntriesAreApart, IsRepeat}
+pub use Rattle.htl_names.specs.Rows.{Rows, out_rows, parent_use_of, program_rows, rows, rows_joined, using, wrong_tokens}
+pub use Rattle.htl_names.specs.Tallies.{IsTally, capped, chosen, no_modes, no_tally, placed, selected, with_mode, with_module, with_program}
+pub use Rattle.htl_names.specs.Told.{IsFirstOf, IsKept, IsRefusal, IsSearched, KeptBelow}
+pub use Rattle.htl_names.specs.Trees.{Abstract, CommNode, Concrete, ConstNode, EndNode, Entry, Formula, Fun, Id, InvokeNode, IsBounded, Key, ModeAt, ModuleAt, NameFault, Named, ParamNode, PlainMode, PlainModule, PlainOut, PlainOuts, PlainProgram, PlainSwitch, PlainTask, Space, Tables, Ty, Use, comms_of, greatest, invokes_of, list_to, mode_of, module_of, modules_of, names_of, out_of, out_params, out_values, ports_of, program_of, switch_of, switches_of, task_of, tasks_of, tree_nodes}
+pub use Rattle.htl_names.specs.Uses.{IsUnknown, comm_use, end_use, input_use, invoke_uses, mode_uses, module_uses, output_uses, outputs_uses, program_use, program_uses, switch_uses, task_uses, unknown_by, unknown_token, usage, use_in, uses}
+pub use Rattle.htl_text.specs.Expressions.{Choice, Expr, Flag, Infix, Number, Prefix, Variable}
+pub use Rattle.htl_text.specs.Nodes.{tree_of}
+pub use Rattle.htl_text.specs.Postfix.{names_in}
+pub use Rattle.htl_text.specs.declared.tree.ModeNode.{ModeNode}
+pub use Rattle.std.proofs.Math.Nat.{one-mul, zero-add}
+pub use Rattle.std.proofs.lemmas.Bool.{and_parts, cases_eq, cases_lt, cond-true, cond_both, ne_eqb, or_cases, true_from_ne_false}
+pub use Rattle.std.proofs.lemmas.Bool.Decides.{nat_tests}
+pub use Rattle.std.proofs.lemmas.Grind.{common_steps, flat_map-append, fold-append}
+pub use Rattle.std.proofs.lemmas.Iterator.{YieldsList-from_map, YieldsList-from_range, YieldsList-from_slice}
+pub use Rattle.std.proofs.lemmas.Iterator.Adapters.{items_from_extend}
+pub use Rattle.std.proofs.lemmas.Iterator.Consumers.{YieldsList-at}
+pub use Rattle.std.proofs.lemmas.List.{drop_more, get_or-take, get_or_default, length-map, length-take, length-take-le, map-append}
+pub use Rattle.std.proofs.lemmas.List.Concat.{flat_map-cons, flat_map_single, length-flat_map}
+pub use Rattle.std.proofs.lemmas.List.Elements.{All-cons, All-get_or, All-map, All-nil, All-weaker, filter-append}
+pub use Rattle.std.proofs.lemmas.List.Folds.{flat_map-map, list_any-append}
+pub use Rattle.std.proofs.lemmas.List.Sums.{get_or-le-sum_by, sum-map, sum_by-append, sum_by-cons, sum_by-le, sum_by-le-sum_by, sum_by-set, sum_by_push}
+pub use Rattle.std.proofs.lemmas.Map.Made.{distinct_count-le, length-from_keys}
+pub use Rattle.std.proofs.lemmas.Map.Steps.{le-length_from_below, length-le_from_distinct_below}
+pub use Rattle.std.proofs.lemmas.Option.{MatchOption-at_some, get_or_from_slice_get, none-some, same_Some, slice_get-get_or, slice_get_read, slice_get_within}
+pub use Rattle.std.proofs.lemmas.Simd.{map-map}
+pub use Rattle.std.proofs.lemmas.Slice.Zip.{AllZip-left, AllZip-long}
+pub use Rattle.std.specs.List.{AllZip, list_any, range_with_len}
