@@ -26,11 +26,11 @@ pub enum Arguments<'a> {
 }
 
 /// The place of the argument that a name means.
-fn place(layout: &Layout, arguments: Arguments<'_>, id: &Id) -> u16
-    requires { argument_place layout.now arguments id.now ≤ 4097 }
-    ensures { result ≡ argument_place layout.now arguments.entry id.now }
+fn place(layout: &Layout, arguments: &Arguments<'_>, id: &Id) -> u16
+    requires { argument_place layout.now arguments.now id.now ≤ 4097 }
+    ensures { result ≡ argument_place layout.now arguments.now id.now }
 {
-    let reads = match arguments {
+    let reads = match *arguments {
         Arguments::Inputs(at, task) => {
             let inputs = Space::Params.of(at.program, at.module, task);
             return layout.meaning(inputs, id.name) as u16;
@@ -47,15 +47,15 @@ fn place(layout: &Layout, arguments: Arguments<'_>, id: &Id) -> u16
 }
 
 /// The expression with the places of its names.
+#[cycle(formula)]
 pub fn formula(
     source: &Source<'_>,
-    arguments: Arguments<'_>,
+    arguments: &Arguments<'_>,
     e: &Operand<'_>,
 ) -> Result<Expr, AllocError>
-    requires { (id : AnId) → argument_place source.now.layout.now arguments id ≤ 4097 }
-    ensures { IfOk result (λ x. term_of x ≡ term_by (argument_place source.now.layout.now arguments.entry) e.now) }
+    requires { (id : AnId) → argument_place source.now.layout.now arguments.now id ≤ 4097 }
+    ensures { IfOk result (λ x. term_of x ≡ term_by (argument_place source.now.layout.now arguments.now) e.now) }
 {
-    let alloc = source.alloc;
     match e.part() {
         Part::Int { token, x } => Ok(Expr::Int { token, x }),
         Part::Bool { token, x } => Ok(Expr::Bool { token, x }),
@@ -66,21 +66,34 @@ pub fn formula(
         Part::Unary { token, op, e } => Ok(Expr::Unary {
             token,
             op,
-            e: Box::new(alloc, formula(source, arguments, &e)?)?,
+            e: boxed(source, arguments, e)?,
         }),
         Part::Binary { token, op, l, r } => Ok(Expr::Binary {
             token,
             op,
-            l: Box::new(alloc, formula(source, arguments, &l)?)?,
-            r: Box::new(alloc, formula(source, arguments, &r)?)?,
+            l: boxed(source, arguments, l)?,
+            r: boxed(source, arguments, r)?,
         }),
         Part::Choose { token, c, a, b } => Ok(Expr::Choose {
             token,
-            c: Box::new(alloc, formula(source, arguments, &c)?)?,
-            a: Box::new(alloc, formula(source, arguments, &a)?)?,
-            b: Box::new(alloc, formula(source, arguments, &b)?)?,
+            c: boxed(source, arguments, c)?,
+            a: boxed(source, arguments, a)?,
+            b: boxed(source, arguments, b)?,
         }),
     }
+}
+
+// In a function of its own, which moves an operand into its box once.
+#[cycle(formula)]
+fn boxed(
+    source: &Source<'_>,
+    arguments: &Arguments<'_>,
+    e: Operand<'_>,
+) -> Result<Box<Expr>, AllocError>
+    requires { (id : AnId) → argument_place source.now.layout.now arguments.now id ≤ 4097 }
+    ensures { IfOk result (λ x. term_of x.value ≡ term_by (argument_place source.now.layout.now arguments.now) e.entry) }
+{
+    Ok(Box::new(source.alloc, formula(source, arguments, &e)?)?)
 }
 
 // ---- the functions of outputs
@@ -102,7 +115,7 @@ pub fn put_outputs(
     let outs = outs.as_slice();
     for k in 0..outs.len() {
         let out = &outs[k];
-        let e = formula(source, Arguments::Inputs(at, task), &out.value.whole())?;
+        let e = formula(source, &Arguments::Inputs(at, task), &out.value.whole())?;
         let first = out.first;
         into.push(Function::Expr { first, e })?;
     }

@@ -34,7 +34,7 @@ pub fn put_switches(
         let node = &nodes[k];
         let comms = comms_in(source, &node.cond)?;
         let reads = Arguments::Reads(comms.as_slice());
-        let e = formula(source, reads, &node.cond.whole())?;
+        let e = formula(source, &reads, &node.cond.whole())?;
         let first = node.first;
         functions.push(Function::Expr { first, e })?;
         into.push(Switch {
