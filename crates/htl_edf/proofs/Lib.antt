@@ -20,14 +20,12 @@ pub mod Optimal
 pub mod PartRuns
 pub mod PathOrder
 pub mod Plannable
-pub mod Plans
 pub mod Ranking
 pub mod ReadyRanks
 pub mod ReadyTasks
 pub mod Refusal
 pub mod Reporting
 pub mod Rest
-pub mod RootRounds
 pub mod SamePlans
 pub mod Ticks
 pub mod Tightened

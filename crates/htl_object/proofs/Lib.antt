@@ -19,7 +19,6 @@ pub mod ListRanges
 pub mod Limits
 pub mod Widest
 pub mod NodeCounts
-pub mod OneRound
 pub mod Listed
 pub mod FileRanges
 pub mod Naming

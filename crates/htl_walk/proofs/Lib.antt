@@ -21,6 +21,7 @@ pub mod NodeWalks
 pub mod Nodes
 pub mod OneMiss
 pub mod OnePeriod
+pub mod OneRound
 pub mod PathReady
 pub mod PendingLaws
 pub mod Placing
@@ -33,3 +34,4 @@ pub mod Unreleased
 pub mod Waiting
 pub mod Walked
 pub mod Work
+pub mod WidestPath

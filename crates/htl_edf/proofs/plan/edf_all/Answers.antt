@@ -1,29 +1,23 @@
-use Rattle.std.proofs.Common.{◌≡◌, arith, rules}
-use Rattle.htl_model.specs.Selections.{round_length}
-use Rattle.htl_edf.proofs.Plannable.{plannable}
-use Rattle.htl_edf.proofs.Plans.{planned_more, first_fault}
-use Rattle.htl_edf.proofs.RootRounds.{round_within}
+use Rattle.std.proofs.lemmas.Result.{IfErr-weaker}
+use Rattle.htl_edf.specs.NodePlans.{ExplainsNodes}
+use Rattle.htl_edf.specs.Plan.{ExplainsPlan}
+use Rattle.htl_model.proofs.FrameRules.{kept_apart}
+use Rattle.htl_walk.proofs.OneRound.{no_limit}
+use Rattle.htl_edf.proofs.Plannable.{planned_ok, explained}
 use Rattle.htl_edf.proofs.plan.edf_all.Goals as goal
 
-pub returns-in-Err-clause-fault : goal.returns-in-Err-clause-fault
-returns-in-Err-clause-fault c =
-    first_fault c.args.t.now c.loop-selection.selection c.loop-selection.schedules.items c.in-Err.fault
-    (omega (arith, c.selections-selection-end.ensures, c.loop-selection-test.true))
-    c.loop-selection.invariant c.in-Err.ensures.fault
+pub edf_nodes-requires-clause-limits : goal.edf_nodes-requires-clause-limits
+edf_nodes-requires-clause-limits c = no_limit c.args.t.now c.keeps_ranges.ensures.ranges c.requires.formed c.requires.one_period c.requires.limits
 
-pub loop-selection-preserved : goal.loop-selection-preserved
-loop-selection-preserved c =
-    let is_ok = c.if-is_err.ensures.negation in
-    planned_more c.args.t.now c.loop-selection.selection c.loop-selection.schedules.items _ c.in-Ok.schedule
-    (rw is_ok at c.push.ensures.items) c.loop-selection.invariant c.in-Ok.ensures.planned
+pub edf_nodes-requires-clause-formed : goal.edf_nodes-requires-clause-formed
+edf_nodes-requires-clause-formed c = kept_apart c.args.t.now 12 c.requires.formed
 
-pub plan-requires-clause-jobs : goal.plan-requires-clause-jobs
-plan-requires-clause-jobs c =
-    (plannable c.args.t.now c.keeps_ranges.ensures.ranges c.requires.formed c.requires.one_period c.requires.limits).each c.loop-selection.selection
-    (omega (arith, c.selections-selection-end.ensures, c.loop-selection-test.true))
+pub returns-clause-planned : goal.returns-clause-planned
+returns-clause-planned c =
+    let h = c.edf_nodes.ensures in
+    planned_ok c.args.t.now c.keeps_ranges.ensures.ranges c.requires.formed c.requires.one_period c.requires.limits c.edf_nodes.result h.count h.lists h.accepted h.fits
 
-pub plan-requires-clause-period : goal.plan-requires-clause-period
-plan-requires-clause-period c =
+pub returns-clause-fault : goal.returns-clause-fault
+returns-clause-fault c =
     let t = c.args.t.now in
-    let is : c.unwrap_or-period.result ≡ round_length t = search rules in
-    omega (arith, is, round_within t c.keeps_ranges.ensures.ranges)
+    IfErr-weaker c.edf_nodes.result (ExplainsNodes t) (ExplainsPlan t) (explained t c.keeps_ranges.ensures.ranges c.requires.formed c.requires.one_period c.requires.limits) c.edf_nodes.ensures.fault
