@@ -15,8 +15,10 @@ use Rattle.htl_walk.specs.PathJobs.{path_jobs, next_of}
 use Rattle.htl_walk.specs.FrameLaws.{start_at, start_end_at}
 use Rattle.htl_walk.specs.NodeWalks.{ShareNodes, instrs_of}
 use Rattle.htl_walk.proofs.Steps.{apart}
+pub use Rattle.htl_walk.proofs.NodeNumbers.{depth_same}
+use Rattle.htl_walk.proofs.NodeNumbers.{node_depth}
 use Rattle.htl_walk.proofs.Starts.{Rises, starts_rise}
-use Rattle.htl_walk.proofs.Nodes.{places_same, product_some, node_below, nodes_within, paths_are, leg_at}
+use Rattle.htl_walk.proofs.Nodes.{nodes_within, leg_at}
 use Rattle.htl_walk.proofs.CodeWalk.{start_read, end_read}
 use Rattle.htl_edf.specs.Parts.{part}
 use Rattle.htl_edf.specs.NodePlans.{AreReady, AreNodeLists, HasPart, HaveParts}
@@ -38,33 +40,6 @@ front_get (suc n) (x ∷ xs) (suc p) l = front_get n xs p (omega (arith, l))
 
 pub frame_end : (t : Tables) (f : Frame) → IsFrame t f → get_or f.starts f.count 0 ≡ frame_of t
 frame_end t f s = sym (front_get (f.count + 1) f.starts f.count (omega arith)) ∙ ap (λ xs. get_or xs f.count 0) s.starts ∙ behind (starts t) (frame_of t) f.count s.count
-
--- ---- nodes of different starts
-
-pub depth_same : (cs : List ℕ) (p q j i : ℕ) → 0 < ways cs → j < length cs → i < length cs → node_of cs p j ≡ node_of cs q i → j ≡ i
-depth_same [] p q j i h l k e = absurd (omega (arith, l))
-depth_same (c ∷ cs) p q zero zero h l k e = refl
-depth_same (c ∷ cs) p q zero (suc i) h l k e =
-    let some = product_some c (ways cs) h in
-    let n = suc (nodes_of cs) in
-    let inner : suc (node_of cs q i) < n = omega (arith, node_below cs q i some.1 (omega (arith, k))) in
-    absurd (omega (arith, (places_same (p / ways cs % c) (q / ways cs % c) n 0 (suc (node_of cs q i)) (omega arith) inner (omega (arith, e))).1))
-depth_same (c ∷ cs) p q (suc j) zero h l k e =
-    let some = product_some c (ways cs) h in
-    let n = suc (nodes_of cs) in
-    let inner : suc (node_of cs p j) < n = omega (arith, node_below cs p j some.1 (omega (arith, l))) in
-    absurd (omega (arith, (places_same (p / ways cs % c) (q / ways cs % c) n (suc (node_of cs p j)) 0 inner (omega arith) (omega (arith, e))).1))
-depth_same (c ∷ cs) p q (suc j) (suc i) h l k e =
-    let some = product_some c (ways cs) h in
-    let n = suc (nodes_of cs) in
-    let a : suc (node_of cs p j) < n = omega (arith, node_below cs p j some.1 (omega (arith, l))) in
-    let b : suc (node_of cs q i) < n = omega (arith, node_below cs q i some.1 (omega (arith, k))) in
-    ap suc (depth_same cs p q j i some.1 (omega (arith, l)) (omega (arith, k)) (omega (arith, (places_same (p / ways cs % c) (q / ways cs % c) n (suc (node_of cs p j)) (suc (node_of cs q i)) a b e).1)))
-
-node_depth : (t : Tables) (p q j i : ℕ) → p < paths t → j < length (starts t) → i < length (starts t) → node t p j ≡ node t q i → j ≡ i
-node_depth t p q j i h l k e =
-    let n = length-map (starts t) (λ (a : ℕ). choices t (rounds_at t a)) in
-    depth_same (radices t) p q j i (omega (arith, h, paths_are t p h)) (omega (arith, l, n)) (omega (arith, k, n)) e
 
 -- ---- one list more
 

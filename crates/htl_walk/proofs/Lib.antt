@@ -19,6 +19,7 @@ pub mod Locality
 pub mod Masks
 pub mod NodeWalks
 pub mod Nodes
+pub mod NodeNumbers
 pub mod OneMiss
 pub mod OnePeriod
 pub mod OneRound

@@ -1,9 +1,9 @@
 -- The laws of frames.
-use Rattle.std.specs.Prelude.{◌≡◌, ℕ, suc, ◌<◌, List, [], ◌∷◌, drop, get_or, length}
+use Rattle.std.specs.Prelude.{◌≡◌, ℕ, suc, ◌*◌, ◌/◌, ◌≤◌, ◌<◌, List, [], ◌∷◌, drop, get_or, length}
 use Rattle.htl_model.specs.Tables.{Tables}
 use Rattle.htl_model.specs.Selections.{root_modules}
 use Rattle.htl_walk.specs.declared.job.Job.{Job}
-use Rattle.htl_model.specs.Frames.{frame_of, starts, paths, nodes, node, known_by, path_places}
+use Rattle.htl_model.specs.Frames.{unit_period, frame_of, starts, paths, path_mode, nodes, node, known_by, path_places}
 use Rattle.htl_walk.specs.Paths.{Leg, AreChained}
 use Rattle.htl_walk.specs.Fronts.{KnowReleased, IsRoundFront, ShareFront}
 use Rattle.htl_walk.specs.PathJobs.{path_jobs, legs, next_of}
@@ -39,3 +39,20 @@ NodesShare =
 -- a path's nodes are among those that there are
 abbrev pub NodesWithin : Type 0
 NodesWithin = (t : Tables) (p j : ℕ) → p < paths t → j < length (starts t) → node t p j < nodes t
+
+-- equal numbers are those of one node: they come at the same start alone, where all modules have had the same modes up to there
+pub record IsOneNode (t : Tables) (p q i j : ℕ) : Type 0 where
+  pub start : i ≡ j
+  pub modes : (k u : ℕ) → k ≤ i → path_mode t p k u ≡ path_mode t q k u
+
+abbrev pub NodesDiffer : Type 0
+NodesDiffer =
+    (t : Tables) (p q i j : ℕ) → p < paths t → q < paths t → i < length (starts t) → j < length (starts t) → node t p i ≡ node t q j → IsOneNode t p q i j
+
+-- each number below that of the nodes is the number of a path's node
+abbrev pub NodesReached : Type 0
+NodesReached = (t : Tables) (n : ℕ) → 0 < paths t → n < nodes t → (path : ℕ) × (j : ℕ) × (path < paths t) × (j < length (starts t)) × (node t path j ≡ n)
+
+-- a module's mode at a start is that of its last round that has begun: it is the mode at the start of that round
+abbrev pub ModesStay : Type 0
+ModesStay = (t : Tables) (path i j u : ℕ) → start_at t i ≡ start_at t j / unit_period t u * unit_period t u → path_mode t path j u ≡ path_mode t path i u

@@ -69,8 +69,8 @@ pub record RefinesFront (js ks : List Job) : Type 0 where
   pub within : length js ≤ length ks
   pub each : (p : ℕ) (j : Job) → slice_get js p ≡ Some j → j.present ≡ true → (k : Job) × (slice_get ks p ≡ Some k) × RefinesJob ks p j k
 
--- the walk of jobs so far over the lists so far is the front of a walk that meets, whatever else stands behind them, absent
--- here; and it runs ahead of the walk with the worst cases
+-- the walk of jobs so far over the lists so far is the front of a walk that meets, in which the positions behind them are
+-- absent
 pub record IsInherited (js ks : List Job) (lengths : List ℕ) (ss : List (List SInstr)) (gs : List Leg) (k : ℕ) : Type 0 where
   pub front : walk_path js lengths (take k ss) (take k gs) ≡ take k (walk_path (js ++ replicate (length ks - length js) absent_job) lengths ss gs)
   pub meets : PathMeets (js ++ replicate (length ks - length js) absent_job) lengths ss gs

@@ -4,7 +4,7 @@ ghost use Rattle.htl_walk.specs.Walk.{dispatch_begins, time_after, work_after, s
 
 use htl_base::Time;
 
-/// What a dispatch of a position does; the times are offsets in the round, in ticks.
+/// What a dispatch of a position does; the times are ticks from the start of the round or the frame.
 #[derive(Clone, Copy)]
 pub struct Dispatched {
     /// When it is left.
@@ -17,7 +17,7 @@ pub struct Dispatched {
     pub rest: Time,
 }
 
-/// Dispatches a position with this release and this work left, at an offset.
+/// Dispatches a position with this release and this work left, at an instant.
 pub fn dispatch(until: u32, release: Time, work: Time, time: Time) -> Dispatched
     ensures time { result.time ≡ time_after time work release until }
     ensures slice { result.slice ≡ slice_between (dispatch_begins time release until) until work (time_after time work release until) }

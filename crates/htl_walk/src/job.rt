@@ -1,7 +1,8 @@
-// The jobs of a round.
+// The jobs of a round, and of a path.
 use htl_base::Time;
 
-/// The job of a position in one round; all times are offsets from the round's start, in ticks.
+/// The job of a position. All times are ticks from the beginning: of a root selection from the round's start, of a path
+/// from the frame's.
 #[derive(Clone, Copy, PartialEq, Eq, Debug)]
 pub struct Job {
     /// Whether an invocation stands for the position; where none does, every other field is 0.

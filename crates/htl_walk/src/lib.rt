@@ -1,4 +1,4 @@
-//! Jobs, schedules, and the walk of a schedule through one round.
+//! Jobs, schedules, and the worst-case walk of a schedule, or of the lists of a path.
 #![tactic(auto)]
 
 mod departure;

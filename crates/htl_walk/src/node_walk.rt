@@ -47,7 +47,8 @@ pub fn node(t: &Tables, f: &Frame, path: u32, j: usize) -> u32
     f.node(t, path, j)
 }
 
-/// The first start at which a path takes another node than the path before it.
+/// A start up to which a path and the next one take the same nodes, so that what was found for these need not be found
+/// again: the first at which they take different ones. A lower one would be as right, and costs more work.
 pub fn fork(t: &Tables, f: &Frame, path: u32) -> usize
     requires frame { IsFrame t.now f.now }
     requires path { path + 1 < paths_of t.now }

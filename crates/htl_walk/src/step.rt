@@ -12,7 +12,7 @@ use htl_base::Time;
 /// Where a walk stands: the time, and the positions with work left as a row of bits.
 #[derive(Clone, Copy)]
 pub struct Moment {
-    /// The time, an offset in the round.
+    /// The time, in ticks from the start of the round or the frame.
     pub time: Time,
     /// Bit p says that position p has work left.
     pub pending: u128,
