@@ -1,11 +1,10 @@
 -- The lists of all nodes, as the code makes them.
-use Rattle.std.proofs.Common.{◌≡◌, ◌≢◌, ℕ, zero, suc, ◌+◌, ◌-◌, ◌/◌, ◌%◌, ◌≤◌, ◌<◌, List, [], ◌∷◌, ◌++◌, length, drop, take, set, get_or, add-one, refl, sym, ap, ◌∙◌, subst, arith, inl, inr}
+use Rattle.std.proofs.Common.{◌≡◌, ◌≢◌, ℕ, zero, suc, ◌+◌, ◌-◌, ◌≤◌, ◌<◌, List, [], ◌∷◌, ◌++◌, length, drop, take, set, get_or, add-one, refl, sym, ap, ◌∙◌, subst, arith, inl, inr}
 use Rattle.std.proofs.lemmas.Bool.{cases_lt}
-use Rattle.std.proofs.lemmas.List.{length-map}
 use Rattle.htl_model.specs.declared.frame.Frame.{Frame}
 use Rattle.htl_model.specs.FrameTables.{IsFrame}
 use Rattle.htl_model.specs.Tables.{Tables}
-use Rattle.htl_model.specs.Frames.{frame_of, root_periods, unit_period, rounds_at, choices, starts, paths, nodes, node, node_of, nodes_of, radices, ways}
+use Rattle.htl_model.specs.Frames.{frame_of, root_periods, unit_period, starts, paths, nodes, node}
 use Rattle.htl_model.specs.Selections.{root_modules}
 use Rattle.htl_model.proofs.FrameSteps.{room_for, begins_zero}
 use Rattle.htl_walk.specs.declared.job.Job.{Job}

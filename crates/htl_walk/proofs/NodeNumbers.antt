@@ -3,8 +3,8 @@ use Rattle.std.proofs.Common.{◌≡◌, ℕ, zero, suc, ◌+◌, ◌*◌, ◌/�
 use Rattle.std.proofs.Math.Nat.{div-add-mod, mul_assoc, mul_comm, mul-le-mul_right, mul-add-div_right, add-mul-mod_self_right, mod-eq_of_lt}
 use Rattle.std.proofs.lemmas.Bool.{cases_lt, ne_eqb}
 use Rattle.std.proofs.lemmas.List.{length-map}
-use Rattle.std.proofs.lemmas.Nat.{div-mul-add, mod-mul-add, mul-add-lt}
-use Rattle.htl_model.specs.Frames.{frame_of, root_periods, unit_period, rounds_at, choices, starts, rounds, paths, mode_in, mode_from, path_mode, nodes, node, node_of, nodes_of, radices, ways}
+use Rattle.std.proofs.lemmas.Nat.{div-mul-add, mul-add-lt}
+use Rattle.htl_model.specs.Frames.{frame_of, root_periods, unit_period, rounds_at, choices, starts, rounds, paths, mode_in, mode_from, path_mode, node, node_of, nodes_of, radices, ways}
 use Rattle.htl_model.specs.Tables.{Tables}
 use Rattle.htl_model.specs.declared.frame.Round.{Round}
 use Rattle.htl_walk.specs.FrameLaws.{start_at, start_end_at, NodesDiffer, NodesReached, ModesStay}

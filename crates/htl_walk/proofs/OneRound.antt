@@ -1,6 +1,5 @@
 -- Where all root modules have one period no limit of frames is exceeded, and a path is accepted exactly where its root selection is.
-use Rattle.std.proofs.Common.{◌≡◌, ℕ, ◌+◌, ◌*◌, ◌≤◌, ◌<◌, ◌⊎◌, min, Bool, false, cond, ltb, List, [], ◌∷◌, length, map, get_or, slice_get, Option, Some, None, option_map, refl, sym, ap, ◌∙◌, subst, arith, inl, inr, append-nil}
-use Rattle.std.specs.List.{flat_map}
+use Rattle.std.proofs.Common.{◌≡◌, ℕ, ◌+◌, ◌*◌, ◌≤◌, ◌<◌, ◌⊎◌, min, Bool, false, cond, ltb, List, [], ◌∷◌, length, map, get_or, slice_get, Option, Some, None, option_map, refl, sym, ap, ◌∙◌, subst, arith, inl, inr}
 use Rattle.std.proofs.lemmas.Bool.Decides.{nat_tests}
 use Rattle.std.proofs.lemmas.List.{length-map}
 use Rattle.std.proofs.lemmas.Option.{slice_get-get_or}
@@ -8,7 +7,7 @@ use Rattle.htl_model.proofs.FrameLimits.{one_divides, rounds_have}
 use Rattle.htl_model.proofs.FrameRules.{kept_apart}
 use Rattle.htl_model.proofs.LimitCode.{over_no, rest_is, limit_none, limit_rest}
 use Rattle.htl_model.specs.Broken.{KeptTo, KeepsLimits}
-use Rattle.htl_model.specs.Frames.{common_multiple, multiple_of, unit_period, starts_below, starts, rounds, rounds_of, rounds_at, choices, paths, nodes, node, nodes_of, path_places, most_positions, too_long, frame_limit, other_limit}
+use Rattle.htl_model.specs.Frames.{common_multiple, multiple_of, unit_period, starts_below, starts, rounds, rounds_at, choices, paths, nodes, node, nodes_of, path_places, most_positions, too_long, frame_limit, other_limit}
 use Rattle.htl_model.specs.Lists.{list_to}
 use Rattle.htl_model.specs.Ranges.{AreInRange}
 use Rattle.htl_model.specs.Selections.{root_modules, choices_from, selection_count, positions, round_length}

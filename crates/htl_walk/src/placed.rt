@@ -30,6 +30,30 @@ fn mates(places: &[Place], at: Time) -> u128
     row
 }
 
+// The round that begins at an instant: a bit for each of its positions.
+#[derive(Clone, Copy)]
+struct RoundRow {
+    at: Time,
+    row: u128,
+}
+
+// The positions of the round that begins at an instant, which may be at hand.
+fn mates_at(places: &[Place], at_hand: RoundRow, at: Time) -> RoundRow
+    requires few { length places.now ≤ 128 }
+    requires known { (q : ℕ) → has_bit at_hand.row q ≡ begins_with at_hand.at places.now q }
+    ensures at { result.at ≡ at }
+    ensures row { (q : ℕ) → has_bit result.row q ≡ begins_with at places.now q }
+{
+    if at_hand.at == at {
+        at_hand
+    } else {
+        RoundRow {
+            at,
+            row: mates(places, at),
+        }
+    }
+}
+
 // What stands at the positions.
 fn fill_standing(places: &[Place], out: &mut [Option<u16>; 128])
     requires { length places.now ≤ 128 }
@@ -57,7 +81,8 @@ fn moved(job: Job, at: Time, row: u128) -> Job
 }
 
 /// Fills the front of `out` with the jobs of positions in rounds that begin at different instants; the rest of `out`
-/// stays.
+/// stays. Beside the cost of `fill_jobs` it is one pass over the positions for each instant at which rounds begin, where
+/// the positions of an instant stand together.
 pub fn placed_jobs(t: &Tables, places: &[Place], out: &mut [Job; 128])
     requires few { length places.now ≤ 128 }
     requires times { All HasTimes (placed_jobs_of t.now places.now) }
@@ -69,8 +94,13 @@ pub fn placed_jobs(t: &Tables, places: &[Place], out: &mut [Job; 128])
     fill_standing(places, &mut standing);
     let mut jobs = [Job::ABSENT; MAX_POSITIONS];
     fill_jobs(t, &standing[..count], &mut jobs);
+    let mut round = RoundRow {
+        at: 0,
+        row: mates(places, 0),
+    };
     for p in 0..places.len() {
-        out[p] = moved(jobs[p], places[p].at, mates(places, places[p].at));
+        round = mates_at(places, round, places[p].at);
+        out[p] = moved(jobs[p], places[p].at, round.row);
     }
 }
 
