@@ -10,7 +10,7 @@ use crate::Tight;
 use htl_base::Time;
 use htl_walk::Job;
 
-/// An overloaded interval, as offsets from the round's start in ticks, and the sum of the worst cases in it.
+/// An overloaded interval, in ticks from the start of the round or the frame, and the sum of the worst cases in it.
 #[derive(Clone, Copy)]
 pub struct Overload {
     pub from: Time,

@@ -11,7 +11,7 @@ use htl_base::limits::MAX_POSITIONS;
 use htl_walk::Job;
 
 /// The tightened window of a position: each schedule that meets all windows, after all predecessors, gives the position
-/// ticks of this window alone. Both are offsets from the round's start, in ticks; the end may be negative.
+/// ticks of this window alone. Both are ticks from the start of the round or the frame; the end may be negative.
 #[derive(Clone, Copy, PartialEq, Eq, Debug)]
 pub struct Tight {
     /// The first tick that may be the position's own.
