@@ -18,8 +18,7 @@ use Rattle.htl_walk.proofs.PathReady.{window_small}
 use Rattle.htl_form.proofs.PartLaws.{none_some}
 use Rattle.htl_refine.specs.BegunJobs.{nowhere, new_places}
 use Rattle.htl_refine.specs.DerivedPaths.{begun_mode, round_places, start_places, standing_place, begun_places, begun_jobs}
-use Rattle.htl_refine.proofs.Inherit.{mapped}
-use Rattle.htl_refine.proofs.Members.{of_joined, of_flat}
+use Rattle.htl_refine.proofs.Members.{of_joined, of_flat, mapped}
 
 -- a start is before the frame's end
 pub start_below : (ps : List ℕ) (n p a : ℕ) → slice_get (starts_below ps n) p ≡ Some a → a < n

@@ -10,6 +10,7 @@ pub mod DoneRecords
 pub mod Exact
 mod Examples
 pub mod FinishingRecords
+pub mod FirstRound
 mod FrameExamples
 pub mod FramesAgree
 pub mod FrontPlans

@@ -19,7 +19,7 @@ use Rattle.htl_refine.specs.ListLaws.{ListsFollow}
 use Rattle.htl_refine.specs.ListPlans.{no_leg}
 use Rattle.htl_refine.specs.Records.{took}
 use Rattle.htl_refine.proofs.Fronts.{known_grow}
-use Rattle.htl_refine.proofs.Inherit.{mapped}
+use Rattle.htl_refine.proofs.Members.{mapped}
 use Rattle.htl_refine.proofs.PathDerived.{placed_present}
 use Rattle.htl_refine.proofs.RecordOrder.{not_some}
 use Rattle.htl_refine.proofs.RoundOrder.{round_of, run_of, frame_by_start, begun_known}

@@ -1,7 +1,8 @@
 -- Which items stand in lists that are made of lists.
-use Rattle.std.proofs.Common.{◌≡◌, ◌⊎◌, ℕ, zero, suc, ◌+◌, Bool, true, false, cond, List, [], ◌∷◌, ◌++◌, length, Some, refl, sym, ◌∙◌, ap, subst, arith, inl, inr}
-use Rattle.std.specs.Prelude.{slice_get}
+use Rattle.std.proofs.Common.{◌≡◌, ◌⊎◌, ℕ, zero, suc, ◌+◌, Bool, true, false, cond, List, [], ◌∷◌, ◌++◌, length, map, Some, refl, sym, ◌∙◌, ap, subst, arith, inl, inr}
+use Rattle.std.specs.Prelude.{slice_get, option_map}
 use Rattle.std.specs.List.{flat_map}
+use Rattle.std.proofs.lemmas.Option.{slice_get-map}
 use Rattle.htl_form.proofs.PartLaws.{none_some}
 use Rattle.htl_model.specs.Lists.{places_from}
 
@@ -40,6 +41,16 @@ in_flat f (y ∷ ys) zero r x a at e =
 in_flat f (y ∷ ys) (suc j) r x a at e =
     let m = in_flat f ys j r x a at e in
     (length (f y) + m.0, back_at (f y) (flat_map f ys) m.0 a m.1)
+
+-- ---- mapped lists
+
+pub mapped : {A B : Type 0} (f : A → B) (xs : List A) (p : ℕ) (y : B) → slice_get (map f xs) p ≡ Some y → (x : A) × (slice_get xs p ≡ Some x) × (f x ≡ y)
+mapped f [] p y e = absurd (none_some y e)
+mapped f (x ∷ xs) zero y e = (x, refl, cc)
+mapped f (x ∷ xs) (suc p) y e = mapped f xs p y e
+
+pub map_at : {A B : Type 0} (f : A → B) (xs : List A) (p : ℕ) (x : A) → slice_get xs p ≡ Some x → slice_get (map f xs) p ≡ Some (f x)
+map_at f xs p x e = slice_get-map f xs p ∙ ap (option_map f) e
 
 -- ---- places that pass a test
 

@@ -1,8 +1,6 @@
 -- The numbers of a path's nodes, read from the modes that run.
-use Rattle.std.proofs.Common.{◌≡◌, ℕ, zero, suc, ◌+◌, ◌*◌, ◌/◌, ◌%◌, ◌<◌, Bool, true, false, cond, eqb, List, [], ◌∷◌, ◌++◌, length, drop, get_or, map, Option, refl, sym, ap, ap₂, ◌∙◌, arith}
+use Rattle.std.proofs.Common.{◌≡◌, ℕ, zero, suc, ◌+◌, ◌*◌, ◌%◌, ◌<◌, Bool, true, false, cond, eqb, List, [], ◌∷◌, ◌++◌, length, drop, get_or, map, Option, refl, sym, ap, ap₂, ◌∙◌, arith}
 use Rattle.std.specs.List.{flat_map}
-use Rattle.std.proofs.lemmas.Nat.{div-mul-add}
-use Rattle.std.proofs.Math.Nat.{mod-eq_of_lt, add-mul-mod_self_left}
 use Rattle.htl_model.specs.Selected.{IsSelection}
 use Rattle.htl_model.specs.Selections.{root_modules, modes_of}
 use Rattle.htl_model.specs.Tables.{Tables}
@@ -13,7 +11,7 @@ use Rattle.htl_model.specs.Frames.{starts, rounds_of, rounds_at, choices, ways, 
 use Rattle.htl_refine.specs.FrameRuns.{path_in, path_of, choice_at, nodes_below, node_read}
 use Rattle.htl_refine.specs.FrameLaws.{NodesRead, NodeSteps, NodesAgree}
 use Rattle.htl_refine.proofs.PathDerived.{AreRootRounds, root_units, rounds_root}
-use Rattle.htl_refine.proofs.PathRead.{below}
+use Rattle.htl_refine.proofs.PathRead.{below, digit, regroup}
 
 -- ---- joined lists of rounds
 
@@ -34,10 +32,10 @@ path_join t modes [] ys = by (choices t ys) (path_in t modes ys)
     by c n = omega arith
 path_join t modes (r ∷ xs) ys =
     let e = entry_place t (modes r.at) r.unit in
-    ap₂ (λ z w. e * z + w) (choices_join t xs ys) (path_join t modes xs ys) ∙ regroup e (choices t xs) (choices t ys) (path_in t modes xs) (path_in t modes ys)
+    ap₂ (λ z w. e * z + w) (choices_join t xs ys) (path_join t modes xs ys) ∙ grouped e (choices t xs) (choices t ys) (path_in t modes xs) (path_in t modes ys)
   where
-    regroup : (e x y p q : ℕ) → e * (x * y) + (p * y + q) ≡ (e * x + p) * y + q
-    regroup e x y p q = grind arith
+    grouped : (e x y p q : ℕ) → e * (x * y) + (p * y + q) ≡ (e * x + p) * y + q
+    grouped e x y p q = grind arith
 
 choices_flat : (t : Tables) (from : List ℕ) → choices t (flat_map (rounds_at t) from) ≡ ways (map (λ a. choices t (rounds_at t a)) from)
 choices_flat t [] = refl
@@ -51,18 +49,6 @@ flat_roots t from p r e =
 pub at_roots : (t : Tables) (a : ℕ) → AreRootRounds t (rounds_at t a)
 at_roots t a = rounds_root t a (root_modules t) (λ p u f. root_units t p u f)
 
--- ---- a digit
-
-shift : (d c w e q : ℕ) → d * (c * w) + (e * w + q) ≡ (d * c + e) * w + q
-shift d c w e q = grind arith
-
-digit : (d c w e q : ℕ) → e < c → q < w → (d * (c * w) + (e * w + q)) / w % c ≡ e
-digit d c w e q less small =
-    ap (λ n. n / w % c) (shift d c w e q) ∙ ap (λ n. n % c) (div-mul-add (d * c + e) w q small) ∙ ap (λ n. n % c) (turn d c e) ∙ add-mul-mod_self_left e c d ∙ mod-eq_of_lt less
-  where
-    turn : (d c e : ℕ) → d * c + e ≡ e + c * d
-    turn d c e = grind arith
-
 -- ---- the nodes
 
 first_node : (c d e q j : ℕ) (cs : List ℕ) → e < c → q < ways cs → node_of (c ∷ cs) (d * (c * ways cs) + (e * ways cs + q)) 0 ≡ e * suc (nodes_of cs)
@@ -71,7 +57,7 @@ first_node c d e q j cs less small = ap (λ z. z * suc (nodes_of cs)) (digit d c
 later_node : (c d e q j n : ℕ) (cs : List ℕ) → e < c → q < ways cs → node_of cs ((d * c + e) * ways cs + q) j ≡ n
     → node_of (c ∷ cs) (d * (c * ways cs) + (e * ways cs + q)) (suc j) ≡ e * suc (nodes_of cs) + suc n
 later_node c d e q j n cs less small ih =
-    ap₂ (λ z w. z * suc (nodes_of cs) + suc w) (digit d c (ways cs) e q less small) (ap (λ z. node_of cs z j) (shift d c (ways cs) e q) ∙ ih)
+    ap₂ (λ z w. z * suc (nodes_of cs) + suc w) (digit d c (ways cs) e q less small) (ap (λ z. node_of cs z j) (regroup d c (ways cs) e q) ∙ ih)
 
 module _ (t : Tables) (modes : ℕ → List (Option ℕ)) (selections : (a : ℕ) → IsSelection t (modes a)) where
   small_of : (later : List ℕ) → path_in t modes (flat_map (rounds_at t) later) < ways (map (λ a. choices t (rounds_at t a)) later)

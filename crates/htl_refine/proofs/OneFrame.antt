@@ -1,97 +1,32 @@
 -- Where all root modules have one period, a frame is a round.
-use Rattle.std.proofs.Common.{◌≡◌, ℕ, zero, suc, ◌+◌, ◌-◌, ◌*◌, ◌/◌, ◌%◌, ◌≤◌, ◌<◌, Bool, true, false, cond, ◌&&◌, eqb, List, [], ◌∷◌, ◌++◌, length, map, get_or, slice_get, Option, Some, None, refl, sym, ap, ap₂, ◌∙◌, arith, append-nil}
+use Rattle.std.proofs.Common.{◌≡◌, ℕ, zero, suc, ◌+◌, ◌-◌, ◌*◌, ◌/◌, ◌%◌, ◌≤◌, ◌<◌, Bool, true, false, cond, eqb, List, [], ◌∷◌, ◌++◌, length, map, get_or, Some, refl, sym, ap, ap₂, ◌∙◌, arith, append-nil}
 use Rattle.std.specs.List.{flat_map, filter}
 use Rattle.std.proofs.lemmas.Bool.{eqb-true, eqb-false, eq-eqb, ne_eqb, lt-ltb}
 use Rattle.std.proofs.Math.Nat.{div-add-mod, mul-div-le}
 use Rattle.htl_model.specs.declared.event.Event.{Event}
 use Rattle.htl_model.specs.declared.parts.Module.{Module}
-use Rattle.htl_model.specs.Chosen.{chosen}
 use Rattle.htl_model.specs.Lists.{joined, list_to, places_from, up_to}
 use Rattle.htl_model.specs.Ranges.{AreInRange}
-use Rattle.htl_model.specs.Selections.{is_root, root_modules, modes_of, choices_from, selection_count, root_period}
+use Rattle.htl_model.specs.Selections.{is_root, root_modules, selection_count, root_period}
 use Rattle.htl_model.specs.Tables.{Tables}
 use Rattle.htl_walk.specs.declared.job.Job.{Job}
 use Rattle.htl_walk.specs.declared.schedule.SInstr.{SInstr}
-use Rattle.htl_walk.specs.Jobs.{is_fed_by, job_of}
-use Rattle.htl_refine.specs.ConcreteJobs.{running_invs, standing, concrete_jobs}
+use Rattle.htl_refine.specs.ConcreteJobs.{concrete_jobs}
 use Rattle.htl_refine.specs.Records.{lengths_of, modes_at, rounds_before, round_at, left_at}
 use Rattle.htl_refine.specs.Records as by_rounds
-use Rattle.htl_refine.specs.Roots.{entry_place, selection_from, selection_of}
+use Rattle.htl_refine.specs.Roots.{selection_of}
 use Rattle.htl_refine.proofs.RootSelection.{below_count}
 use Rattle.htl_refine.proofs.StateLaws.{states_are_selections}
-use Rattle.htl_model.specs.declared.frame.Round.{Round}
-use Rattle.htl_model.specs.declared.frame.Place.{Place}
-use Rattle.htl_model.specs.Frames.{hyper, frame_of, unit_period, starts, rounds_of, rounds_at, rounds, choices, node, places_of, known_by}
+use Rattle.htl_model.specs.Frames.{hyper, frame_of, starts, rounds_at, rounds, node, known_by}
 use Rattle.htl_walk.specs.Paths.{Leg}
-use Rattle.htl_walk.specs.PathJobs.{placed_job, placed_jobs, legs_of}
+use Rattle.htl_walk.specs.PathJobs.{legs_of}
 use Rattle.htl_walk.specs.EqualPeriods.{HasOnePeriod}
-use Rattle.htl_refine.specs.DerivedPaths.{derived_place}
-use Rattle.htl_walk.proofs.OnePeriod.{one_period, job_at_start}
+use Rattle.htl_refine.specs.DerivedPaths.{derived_jobs}
+use Rattle.htl_walk.proofs.OnePeriod.{one_period}
+use Rattle.htl_refine.proofs.FirstRound.{first_round, rounds_first, path_is, places_are, concrete_are}
 use Rattle.htl_refine.specs.FrameLaws.{OneFrameRecords}
 use Rattle.htl_refine.specs.FrameRecords.{RunningList, lists_from, lists_at, left_in, begun_before, begins_at, in_frame, old_records_by, new_records_by}
 use Rattle.htl_refine.specs.FrameRuns.{frame_modes, path_in, path_of, running_places, frame_places, frame_jobs, Frame, frame_at, walks_of}
-
--- ---- the rounds of the one start
-
-abbrev first_round : ℕ → Round
-first_round u = record { at = 0; unit = u }
-
-rounds_first : (t : Tables) (us : List ℕ) → rounds_of t 0 us ≡ map first_round us
-rounds_first t [] = refl
-rounds_first t (u ∷ us) = let e : 0 % unit_period t u ≡ 0 = omega arith in rw e (ap (λ rs. first_round u ∷ rs) (rounds_first t us))
-
-choices_first : (t : Tables) (k : ℕ) (ms : List Module) → choices t (map first_round (places_from is_root k ms)) ≡ choices_from t k ms
-choices_first t k [] = refl
-choices_first t k (m ∷ ms) = by (is_root m) (choices_first t (suc k) ms)
-  where
-    by : (b : Bool) → choices t (map first_round (places_from is_root (suc k) ms)) ≡ choices_from t (suc k) ms
-        → choices t (map first_round (cond b (k ∷ places_from is_root (suc k) ms) (places_from is_root (suc k) ms)))
-        ≡ cond b (length (modes_of t k)) 1 * choices_from t (suc k) ms
-    by true ih = ap (λ n. length (modes_of t k) * n) ih
-    by false ih = ih ∙ (let z : choices_from t (suc k) ms ≡ 1 * choices_from t (suc k) ms = omega arith in z)
-
-places_join : (ks ls : List ℕ) → places_of 0 ks ++ places_of 0 ls ≡ places_of 0 (ks ++ ls)
-places_join [] ls = refl
-places_join (k ∷ ks) ls = ap (λ xs. record { inv = Some k; at = 0 } ∷ xs) (places_join ks ls)
-
--- ---- the path
-
-path_is : (t : Tables) (modes : ℕ → List (Option ℕ)) (k : ℕ) (ms : List Module) → path_in t modes (map first_round (places_from is_root k ms)) ≡ selection_from t (modes 0) k ms
-path_is t modes k [] = refl
-path_is t modes k (m ∷ ms) = by (is_root m) refl (path_is t modes (suc k) ms)
-  where
-    by : (b : Bool) → is_root m ≡ b → path_in t modes (map first_round (places_from is_root (suc k) ms)) ≡ selection_from t (modes 0) (suc k) ms
-        → path_in t modes (map first_round (cond b (k ∷ places_from is_root (suc k) ms) (places_from is_root (suc k) ms)))
-        ≡ cond b (entry_place t (modes 0) k * choices_from t (suc k) ms) 0 + selection_from t (modes 0) (suc k) ms
-    by true e ih = ap₂ (λ c r. entry_place t (modes 0) k * c + r) (choices_first t (suc k) ms) ih
-    by false e ih = ih ∙ (let z : selection_from t (modes 0) (suc k) ms ≡ 0 + selection_from t (modes 0) (suc k) ms = omega arith in z)
-
--- ---- the positions
-
-places_are : (t : Tables) (modes : ℕ → List (Option ℕ)) (us : List ℕ) → running_places t modes (map first_round us) ≡ places_of 0 (flat_map (running_invs t (modes 0)) us)
-places_are t modes [] = refl
-places_are t modes (u ∷ us) =
-    ap (λ xs. places_of 0 (running_invs t (modes 0) u) ++ xs) (places_are t modes us)
-    ∙ places_join (running_invs t (modes 0) u) (flat_map (running_invs t (modes 0)) us)
-
-abbrev at_first : List (Option ℕ) → List Place
-at_first os = map (λ o. record { inv = o; at = 0 }) os
-
-derived_are : (t : Tables) (modes : ℕ → List (Option ℕ)) (ks : List ℕ) → map (derived_place t modes) (places_of 0 ks) ≡ at_first (map (chosen t (modes 0)) ks)
-derived_are t modes [] = refl
-derived_are t modes (k ∷ ks) = ap (λ (xs : List Place). record { inv = chosen t (modes 0) k; at = 0 } ∷ xs) (derived_are t modes ks)
-
-tests_are : (t : Tables) (k : ℕ) (os : List (Option ℕ)) → map (λ (y : Place). eqb y.at 0 && is_fed_by t k y.inv) (at_first os) ≡ map (is_fed_by t k) os
-tests_are t k [] = refl
-tests_are t k (o ∷ os) = ap (λ bs. is_fed_by t k o ∷ bs) (tests_are t k os)
-
-job_is : (t : Tables) (os : List (Option ℕ)) (o : Option ℕ) → placed_job t (at_first os) (record { inv = o; at = 0 }) ≡ job_of t os o
-job_is t os None = refl
-job_is t os (Some k) = job_at_start t (at_first os) os k (tests_are t k os) (slice_get t.invs k)
-
-jobs_are : (t : Tables) (all os : List (Option ℕ)) → map (placed_job t (at_first all)) (at_first os) ≡ map (job_of t all) os
-jobs_are t all [] = refl
-jobs_are t all (o ∷ os) = ap₂ (λ j js. j ∷ js) (job_is t all o) (jobs_are t all os)
 
 -- ---- a frame
 
@@ -117,10 +52,9 @@ module _ (t : Tables) (period : ℕ) (lists : List (List SInstr)) (es : List Eve
 
     jobs_same : frame_jobs t (frame_modes t es f) ≡ concrete_jobs t (modes_at t es f)
     jobs_same =
-        ap (λ rs. placed_jobs t (map (derived_place t (frame_modes t es f)) (running_places t (frame_modes t es f) rs))) rounds_are
-        ∙ ap (λ xs. placed_jobs t (map (derived_place t (frame_modes t es f)) xs)) (places_are t (frame_modes t es f) (root_modules t))
-        ∙ ap (placed_jobs t) (derived_are t (frame_modes t es f) (flat_map (running_invs t (frame_modes t es f 0)) (root_modules t)))
-        ∙ jobs_are t (standing t (modes_at t es (f + 0))) (standing t (modes_at t es (f + 0)))
+        ap (λ rs. derived_jobs t (frame_modes t es f) (running_places t (frame_modes t es f) rs)) rounds_are
+        ∙ ap (derived_jobs t (frame_modes t es f)) (places_are t (frame_modes t es f) (root_modules t))
+        ∙ concrete_are t (frame_modes t es f)
         ∙ ap (λ n. concrete_jobs t (modes_at t es n)) here
 
     node_same : node t (path_of t (frame_modes t es f)) 0 ≡ selection_of t (modes_at t es f)

@@ -1,14 +1,14 @@
 -- The modes that run in a frame make one path, whose positions are those of the modes.
 use Rattle.std.proofs.Common.{◌≡◌, ℕ, suc, ◌+◌, ◌*◌, ◌/◌, ◌%◌, ◌≤◌, ◌<◌, List, [], ◌∷◌, ◌++◌, length, get_or, Option, Some, None, refl, sym, ap, ap₂, ◌∙◌, arith}
 use Rattle.std.proofs.lemmas.Nat.{div-mul-add}
-use Rattle.std.proofs.Math.Nat.{mod-eq_of_lt}
+use Rattle.std.proofs.Math.Nat.{mod-eq_of_lt, add-mul-mod_self_left}
 use Rattle.htl_model.specs.Selected.{IsSelection}
 use Rattle.htl_model.specs.Selections.{modes_of, invs_of}
 use Rattle.htl_model.specs.Tables.{Tables}
 use Rattle.htl_refine.specs.ConcreteJobs.{running_invs}
 use Rattle.htl_refine.specs.Roots.{entry_place}
 use Rattle.htl_refine.proofs.PathDerived.{AreRootRounds, path_rounds}
-use Rattle.htl_refine.proofs.RootSelection.{root_place, later_digit}
+use Rattle.htl_refine.proofs.RootSelection.{root_place}
 use Rattle.htl_model.specs.declared.frame.Round.{Round}
 use Rattle.htl_model.specs.Frames.{rounds, choices, mode_in, places_of, places_in}
 use Rattle.htl_refine.specs.FrameRuns.{path_in, path_of, running_places}
@@ -16,7 +16,7 @@ use Rattle.htl_refine.specs.FrameLaws.{PathsRead}
 
 -- ---- numbers in mixed radix
 
-digits : (p c l r : ℕ) → p < l → r < c → p * c + r < l * c
+pub digits : (p c l r : ℕ) → p < l → r < c → p * c + r < l * c
 digits p c l r a b =
     let most : suc p * c ≤ l * c = grow (suc p) l c a in
     let one : suc p * c ≡ p * c + c = succ p c in
@@ -28,14 +28,16 @@ digits p c l r a b =
     succ : (p c : ℕ) → suc p * c ≡ p * c + c
     succ p c = omega arith
 
-first_digit : (p c l r : ℕ) → p < l → r < c → (p * c + r) / c % l ≡ p
-first_digit p c l r a b = ap (λ n. n % l) (div-mul-add p c r b) ∙ mod-eq_of_lt a
-
-regroup : (d l c e q : ℕ) → d * (l * c) + (e * c + q) ≡ (d * l + e) * c + q
+pub regroup : (d l c e q : ℕ) → d * (l * c) + (e * c + q) ≡ (d * l + e) * c + q
 regroup d l c e q = grind arith
 
-one_more : (d l c r : ℕ) → d * (l * c) + r ≡ d * (1 * l * c) + r
-one_more d l c r = grind arith
+-- the digit of a number whose places are l and c, whatever comes before it
+pub digit : (d l c e q : ℕ) → e < l → q < c → (d * (l * c) + (e * c + q)) / c % l ≡ e
+digit d l c e q less small =
+    ap (λ n. n / c % l) (regroup d l c e q) ∙ ap (λ n. n % l) (div-mul-add (d * l + e) c q small) ∙ ap (λ n. n % l) (turn d l e) ∙ add-mul-mod_self_left e l d ∙ mod-eq_of_lt less
+  where
+    turn : (d l e : ℕ) → d * l + e ≡ e + l * d
+    turn d l e = grind arith
 
 -- ---- the path
 
@@ -48,7 +50,7 @@ module _ (t : Tables) (modes : ℕ → List (Option ℕ)) (selections : (a : ℕ
       (root_place t (modes r.at) (selections r.at) r.unit x.0 x.1 x.2).0 (below rs (λ p z e. h (suc p) z e))
 
   -- whatever comes before these rounds
-  read : (rs : List Round) (d : ℕ) → AreRootRounds t rs → places_in t (d * choices t rs + path_in t modes rs) rs ≡ running_places t modes rs
+  pub read : (rs : List Round) (d : ℕ) → AreRootRounds t rs → places_in t (d * choices t rs + path_in t modes rs) rs ≡ running_places t modes rs
   read [] d h = refl
   read (r ∷ rs) d h =
       let x = h 0 r refl in
@@ -58,10 +60,8 @@ module _ (t : Tables) (modes : ℕ → List (Option ℕ)) (selections : (a : ℕ
       let q = path_in t modes rs in
       let place = root_place t (modes r.at) (selections r.at) r.unit x.0 x.1 x.2 in
       let later = below rs (λ p z f. h (suc p) z f) in
-      let digit : (d * (l * c) + (e * c + q)) / c % l ≡ e =
-      ap (λ n. n / c % l) (one_more d l c (e * c + q)) ∙ later_digit t (modes r.at) d 1 l c (e * c + q) (omega (arith, later)) ∙ first_digit e c l q place.0 later in
       let invs : invs_of t (mode_in t (d * (l * c) + (e * c + q)) r rs) ≡ running_invs t (modes r.at) r.unit =
-      ap (λ n. invs_of t (get_or (modes_of t r.unit) n 0)) digit ∙ sym (ap (λ (o : Option ℕ). elim o [ Some m ↦ invs_of t m | None ↦ [] ]) place.1) in
+      ap (λ n. invs_of t (get_or (modes_of t r.unit) n 0)) (digit d l c e q place.0 later) ∙ sym (ap (λ (o : Option ℕ). elim o [ Some m ↦ invs_of t m | None ↦ [] ]) place.1) in
       ap₂ (λ ks xs. places_of r.at ks ++ xs) invs
       (ap (λ n. places_in t n rs) (regroup d l c e q) ∙ read rs (d * l + e) (λ p z f. h (suc p) z f))
 

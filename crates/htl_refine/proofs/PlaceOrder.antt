@@ -23,8 +23,7 @@ use Rattle.htl_refine.specs.FrameRuns.{frame_modes, running_places, frame_places
 use Rattle.htl_refine.specs.Records.{modes_at}
 use Rattle.htl_refine.proofs.Chains.{Under, same, under_more, one_top, no_parent}
 use Rattle.htl_refine.proofs.Exact.{chosen_exact_apart}
-use Rattle.htl_refine.proofs.Inherit.{mapped}
-use Rattle.htl_refine.proofs.Members.{of_places}
+use Rattle.htl_refine.proofs.Members.{of_places, mapped}
 use Rattle.htl_refine.proofs.Positions.{rootless}
 use Rattle.htl_refine.proofs.RecordOrder.{not_some}
 use Rattle.htl_refine.proofs.RoundOrder.{Sorted, sorted_at, sorted_join, Less, sorted_places, RoundLess, sorted_rounds, round_of, run_of, ByStart, frame_by_start, standing_by_start, begun_known, known_begun, known_same}

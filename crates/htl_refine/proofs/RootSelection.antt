@@ -1,5 +1,5 @@
 -- Each selection of running modes has a root selection.
-use Rattle.std.proofs.Common.{◌≡◌, ◌≤◌, ◌<◌, ℕ, zero, suc, ◌+◌, ◌*◌, ◌/◌, ◌%◌, Bool, true, false, cond, eqb, List, [], ◌∷◌, length, get_or, drop, drop-cons, Option, Some, None, refl, sym, ◌∙◌, ap, subst, arith, add-one, length-drop}
+use Rattle.std.proofs.Common.{◌≡◌, ◌≤◌, ◌<◌, ℕ, zero, suc, ◌+◌, ◌*◌, ◌/◌, ◌%◌, Bool, true, false, cond, eqb, List, [], ◌∷◌, length, get_or, drop, Option, Some, None, refl, sym, ◌∙◌, ap, subst, arith, add-one}
 use Rattle.std.specs.Prelude.{slice_get}
 use Rattle.std.specs.List.{flat_map}
 use Rattle.std.proofs.Math.Nat.{mul_assoc, add-mul-div_right, add-mul-mod_self_right}
@@ -7,7 +7,7 @@ use Rattle.std.proofs.lemmas.Nat.{div-mul-add}
 use Rattle.std.proofs.Math.Nat.{mod-eq_of_lt}
 use Rattle.htl_model.specs.declared.parts.Module.{Module}
 use Rattle.htl_model.specs.Ranges.{AreInRange}
-use Rattle.htl_model.proofs.SelectionLaws.{choices_some, modes_some, no_modules}
+use Rattle.htl_model.proofs.SelectionLaws.{no_modules}
 use Rattle.htl_model.specs.Broken.{KeepsLimits}
 use Rattle.htl_model.specs.Selections.{is_root, root_modules, mode_of_module, modes_of, choices_from, selection_count, positions}
 use Rattle.htl_model.specs.Tables.{Tables}
@@ -207,64 +207,12 @@ module _ (t : Tables) (modes : List (Option ℕ)) where
             let same : length (running_positions t modes) ≡ length (positions t (selection_of t modes)) = ap length (same_positions t (selection_of t modes) modes is_of_selection) in
             omega (arith, same, limits.positions (selection_of t modes) (selection_below k ks e))
 
--- ---- the loop that makes the number
-
-pub some_from : (t : Tables) (k : ℕ) → AreInRange t → k ≤ length t.modules → 0 < choices_from t k (drop k t.modules)
-some_from t k range h = choices_some t k (drop k t.modules) (λ j b. modes_some t (k + j) range (omega (arith, length-drop k t.modules)))
-
-pub small_so_far : (n c s total : ℕ) → n * c + s ≡ total → 0 < c → total < 1024 → n < 1024
-small_so_far n zero s total e some less = absurd (omega arith)
-small_so_far n (suc c) s total e some less = let most : n ≤ n * suc c = grow n c in omega arith
-  where
-    grow : (n c : ℕ) → n ≤ n * suc c
-    grow n c = grind arith
-
-more : (a c : ℕ) → suc a * c ≡ a * c + c
-more a c = omega arith
-
-spread : (a b c : ℕ) → (a + b) * c ≡ a * c + b * c
-spread zero b c = let none : 0 + b ≡ b = omega arith in ap (λ n. n * c) none ∙ omega arith
-spread (suc a) b c =
-    let next : suc a + b ≡ suc (a + b) = omega arith in
-    let rest : (a + b) * c ≡ a * c + b * c = spread a b c in
-    ap (λ n. n * c) next ∙ more (a + b) c ∙ omega (arith, rest, more a c)
-
-module_by : (b : Bool) (n l p c s new : ℕ) → new ≡ cond b (n * l + p) n → new * c + s ≡ n * (cond b l 1 * c) + (cond b (p * c) 0 + s)
-module_by true n l p c s new e =
-    let turn : n * l * c ≡ n * (l * c) = mul_assoc n l c in
-    ap (λ m. m * c + s) e ∙ omega (arith, spread (n * l) p c, turn)
-module_by false n l p c s new e =
-    let one : 1 * c ≡ c = omega arith in
-    ap (λ m. m * c + s) e ∙ ap (λ m. n * m + s) (sym one) ∙ zero_plus (n * (1 * c)) s
-  where
-    zero_plus : (a s : ℕ) → a + s ≡ a + (0 + s)
-    zero_plus a s = omega arith
-
-pub module_step : (t : Tables) (modes : List (Option ℕ)) (k n new : ℕ) (modules : List Module) (x : Module) → k < length modules → x ≡ get_or modules k x
-    → new ≡ cond (is_root x) (n * length (modes_of t k) + entry_place t modes k) n
-    → new * choices_from t (k + 1) (drop (k + 1) modules) + selection_from t modes (k + 1) (drop (k + 1) modules) ≡ n * choices_from t k (drop k modules) + selection_from t modes k (drop k modules)
-module_step t modes k n new modules x below at is =
-    let cut : drop k modules ≡ x ∷ drop (suc k) modules = drop-cons modules k x below ∙ ap (λ z. z ∷ drop (suc k) modules) (sym at) in
-    ap (λ m. new * choices_from t m (drop m modules) + selection_from t modes m (drop m modules)) (add-one k)
-    ∙ module_by (is_root x) n (length (modes_of t k)) (entry_place t modes k) (choices_from t (suc k) (drop (suc k) modules)) (selection_from t modes (suc k) (drop (suc k) modules)) new is
-    ∙ ap (λ us. n * choices_from t k us + selection_from t modes k us) (sym cut)
-
 pub roots_some : (t : Tables) → AreInRange t → 0 < length t.modules → (k : ℕ) × (ks : List ℕ) × (root_modules t ≡ k ∷ ks)
 roots_some t range some = by (root_modules t) refl
   where
     by : (us : List ℕ) → root_modules t ≡ us → (k : ℕ) × (ks : List ℕ) × (root_modules t ≡ k ∷ ks)
     by (k ∷ ks) e = (k, ks, e)
     by [] e = let none : length t.modules ≡ 0 = no_modules t t.modules range refl (ap (λ us. slice_get us 0) e) in absurd (omega arith)
-
-pub small_here : (t : Tables) (modes : List (Option ℕ)) (n k : ℕ) (modules : List Module) → AreInRange t → KeepsLimits t → IsSelection t modes → 0 < length t.modules → modules ≡ t.modules → k ≤ length modules
-    → n * choices_from t k (drop k modules) + selection_from t modes k (drop k modules) ≡ selection_of t modes → n < 1024
-small_here t modes n k modules range limits s some same within e =
-    let root = roots_some t range some in
-    let below : selection_of t modes < selection_count t = selection_below t modes s root.0 root.1 root.2 in
-    let few : selection_of t modes < 1024 = omega (arith, below, limits.selections) in
-    let choices : 0 < choices_from t k (drop k modules) =
-    subst (λ us. 0 < choices_from t k (drop k us)) (sym same) (some_from t k range (subst (λ us. k ≤ length us) same within)) in
-    small_so_far n (choices_from t k (drop k modules)) (selection_from t modes k (drop k modules)) (selection_of t modes) e choices few
 
 pub below_count : (t : Tables) (modes : List (Option ℕ)) → AreInRange t → IsSelection t modes → 0 < length t.modules → selection_of t modes < selection_count t
 below_count t modes range s some = let root = roots_some t range some in selection_below t modes s root.0 root.1 root.2

@@ -1,5 +1,5 @@
 -- The lengths of a round are within the worst cases, and its schedule meets.
-use Rattle.std.proofs.Common.{◌≡◌, ◌≤◌, ◌<◌, ℕ, ◌+◌, Bool, true, false, ◌&&◌, cond, eqb, leb, List, [], ◌∷◌, length, get_or, map, Option, Some, None, refl, sym, ◌∙◌, ap, arith}
+use Rattle.std.proofs.Common.{◌≡◌, ◌≤◌, ◌<◌, ℕ, ◌+◌, Bool, true, false, ◌&&◌, cond, eqb, leb, List, [], ◌∷◌, length, get_or, map, Option, Some, None, refl, sym, ◌∙◌, ap, subst, arith}
 use Rattle.std.specs.Prelude.{slice_get}
 use Rattle.std.specs.List.{flat_map}
 use Rattle.std.proofs.lemmas.Option.{get_or_from_slice_get}
@@ -19,13 +19,20 @@ use Rattle.htl_form.proofs.Places.{all_at}
 use Rattle.htl_model.proofs.TestLaws.{same_number}
 use Rattle.htl_walk.specs.declared.job.Job.{Job}
 use Rattle.htl_walk.specs.declared.schedule.SInstr.{SInstr}
-use Rattle.htl_walk.specs.Jobs.{abstract_jobs, job_of, jobs_standing}
+use Rattle.htl_walk.specs.Jobs.{abstract_jobs, jobs_standing}
+use Rattle.htl_walk.specs.PathJobs.{placed_job}
 use Rattle.htl_walk.specs.Refinement.{HaveLengths, AreWithinWorst}
 use Rattle.htl_walk.specs.Walk.{ScheduleIsAccepted, Meets}
-use Rattle.htl_refine.specs.ConcreteJobs.{running_invs, running_positions, standing, concrete_jobs}
+use Rattle.htl_model.specs.Frames.{places_of}
+use Rattle.htl_model.specs.declared.frame.Place.{Place}
+use Rattle.htl_refine.specs.ConcreteJobs.{running_invs, running_positions, concrete_jobs}
+use Rattle.htl_refine.specs.DerivedPaths.{derived_place, derived_jobs}
 use Rattle.htl_refine.specs.Records.{last_took, inv_worst, took, lengths_of, AreTookWithin, modes_at, round_at}
 use Rattle.htl_refine.specs.Roots.{selection_of}
-use Rattle.htl_refine.proofs.Inherit.{mapped, map_at, present_worst, inheritance}
+use Rattle.htl_refine.proofs.Members.{mapped, map_at}
+use Rattle.htl_refine.proofs.FirstRound.{concrete_are}
+use Rattle.htl_refine.proofs.Inherit.{inheritance}
+use Rattle.htl_refine.proofs.PathDerived.{placed_present}
 use Rattle.htl_refine.proofs.RootSelection.{below_count, is_of_selection}
 use Rattle.htl_refine.proofs.StateLaws.{states_are_selections}
 
@@ -51,23 +58,27 @@ worst_some t k i range at =
     let b : task_worst t i.task ≡ inv.0.worst = ap (λ (o : Option Task). elim o [ Some x ↦ x.worst | None ↦ 0 ]) inv.1 in
     (omega (arith, a, b, worst.some), a)
 
-module _ (t : Tables) (modes : List (Option ℕ)) (es : List Event) (start : ℕ) (range : AreInRange t) (within : AreTookWithin t es) where
-  length_is : (p : ℕ) (j : Job) → slice_get (concrete_jobs t modes) p ≡ Some j → j.present ≡ true
-      → (1 ≤ get_or (lengths_of t es start (concrete_jobs t modes)) p 0) × (get_or (lengths_of t es start (concrete_jobs t modes)) p 0 ≤ j.worst)
+-- what stands at places takes from one tick to its worst case
+module _ (t : Tables) (modes : ℕ → List (Option ℕ)) (es : List Event) (f : ℕ) (range : AreInRange t) (within : AreTookWithin t es) (xs : List Place) where
+  length_is : (p : ℕ) (j : Job) → slice_get (derived_jobs t modes xs) p ≡ Some j → j.present ≡ true
+      → (1 ≤ get_or (lengths_of t es f (derived_jobs t modes xs)) p 0) × (get_or (lengths_of t es f (derived_jobs t modes xs)) p 0 ≤ j.worst)
   length_is p j at here =
-      let o = mapped (job_of t (standing t modes)) (standing t modes) p j at in
-      let job = present_worst t (standing t modes) o.0 j o.2 here in
-      let w = worst_some t j.inv job.0 range job.1 in
-      let r = took_within t j.inv (start + j.release) 0 (inv_worst t j.inv) es within w.0 (omega arith) in
-      let f = λ (j : Job). took t es j.inv (start + j.release) in
-      let is : get_or (lengths_of t es start (concrete_jobs t modes)) p 0 ≡ f j =
-      get_or_from_slice_get (map f (concrete_jobs t modes)) p (f j) 0 (map_at f (concrete_jobs t modes) p j at) in
-      (omega (arith, is, r.0), omega (arith, is, r.1, w.1, job.2))
+      let ys = map (derived_place t modes) xs in
+      let js = derived_jobs t modes xs in
+      let y = mapped (placed_job t ys) ys p j at in
+      let c = placed_present t ys y.0.at y.0.inv j y.2 here in
+      let inv : j.inv ≡ c.0 = sym (ap (λ (z : Job). z.inv) c.4) in
+      let most : j.worst ≡ task_worst t c.1.task = sym (ap (λ (z : Job). z.worst) c.4) in
+      let w = worst_some t j.inv c.1 range (ap (slice_get t.invs) inv ∙ c.3) in
+      let r = took_within t j.inv (f + j.release) 0 (inv_worst t j.inv) es within w.0 (omega arith) in
+      let g = λ (z : Job). took t es z.inv (f + z.release) in
+      let is : get_or (lengths_of t es f js) p 0 ≡ g j = get_or_from_slice_get (map g js) p (g j) 0 (map_at g js p j at) in
+      (omega (arith, is, r.0), omega (arith, is, r.1, w.1, most))
 
-  pub have_lengths : HaveLengths (concrete_jobs t modes) (lengths_of t es start (concrete_jobs t modes))
+  pub have_lengths : HaveLengths (derived_jobs t modes xs) (lengths_of t es f (derived_jobs t modes xs))
   have_lengths p j at here = (length_is p j at here).0
 
-  pub within_worst : AreWithinWorst (concrete_jobs t modes) (lengths_of t es start (concrete_jobs t modes))
+  pub within_worst : AreWithinWorst (derived_jobs t modes xs) (lengths_of t es f (derived_jobs t modes xs))
   within_worst p j at here = (length_is p j at here).1
 
 -- without modules nothing runs
@@ -93,6 +104,9 @@ rounds_meet t schedules es start period range kept within accepted = by t.module
         let selection = states_are_selections t range es start in
         let sel = selection_of t modes in
         let some : 0 < length t.modules = omega (arith, ap length e) in
+        let xs = places_of 0 (running_positions t modes) in
+        let made : derived_jobs t (λ x. modes) xs ≡ concrete_jobs t modes = concrete_are t (λ x. modes) in
         (inheritance t sel modes (lengths_of t es start (concrete_jobs t modes)) (get_or schedules sel []) period
         (record { range = range; kept = kept; selection = selection; roots = is_of_selection t modes selection })
-        (have_lengths t modes es start range within) (within_worst t modes es start range within) (accepted sel (below_count t modes range selection some))).meets
+        (subst (λ js. HaveLengths js (lengths_of t es start js)) made (have_lengths t (λ x. modes) es start range within xs))
+        (subst (λ js. AreWithinWorst js (lengths_of t es start js)) made (within_worst t (λ x. modes) es start range within xs)) (accepted sel (below_count t modes range selection some))).meets

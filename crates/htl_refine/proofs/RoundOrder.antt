@@ -16,8 +16,7 @@ use Rattle.htl_refine.specs.FramePlaces.{place}
 use Rattle.htl_refine.specs.FrameRuns.{running_places, frame_places}
 use Rattle.htl_refine.proofs.AlongPath.{known_none}
 use Rattle.htl_refine.proofs.BegunTimes.{start_below}
-use Rattle.htl_refine.proofs.Inherit.{mapped}
-use Rattle.htl_refine.proofs.Members.{of_joined, of_flat, of_places}
+use Rattle.htl_refine.proofs.Members.{of_joined, of_flat, of_places, mapped}
 use Rattle.htl_refine.proofs.RecordOrder.{not_some}
 
 -- ---- lists in order

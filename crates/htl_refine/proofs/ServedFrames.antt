@@ -1,64 +1,31 @@
 -- Lists that are accepted for all paths serve every frame of every run.
-use Rattle.std.proofs.Common.{◌≡◌, ℕ, ◌+◌, ◌*◌, ◌≤◌, ◌<◌, true, List, [], ◌∷◌, length, get_or, map, slice_get, take, Option, Some, refl, sym, ap, ◌∙◌, subst, arith}
-use Rattle.std.proofs.lemmas.List.{length-map}
-use Rattle.std.proofs.lemmas.Option.{get_or_from_slice_get}
+use Rattle.std.proofs.Common.{◌≡◌, ℕ, ◌+◌, ◌*◌, ◌<◌, List, [], ◌∷◌, length, Option, refl, sym, subst, arith}
 use Rattle.htl_model.specs.declared.event.Event.{Event}
 use Rattle.htl_model.specs.declared.frame.Place.{Place}
 use Rattle.htl_model.specs.FrameRules.{KeptApart}
 use Rattle.htl_model.specs.Frames.{frame_of, starts, rounds, choices, paths, path_places}
 use Rattle.htl_model.specs.Ranges.{AreInRange}
 use Rattle.htl_model.specs.Selections.{root_modules}
-use Rattle.htl_model.specs.Tables.{Tables, task_worst}
-use Rattle.htl_walk.specs.declared.job.Job.{Job}
+use Rattle.htl_model.specs.Tables.{Tables}
 use Rattle.htl_walk.specs.declared.schedule.SInstr.{SInstr}
 use Rattle.htl_walk.specs.Feasible.{lists_of}
-use Rattle.htl_walk.specs.PathJobs.{placed_job, path_jobs, legs_of, legs}
-use Rattle.htl_walk.specs.PathLaws.{RefinesFront}
+use Rattle.htl_walk.specs.PathJobs.{path_jobs, legs_of, legs}
 use Rattle.htl_walk.specs.Paths.{AreChained, IsPathAccepted}
-use Rattle.htl_walk.specs.Refinement.{Refines, HaveLengths, AreWithinWorst}
+use Rattle.htl_walk.specs.Refinement.{Refines}
 use Rattle.htl_walk.proofs.Accepted.{path_dominance}
 use Rattle.htl_walk.proofs.Starts.{legs_follow}
-use Rattle.htl_refine.specs.DerivedPaths.{derived_place, derived_jobs}
+use Rattle.htl_refine.specs.DerivedPaths.{derived_jobs}
 use Rattle.htl_refine.specs.FrameRuns.{frame_modes, path_of, frame_places, Frame, frame_at}
-use Rattle.htl_refine.specs.Records.{inv_worst, took, lengths_of, AreTookWithin}
+use Rattle.htl_refine.specs.Records.{lengths_of, AreTookWithin}
 use Rattle.htl_refine.specs.ServedFrames.{IsServing, FramesAreServed, EveryJobInTime}
-use Rattle.htl_refine.proofs.Inherit.{mapped, map_at}
-use Rattle.htl_refine.proofs.PathDerived.{placed_present, path_refinement}
+use Rattle.htl_refine.proofs.PathDerived.{path_roots, all_refined}
 use Rattle.htl_refine.proofs.PathRead.{paths_read}
 use Rattle.htl_refine.proofs.PathServing.{path_work}
-use Rattle.htl_refine.proofs.RoundLaws.{took_within, worst_some}
+use Rattle.htl_refine.proofs.RoundLaws.{have_lengths, within_worst}
 use Rattle.htl_refine.proofs.ServedJobs.{frames_serve}
 use Rattle.htl_refine.proofs.StateLaws.{states_are_selections}
 
--- ---- lengths
-
-module _ (t : Tables) (modes : ℕ → List (Option ℕ)) (es : List Event) (f : ℕ) (range : AreInRange t) (within : AreTookWithin t es) (xs : List Place) where
-  length_is : (p : ℕ) (j : Job) → slice_get (derived_jobs t modes xs) p ≡ Some j → j.present ≡ true
-      → (1 ≤ get_or (lengths_of t es f (derived_jobs t modes xs)) p 0) × (get_or (lengths_of t es f (derived_jobs t modes xs)) p 0 ≤ j.worst)
-  length_is p j at here =
-      let ys = map (derived_place t modes) xs in
-      let js = derived_jobs t modes xs in
-      let y = mapped (placed_job t ys) ys p j at in
-      let c = placed_present t ys y.0.at y.0.inv j y.2 here in
-      let inv : j.inv ≡ c.0 = sym (ap (λ (z : Job). z.inv) c.4) in
-      let most : j.worst ≡ task_worst t c.1.task = sym (ap (λ (z : Job). z.worst) c.4) in
-      let w = worst_some t j.inv c.1 range (ap (slice_get t.invs) inv ∙ c.3) in
-      let r = took_within t j.inv (f + j.release) 0 (inv_worst t j.inv) es within w.0 (omega arith) in
-      let g = λ (z : Job). took t es z.inv (f + z.release) in
-      let is : get_or (lengths_of t es f js) p 0 ≡ g j = get_or_from_slice_get (map g js) p (g j) 0 (map_at g js p j at) in
-      (omega (arith, is, r.0), omega (arith, is, r.1, w.1, most))
-
-  pub have_lengths : HaveLengths (derived_jobs t modes xs) (lengths_of t es f (derived_jobs t modes xs))
-  have_lengths p j at here = (length_is p j at here).0
-
-  pub within_worst : AreWithinWorst (derived_jobs t modes xs) (lengths_of t es f (derived_jobs t modes xs))
-  within_worst p j at here = (length_is p j at here).1
-
 -- ---- frames
-
-take_all : {A : Type 0} (xs : List A) → take (length xs) xs ≡ xs
-take_all [] = refl
-take_all (x ∷ xs) = ap (λ ys. x ∷ ys) (take_all xs)
 
 paths_are : (t : Tables) → 0 < length (root_modules t) → paths t ≡ choices t (rounds t)
 paths_are t some = by (root_modules t) some (choices t (rounds t))
@@ -73,11 +40,7 @@ module _ (t : Tables) (lists : List (List SInstr)) (es : List Event) (f path : �
   frame_on xs = record { jobs = derived_jobs t modes xs; lengths = lengths_of t es f (derived_jobs t modes xs); lists = lists_of t lists path; legs = legs_of (frame_of t) xs (starts t) }
 
   refines : Refines (derived_jobs t modes (path_places t path)) (path_jobs t path)
-  refines =
-      let xs = path_places t path in
-      let ys = map (derived_place t modes) xs in
-      let front : RefinesFront (derived_jobs t modes xs) (path_jobs t path) = subst (λ z. RefinesFront (derived_jobs t modes z) (path_jobs t path)) (take_all xs) (path_refinement t path (length xs) modes range kept) in
-      record { same = omega (arith, length-map ys (placed_job t ys), length-map xs (derived_place t modes), length-map xs (placed_job t xs)); each = front.each }
+  refines = all_refined t (path_places t path) range kept (path_roots t path range kept) modes
 
   served_there : IsServing (frame_on (path_places t path)) (frame_of t)
   unfolding frame_on

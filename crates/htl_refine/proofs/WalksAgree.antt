@@ -1,11 +1,10 @@
 -- Where the modes of two runs agree so far, and the jobs take the same, so do the records of their lists.
-use Rattle.std.proofs.Common.{◌≡◌, ℕ, zero, suc, ◌+◌, List, [], ◌∷◌, get_or, map, take, refl, sym, ◌∙◌, ap, ap₂, arith}
+use Rattle.std.proofs.Common.{◌≡◌, ◌+◌, get_or, map, take, refl, sym, ◌∙◌, ap, ap₂, arith}
 use Rattle.std.proofs.lemmas.Option.{get_or_from_slice_get}
 use Rattle.htl_model.specs.Frames.{frame_of, starts, known_by}
 use Rattle.htl_walk.specs.declared.job.Job.{Job}
-use Rattle.htl_walk.specs.declared.schedule.SInstr.{SInstr}
-use Rattle.htl_walk.specs.Paths.{Leg, list_point, walks_from, AreInForm}
-use Rattle.htl_walk.specs.Walk.{Point, job_at, walk_from, last_point, first_point, work}
+use Rattle.htl_walk.specs.Paths.{walks_from}
+use Rattle.htl_walk.specs.Walk.{job_at, first_point, work}
 use Rattle.htl_walk.proofs.Locality.{locality, take_walks, take_forms}
 use Rattle.htl_refine.specs.AgreeingRuns.{FrontsAlike, WalksAgree}
 use Rattle.htl_refine.specs.FrameRuns.{frame_modes, frame_places, frame_jobs, frame_at}

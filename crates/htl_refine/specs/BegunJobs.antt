@@ -1,13 +1,13 @@
 -- The jobs of the rounds that begin at one start of a frame, behind the positions before them.
 use Rattle.std.specs.Prelude.{ℕ, ◌+◌, ◌*◌, List, ◌++◌, drop, map, replicate, Option, None}
 use Rattle.htl_model.specs.declared.frame.Place.{Place}
-use Rattle.htl_model.specs.Frames.{rounds_at, rounds_of, choices}
+use Rattle.htl_model.specs.Frames.{rounds_of, choices}
 use Rattle.htl_model.specs.Selections.{root_modules}
 use Rattle.htl_model.specs.Tables.{Tables}
 use Rattle.htl_walk.specs.declared.job.Job.{Job}
 use Rattle.htl_walk.specs.PathJobs.{placed_jobs}
 use Rattle.htl_refine.specs.DerivedPaths.{start_places, standing_place}
-use Rattle.htl_refine.specs.FrameRuns.{path_in}
+use Rattle.htl_refine.specs.FrameRuns.{path_in, choice_at}
 
 -- where nobody stands
 abbrev pub nowhere : Place
@@ -23,7 +23,7 @@ new_jobs t modes a n = drop n (placed_jobs t (new_places t modes a n))
 
 -- the number of the choice that these modes are at a
 abbrev pub choice_of : Tables → List (Option ℕ) → ℕ → ℕ
-choice_of t modes a = path_in t (λ x. modes) (rounds_at t a)
+choice_of t modes = choice_at t (λ x. modes)
 
 -- the same, where n is the number of the choice of the modules before these
 abbrev pub choice_rest : Tables → List (Option ℕ) → ℕ → ℕ → List ℕ → ℕ

@@ -1,12 +1,11 @@
 -- The jobs of a path where modules run in these modes at each start.
-use Rattle.std.specs.Prelude.{ℕ, ◌≡◌, ◌<◌, ◌%◌, true, cond, eqb, List, [], ◌∷◌, ◌++◌, length, take, map, get_or, slice_get, Option, Some, None}
+use Rattle.std.specs.Prelude.{ℕ, ◌≡◌, ◌%◌, cond, eqb, List, [], ◌∷◌, ◌++◌, length, take, map, get_or, slice_get, Option, Some, None}
 use Rattle.std.specs.List.{flat_map}
 use Rattle.htl_model.specs.Tables.{Tables}
 use Rattle.htl_model.specs.FrameRules.{KeptApart}
 use Rattle.htl_model.specs.Ranges.{AreInRange}
 use Rattle.htl_refine.specs.declared.selection.Selection.{Selection}
 use Rattle.htl_walk.specs.declared.job.Job.{Job}
-use Rattle.htl_walk.specs.Jobs.{absent_job, precedes}
 use Rattle.htl_model.specs.Chosen.{followed, chosen}
 use Rattle.htl_walk.specs.declared.schedule.SInstr.{SInstr}
 use Rattle.htl_walk.specs.Refinement.{HaveLengths, AreWithinWorst}
@@ -24,10 +23,6 @@ derived_place t modes x = record { inv = followed (λ k. chosen t (modes x.at) k
 
 abbrev pub derived_jobs : Tables → (ℕ → List (Option ℕ)) → List Place → List Job
 derived_jobs t modes xs = placed_jobs t (map (derived_place t modes) xs)
-
--- the jobs of the first positions, where these are whole rounds
-abbrev pub IsClosed : List Job → ℕ → Type 0
-IsClosed js n = (p q : ℕ) → p < length js → q < length js → precedes p (get_or js q absent_job) ≡ true → q < n → p < n
 
 -- what stands at the positions so far refines the root invocations of the path
 abbrev pub PathRefinement : Type 0
@@ -58,7 +53,7 @@ start_places t modes a us = flat_map (round_places t modes a) us
 
 -- what stands for a root invocation where the modules are in these modes
 abbrev pub standing_place : Tables → List (Option ℕ) → Place → Place
-standing_place t modes x = record { inv = followed (λ k. chosen t modes k) x.inv; at = x.at }
+standing_place t modes = derived_place t (λ a. modes)
 
 -- what stands at the positions of the rounds that begin at the first starts, by the modes at each of them
 abbrev pub begun_places : Tables → List (List (Option ℕ)) → List ℕ → List Place

@@ -1,5 +1,5 @@
 // What begins at one start of a frame, by the modes in which the modules are then.
-ghost use Rattle.std.specs.Prelude.{◌≡◌, ◌≤◌, ◌<◌, ◌+◌, ◌*◌, ◌%◌, ◌++◌, cond, eqb, length, take};
+ghost use Rattle.std.specs.Prelude.{◌≡◌, ◌≤◌, ◌<◌, ◌+◌, ◌*◌, ◌%◌, ◌++◌, cond, eqb, length, take, drop};
 ghost use Rattle.htl_model.specs.FrameRules.{KeptApart};
 ghost use Rattle.htl_model.specs.Selected.{IsSelection};
 ghost use Rattle.htl_refine.specs.BegunJobs.{new_jobs, choice_of};
@@ -20,7 +20,7 @@ use htl_model::selections::mode_count;
 use htl_walk::{Job, placed_jobs};
 
 /// Writes the jobs of the rounds that begin at a start, in ticks from the frame's start, behind the first `n` positions of `out`,
-/// and answers how many positions there are then; those before stay. `s` has the modes in which the modules are at the start.
+/// and answers how many positions there are then; all else of `out` stays. `s` has the modes in which the modules are at the start.
 /// Predecessors are by their positions in the frame. It takes no memory, and goes over the invocations once for each root module.
 pub fn derive_begun(t: &Tables, s: &Selection, at: Time, out: &mut [Job; 128], n: usize) -> usize
     requires kept { KeptApart t.now 16 }
@@ -29,6 +29,7 @@ pub fn derive_begun(t: &Tables, s: &Selection, at: Time, out: &mut [Job; 128], n
     requires room { n + length (new_jobs t.now s.now.modes at n) ≤ 128 }
     ensures count { result ≡ n + length (new_jobs t.now s.now.modes at n) }
     ensures jobs { take result out.new ≡ take n out.old ++ new_jobs t.now s.now.modes at n }
+    ensures rest { drop result out.new ≡ drop result out.old }
 {
     t.keeps_ranges();
     let mut table = [0; MAX_MODULES];

@@ -122,25 +122,6 @@ fn fill_begun(t: &Tables, f: &Frame, sels: &[Selection], out: &mut [Place]) -> u
     n
 }
 
-/// Fills the front of `out` with the jobs of a path as `derive_path` does, by a frame that was surveyed before.
-pub fn derive_in_frame(t: &Tables, f: &Frame, sels: &[Selection], out: &mut [Job; 128]) -> usize
-    requires frame { IsFrame t.now f.now }
-    requires limits { frame_limit t.now ≡ None }
-    requires kept { KeptApart t.now 16 }
-    requires few { length sels.now ≤ length (starts_of t.now) }
-    requires selections { All (λ s. IsSelection t.now s.modes) sels.now }
-    ensures count { result ≡ length (begun_jobs t.now (modes_of_all sels.now)) }
-    ensures few { result ≤ 128 }
-    ensures jobs { take result out.new ≡ begun_jobs t.now (modes_of_all sels.now) }
-    ensures rest { drop result out.new ≡ drop result out.old }
-{
-    t.keeps_ranges();
-    let mut places = [Place { inv: None, at: 0 }; MAX_POSITIONS];
-    let count = fill_begun(t, f, sels, &mut places);
-    placed_jobs(t, &places[..count], out);
-    count
-}
-
 /// Fills the front of `out` with the jobs of a path as far as its rounds have begun, and answers the number of positions; the
 /// rest of `out` stays. `sels` has the modes in which the modules are at the first starts, one selection for each. A module keeps
 /// its modes up to its next own start.
@@ -167,5 +148,9 @@ pub fn derive_path(t: &Tables, sels: &[Selection], out: &mut [Job; 128]) -> usiz
     ensures rest { drop result out.new ≡ drop result out.old }
 {
     t.keeps_ranges();
-    derive_in_frame(t, &Frame::survey(t), sels, out)
+    let frame = Frame::survey(t);
+    let mut places = [Place { inv: None, at: 0 }; MAX_POSITIONS];
+    let count = fill_begun(t, &frame, sels, &mut places);
+    placed_jobs(t, &places[..count], out);
+    count
 }

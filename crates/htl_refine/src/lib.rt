@@ -16,6 +16,6 @@ mod trial;
 pub use answer::{refine, try_rules};
 pub use begun::{begun_choice, derive_begun};
 pub use derived::derive;
-pub use derived_path::{derive_in_frame, derive_path};
+pub use derived_path::derive_path;
 pub use roots::selection_of;
 pub use selection::{Selection, is_selection};

@@ -1,6 +1,7 @@
-use Rattle.std.proofs.Common.{length, take, ◌+◌, ◌++◌, ◌≡◌, sym, ap, ◌∙◌, subst, arith}
+use Rattle.std.proofs.Common.{length, take, drop, ◌+◌, ◌-◌, ◌++◌, ◌≡◌, sym, ap, ◌∙◌, subst, arith}
 use Rattle.std.specs.List.{All}
-use Rattle.std.proofs.lemmas.Slice.{take-put_mid}
+use Rattle.std.proofs.lemmas.List.{length-drop, length-take-le}
+use Rattle.std.proofs.lemmas.Slice.{take-put_mid, drop-put_mid}
 use Rattle.htl_walk.specs.PathJobs.{placed_jobs}
 use Rattle.htl_walk.specs.Placing.{HasTimes}
 use Rattle.htl_refine.specs.BegunJobs.{new_places}
@@ -28,3 +29,10 @@ returns-clause-jobs c =
     let new = jobs_are t m c.args.at n end (take end c.put_start-end.new.out) c.placed_jobs.new.out c.copy_from_slice.new.self (omega (arith, c.put_start-end.ensures.count)) places jobs c.copy_from_slice.ensures.after in
     let size : end ≡ n + length c.copy_from_slice.new.self = omega (arith, ap (λ xs. length xs) new, all, new_many t m c.args.at n) in
     take-put_mid _ _ _ _ _ size (omega (arith, c.requires.room)) ∙ ap (λ js. take n c.args.out.now ++ js) new
+
+pub returns-clause-rest : goal.returns-clause-rest
+returns-clause-rest c =
+    let n = c.args.n in
+    let end = c.put_start-end.result in
+    let size : length c.copy_from_slice.new.self ≡ end - n = omega (arith, ap (λ xs. length xs) c.copy_from_slice.ensures.after, length-take-le (end - n) (drop n c.placed_jobs.new.out), length-drop n c.placed_jobs.new.out, c.placed_jobs.array_long, c.put_start-end.ensures.len) in
+    drop-put_mid n (end - n) c.args.out.now c.copy_from_slice.new.self end (omega (arith, c.put_start-end.ensures.count)) (omega (arith, c.requires.room)) size

@@ -1,38 +1,30 @@
-use Rattle.std.proofs.Common.{◌≡◌, ◌≤◌, ◌∙◌, ap, length, map, sym, subst, take}
+use Rattle.std.proofs.Common.{◌≡◌, ◌∙◌, ap, ℕ, List, Option, length, arith}
 use Rattle.std.proofs.lemmas.List.{length-map}
 use Rattle.htl_model.specs.Chosen.{chosen}
-use Rattle.htl_walk.specs.Jobs.{jobs_standing}
-use Rattle.htl_refine.specs.OnePass.{positions_met}
+use Rattle.htl_model.specs.Tables.{Tables}
+use Rattle.htl_model.proofs.FrameRules.{kept_apart}
+use Rattle.htl_walk.specs.Jobs.{job_of}
+use Rattle.htl_refine.specs.BegunJobs.{new_jobs}
+use Rattle.htl_refine.specs.ConcreteJobs.{running_positions, standing}
+use Rattle.htl_refine.proofs.FirstRound.{new_are}
 use Rattle.htl_refine.proofs.Inherit.{refinement}
-use Rattle.htl_refine.proofs.OnePassLaws.{one_pass}
 use Rattle.htl_refine.proofs.RootSelection.{few_positions}
 use Rattle.htl_refine.proofs.derived.derive.Goals as goal
 
-pub put_standing-count-requires-clause-room : goal.put_standing-count-requires-clause-room
-put_standing-count-requires-clause-room c =
-    let t = c.args.t.now in
-    let modes = c.args.s.now.modes in
-    subst (λ ms. length (positions_met t ms) ≤ 128) (sym c.as_slice-modes.ensures)
-    (subst (λ ps. length ps ≤ 128) (sym (one_pass t modes c.keeps_ranges.ensures.ranges c.requires.selection)) (few_positions t modes c.requires.selection c.requires.limits))
+many : (t : Tables) (m : List (Option ℕ)) → length (new_jobs t m 0 0) ≡ length (running_positions t m)
+many t m = ap (λ js. length js) (new_are t m) ∙ length-map (standing t m) (job_of t (standing t m)) ∙ length-map (running_positions t m) (chosen t m)
+
+pub derive_begun-requires-clause-kept : goal.derive_begun-requires-clause-kept
+derive_begun-requires-clause-kept c = kept_apart c.args.t.now 16 c.requires.kept
+
+pub derive_begun-requires-clause-room : goal.derive_begun-requires-clause-room
+derive_begun-requires-clause-room c = omega (arith, many c.args.t.now c.args.s.now.modes, few_positions c.args.t.now c.args.s.now.modes c.requires.selection c.requires.limits)
 
 pub returns-clause-count : goal.returns-clause-count
-returns-clause-count c =
-    let t = c.args.t.now in
-    let modes = c.args.s.now.modes in
-    c.put_standing-count.ensures.count ∙ ap (λ ms. length (positions_met t ms)) c.as_slice-modes.ensures
-    ∙ ap length (one_pass t modes c.keeps_ranges.ensures.ranges c.requires.selection)
+returns-clause-count c = omega (arith, c.derive_begun.ensures.count, many c.args.t.now c.args.s.now.modes)
 
 pub returns-clause-jobs : goal.returns-clause-jobs
-returns-clause-jobs c =
-    let t = c.args.t.now in
-    let modes = c.args.s.now.modes in
-    let met = positions_met t c.as_slice-modes.result.now in
-    let n = c.put_standing-count.result in
-    let front = c.put_standing-count.ensures.front in
-    let len : length (take n c.put_standing-count.new.standing) ≡ n = ap length front ∙ length-map met (chosen t c.as_slice-modes.result.now) ∙ sym c.put_standing-count.ensures.count in
-    ap (λ m. take m c.fill_jobs.new.out) (sym len) ∙ c.fill_jobs.ensures.jobs
-    ∙ ap (jobs_standing t) (front ∙ ap (λ ms. map (chosen t ms) (positions_met t ms)) c.as_slice-modes.ensures
-    ∙ ap (map (chosen t modes)) (one_pass t modes c.keeps_ranges.ensures.ranges c.requires.selection))
+returns-clause-jobs c = c.derive_begun.ensures.jobs ∙ new_are c.args.t.now c.args.s.now.modes
 
 pub returns-clause-refines : goal.returns-clause-refines
 returns-clause-refines c = λ sel roots.

@@ -1,16 +1,26 @@
-use Rattle.std.proofs.Common.{◌<◌, ◌≡◌, sym, ◌∙◌, ap, subst}
-use Rattle.htl_model.specs.Selections.{selection_count}
+use Rattle.std.proofs.Common.{sym, ◌∙◌, subst, arith}
 use Rattle.htl_refine.specs.ConcreteJobs.{IsOfSelection}
-use Rattle.htl_refine.specs.Roots.{selection_of}
+use Rattle.htl_refine.proofs.FirstRound.{choice_is}
 use Rattle.htl_refine.proofs.RootSelection.{below_count, is_of_selection}
 use Rattle.htl_refine.proofs.roots.selection_of.Goals as goal
 
+pub begun_choice-requires : goal.begun_choice-requires
+begun_choice-requires c =
+    let t = c.args.t.now in
+    let m = c.args.s.now.modes in
+    record { few = omega (arith, choice_is t m, below_count t m c.keeps_ranges.ensures.ranges c.requires.selection c.requires.some, c.requires.limits.selections) }
+
+pub returns-clause-value : goal.returns-clause-value
+returns-clause-value c = c.begun_choice.ensures ∙ choice_is c.args.t.now c.args.s.now.modes
+
 pub returns-clause-below : goal.returns-clause-below
 returns-clause-below c =
-    let value : c.number_of.result ≡ selection_of c.args.t.now c.args.s.now.modes = c.number_of.ensures ∙ ap (selection_of c.args.t.now) c.as_slice.ensures in
-    subst (λ n. n < selection_count c.args.t.now) (sym value) (below_count c.args.t.now c.args.s.now.modes c.keeps_ranges.ensures.ranges c.requires.selection c.requires.some)
+    let t = c.args.t.now in
+    let m = c.args.s.now.modes in
+    omega (arith, c.begun_choice.ensures, choice_is t m, below_count t m c.keeps_ranges.ensures.ranges c.requires.selection c.requires.some)
 
 pub returns-clause-roots : goal.returns-clause-roots
 returns-clause-roots c =
-    let value : c.number_of.result ≡ selection_of c.args.t.now c.args.s.now.modes = c.number_of.ensures ∙ ap (selection_of c.args.t.now) c.as_slice.ensures in
-    subst (λ n. IsOfSelection c.args.t.now n c.args.s.now.modes) (sym value) (is_of_selection c.args.t.now c.args.s.now.modes c.requires.selection)
+    let t = c.args.t.now in
+    let m = c.args.s.now.modes in
+    subst (λ n. IsOfSelection t n m) (sym (c.begun_choice.ensures ∙ choice_is t m)) (is_of_selection t m c.requires.selection)
