@@ -7,5 +7,6 @@ pub mod Going
 pub mod Holding
 pub mod Joined
 pub mod Lengths
+pub mod PathRuns
 pub mod RoundRecords
 pub mod Timely

@@ -1,4 +1,4 @@
--- The round that a machine's fields hold.
+-- The frame so far that a machine's fields hold.
 use Rattle.std.specs.Prelude.{take}
 use Rattle.htl_smach.specs.Rounds.{Round}
 use Rattle.htl_smach.specs.States.{flags}

@@ -1,4 +1,4 @@
--- What the next instruction of a round does.
+-- What the next instruction of a list does.
 use Rattle.std.specs.Prelude.{◌≡◌, ◌≤◌, ◌<◌, true, List, length, slice_get, IfSome, Some}
 use Rattle.htl_walk.specs.declared.schedule.SInstr.{SInstr}
 use Rattle.htl_walk.specs.Walk.{next_point, left_by}

@@ -21,7 +21,7 @@ use std::marker::Model;
 /// Leaves the instructions of S code one by one, as time goes on, list by list (schedule-carrying code: Henzinger, Kirsch,
 /// Matic, EMSOFT 2003). It takes no memory and refuses nothing.
 ///
-/// It stands between two instructions: one that isn't left yet has changed nothing. Contracts see the round: its start,
+/// It stands between two instructions: one that isn't left yet has changed nothing. Contracts see the frame so far: its start,
 /// jobs and lengths as last set, the positions whose release was told, how many instructions of the list were left, and
 /// the offset and the work left where the list began and now.
 #[derive(Drop)]
@@ -61,7 +61,7 @@ impl Model for SMach {
 }
 
 impl SMach {
-    /// A machine without a round.
+    /// A machine without a list.
     pub fn new() -> SMach
         ensures round { result ≡ no_round }
         ensures stands { (s : List Instr) → Stands result s }
