@@ -19,12 +19,11 @@ use Rattle.htl_model.specs.Selections.{is_root, root_modules, inv_of_mode, invs_
 use Rattle.htl_model.specs.Tables.{Tables, is_concrete, mode_module, mode_period}
 use Rattle.htl_walk.proofs.Work.{all_at}
 use Rattle.htl_refine.specs.ConcreteJobs.{running_invs}
-use Rattle.htl_refine.specs.OnePass.{has_position}
 use Rattle.htl_refine.proofs.Chains.{Under, same, under_more, one_top, no_parent}
 use Rattle.htl_refine.proofs.Exact.{chosen_exact_apart}
 use Rattle.htl_refine.proofs.Inherit.{mapped, map_at}
 use Rattle.htl_refine.proofs.Members.{front_at, back_at, of_flat, in_flat, of_places, at_place}
-use Rattle.htl_refine.proofs.OnePassLaws.{AreRising, places_rise, one_pass}
+use Rattle.htl_refine.proofs.RisingPositions.{AreRising, running_rise}
 use Rattle.htl_machine.proofs.RootModes.{unit_period_is, has_root}
 use Rattle.htl_machine.proofs.Tops.{climb, down}
 use Rattle.htl_audit.specs.Jobs.{beginning}
@@ -244,4 +243,4 @@ module _ (t : Tables) (range : AreInRange t) (kept : KeptApart t 16) where
             no_parent t range kept k x here (subst (λ (z : Inv). parent_mode t z.mode ≡ None) is y.root)
 
         all_once : AreOnce (flat_map (running_invs t modes) (root_modules t))
-        all_once = subst AreOnce (one_pass t modes range selection) (rising_once _ (places_rise (has_position t modes) 0 t.invs))
+        all_once = rising_once (flat_map (running_invs t modes) (root_modules t)) (running_rise t modes range selection)

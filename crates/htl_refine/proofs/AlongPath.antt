@@ -19,7 +19,7 @@ use Rattle.htl_form.proofs.PartLaws.{none_some}
 use Rattle.htl_refine.specs.DerivedPaths.{derived_place, derived_jobs, start_places, standing_place, begun_places, begun_jobs, start_modes, IsAlong}
 use Rattle.htl_refine.proofs.BegunTimes.{start_below, started_at}
 use Rattle.htl_refine.proofs.Members.{of_joined, of_flat, mapped}
-use Rattle.htl_refine.proofs.OnePassLaws.{AreRising, Has, joined_rise, places_rise}
+use Rattle.htl_refine.proofs.RisingPositions.{AreRising, Has, joined_rise, places_rise}
 
 -- ---- lists that rise
 

@@ -24,11 +24,11 @@ pub mod ListWalks
 pub mod ListsFollow
 pub mod Members
 pub mod MiddleJobs
+pub mod MixedRadix
 pub mod NewJobs
 pub mod NodeRead
 pub mod OneFault
 pub mod OneFrame
-pub mod OnePassLaws
 pub mod OneSelection
 pub mod OrderLaws
 pub mod OwnPeriods
@@ -43,6 +43,7 @@ pub mod PrecedenceLaws
 pub mod RecordLists
 pub mod RecordOrder
 pub mod RefiningLaws
+pub mod RisingPositions
 pub mod RootSelection
 pub mod RoundLaws
 pub mod RoundOrder

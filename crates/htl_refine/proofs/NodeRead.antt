@@ -11,7 +11,8 @@ use Rattle.htl_model.specs.Frames.{starts, rounds_of, rounds_at, choices, ways, 
 use Rattle.htl_refine.specs.FrameRuns.{path_in, path_of, choice_at, nodes_below, node_read}
 use Rattle.htl_refine.specs.FrameLaws.{NodesRead, NodeSteps, NodesAgree}
 use Rattle.htl_refine.proofs.PathDerived.{AreRootRounds, root_units, rounds_root}
-use Rattle.htl_refine.proofs.PathRead.{below, digit, regroup}
+use Rattle.htl_refine.proofs.PathRead.{below}
+use Rattle.htl_refine.proofs.MixedRadix.{digit, regroup}
 
 -- ---- joined lists of rounds
 

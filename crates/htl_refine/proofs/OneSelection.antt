@@ -1,7 +1,7 @@
 -- A selection of running modes has one root selection.
-use Rattle.std.proofs.Common.{◌≡◌, ◌≤◌, ◌<◌, ℕ, zero, suc, ◌+◌, ◌*◌, ◌/◌, ◌%◌, Bool, true, false, cond, eqb, List, [], ◌∷◌, length, get_or, drop, Option, Some, None, refl, sym, ◌∙◌, ap, subst, arith, add-one}
+use Rattle.std.proofs.Common.{◌≡◌, ◌≤◌, ◌<◌, ℕ, zero, suc, ◌+◌, ◌*◌, ◌/◌, ◌%◌, Bool, true, false, cond, eqb, List, [], ◌∷◌, length, get_or, drop, Option, Some, None, refl, sym, ◌∙◌, ap, ap₂, subst, arith, add-one}
 use Rattle.std.specs.Prelude.{slice_get}
-use Rattle.std.proofs.Math.Nat.{div-add-mod, div-lt_iff_lt-mul, mod-lt, mod-eq_of_lt, mul_comm}
+use Rattle.std.proofs.Math.Nat.{div-add-mod, div-lt_iff_lt-mul, mod-lt, mul_comm}
 use Rattle.std.proofs.lemmas.Bool.Decides.{nat_tests}
 use Rattle.htl_model.specs.declared.parts.Module.{Module}
 use Rattle.htl_model.specs.Lists.{places_from}
@@ -14,8 +14,14 @@ use Rattle.std.proofs.lemmas.Option.{slice_get_within}
 use Rattle.htl_refine.specs.ConcreteJobs.{IsOfSelection}
 use Rattle.htl_refine.specs.Roots.{place_among, entry_place, selection_from, selection_of}
 use Rattle.htl_model.specs.Selected.{entry}
+use Rattle.htl_refine.proofs.MixedRadix.{regroup, digit}
 use Rattle.htl_refine.proofs.Positions.{rootless}
-use Rattle.htl_refine.proofs.RootSelection.{factor, multiple, later_digit, digit_at, roots_some}
+use Rattle.htl_refine.proofs.RootSelection.{digit_at, roots_some}
+
+-- a factor of a number above 0 is above 0
+factor : (e c : ℕ) → 0 < e * c → 0 < c
+factor e zero h = absurd (let none : e * 0 ≡ 0 = omega arith in omega arith)
+factor e (suc c) h = omega arith
 
 -- ---- the place of an item among places
 
@@ -52,50 +58,46 @@ module _ (t : Tables) (modes : List (Option ℕ)) where
   abbrev HasDigits : ℕ → ℕ → List Module → Type 0
   HasDigits n k xs = (j : ℕ) (x : Module) → slice_get xs j ≡ Some x → is_root x ≡ true → digit_at t modes n (k + j) xs j ≡ entry_place t modes (k + j)
 
+  -- whatever comes before these modules
   abbrev IsMade : ℕ → List Module → Type 0
-  IsMade k xs = (n : ℕ) → n < choices_from t k xs → HasDigits n k xs → n ≡ selection_from t modes k xs
-
-  -- one digit more
-  made_root : (k n : ℕ) (x : Module) (xs : List Module) → is_root x ≡ true → IsMade (suc k) xs → n < length (modes_of t k) * choices_from t (suc k) xs → HasDigits n k (x ∷ xs)
-      → n ≡ entry_place t modes k * choices_from t (suc k) xs + selection_from t modes (suc k) xs
-  made_root k n x xs root later less digits =
-      let l = length (modes_of t k) in
-      let c = choices_from t (suc k) xs in
-      let some : 0 < c = factor l c (omega (arith, less)) in
-      let whole : c * (n / c) + n % c ≡ n = div-add-mod n c in
-      let turn : c * (n / c) ≡ n / c * c = mul_comm c (n / c) in
-      let high : n / c < l = (div-lt_iff_lt-mul {k = c} {x = n} {y = l} some).1 less in
-      let zero_add : k + 0 ≡ k = omega arith in
-      let first : n / c % l ≡ entry_place t modes k = subst (λ u. digit_at t modes n u (x ∷ xs) 0 ≡ entry_place t modes u) zero_add (digits 0 x refl root) in
-      let digit : n / c ≡ entry_place t modes k = sym (mod-eq_of_lt high) ∙ first in
-      let low : n % c ≡ selection_from t modes (suc k) xs = later (n % c) (mod-lt n some) (λ j y at pass.
-      let m = multiple t modes (suc k) xs j y at pass in
-      let next : k + suc j ≡ suc k + j = omega arith in
-      let u = suc k + j in
-      let rest = choices_from t (suc u) (drop (suc j) xs) in
-      let same : digit_at t modes n u (x ∷ xs) (suc j) ≡ entry_place t modes u = subst (λ v. digit_at t modes n v (x ∷ xs) (suc j) ≡ entry_place t modes v) next (digits (suc j) y at pass) in
-      let parts : n / c * (m.0 * length (modes_of t u) * rest) + n % c ≡ n = ap (λ w. n / c * w + n % c) (sym m.1) ∙ ap (λ w. w + n % c) (sym turn) ∙ whole in
-      sym (later_digit t modes (n / c) m.0 (length (modes_of t u)) rest (n % c) (factor (m.0 * length (modes_of t u)) rest (subst (λ w. 0 < w) m.1 some)))
-      ∙ ap (λ w. w / rest % length (modes_of t u)) parts ∙ same) in
-      sym whole ∙ ap (λ w. w + n % c) turn ∙ ap (λ w. w * c + n % c) digit ∙ ap (λ w. entry_place t modes k * c + w) low
+  IsMade k xs = (d n : ℕ) → n < choices_from t k xs → HasDigits (d * choices_from t k xs + n) k xs → n ≡ selection_from t modes k xs
 
   made : (k : ℕ) (xs : List Module) → IsMade k xs
-  made k [] n less digits = omega arith
-  made k (x ∷ xs) n less digits = by (made (suc k) xs) (is_root x) refl less
+  made k [] d n less digits = omega arith
+  made k (x ∷ xs) d n less digits = by (made (suc k) xs) (is_root x) refl less
     where
+      later : (m q : ℕ) → d * choices_from t k (x ∷ xs) + n ≡ m * choices_from t (suc k) xs + q → HasDigits (m * choices_from t (suc k) xs + q) (suc k) xs
+      later m q e j y at pass =
+          let next : k + suc j ≡ suc k + j = omega arith in
+          ap (λ z. digit_at t modes z (suc k + j) xs j) (sym e) ∙ subst (λ u. digit_at t modes (d * choices_from t k (x ∷ xs) + n) u (x ∷ xs) (suc j) ≡ entry_place t modes u) next (digits (suc j) y at pass)
+
+      plain : (d c n : ℕ) → d * (1 * c) + n ≡ d * c + n
+      plain d c n = grind arith
+
       by : IsMade (suc k) xs → (b : Bool) → is_root x ≡ b → n < cond b (length (modes_of t k)) 1 * choices_from t (suc k) xs
           → n ≡ cond b (entry_place t modes k * choices_from t (suc k) xs) 0 + selection_from t modes (suc k) xs
-      by later true is f = made_root k n x xs is later f digits
-      by later false is f = later n (omega arith) (λ j y at pass.
-          let next : k + suc j ≡ suc k + j = omega arith in
-          subst (λ u. digit_at t modes n u (x ∷ xs) (suc j) ≡ entry_place t modes u) next (digits (suc j) y at pass)) ∙ zero_plus (selection_from t modes (suc k) xs)
-        where
-          zero_plus : (m : ℕ) → m ≡ 0 + m
-          zero_plus m = omega arith
+      by ih true is f =
+          let l = length (modes_of t k) in
+          let c = choices_from t (suc k) xs in
+          let some : 0 < c = factor l c (omega (arith, f)) in
+          let turn : n / c * c + n % c ≡ n = ap (λ w. w + n % c) (mul_comm (n / c) c) ∙ div-add-mod n c in
+          let high : n / c < l = (div-lt_iff_lt-mul {k = c} {x = n} {y = l} some).1 f in
+          let number : d * choices_from t k (x ∷ xs) + n ≡ d * (l * c) + (n / c * c + n % c) = ap (λ b. d * (cond b l 1 * c) + n) is ∙ ap (λ w. d * (l * c) + w) (sym turn) in
+          let zero_add : k + 0 ≡ k = omega arith in
+          let own : (d * choices_from t k (x ∷ xs) + n) / c % l ≡ entry_place t modes k = subst (λ u. digit_at t modes (d * choices_from t k (x ∷ xs) + n) u (x ∷ xs) 0 ≡ entry_place t modes u) zero_add (digits 0 x refl is) in
+          let first : n / c ≡ entry_place t modes k = sym (digit d l c (n / c) (n % c) high (mod-lt n some)) ∙ ap (λ w. w / c % l) (sym number) ∙ own in
+          let low : n % c ≡ selection_from t modes (suc k) xs = ih (d * l + n / c) (n % c) (mod-lt n some) (later (d * l + n / c) (n % c) (number ∙ regroup d l c (n / c) (n % c))) in
+          sym turn ∙ ap₂ (λ w q. w * c + q) first low
+      by ih false is f =
+          let c = choices_from t (suc k) xs in
+          let number : d * choices_from t k (x ∷ xs) + n ≡ d * c + n = ap (λ b. d * (cond b (length (modes_of t k)) 1 * c) + n) is ∙ plain d c n in
+          ih d n (omega (arith, f)) (later d n number) ∙ (let z : selection_from t modes (suc k) xs ≡ 0 + selection_from t modes (suc k) xs = omega arith in z)
 
   -- the root selection with these root modes
   pub one_selection : AreInRange t → 0 < length t.modules → (sel : ℕ) → sel < selection_count t → IsOfSelection t sel modes → sel ≡ selection_of t modes
-  one_selection range some sel less roots = made 0 t.modules sel below digits
+  one_selection range some sel less roots =
+      let plain : sel ≡ 0 * choices_from t 0 t.modules + sel = omega arith in
+      made 0 t.modules 0 sel below (subst (λ n. HasDigits n 0 t.modules) plain digits)
     where
       below : sel < choices_from t 0 t.modules
       below =

@@ -1,45 +1,17 @@
 -- The modes that run in a frame make one path, whose positions are those of the modes.
-use Rattle.std.proofs.Common.{◌≡◌, ℕ, suc, ◌+◌, ◌*◌, ◌/◌, ◌%◌, ◌≤◌, ◌<◌, List, [], ◌∷◌, ◌++◌, length, get_or, Option, Some, None, refl, sym, ap, ap₂, ◌∙◌, arith}
-use Rattle.std.proofs.lemmas.Nat.{div-mul-add}
-use Rattle.std.proofs.Math.Nat.{mod-eq_of_lt, add-mul-mod_self_left}
+use Rattle.std.proofs.Common.{◌≡◌, ℕ, suc, ◌+◌, ◌*◌, ◌<◌, List, [], ◌∷◌, ◌++◌, length, get_or, Option, Some, None, refl, sym, ap, ap₂, ◌∙◌, arith}
 use Rattle.htl_model.specs.Selected.{IsSelection}
 use Rattle.htl_model.specs.Selections.{modes_of, invs_of}
 use Rattle.htl_model.specs.Tables.{Tables}
 use Rattle.htl_refine.specs.ConcreteJobs.{running_invs}
 use Rattle.htl_refine.specs.Roots.{entry_place}
+use Rattle.htl_refine.proofs.MixedRadix.{digits, regroup, digit}
 use Rattle.htl_refine.proofs.PathDerived.{AreRootRounds, path_rounds}
 use Rattle.htl_refine.proofs.RootSelection.{root_place}
 use Rattle.htl_model.specs.declared.frame.Round.{Round}
 use Rattle.htl_model.specs.Frames.{rounds, choices, mode_in, places_of, places_in}
 use Rattle.htl_refine.specs.FrameRuns.{path_in, path_of, running_places}
 use Rattle.htl_refine.specs.FrameLaws.{PathsRead}
-
--- ---- numbers in mixed radix
-
-pub digits : (p c l r : ℕ) → p < l → r < c → p * c + r < l * c
-digits p c l r a b =
-    let most : suc p * c ≤ l * c = grow (suc p) l c a in
-    let one : suc p * c ≡ p * c + c = succ p c in
-    omega (arith, most, one, b)
-  where
-    grow : (a b c : ℕ) → a ≤ b → a * c ≤ b * c
-    grow a b c h = grind arith
-
-    succ : (p c : ℕ) → suc p * c ≡ p * c + c
-    succ p c = omega arith
-
-pub regroup : (d l c e q : ℕ) → d * (l * c) + (e * c + q) ≡ (d * l + e) * c + q
-regroup d l c e q = grind arith
-
--- the digit of a number whose places are l and c, whatever comes before it
-pub digit : (d l c e q : ℕ) → e < l → q < c → (d * (l * c) + (e * c + q)) / c % l ≡ e
-digit d l c e q less small =
-    ap (λ n. n / c % l) (regroup d l c e q) ∙ ap (λ n. n % l) (div-mul-add (d * l + e) c q small) ∙ ap (λ n. n % l) (turn d l e) ∙ add-mul-mod_self_left e l d ∙ mod-eq_of_lt less
-  where
-    turn : (d l e : ℕ) → d * l + e ≡ e + l * d
-    turn d l e = grind arith
-
--- ---- the path
 
 module _ (t : Tables) (modes : ℕ → List (Option ℕ)) (selections : (a : ℕ) → IsSelection t (modes a)) where
   pub below : (rs : List Round) → AreRootRounds t rs → path_in t modes rs < choices t rs

@@ -2,9 +2,6 @@
 use Rattle.std.proofs.Common.{◌≡◌, ◌≤◌, ◌<◌, ℕ, zero, suc, ◌+◌, ◌*◌, ◌/◌, ◌%◌, Bool, true, false, cond, eqb, List, [], ◌∷◌, length, get_or, drop, Option, Some, None, refl, sym, ◌∙◌, ap, subst, arith, add-one}
 use Rattle.std.specs.Prelude.{slice_get}
 use Rattle.std.specs.List.{flat_map}
-use Rattle.std.proofs.Math.Nat.{mul_assoc, add-mul-div_right, add-mul-mod_self_right}
-use Rattle.std.proofs.lemmas.Nat.{div-mul-add}
-use Rattle.std.proofs.Math.Nat.{mod-eq_of_lt}
 use Rattle.htl_model.specs.declared.parts.Module.{Module}
 use Rattle.htl_model.specs.Ranges.{AreInRange}
 use Rattle.htl_model.proofs.SelectionLaws.{no_modules}
@@ -17,12 +14,8 @@ use Rattle.htl_refine.specs.ConcreteJobs.{running_invs, running_positions, IsOfS
 use Rattle.htl_refine.specs.Roots.{place_among, entry_place, selection_from, selection_of}
 use Rattle.htl_model.specs.Selected.{entry, IsSelection, IsEntry, IsModeOf}
 use Rattle.htl_refine.proofs.Members.{at_place}
+use Rattle.htl_refine.proofs.MixedRadix.{digits, regroup, digit}
 use Rattle.htl_refine.proofs.Positions.{rootless, root_is, same_positions}
-
--- a factor of a number above 0 is above 0
-pub factor : (e c : ℕ) → 0 < e * c → 0 < c
-factor e zero h = absurd (let none : e * 0 ≡ 0 = omega arith in omega arith)
-factor e (suc c) h = omega arith
 
 -- ---- a place in a list
 
@@ -42,6 +35,14 @@ place_found m (x ∷ xs) (suc r) e = by (eqb x m) refl (place_found m xs r e)
     by true p later = (omega arith, same_number x m p)
     by false p later = (omega (arith, later.0), later.1)
 
+-- what comes before the last digits of a number
+leading : (b : Bool) (d l c e r : ℕ) → (m : ℕ) × (d * (cond b l 1 * c) + (cond b (e * c) 0 + r) ≡ m * c + r)
+leading true d l c e r = (d * l + e, regroup d l c e r)
+leading false d l c e r = (d, plain d c r)
+  where
+    plain : (d c r : ℕ) → d * (1 * c) + (0 + r) ≡ d * c + r
+    plain d c r = grind arith
+
 module _ (t : Tables) (modes : List (Option ℕ)) where
   -- the places of root modules from number k on are places of modes
   abbrev Fits : ℕ → List Module → Type 0
@@ -56,18 +57,6 @@ module _ (t : Tables) (modes : List (Option ℕ)) where
   fits_here k x xs h root = let zero_add : k + 0 ≡ k = omega arith in subst (λ n. entry_place t modes n < length (modes_of t n)) zero_add (h 0 x refl root)
 
   -- a number in mixed radix is below the number of choices
-  digits : (p c l r : ℕ) → p < l → r < c → p * c + r < l * c
-  digits p c l r a b =
-      let most : suc p * c ≤ l * c = grow (suc p) l c a in
-      let one : suc p * c ≡ p * c + c = succ p c in
-      omega (arith, most, one)
-    where
-      grow : (a b c : ℕ) → a ≤ b → a * c ≤ b * c
-      grow a b c h = grind arith
-
-      succ : (p c : ℕ) → suc p * c ≡ p * c + c
-      succ p c = omega arith
-
   pub below_choices : (k : ℕ) (xs : List Module) → Fits k xs → selection_from t modes k xs < choices_from t k xs
   below_choices k [] h = omega arith
   below_choices k (x ∷ xs) h = by (is_root x) refl (below_choices (suc k) xs (fits_later k x xs h))
@@ -77,79 +66,31 @@ module _ (t : Tables) (modes : List (Option ℕ)) where
       by true is later = digits (entry_place t modes k) (choices_from t (suc k) xs) (length (modes_of t k)) (selection_from t modes (suc k) xs) (fits_here k x xs h is) later
       by false is later = omega (arith, later)
 
-  -- the choices from a module on are a multiple of those of a later root module and of all behind it
-  pub multiple : (k : ℕ) (xs : List Module) (j : ℕ) (x : Module) → slice_get xs j ≡ Some x → is_root x ≡ true
-      → (d : ℕ) × (choices_from t k xs ≡ d * length (modes_of t (k + j)) * choices_from t (suc (k + j)) (drop (suc j) xs))
-  multiple k [] j x at root = absurd (none_some x at)
-  multiple k (y ∷ ys) zero x at root =
-      let same : y ≡ x = cc in
-      let test : is_root y ≡ true = ap is_root same ∙ root in
-      let zero_add : k ≡ k + 0 = omega arith in (
-        1,
-        subst (λ n. cond (is_root y) (length (modes_of t k)) 1 * choices_from t (suc k) ys ≡ 1 * length (modes_of t n) * choices_from t (suc n) ys) zero_add
-            (ap (λ b. cond b (length (modes_of t k)) 1 * choices_from t (suc k) ys) test ∙ ap (λ n. n * choices_from t (suc k) ys) (one (length (modes_of t k)))),
-      )
-    where
-      one : (n : ℕ) → n ≡ 1 * n
-      one n = omega arith
-  multiple k (y ∷ ys) (suc j) x at root =
-      let m = multiple (suc k) ys j x at root in
-      let a = cond (is_root y) (length (modes_of t k)) 1 in
-      let next : suc k + j ≡ k + suc j = omega arith in (
-        a * m.0,
-        subst (λ n. a * choices_from t (suc k) ys ≡ a * m.0 * length (modes_of t n) * choices_from t (suc n) (drop (suc j) ys)) next
-            (ap (λ c. a * c) m.1
-            ∙ sym (mul_assoc a (m.0 * length (modes_of t (suc k + j))) (choices_from t (suc (suc k + j)) (drop (suc j) ys)))
-            ∙ ap (λ n. n * choices_from t (suc (suc k + j)) (drop (suc j) ys)) (sym (mul_assoc a m.0 (length (modes_of t (suc k + j)))))),
-      )
-
   -- ---- the digit of a root module
 
   abbrev pub digit_at : ℕ → ℕ → List Module → ℕ → ℕ
   digit_at n u xs j = n / choices_from t (suc u) (drop (suc j) xs) % length (modes_of t u)
 
-  first_digit : (p c l r : ℕ) → p < l → r < c → (p * c + r) / c % l ≡ p
-  first_digit p c l r a b = ap (λ n. n % l) (div-mul-add p c r b) ∙ mod-eq_of_lt a
-
-  pub later_digit : (p d l c r : ℕ) → 0 < c → (p * (d * l * c) + r) / c % l ≡ r / c % l
-  later_digit p d l c r some =
-      ap (λ n. n / c % l) (turn (p * (d * l * c)) r)
-      ∙ ap (λ n. (r + n) / c % l) (sym (mul_assoc p (d * l) c))
-      ∙ ap (λ n. n % l) (add-mul-div_right r (p * (d * l)) some)
-      ∙ ap (λ n. (r / c + n) % l) (sym (mul_assoc p d l))
-      ∙ add-mul-mod_self_right (r / c) (p * d) l
-    where
-      turn : (a b : ℕ) → a + b ≡ b + a
-      turn a b = omega arith
-
-  pub digit_is : (k : ℕ) (xs : List Module) → Fits k xs → (j : ℕ) (x : Module) → slice_get xs j ≡ Some x → is_root x ≡ true
-      → digit_at (selection_from t modes k xs) (k + j) xs j ≡ entry_place t modes (k + j)
-  digit_is k [] h j x at root = absurd (none_some x at)
-  digit_is k (y ∷ ys) h zero x at root =
+  -- whatever comes before these modules
+  pub digit_is : (k d : ℕ) (xs : List Module) → Fits k xs → (j : ℕ) (x : Module) → slice_get xs j ≡ Some x → is_root x ≡ true
+      → digit_at (d * choices_from t k xs + selection_from t modes k xs) (k + j) xs j ≡ entry_place t modes (k + j)
+  digit_is k d [] h j x at root = absurd (none_some x at)
+  digit_is k d (y ∷ ys) h zero x at root =
       let same : y ≡ x = cc in
       let test : is_root y ≡ true = ap is_root same ∙ root in
       let zero_add : k ≡ k + 0 = omega arith in
-      subst (λ n. digit_at (selection_from t modes k (y ∷ ys)) n (y ∷ ys) 0 ≡ entry_place t modes n) zero_add
-      (ap (λ b. (cond b (entry_place t modes k * choices_from t (suc k) ys) 0 + selection_from t modes (suc k) ys) / choices_from t (suc k) ys % length (modes_of t k)) test
-      ∙ first_digit (entry_place t modes k) (choices_from t (suc k) ys) (length (modes_of t k)) (selection_from t modes (suc k) ys) (fits_here k y ys h test)
-      (below_choices (suc k) ys (fits_later k y ys h)))
-  digit_is k (y ∷ ys) h (suc j) x at root =
-      let next : suc k + j ≡ k + suc j = omega arith in
-      let later = digit_is (suc k) ys (fits_later k y ys h) j x at root in
-      let m = multiple (suc k) ys j x at root in
-      let c = choices_from t (suc (suc k + j)) (drop (suc j) ys) in
-      let l = length (modes_of t (suc k + j)) in
+      let l = length (modes_of t k) in
+      let c = choices_from t (suc k) ys in
+      let e = entry_place t modes k in
       let r = selection_from t modes (suc k) ys in
-      let some : 0 < choices_from t (suc k) ys = omega (arith, below_choices (suc k) ys (fits_later k y ys h)) in
-      subst (λ n. digit_at (selection_from t modes k (y ∷ ys)) n (y ∷ ys) (suc j) ≡ entry_place t modes n) next
-      (by (is_root y) (entry_place t modes k) m.0 l c r (choices_from t (suc k) ys) m.1 some ∙ later)
-    where
-      by : (b : Bool) (p d l c r whole : ℕ) → whole ≡ d * l * c → 0 < whole → (cond b (p * whole) 0 + r) / c % l ≡ r / c % l
-      by true p d l c r whole e some = ap (λ w. (p * w + r) / c % l) e ∙ later_digit p d l c r (factor (d * l) c (subst (λ n. 0 < n) e some))
-      by false p d l c r whole e some = ap (λ n. n / c % l) (zero_plus r)
-        where
-          zero_plus : (n : ℕ) → 0 + n ≡ n
-          zero_plus n = omega arith
+      subst (λ n. digit_at (d * choices_from t k (y ∷ ys) + selection_from t modes k (y ∷ ys)) n (y ∷ ys) 0 ≡ entry_place t modes n) zero_add
+      (ap (λ b. (d * (cond b l 1 * c) + (cond b (e * c) 0 + r)) / c % l) test
+      ∙ digit d l c e r (fits_here k y ys h test) (below_choices (suc k) ys (fits_later k y ys h)))
+  digit_is k d (y ∷ ys) h (suc j) x at root =
+      let next : suc k + j ≡ k + suc j = omega arith in
+      let m = leading (is_root y) d (length (modes_of t k)) (choices_from t (suc k) ys) (entry_place t modes k) (selection_from t modes (suc k) ys) in
+      subst (λ n. digit_at (d * choices_from t k (y ∷ ys) + selection_from t modes k (y ∷ ys)) n (y ∷ ys) (suc j) ≡ entry_place t modes n) next
+      (ap (λ n. digit_at n (suc k + j) ys j) m.1 ∙ digit_is (suc k) m.0 ys (fits_later k y ys h) j x at root)
 
   -- ---- a selection of running modes
 
@@ -185,8 +126,10 @@ module _ (t : Tables) (modes : List (Option ℕ)) where
     pub is_of_selection : IsOfSelection t (selection_of t modes) modes
     is_of_selection u x at root =
         let zero_add : 0 + u ≡ u = omega arith in
+        let plain : 0 * choices_from t 0 t.modules + selection_of t modes ≡ selection_of t modes = omega arith in
         let digit : digit_at (selection_of t modes) u t.modules u ≡ entry_place t modes u =
-        subst (λ n. digit_at (selection_of t modes) n t.modules u ≡ entry_place t modes n) zero_add (digit_is 0 t.modules all_fit u x at (root_is x root)) in
+        subst (λ n. digit_at (selection_of t modes) n t.modules u ≡ entry_place t modes n) zero_add
+        (subst (λ m. digit_at m (0 + u) t.modules u ≡ entry_place t modes (0 + u)) plain (digit_is 0 0 t.modules all_fit u x at (root_is x root))) in
         (root_place u x at root).1
         ∙ ap (λ (n : ℕ). Some (get_or (modes_of t u) n 0)) (sym digit)
         ∙ ap (λ (n : ℕ). Some (get_or (modes_of t u) (selection_of t modes / choices_from t n (drop n t.modules) % length (modes_of t u)) 0)) (sym (add-one u))

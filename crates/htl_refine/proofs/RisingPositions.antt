@@ -1,28 +1,23 @@
--- One pass over the invocations meets the positions in their order.
-use Rattle.std.proofs.Common.{◌≡◌, ◌<◌, ◌≤◌, ◌⊎◌, ℕ, zero, suc, Bool, true, false, ◌&&◌, cond, List, [], ◌∷◌, ◌++◌, length, get_or, map, Option, Some, None, refl, sym, ◌∙◌, ap, subst, arith, inl, inr}
+-- The positions of a selection of running modes are invocations in rising order.
+use Rattle.std.proofs.Common.{◌≡◌, ◌<◌, ◌≤◌, ◌⊎◌, ℕ, suc, Bool, true, false, cond, List, [], ◌∷◌, ◌++◌, length, get_or, map, Option, Some, None, refl, ◌∙◌, ap, subst, arith, inl, inr}
 use Rattle.std.specs.Prelude.{slice_get}
 use Rattle.std.specs.List.{flat_map}
-use Rattle.std.specs.Option.{is_none}
 use Rattle.std.proofs.lemmas.List.{get_or-map, length-map}
 use Rattle.std.proofs.lemmas.Option.{slice_get_within, get_or_from_slice_get}
 use Rattle.htl_model.specs.declared.parts.Inv.{Inv}
 use Rattle.htl_model.specs.declared.parts.Mode.{Mode}
 use Rattle.htl_model.specs.declared.parts.Module.{Module}
 use Rattle.htl_model.specs.Lists.{places_from}
-use Rattle.htl_model.specs.Ranges.{AreInRange, IsInvInRange, IsModeInRange, parent_of}
-use Rattle.htl_model.specs.SecondWriters.{parent_mode}
-use Rattle.htl_model.specs.Selected.{entry, IsSelection, IsEntry, IsModeOf, Runs, is_running}
+use Rattle.htl_model.specs.Ranges.{AreInRange}
+use Rattle.htl_model.specs.Selected.{entry, IsSelection, IsEntry, IsModeOf}
 use Rattle.htl_model.specs.Selections.{is_root, root_modules, inv_of_mode, invs_of}
-use Rattle.htl_model.specs.Tables.{Tables, mode_module}
+use Rattle.htl_model.specs.Tables.{Tables}
 use Rattle.htl_form.proofs.PartLaws.{none_some}
-use Rattle.htl_form.proofs.Places.{all_at, item_at}
 use Rattle.htl_model.proofs.StartLaws.{modes_rise}
-use Rattle.htl_model.proofs.TestLaws.{both, equal, same_number}
+use Rattle.htl_model.proofs.TestLaws.{same_number}
 use Rattle.htl_refine.specs.ConcreteJobs.{running_invs, running_positions}
-use Rattle.htl_refine.specs.OnePass.{has_position, positions_met}
-use Rattle.htl_refine.proofs.Members.{of_joined, of_flat, in_flat, of_places, at_place}
-use Rattle.htl_refine.proofs.Positions.{rootless, root_is}
-use Rattle.htl_refine.proofs.SelectedLaws.{running_is}
+use Rattle.htl_refine.proofs.Members.{of_joined, of_flat, of_places}
+use Rattle.htl_refine.proofs.Positions.{rootless}
 
 -- ---- lists that rise
 
@@ -37,40 +32,6 @@ AreRising (x ∷ xs) = ((a : ℕ) → Has xs a → x < a) × AreRising xs
 
 nothing_in : (a : ℕ) → Has [] a → ⊥
 nothing_in a h = none_some a h.1
-
-head_or_tail : (x : ℕ) (xs : List ℕ) (a : ℕ) → Has (x ∷ xs) a → (x ≡ a) ⊎ Has xs a
-head_or_tail x xs a (zero, e) = inl cc
-head_or_tail x xs a (suc i, e) = inr (i, e)
-
--- two such lists with the same numbers are one
-pub same_rising : (xs ys : List ℕ) → AreRising xs → AreRising ys → ((a : ℕ) → Has xs a → Has ys a) → ((a : ℕ) → Has ys a → Has xs a) → xs ≡ ys
-same_rising [] [] p q to from = refl
-same_rising [] (y ∷ ys) p q to from = absurd (nothing_in y (from y (0, refl)))
-same_rising (x ∷ xs) [] p q to from = absurd (nothing_in x (to x (0, refl)))
-same_rising (x ∷ xs) (y ∷ ys) p q to from =
-    ap (λ z. z ∷ xs) heads ∙ ap (λ zs. y ∷ zs) (same_rising xs ys p.1 q.1 to_tail from_tail)
-  where
-    heads : x ≡ y
-    heads = by (head_or_tail y ys x (to x (0, refl))) (head_or_tail x xs y (from y (0, refl)))
-      where
-        by : (y ≡ x) ⊎ Has ys x → (x ≡ y) ⊎ Has xs y → x ≡ y
-        by (inl e) f = sym e
-        by (inr h) (inl f) = f
-        by (inr h) (inr k) = absurd (omega (arith, q.0 x h, p.0 y k))
-
-    to_tail : (a : ℕ) → Has xs a → Has ys a
-    to_tail a h = by (head_or_tail y ys a (to a (suc h.0, h.1)))
-      where
-        by : (y ≡ a) ⊎ Has ys a → Has ys a
-        by (inl e) = absurd (omega (arith, p.0 a h, heads, e))
-        by (inr k) = k
-
-    from_tail : (a : ℕ) → Has ys a → Has xs a
-    from_tail a h = by (head_or_tail x xs a (from a (suc h.0, h.1)))
-      where
-        by : (x ≡ a) ⊎ Has xs a → Has xs a
-        by (inl e) = absurd (omega (arith, q.0 a h, heads, e))
-        by (inr k) = k
 
 pub joined_rise : (xs ys : List ℕ) → AreRising xs → AreRising ys → ((a b : ℕ) → Has xs a → Has ys b → a < b) → AreRising (xs ++ ys)
 joined_rise [] ys p q cross = q
@@ -153,7 +114,7 @@ module _ (t : Tables) (modes : List (Option ℕ)) (range : AreInRange t) (s : Is
           }
       by None e i = absurd (nothing_in k i)
 
-  running_rise : AreRising (running_positions t modes)
+  pub running_rise : AreRising (running_positions t modes)
   running_rise = flat_rise (running_invs t modes) (root_modules t) (places_rise is_root 0 t.modules) each cross
     where
       each : (u : ℕ) → Has (root_modules t) u → AreRising (running_invs t modes u)
@@ -177,47 +138,3 @@ module _ (t : Tables) (modes : List (Option ℕ)) (range : AreInRange t) (s : Is
                 let owners : y.own.0.«module» ≤ x.own.0.«module» = modules_rise t y.mode x.mode y.own.0 x.own.0 range y.own.1 x.own.1 (omega (arith, rise, x.of_mode, y.of_mode)) in
                 absurd (omega (arith, owners, x.own.2, y.own.2, less))
           ]
-
-  passes : (u m : ℕ) (i : Inv) (x : Module) → slice_get t.modules u ≡ Some x → x.parent ≡ None → entry modes u ≡ Some m → IsModeOf t u m → i.mode ≡ m → has_position t modes i ≡ true
-  passes u m i x at root runs own of_mode =
-      let owner : mode_module t m ≡ own.0.«module» = ap (λ (o : Option Mode). elim o [ Some y ↦ y.«module» | None ↦ 0 ]) own.1 in
-      let number : mode_module t i.mode ≡ u = ap (mode_module t) of_mode ∙ owner ∙ own.2 in
-      let refined : parent_of t u ≡ x.parent = ap (λ (o : Option Module). elim o as (λ _. Option ℕ) [ Some y ↦ y.parent | None ↦ None ]) at in
-      let parent : parent_mode t i.mode ≡ None = ap (parent_of t) number ∙ refined ∙ root in
-      let mode : Some m ≡ Some i.mode = ap (λ (n : ℕ). Some n) (sym of_mode) in
-      let running : Runs t modes i.mode = ap (entry modes) number ∙ runs ∙ mode in
-      ap (λ o. is_none o && is_running t modes i.mode) parent ∙ (running_is t modes i.mode).1 running
-
-  pass_is : (k : ℕ) → Has (running_positions t modes) k → Has (positions_met t modes) k
-  pass_is k h =
-      let m = of_flat (running_invs t modes) (root_modules t) h.0 k h.1 in
-      let r = running_at m.1 k (m.0, m.2) (m.3, m.4) in
-      at_place (has_position t modes) t.invs k r.inv r.at (passes m.1 r.mode r.inv r.owner r.at_owner r.root r.runs r.own r.of_mode)
-
-  has_running : (u m k : ℕ) → entry modes u ≡ Some m → Has (invs_of t m) k → Has (running_invs t modes u) k
-  has_running u m k runs h = subst (λ (o : Option ℕ). Has (elim o [ Some n ↦ invs_of t n | None ↦ [] ]) k) (sym runs) h
-
-  is_pass : (k : ℕ) → Has (positions_met t modes) k → Has (running_positions t modes) k
-  is_pass k h =
-      let m = of_places (has_position t modes) 0 t.invs h.0 k h.1 in
-      let number : m.0 ≡ k = omega (arith, m.2) in
-      let i = m.1 in
-      let at : slice_get t.invs k ≡ Some i = subst (λ n. slice_get t.invs n ≡ Some i) number m.3 in
-      let two = both (is_none (parent_mode t i.mode)) (is_running t modes i.mode) m.4 in
-      let runs : Runs t modes i.mode = (running_is t modes i.mode).0 two.1 in
-      let u = mode_module t i.mode in
-      let mode = item_at t.modes i.mode (all_at (IsInvInRange t) t.invs k i range.invs at).owner in
-      let owner : u ≡ mode.0.«module» = ap (λ (o : Option Mode). elim o [ Some y ↦ y.«module» | None ↦ 0 ]) mode.1 in
-      let low = (all_at (IsModeInRange t) t.modes i.mode mode.0 range.modes mode.1).owner in
-      let x = item_at t.modules u (omega (arith, owner, low)) in
-      let parent : x.0.parent ≡ None = ap (λ (o : Option Module). elim o as (λ _. Option ℕ) [ Some y ↦ y.parent | None ↦ None ]) (sym x.1) ∙ no_number (parent_mode t i.mode) two.0 in
-      let j = at_place is_root t.modules u x.0 x.1 (root_is x.0 parent) in
-      let inv = has_running u i.mode k runs (at_place (inv_of_mode i.mode) t.invs k i at (equal i.mode i.mode refl)) in
-      in_flat (running_invs t modes) (root_modules t) j.0 inv.0 u k j.1 inv.1
-    where
-      no_number : (o : Option ℕ) → is_none o ≡ true → o ≡ None
-      no_number None e = refl
-      no_number (Some n) e = cc
-
-  pub one_pass : positions_met t modes ≡ running_positions t modes
-  one_pass = sym (same_rising (running_positions t modes) (positions_met t modes) running_rise (places_rise (has_position t modes) 0 t.invs) pass_is is_pass)

@@ -1,0 +1,27 @@
+-- Numbers in mixed radix.
+use Rattle.std.proofs.Common.{◌≡◌, ℕ, suc, ◌+◌, ◌*◌, ◌/◌, ◌%◌, ◌≤◌, ◌<◌, ap, ◌∙◌, arith}
+use Rattle.std.proofs.lemmas.Nat.{div-mul-add}
+use Rattle.std.proofs.Math.Nat.{mod-eq_of_lt, add-mul-mod_self_left}
+
+pub digits : (p c l r : ℕ) → p < l → r < c → p * c + r < l * c
+digits p c l r a b =
+    let most : suc p * c ≤ l * c = grow (suc p) l c a in
+    let one : suc p * c ≡ p * c + c = succ p c in
+    omega (arith, most, one, b)
+  where
+    grow : (a b c : ℕ) → a ≤ b → a * c ≤ b * c
+    grow a b c h = grind arith
+
+    succ : (p c : ℕ) → suc p * c ≡ p * c + c
+    succ p c = omega arith
+
+pub regroup : (d l c e q : ℕ) → d * (l * c) + (e * c + q) ≡ (d * l + e) * c + q
+regroup d l c e q = grind arith
+
+-- the digit of a number whose places are l and c, whatever comes before it
+pub digit : (d l c e q : ℕ) → e < l → q < c → (d * (l * c) + (e * c + q)) / c % l ≡ e
+digit d l c e q less small =
+    ap (λ n. n / c % l) (regroup d l c e q) ∙ ap (λ n. n % l) (div-mul-add (d * l + e) c q small) ∙ ap (λ n. n % l) (turn d l e) ∙ add-mul-mod_self_left e l d ∙ mod-eq_of_lt less
+  where
+    turn : (d l e : ℕ) → d * l + e ≡ e + l * d
+    turn d l e = grind arith
