@@ -1,5 +1,5 @@
 // What begins at one start of a frame, by the modes in which the modules are then.
-ghost use Rattle.std.specs.Prelude.{◌≡◌, ◌≤◌, ◌<◌, ◌+◌, ◌*◌, ◌%◌, ◌++◌, cond, eqb, length, take, drop};
+ghost use Rattle.std.specs.Prelude.{◌≡◌, ◌≤◌, ◌<◌, ◌+◌, ◌-◌, ◌*◌, ◌%◌, ◌++◌, cond, eqb, length, take, drop};
 ghost use Rattle.htl_model.specs.FrameRules.{KeptApart};
 ghost use Rattle.htl_model.specs.Selected.{IsSelection};
 ghost use Rattle.htl_refine.specs.BegunJobs.{new_jobs, choice_of};
@@ -18,6 +18,16 @@ use htl_model::frame::Place;
 use htl_model::rounds::{begins_at, fill_roots};
 use htl_model::selections::mode_count;
 use htl_walk::{Job, placed_jobs};
+
+// Writes the jobs at the positions from `n` to `end`; all else of `out` stays.
+fn copy_part(jobs: &[Job; 128], out: &mut [Job; 128], n: usize, end: usize)
+    requires order { n ≤ end }
+    requires room { end ≤ 128 }
+    ensures part { take end out.new ≡ take n out.old ++ take (end - n) (drop n jobs.now) }
+    ensures rest { drop end out.new ≡ drop end out.old }
+{
+    out[n..end].copy_from_slice(&jobs[n..end]);
+}
 
 /// Writes the jobs of the rounds that begin at a start, in ticks from the frame's start, behind the first `n` positions of `out`,
 /// and answers how many positions there are then; all else of `out` stays. `s` has the modes in which the modules are at the start.
@@ -45,7 +55,7 @@ pub fn derive_begun(t: &Tables, s: &Selection, at: Time, out: &mut [Job; 128], n
     let end = put_start(t, roots, running, at, &mut places, n);
     let mut jobs = [Job::ABSENT; MAX_POSITIONS];
     placed_jobs(t, &places[..end], &mut jobs);
-    out[n..end].copy_from_slice(&jobs[n..end]);
+    copy_part(&jobs, out, n, end);
     end
 }
 

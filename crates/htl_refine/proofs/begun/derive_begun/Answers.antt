@@ -1,12 +1,10 @@
-use Rattle.std.proofs.Common.{length, take, drop, ◌+◌, ◌-◌, ◌++◌, ◌≡◌, sym, ap, ◌∙◌, subst, arith}
+use Rattle.std.proofs.Common.{length, take, ◌++◌, ◌≡◌, refl, sym, ap, ◌∙◌, subst, arith}
 use Rattle.std.specs.List.{All}
-use Rattle.std.proofs.lemmas.List.{length-drop, length-take-le}
-use Rattle.std.proofs.lemmas.Slice.{take-put_mid, drop-put_mid}
 use Rattle.htl_walk.specs.PathJobs.{placed_jobs}
 use Rattle.htl_walk.specs.Placing.{HasTimes}
 use Rattle.htl_refine.specs.BegunJobs.{new_places}
 use Rattle.htl_refine.proofs.BegunTimes.{new_times}
-use Rattle.htl_refine.proofs.NewJobs.{places_are, jobs_are, new_many, end_is}
+use Rattle.htl_refine.proofs.NewJobs.{places_are, jobs_are, end_is}
 use Rattle.htl_refine.proofs.begun.derive_begun.Goals as goal
 
 pub placed_jobs-requires-clause-times : goal.placed_jobs-requires-clause-times
@@ -26,13 +24,4 @@ returns-clause-jobs c =
     let all : end ≡ length (new_places t m c.args.at n) = end_is t m c.as_slice-modes.result.now c.args.at n end (take c.fill_roots-modules.result c.fill_roots-modules.new.out) c.put_start-end.ensures.count c.as_slice-modes.ensures c.fill_roots-modules.ensures.roots in
     let size_is : length (take end c.put_start-end.new.out) ≡ end = ap (λ xs. length xs) places ∙ sym all in
     let jobs = subst (λ k. take k c.placed_jobs.new.out ≡ placed_jobs t (take end c.put_start-end.new.out)) size_is c.placed_jobs.ensures.jobs in
-    let new = jobs_are t m c.args.at n end (take end c.put_start-end.new.out) c.placed_jobs.new.out c.copy_from_slice.new.self (omega (arith, c.put_start-end.ensures.count)) places jobs c.copy_from_slice.ensures.after in
-    let size : end ≡ n + length c.copy_from_slice.new.self = omega (arith, ap (λ xs. length xs) new, all, new_many t m c.args.at n) in
-    take-put_mid _ _ _ _ _ size (omega (arith, c.requires.room)) ∙ ap (λ js. take n c.args.out.now ++ js) new
-
-pub returns-clause-rest : goal.returns-clause-rest
-returns-clause-rest c =
-    let n = c.args.n in
-    let end = c.put_start-end.result in
-    let size : length c.copy_from_slice.new.self ≡ end - n = omega (arith, ap (λ xs. length xs) c.copy_from_slice.ensures.after, length-take-le (end - n) (drop n c.placed_jobs.new.out), length-drop n c.placed_jobs.new.out, c.placed_jobs.array_long, c.put_start-end.ensures.len) in
-    drop-put_mid n (end - n) c.args.out.now c.copy_from_slice.new.self end (omega (arith, c.put_start-end.ensures.count)) (omega (arith, c.requires.room)) size
+    c.copy_part.ensures.part ∙ ap (λ js. take n c.args.out.now ++ js) (jobs_are t m c.args.at n end (take end c.put_start-end.new.out) c.placed_jobs.new.out _ (omega (arith, c.put_start-end.ensures.count)) places jobs refl)
