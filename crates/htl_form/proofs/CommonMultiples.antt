@@ -1,21 +1,16 @@
 -- The multiple that is the length of a frame is the least one that all periods divide.
-use Rattle.std.proofs.Common.{◌≡◌, ◌<◌, ℕ, zero, suc, ◌-◌, ◌*◌, ◌/◌, ◌%◌, List, [], ◌∷◌, sym, ◌∙◌, ap, subst, arith}
+use Rattle.std.proofs.Common.{◌≡◌, ◌<◌, ℕ, zero, suc, ◌-◌, ◌*◌, ◌/◌, ◌%◌, List, [], ◌∷◌, length, map, get_or, Option, Some, None, sym, ◌∙◌, ap, subst, arith}
 use Rattle.std.specs.Int.{IsGcd, ◌∣◌}
 use Rattle.std.specs.List.{AllByRecursion}
 use Rattle.std.proofs.lemmas.Nat.Gcd.{dvd_refl, dvd_trans}
 use Rattle.std.proofs.Math.Nat.{mul_comm, mul_assoc, mul_right_comm, mul-sub, dvd-sub, dvd-mul_left, dvd-mul_right_of_dvd, mul-dvd-mul_left, mul-dvd-mul_right, dvd_of_mul-dvd-mul_right, pos_of_dvd_of_pos, div-mul_cancel, mod-eq-sub-mul-div}
 use Rattle.htl_model.proofs.Divisors.{greatest_divisor}
-use Rattle.htl_model.specs.Frames.{gcd_in, common_multiple, multiple_of}
-
--- l is the least common multiple of a and b: both divide it, and it divides whatever both divide
-abbrev pub IsLcm : ℕ → ℕ → ℕ → Type 0
-IsLcm a b l = (a ∣ l) × (b ∣ l) × ((m : ℕ) → a ∣ m → b ∣ m → l ∣ m)
-
--- l is the least common multiple of a number and of those of a list
-pub record IsLcmOf (a : ℕ) (bs : List ℕ) (l : ℕ) : Type 0 where
-  pub first : a ∣ l
-  pub each : AllByRecursion (λ b. b ∣ l) bs
-  pub least : (m : ℕ) → a ∣ m → AllByRecursion (λ b. b ∣ m) bs → l ∣ m
+use Rattle.htl_model.proofs.FrameBuild.{roots_some}
+use Rattle.htl_model.specs.Frames.{gcd_in, common_multiple, multiple_of, root_periods, unit_period}
+use Rattle.htl_model.specs.Ranges.{AreInRange}
+use Rattle.htl_model.specs.Selections.{root_modules}
+use Rattle.htl_model.specs.Tables.{Tables}
+use Rattle.htl_form.specs.CommonMultiples.{IsLcm, IsLcmOf, FramesAreLeast}
 
 -- what divides two multiples divides that of the remainder
 rest : (a b x d : ℕ) → d ∣ x * a → d ∣ x * b → d ∣ x * (a % b)
@@ -52,3 +47,13 @@ multiple_is a (b ∷ bs) some =
     let two = common_multiple_is a b some.0 in
     let more = multiple_is (common_multiple a b) bs some.1 in
     record { first = dvd_trans a two.0 more.first; each = (dvd_trans b two.1 more.first, more.each); least = λ m p all. more.least m (two.2 m p all.0) all.1 }
+
+-- none of the periods of root modules is 0
+some_periods : (f : ℕ → ℕ) (us : List ℕ) → ((j : ℕ) → j < length us → 0 < f (get_or us j 0)) → AllByRecursion (λ b. 0 < b) (map f us)
+some_periods f [] h = tt
+some_periods f (u ∷ us) h = (h 0 (omega arith), some_periods f us (λ j l. h (suc j) (omega (arith, l))))
+
+pub frames_are_least : FramesAreLeast
+frames_are_least t p ps range is =
+    let some : AllByRecursion (λ b. 0 < b) (p ∷ ps) = subst (AllByRecursion (λ b. 0 < b)) is (some_periods (unit_period t) (root_modules t) (roots_some t range)) in
+    subst (IsLcmOf p ps) (sym (ap (λ (qs : List ℕ). elim (elim qs as (λ _. Option ℕ) [ [] ↦ None | q ∷ rs ↦ Some (multiple_of q rs) ]) as (λ _. ℕ) [ Some h ↦ h | None ↦ 0 ]) is)) (multiple_is p ps some.1)

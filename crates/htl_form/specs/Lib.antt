@@ -1,5 +1,6 @@
 pub mod AbstractWriters
 pub mod Apart
+pub mod CommonMultiples
 pub mod Cycles
 pub mod EndFaults
 pub mod FrameFaults

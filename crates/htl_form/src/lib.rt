@@ -8,6 +8,7 @@ mod cycles;
 mod ends;
 mod frame_rule;
 mod instances;
+pub mod laws;
 mod overview;
 mod owners;
 mod paths;

@@ -52,7 +52,7 @@ multiple_some : (m : ℕ) (f : ℕ → ℕ) (us : List ℕ) → 0 < m → ((j : 
 multiple_some m f [] l h = l
 multiple_some m f (u ∷ us) l h = multiple_some (common_multiple m (f u)) f us (common_some m (f u) l (h 0 (omega arith))) (λ j k. h (suc j) (omega (arith, k)))
 
-roots_some : (t : Tables) → AreInRange t → (j : ℕ) → j < length (root_modules t) → 0 < unit_period t (get_or (root_modules t) j 0)
+pub roots_some : (t : Tables) → AreInRange t → (j : ℕ) → j < length (root_modules t) → 0 < unit_period t (get_or (root_modules t) j 0)
 roots_some t r j l = unit_period_some t (get_or (root_modules t) j 0) r (all_places_below is_root t.modules j 0 l)
 
 -- ---- the frame
