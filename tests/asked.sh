@@ -191,6 +191,7 @@ ask_for_all() {
 	ask plan-after lines plan small.object
 	for it in filter control guard none; do ask slack-$it /dev/null slack motor.object Drive.$it; done
 	ask slack-cascade /dev/null slack cascade.object Outer.plan
+	ask slack-tanks /dev/null slack tanks.object T2.direct
 	for it in soft slow; do ask patch-$it /dev/null patch tanks.object T1.hold $it.object; done
 	for it in on-slow on-fast; do
 		ask check-$it /dev/null check $it.object

@@ -37,3 +37,63 @@ absent() {
 		done
 	done
 }
+
+# The definitions that a page names in brackets, as [FILE: name, name; FILE: name] or [CRATE: FILE: name], behind a heading that
+# names its crates, and that no file of specs/ has.
+bracketed() {
+	awk '
+	/^#/ { crates = ""; text = $0; while (match(text, /htl_[a-z]+/)) { crates = crates " " substr(text, RSTART, RLENGTH); text = substr(text, RSTART + RLENGTH) } }
+	/^## / { outer = crates }
+	/^### / { if (crates == "") crates = outer }
+	{ all = all " \001" crates "\002" $0 }
+	END {
+		n = split(all, line, "\001")
+		for (i = 1; i <= n; i++) {
+			at = index(line[i], "\002")
+			if (open == "") own = substr(line[i], 1, at - 1)
+			text = open substr(line[i], at + 1)
+			open = ""
+			while ((from = index(text, "[")) > 0) {
+				to = index(substr(text, from), "]")
+				if (to == 0) { open = substr(text, from); break }
+				inner = substr(text, from + 1, to - 2)
+				next_sign = substr(text, from + to, 1)
+				text = substr(text, from + to)
+				if (next_sign != "(" && inner ~ /^(htl_[a-z]+: )?[A-Z][A-Za-z]+/) print own "\t" inner
+			}
+		}
+	}' "$root/$1" | tr -s ' ' | while IFS="$(printf '\t')" read -r own inner; do
+		crates=$own
+		printf '%s\n' "$inner" | tr ';' '\n' | while IFS= read -r part; do
+			part=${part# }
+			case $part in htl_*) crates=${part%%:*} part=${part#*: } ;; esac
+			files=${part%%:*}
+			defs=
+			case $part in *:*) defs=${part#*:} ;; esac
+			where=
+			for file in $(echo "$files" | tr ',' ' '); do
+				found=
+				for crate in $crates htl_*; do
+					for path in "$root/crates/"$crate"/specs/$file.antt"; do
+						[ -z "$found" ] && [ -f "$path" ] && found=$path
+					done
+				done
+				[ -n "$found" ] || echo "$1: no file $file in [$inner]"
+				where="$where $found"
+			done
+			for name in $(echo "$defs" | tr ',' ' '); do
+				cat $where 2>/dev/null | grep -q -w -e "$name" || echo "$1: no $name in [$inner]"
+			done
+		done
+	done
+}
+
+# The names in backticks on pages, of letters, digits and `_`, that are no word of the code, its definitions, tools or examples.
+unheard() {
+	cat "$root"/crates/*/src/*.rt "$root"/crates/*/specs/*.antt "$root"/bin/htl "$root"/tools/* "$root"/tests/* "$root"/.ci/run "$root"/examples/* \
+		"$root"/docs/FORMATS.md "$root"/docs/LANGUAGE.md "$root"/crates.txt 2>/dev/null | tr -c 'A-Za-z0-9_' '\n' | sort -u >heard
+	ls "$root"/crates/*/src "$root"/crates/*/specs | sed 's/\.[a-z]*$//' >>heard
+	for page; do
+		grep -v '^| .* | .* | .* | .* | .* |$' "$root/$page" | grep -o '`[A-Za-z_][A-Za-z0-9_:]*`' | tr -d '`' | sed 's/::/\n/g' | sort -u | grep -v -x -F -f heard | sed "s:^:$page\: :"
+	done
+}
