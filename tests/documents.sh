@@ -73,16 +73,15 @@ bracketed() {
 			where=
 			for file in $(echo "$files" | tr ',' ' '); do
 				found=
-				for crate in $crates htl_*; do
-					for path in "$root/crates/"$crate"/specs/$file.antt"; do
-						[ -z "$found" ] && [ -f "$path" ] && found=$path
-					done
+				for crate in $crates; do
+					path=$root/crates/$crate/specs/$file.antt
+					[ ! -f "$path" ] || found="$found $path"
 				done
 				[ -n "$found" ] || echo "$1: no file $file in [$inner]"
 				where="$where $found"
 			done
 			for name in $(echo "$defs" | tr ',' ' '); do
-				cat $where 2>/dev/null | grep -q -w -e "$name" || echo "$1: no $name in [$inner]"
+				cat $where 2>/dev/null | sed -n 's/ --.*//; /^ *\(abbrev\|pub\|record\|data\) /{s/[:(].*//; p; }' | grep -q -w -e "$name" || echo "$1: no $name in [$inner]"
 			done
 		done
 	done

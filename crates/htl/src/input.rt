@@ -8,7 +8,7 @@ use htl_edge::{Failed, Source};
 use std::io::Read;
 
 /// A source over a reader. It counts each refused read as a fault. As a source it tells no content; where the reader
-/// tells what it has left, a read passes on what the reader gives, and fails only where the reader does.
+/// tells what it has left, a read passes on what the reader gives.
 #[derive(Drop)]
 pub struct Input<R> {
     inner: R,

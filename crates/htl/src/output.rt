@@ -7,9 +7,9 @@ ghost use Rattle.htl_edge.specs.Content.{AppendsFront};
 use htl_edge::{Failed, Sink};
 use std::io::Write;
 
-/// A sink over a writer, which it flushes after each write. A refused write or flush is counted as a fault, and so
-/// is a write that takes nothing of a piece. As a sink it tells no content; where the writer tells what it holds, it
-/// gained what was taken of the piece.
+/// A sink over a writer. It flushes after each write, which is tested and no clause. A refused write or flush is counted
+/// as a fault, and so is a write that takes nothing of a piece. As a sink it tells no content; where the writer tells
+/// what it holds, it gained what was taken of the piece.
 #[derive(Drop)]
 pub struct Output<W> {
     inner: W,

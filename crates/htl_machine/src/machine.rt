@@ -364,7 +364,8 @@ impl<'a> Machine<'a> {
         self.reading
     }
 
-    /// The mode in which a module was at the last instant that was done; None where it was inactive, and before instant 0.
+    /// The mode in which a module was at the last instant that was done; None where it was inactive, and before instant 0. Behind
+    /// `finish` no clause says which it is.
     pub fn mode(&self, module: u16) -> Option<u16>
         ensures { result ≡ list_at self.now.standing.calendar.modes «module» }
     {

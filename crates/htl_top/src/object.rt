@@ -51,7 +51,7 @@ fn tested(o: Object) -> Result<Loaded, (Object, ObjectFault)>
     }
 }
 
-/// The accepted object that has these bytes, or why there is none. Memory comes only where no memory was left.
+/// The accepted object that has these bytes, or why there is none. Memory may come in place of either.
 pub fn read_object(alloc: Global, bytes: &[u8]) -> Result<Loaded, ObjectStop>
     ensures { IsObjectRead bytes.now result }
 {
