@@ -81,7 +81,7 @@ bracketed() {
 				where="$where $found"
 			done
 			for name in $(echo "$defs" | tr ',' ' '); do
-				cat $where 2>/dev/null | sed -n 's/ --.*//; /^ *\(abbrev\|pub\|record\|data\) /{s/[:(].*//; p; }' | grep -q -w -e "$name" || echo "$1: no $name in [$inner]"
+				cat $where 2>/dev/null | sed -n 's/ --.*//; /^ *\(abbrev\|unfoldable\|pub\|record\|data\) /{s/[:(].*//; p; }' | grep -q -w -e "$name" || echo "$1: no $name in [$inner]"
 			done
 		done
 	done
@@ -95,4 +95,13 @@ unheard() {
 	for page; do
 		grep -v '^| .* | .* | .* | .* | .* |$' "$root/$page" | grep -o '`[A-Za-z_][A-Za-z0-9_:]*`' | tr -d '`' | sed 's/::/\n/g' | sort -u | grep -v -x -F -f heard | sed "s:^:$page\: :"
 	done
+}
+
+# The files of src/ and specs/ that docs/MAP.md names in a row of a crate, and that aren't there.
+mapped() {
+	awk -F'|' '/^\| htl/ { crate = $2; gsub(/ /, "", crate); for (i = 4; i <= 5; i++) { folder = ""; n = split($i, part, /[ ,]+/); own = crate
+		for (k = 1; k <= n; k++) { it = part[k]; if (it ~ /^htl_.*\/specs\//) { print it; continue } if (it !~ /\.(rt|antt)$/) continue; if (it ~ /\//) { folder = it; sub(/[^\/]*$/, "", folder) } else it = folder it; print own "/" it } } }' "$root/docs/MAP.md" >files
+	while read -r it; do [ -f "$root/crates/$it" ] || echo "no $it"; done <files
+	wc -l <files
+	sed -n '/^| Law | specs/,/^$/p' "$root/docs/MAP.md" | grep -o '[A-Za-z]*\.antt' | sort -u | while read -r it; do ls "$root"/crates/htl_machine/specs/"$it" "$root"/crates/htl_refine/specs/"$it" "$root"/crates/htl_emach/specs/"$it" "$root"/crates/htl_smach/specs/"$it" 2>/dev/null | grep -q . || echo "no $it"; done
 }
