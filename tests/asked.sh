@@ -172,7 +172,7 @@ ask_for_all() {
 	for it in tanks cascade cut short-of-time small; do ask check-$it /dev/null check $it.object; done
 	for it in tanks motor boiler cascade belt; do ask show-$it /dev/null show $it.object; done
 	ask show-small /dev/null show small.object
-	for it in jobs run; do ask $it-tanks "$root/examples/tanks.script" $it tanks.object; done
+	for it in jobs run code; do ask $it-tanks "$root/examples/tanks.script" $it tanks.object; done
 	for it in motor cascade; do ask code-$it "$root/examples/$it.script" code $it.object; done
 	ask jobs-short-of-time "$root/examples/tanks.script" jobs short-of-time.object
 	lines 'at 0' 'sense h1 250' 'at 200' 'took C1.p.prop 61'
