@@ -105,3 +105,15 @@ mapped() {
 	wc -l <files
 	sed -n '/^| Law | specs/,/^$/p' "$root/docs/MAP.md" | grep -o '[A-Za-z]*\.antt' | sort -u | while read -r it; do ls "$root"/crates/htl_machine/specs/"$it" "$root"/crates/htl_refine/specs/"$it" "$root"/crates/htl_emach/specs/"$it" "$root"/crates/htl_smach/specs/"$it" 2>/dev/null | grep -q . || echo "no $it"; done
 }
+
+# The numbers of docs/EVIDENCE.md that aren't those of the files, but for those that were measured; and that of README.md's answers.
+miscounted() {
+	bodies=$(ls "$root"/crates/*/must-fail/*.edit | grep -c .)
+	tests=$(cat "$root"/crates/*/src/*.rt | grep -c '^ *#\[test\]')
+	crates=$(grep -c : "$root/crates.txt")
+	answers=$(sed -n '/pub enum Outcome/,/^}/p' "$root/crates/htl_top/src/outcome.rt" | grep -c '^    [A-Z]')
+	grep -v 'measured:' "$root/docs/EVIDENCE.md" | grep -o -E '[0-9]+ (wrong bodies|test functions|crates)|edits: [0-9]+ refused' |
+		grep -v -x -e "$bodies wrong bodies" -e "$tests test functions" -e "$crates crates" -e "edits: $bodies refused"
+	grep -o '[0-9][0-9]* answers' "$root/README.md" "$root/docs/PROVED.md" | grep -v ":$answers answers$"
+	:
+}
