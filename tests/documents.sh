@@ -27,9 +27,9 @@ unnamed() {
 # The files that pages name by a path from the root, and that aren't there; and the links of pages that lead nowhere.
 absent() {
 	for page; do
-		grep -o -E '(^|[^A-Za-z0-9_./])(bin|crates|docs|editors|examples|tests|tools|\.ci)/[A-Za-z0-9_./*-]*[A-Za-z0-9_*]' "$root/$page" |
+		sed 's/\\\*/*/g' "$root/$page" | grep -o -E '(^|[^A-Za-z0-9_./])(bin|crates|docs|editors|examples|tests|tools|\.ci)/[A-Za-z0-9_./*-]*[A-Za-z0-9_*]' |
 			sed 's/^[^A-Za-z.]//' | sort -u | while IFS= read -r path; do
-			case $path in */out/* | docs/OBJECT.md) continue ;; esac
+			case $path in */out/* | */NAME*) continue ;; esac
 			(set -- "$root"/$path; [ -e "$1" ]) || echo "$page names $path"
 		done
 		grep -o '](\([^)#]*\)[^)]*)' "$root/$page" | sed 's/^](//; s/[#)].*//' | sort -u | while IFS= read -r path; do

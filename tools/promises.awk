@@ -45,6 +45,11 @@ function placed(list,    it, k, m, part, out, file) {
 	}
 	return out
 }
+function common(list, other,    it, k, m, out) {
+	m = split(list, it, " ")
+	for (k = 1; k <= m; k++) if (index(" " other " ", " " it[k] " ") > 0) out = out (out == "" ? "" : " ") it[k]
+	return out
+}
 function spaced(list) { gsub(/ /, ", ", list); return list }
 function row(words, calls, count, clauses, many, what,    k, i, bare, key, d, w, t, shown) {
 	if (only !~ /^ *$/ && index(only, " " crate " ") == 0) { for (k = 1; k <= count; k++) for (i = 1; i <= many; i++) rows[crate, calls[k], clauses[i]] = 1; return }
@@ -57,7 +62,7 @@ function row(words, calls, count, clauses, many, what,    k, i, bare, key, d, w,
 			if (!(key in rows)) w = add(w, bodies[key])
 			rows[key] = 1
 		}
-		t = add(t, tests[what == "" ? bare : "word:" what])
+		t = add(t, what != "" ? tests["word:" what] : bare == calls[k] ? tests[bare] : common(tests[bare], tests["type:" substr(calls[k], 1, index(calls[k], ":") - 1)]))
 		shown = shown (k > 1 ? ", " : "") calls[k]
 	}
 	shown = crate " `" shown "`: "
