@@ -56,7 +56,7 @@ ask_all() {
 	sed '/module T2/,/^  }/s/500/1000/' "$work/asked/cases/compile-whole" >"$work/asked/lines"
 	ask compile-whole-uneven lines compile
 	ask_whole
-	ask_page
+	ask_pages
 	answer_all
 	for it in $examples; do grep '^j ' "$work/asked/go-$it.out" >"$work/asked/data/$it.log"; done
 	for it in $examples soft slow whole uneven whole-uneven on-slow on-fast; do cp "$work/asked/compile-$it.out" "$work/asked/data/$it.object"; done
@@ -66,12 +66,25 @@ ask_all() {
 		ask_logs
 		ask_damaged
 	)
-	ask_page
+	ask_pages
 	answer_all
+	answer_pages
 }
 
-# What the page of the tutorial asks, as far as answers that it goes on from are known.
-ask_page() { [ -f "$work/asked/proved" ] || follow_page all >/dev/null 2>&1; }
+# What the pages ask, as far as answers that they go on from are known.
+ask_pages() {
+	[ ! -f "$work/asked/proved" ] || return 0
+	follow_page all >/dev/null 2>&1
+	for page in $pages; do type_page "$page"; done
+}
+
+# Has those questions of the pages answered to which answers of theirs lead, a few times.
+answer_pages() {
+	for it in 1 2 3; do
+		ask_pages
+		[ -z "$(ls "$work/asked/cases")" ] || answer_all
+	done
+}
 
 # Has all answered that was put down, and keeps it no longer.
 answer_all() {

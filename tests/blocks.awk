@@ -1,5 +1,5 @@
 # Writes the blocks of a page, as docs/TUTORIAL.md has them, to the folder `folder`: each to a file of its own, whose name is
-# its place in three digits, the word behind its fence, and the number of a line where one follows.
+# its place in three digits, the word behind its fence, and what follows that, with dots for blanks.
 /^```/ {
 	if (file) {
 		close(file)

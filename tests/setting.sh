@@ -8,6 +8,7 @@ export LC_ALL=C.UTF-8
 . "$root/tests/asked.sh"
 . "$root/tests/logs.sh"
 . "$root/tests/damaged.sh"
+. "$root/tests/pages.sh"
 . "$root/tests/tutorial.sh"
 
 # Makes the repository: with no program, with one that is newer than its sources, or with one that is older.

@@ -1,50 +1,45 @@
-# docs/TUTORIAL.md as cases. Its blocks are what green.htl reads from then on (behind ```htl, or with a number that line alone),
-# what green.script reads (```script), what is typed (```sh), and what is seen of that (```text).
+# docs/TUTORIAL.md as cases. Its blocks are what a file reads from then on (behind ```htl NAME or ```script NAME, or with a number
+# that line alone), what is typed (```sh), in one shell at the top of a copy of this repository, and what is seen of that (```text).
 tutorial=$work/tutorial
 
 # Does what the page says, up to its block of that number of what is seen, and prints what is seen there; with `all`
-# up to its end. bin/htl is this one's, over tests/true-htl.
+# up to its end.
 follow() {
 	[ -d "$work/asked" ] || ask_all
 	follow_page "$1"
 }
 
 follow_page() {
-	rm -rf "$tutorial"
-	mkdir -p "$tutorial/crates/htl/out" "$tutorial/blocks"
-	cp -R "$root/bin" "$root/tools" "$tutorial/"
-	: >"$tutorial/crates.txt"
-	touch -t 202001010000 "$tutorial/crates.txt"
-	cp "$root/tests/true-htl" "$tutorial/crates/htl/out/htl"
-	chmod +x "$tutorial/crates/htl/out/htl"
+	make_copy "$tutorial"
+	mkdir "$tutorial/blocks"
 	awk -v folder="$tutorial/blocks" -f "$root/tests/blocks.awk" "$root/docs/TUTORIAL.md"
 	(cd "$tutorial" && follow_blocks "$1")
 }
 
 follow_blocks() {
 	seen=0
-	for block in blocks/*; do
-		case $block in
-		*.htl | *.script) cp "$block" "green.${block##*.}" ;;
-		*.htl.* | *.script.*)
-			kind=${block#*.}
-			change_line "${kind#*.}" "green.${kind%.*}" "$block"
-			;;
-		*.sh) sh "$block" >typed 2>&1 </dev/null ;;
-		*.text)
+	for block in "$tutorial"/blocks/*; do
+		kind=${block##*/???.}
+		case $kind in
+		sh) . "$block" >"$tutorial/typed" 2>&1 </dev/null ;;
+		text)
 			seen=$((seen + 1))
 			if [ "$seen" = "$1" ]; then
 				cp "$block" "$work/seen"
-				cat typed
+				cat "$tutorial/typed"
 				return
 			fi
 			;;
+		*) write_block "$block" $(echo "$kind" | tr '.' ' ') ;;
 		esac
 	done
 	[ "$1" = all ] && echo "$seen"
 }
 
-# Puts the one line of the file $3 in the place of line $1 of the file $2.
-change_line() {
-	{ head -n $(($1 - 1)) "$2" && cat "$3" && tail -n +$(($1 + 1)) "$2"; } >changed && mv changed "$2"
+# Puts a block in the place of a file, or of one line of it: the block, its kind, the file's name without the kind, and the line.
+write_block() {
+	case $4 in
+	'') cp "$1" "$3.$2" ;;
+	*) { head -n $(($4 - 1)) "$3.$2" && cat "$1" && tail -n +$(($4 + 1)) "$3.$2"; } >"$tutorial/changed" && cp "$tutorial/changed" "$3.$2" ;;
+	esac
 }
