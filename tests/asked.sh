@@ -40,8 +40,7 @@ ask_output() {
 ask_all() {
 	mkdir -p "$work/asked/cases" "$work/asked/data"
 	case $("$root/bin/htl" --version) in
-	*'no proved program'* | *'older than'*) ;;
-	*) : >"$work/asked/proved" ;;
+	*' is proved, '*) : >"$work/asked/proved" ;;
 	esac
 	cp "$root"/examples/*.htl "$root"/examples/*.toml "$work/asked/data"
 	sed 's/(kind, 3)/(kind, 4)/' "$root/examples/overload.htl" >"$work/asked/data/belt.htl"

@@ -11,7 +11,7 @@ export LC_ALL=C.UTF-8
 . "$root/tests/pages.sh"
 . "$root/tests/tutorial.sh"
 
-# Makes the repository: with no program, with one that is newer than its sources, or with one that is older.
+# Makes the repository: with no program, with one that is proved, with one that isn't that of its stamp, or with one of other sources.
 set_up() {
 	rm -rf "$repo" "$work/tools" "$calls" "$calls.stdin"
 	mkdir -p "$repo/crates/htl/src" "$repo/crates/low/src" "$repo/crates/other/src" "$repo/crates/htl/data" "$work/tools"
@@ -25,20 +25,87 @@ set_up() {
 	chmod +x "$work/tools/rt"
 	case $1 in
 	proved)
-		find "$repo" -exec touch -t 202001010000 {} +
 		install_program
+		stamp_program
 		;;
+	foreign) install_program ;;
 	stale)
 		install_program
-		touch -t 202001010000 "$repo/crates/htl/out/htl"
+		stamp_program
+		echo '// edited' >>"$repo/crates/low/src/lib.rt"
 		;;
 	esac
 }
+
+# Writes the stamp of a program that is proved.
+stamp_program() (
+	here=$repo
+	. "$root/tools/stamp.sh"
+	write_stamp "$(sources)" "a case"
+	rm -f "$calls"
+)
 
 install_program() {
 	mkdir -p "$repo/crates/htl/out"
 	cp "$root/tests/fake-htl" "$repo/crates/htl/out/htl"
 	chmod +x "$repo/crates/htl/out/htl"
+}
+
+# What bin/htl takes the program of a repository for, this one or the one named: proved, stale, foreign or none. `shell` runs it.
+state_of() {
+	case $(${shell-sh} "${1-$repo}/bin/htl" --version | tail -n 1) in
+	*'is proved, '*) echo proved ;;
+	sources\ changed*) echo stale ;;
+	*"isn't the program"*) echo foreign ;;
+	'no proved program'*) echo none ;;
+	esac
+}
+
+# The state after each of the things that happen to a repository, in which the program is proved at first.
+all_states() {
+	low=$repo/crates/low
+	set_up proved
+	echo "as proved: $(state_of)"
+	touch -t 203001010000 "$low/src/lib.rt"
+	echo "touched: $(state_of)"
+	mkdir "$low/must-fail" "$low/out" && echo x >"$low/must-fail/a.edit" && echo x >"$low/src/low_tests.rt" && echo x >"$low/out/x"
+	echo "a wrong body, a test, kept work: $(state_of)"
+	cp "$low/src/lib.rt" kept
+	echo '// edited' >>"$low/src/lib.rt" && touch -t 202001010000 "$low/src/lib.rt"
+	echo "edited, with an older time: $(state_of)"
+	cp kept "$low/src/lib.rt"
+	echo "restored: $(state_of)"
+	mv "$low/src/lib.rt" away
+	echo "deleted: $(state_of)"
+	mv away "$low/src/lib.rt"
+	touch -t 202001010000 kept && cp -p kept "$low/src/more.rt"
+	echo "added, with an older time: $(state_of)"
+	mv "$low/src/more.rt" "$repo/crates/other/src/more.rt"
+	echo "moved: $(state_of)"
+	rm "$repo/crates/other/src/more.rt"
+	echo "taken away: $(state_of)"
+	touch -t 203001010000 "$repo/crates/htl/out/htl.proved" && echo '// edited' >>"$low/src/lib.rt"
+	echo "edited, with a stamp of the future: $(state_of)"
+	cp kept "$low/src/lib.rt" && cp -r "$repo" "$work/copied"
+	echo "copied: $(state_of "$work/copied")"
+	rm -r "$work/copied/crates/htl/out"
+	echo "a clone: $(state_of "$work/copied")"
+	mkdir "$work/copied/crates/htl/out" && cp "$repo/crates/htl/out/htl" "$repo/crates/htl/out/htl.proved" "$work/copied/crates/htl/out"
+	echo "a clone with both files: $(state_of "$work/copied")"
+	echo x >>"$work/copied/crates.txt"
+	echo "another clone with both files: $(state_of "$work/copied")"
+	rm -r "$work/copied"
+	printf '#!/bin/sh\necho all is well\n' >"$repo/crates/htl/out/htl"
+	echo "a script in its place: $(state_of)"
+	set_up foreign
+	echo "without a stamp: $(state_of)"
+}
+
+# The tools of busybox in front of PATH.
+with_busybox() {
+	mkdir -p "$work/busybox"
+	for it in find sha256sum sort touch date; do ln -sf "$(command -v busybox)" "$work/busybox/$it"; done
+	PATH=$work/busybox:$PATH
 }
 
 # A command on a terminal, which types the first word.

@@ -1,13 +1,17 @@
-"""Runs a command on a terminal of its own, types the first word into it, and prints all that it shows."""
+"""Runs a command on a terminal of its own, types the first word into it, and prints all that it shows. What stands behind `later:`
+is typed a second after the command has shown something."""
 import os
 import pty
 import sys
+import time
 
+typed = sys.argv[1].encode().decode("unicode_escape").encode("latin-1")
+later = typed.startswith(b"later:")
 pid, terminal = pty.fork()
 if pid == 0:
     os.execvp(sys.argv[2], sys.argv[2:])
-if sys.argv[1]:
-    os.write(terminal, sys.argv[1].encode().decode("unicode_escape").encode("latin-1"))
+if typed and not later:
+    os.write(terminal, typed)
 shown = b""
 while True:
     try:
@@ -17,6 +21,10 @@ while True:
     if not piece:
         break
     shown += piece
+    if later:
+        later = False
+        time.sleep(1)
+        os.write(terminal, typed[6:])
 sys.stdout.buffer.write(shown.replace(b"\r\n", b"\n"))
 sys.stdout.flush()
 status = os.waitpid(pid, 0)[1]

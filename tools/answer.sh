@@ -1,4 +1,8 @@
 # `--explain` without words to run: the words name an answer, or a whole fault line; none lists all answers.
-told=$(awk -v word="$*" -f "$tools/answers.awk" "$tools/answers.txt") || fail "there is no answer \`$*'; bin/htl --explain lists them all"
+told=$(awk -v word="$*" -f "$tools/answers.awk" "$tools/answers.txt") || {
+	. "$tools/usage.sh"
+	like=$(likest_word "${1-}")
+	fail "there is no answer \`$*'; bin/htl --explain lists them all${like:+, and bin/htl --explain $like .. explains a run}"
+}
 printf '%s\n' "$told" 2>/dev/null || fail "the output failed"
 exit 0

@@ -1,4 +1,5 @@
 # Explains a fault line of htl, on standard error: where the fault is, what the answer means, and what usually helps.
+. "$tools/usage.sh"
 . "$tools/place.sh"
 . "$tools/log.sh"
 . "$tools/files.sh"
@@ -86,8 +87,9 @@ explain_fault() {
 	{
 		case $1 in
 		'htl: usage')
-			echo "  $meaning"
-			help
+			echo "  $wrong"
+			echo "  bin/htl $right"
+			echo "  bin/htl --help lists all forms"
 			return
 			;;
 		'htl: source not-a-tree '*) at_program "$2" "${1##* }" ;;
@@ -134,8 +136,10 @@ explain_fault() {
 			at_script_line "$3" "${kind%% *}" "${number%% *}"
 			[ "$kind" != unknown ] || [ -z "$3" ] || names_for_line "$3" "${number%% *}" "$2"
 			;;
+		'htl: read') echo "(standard input): $meaning" ;;
+		'htl: write') echo "(standard output): $meaning" ;;
 		*) echo "$shown: $meaning" ;;
 		esac
 		echo "$found" | sed -n 's/^help /  /p'
-	} >&2
+	} | wrapped
 }

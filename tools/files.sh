@@ -14,6 +14,7 @@ if [ "$form" = donor ]; then
 	. "$tools/patch.sh"
 	second=$4
 fi
+[ "$form" != wrong ] || wrong_words "$@"
 
 # Whether a file can be read as an object.
 is_fetched() { [ ! -d "$1" ] && [ -r "$1" ] && [ "$(head -c 16777217 <"$1" | wc -c)" -le 16777216 ]; } 2>/dev/null

@@ -12,7 +12,9 @@ at_log_line() {
 	: >"$room/listing"
 	: >"$room/modes"
 	of_jobs "$1"
-	LC_ALL=C awk -v number="$2" -v kind="$3" -f "$tools/log.awk" reading=listing "$room/listing" reading=script "${1:-/dev/null}" reading=run "$room/modes" reading=log "$job_log" >"$room/jobs" 2>/dev/null
+	{ cat <"$job_log" >"$room/log"; } 2>/dev/null
+	# By redirection: an awk may take the name /dev/fd/3 for the descriptor, of which the program has read all.
+	LC_ALL=C awk -v number="$2" -v kind="$3" -f "$tools/log.awk" reading=listing "$room/listing" reading=script - reading=run "$room/modes" reading=log "$room/log" <"${1:-/dev/null}" >"$room/jobs" 2>/dev/null
 	read -r start column <"$room/jobs" || start=0 column=0
 	if [ "$3" = short ]; then
 		echo "$job_log:$2: $meaning"

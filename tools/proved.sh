@@ -21,7 +21,11 @@ elif [ "$input" != none ] && { true 3<&0; } 2>/dev/null && mkfifo "$room/pipe"; 
 	child=$!
 	exec 3<&- <"$room/pipe"
 fi
-"$program" "$@" 2>"$room/err" 3<&-
+if [ -n "$held" ]; then
+	"$program" "$@" 2>"$room/err" 3<&- >"$room/out"
+else
+	"$program" "$@" 2>"$room/err" 3<&-
+fi
 status=$?
 cat "$room/err" >&2
 line=$(grep '^htl: ' "$room/err" | tail -n 1)
@@ -34,6 +38,8 @@ case $line in
 	;;
 esac
 end_child
+[ -z "$held" ] || [ "$status" -ne 0 ] || keep_from_terminal "$room/out"
+[ -n "$explain" ] || exit "$status"
 source=${2-}
 case $form in file | files | donor) ;; *) source=$copied ;; esac
 explain_fault "$line" "$source" "$copied"

@@ -1,6 +1,7 @@
 # Runs the words by the unproved build, `rt try`, which compiles the program anew at each run, checks it as it runs,
 # and leaves no program behind. Words and files that htl would refuse are refused before that.
 . "$tools/words.sh"
+. "$tools/seconds.sh"
 # More seconds than a run takes; the toolchain stops a program after 60 where it is told nothing.
 seconds=3600
 
@@ -94,11 +95,17 @@ donor)
 platform) take_file "$3" file ;;
 esac
 need_rt
-about="one to two minutes, more on a busy machine, with nothing proved"
-case ${unproved:+asked}$(state) in
-asked*) say "running the unproved build: $about" ;;
-*none) say "no proved program stands, so this is the unproved build, slower and checked as it runs ($about); bin/htl --prove makes the proved one" ;;
-*stale) say "sources changed since the last proof, so this is the unproved build, slower and checked as it runs ($about); bin/htl --prove makes the proved one anew" ;;
+case $now in
+asked) say "running the unproved build, which takes one to two minutes" ;;
+*)
+	case $now in
+	none) why="no proved program stands" ;;
+	foreign) why="crates/htl/out/htl isn't the program that was proved here (no stamp beside it, or another sum) and isn't run" ;;
+	stale) why="sources changed since the last proof" ;;
+	esac
+	say "$why, so the same sources run unproved, compiled at each run, which takes one to two minutes"
+	say "bin/htl --prove makes the proved program $(first_time), once; it may be stopped and goes on from there, and this serves meanwhile"
+	;;
 esac
 : >"$room/in"
 if [ "$input" != none ]; then
@@ -109,7 +116,9 @@ run_unproved "$@"
 rt_status=$?
 status=$(ended_with "$rt_status")
 [ -n "$status" ] || why_not "$rt_status"
-if [ -s "$room/out" ] && ! cat "$room/out" 2>/dev/null; then
+if [ -n "$held" ] && [ "$status" -eq 0 ]; then
+	keep_from_terminal "$room/out"
+elif [ -s "$room/out" ] && ! cat "$room/out" 2>/dev/null; then
 	answer 10 'htl: write'
 fi
 source=$room/in

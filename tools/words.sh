@@ -63,3 +63,8 @@ judge_words() {
 	esac
 	[ "$form" = wrong ] || are_text "$@" || form=wrong
 }
+
+# An object is bytes, which no terminal is given: $1 is the file that holds it.
+keep_from_terminal() {
+	fail "the object has $(($(wc -c <"$1"))) bytes, which aren't written to a terminal: > OBJECT behind the words keeps them in a file"
+}
