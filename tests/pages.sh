@@ -9,9 +9,9 @@ make_copy() {
 	mkdir -p "$1/crates/htl/out"
 	cp -R "$root/bin" "$root/tools" "$root/examples" "$1/"
 	: >"$1/crates.txt"
-	touch -t 202001010000 "$1/crates.txt"
 	cp "$root/tests/true-htl" "$1/crates/htl/out/htl"
 	chmod +x "$1/crates/htl/out/htl"
+	stamp_program "$1"
 }
 
 # Types what the page examples/$1.md has, and keeps what is printed. The page works in the folder out/$1 of the copy.

@@ -37,9 +37,9 @@ set_up() {
 	esac
 }
 
-# Writes the stamp of a program that is proved.
+# Writes the stamp of a program that is proved, of this repository or of that in the folder $1.
 stamp_program() (
-	here=$repo
+	here=${1-$repo}
 	. "$root/tools/stamp.sh"
 	write_stamp "$(sources)" "a case"
 	rm -f "$calls"
@@ -108,6 +108,12 @@ with_busybox() {
 	PATH=$work/busybox:$PATH
 }
 
+# Puts a program in the place of the proved one that gives the fault line $1, without its `htl: `, with the status $2.
+answering() {
+	printf '#!/bin/sh\ncat >/dev/null\necho "htl: %s" >&2\nexit %s\n' "$1" "$2" >"$repo/crates/htl/out/htl"
+	stamp_program
+}
+
 # A command on a terminal, which types the first word.
 on_terminal() { python3 "$root/tests/terminal.py" "$@"; }
 
@@ -127,6 +133,12 @@ two_periods() {
 	printf '\1a\0\0\0\0\0\0\3\0\1\0\0\1\0\1b\0\1\0\0\0\0\11\0\0\0\0'
 	for it in '\0\0\0\0' '\0\1\0\0'; do printf "$it"'\377\377\0\1\0\0\0\0\0\0\0\0\1\0\0\0\0\0\0\1'; done
 	printf '\0\2\0\1\377\377\0\0\0\0'
+}
+
+# The object of a program up to its modules: F with modes m and n, and R with r, which refines F.m.
+refining_modules() {
+	printf 'HTLO\0\1\0\0\0\3\0\2\0\0\0\0\0\0\0\0'
+	printf '\1m\0\0\0\0\0\12\1n\0\0\0\0\0\12\1r\0\1\0\0\0\12\1F\377\377\0\0\1R\0\0\0\2'
 }
 
 # The listing, as far as pictures need it, of a program with a module F of period 10 and a module G of 20, which R refines.

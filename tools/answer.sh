@@ -4,5 +4,8 @@ told=$(awk -v word="$*" -f "$tools/answers.awk" "$tools/answers.txt") || {
 	like=$(likest_word "${1-}")
 	fail "there is no answer \`$*'; bin/htl --explain lists them all${like:+, and bin/htl --explain $like .. explains a run}"
 }
+of_plan=
+[ $# -eq 0 ] || of_plan=$(awk -v word="$*" -f "$tools/answers.awk" "$tools/plan.txt" | sed 's/^htl: .*/&, of the modes for plan/')
+[ -z "$of_plan" ] || told=$(printf '%s\n\n%s' "$told" "$of_plan")
 printf '%s\n' "$told" 2>/dev/null || fail "the output failed"
 exit 0

@@ -83,6 +83,10 @@ END {
 		print_values()
 		exit
 	}
+	if (kind == "shape" && number == count["top"] + 0 && !(("top", "name") in line_of)) {
+		print "no name"
+		exit
+	}
 	of = number < count["top"] ? "top" : "worst"
 	key = placed(of, of == "top" ? number : number - count["top"])
 	if (key != "") print line_of[of, key] " " (of == "top" ? key : "worst.\"" key "\"")

@@ -60,12 +60,19 @@ function spell(    i, b, n, column) {
 	if (at >= first + count) here = shown
 }
 
-# Prints at most 70 columns, 50 of them before the place.
-function cut(    from, to, columns, k, mark) {
-	columns = 0
-	for (from = here; from > 0 && columns + wide[from - 1] <= 50; from--) columns += wide[from - 1]
-	mark = columns
-	for (to = here; to < shown && columns + wide[to] <= 70; to++) columns += wide[to]
+# Prints a line of at most 76 columns whole, else at most 70, 50 of them before the place.
+function cut(    from, to, columns, k, mark, all) {
+	for (k = 0; k < shown; k++) all += wide[k]
+	if (first == start && !goes_on && all <= 76) {
+		from = 0
+		to = shown
+		for (k = 0; k < here; k++) mark += wide[k]
+	} else {
+		columns = 0
+		for (from = here; from > 0 && columns + wide[from - 1] <= 50; from--) columns += wide[from - 1]
+		mark = columns
+		for (to = here; to < shown && columns + wide[to] <= 70; to++) columns += wide[to]
+	}
 	before = from > 0 || first > start ? "..." : ""
 	printf "    %s", before
 	for (k = from; k < to; k++) printf "%s", show[k]

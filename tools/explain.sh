@@ -5,11 +5,17 @@
 . "$tools/files.sh"
 . "$tools/names.sh"
 . "$tools/paths.sh"
+. "$tools/rules.sh"
 
 outline() { LC_ALL=C awk -f "$tools/outline.awk" <"$1" 2>/dev/null; }
 
-# What the fault's answer is called, and what it means: two lines, `meaning ..` and `help ..`.
-look_up() { awk -v line="$1" -f "$tools/answers.awk" "$tools/answers.txt"; }
+# What the fault's answer is called, and what it means: two lines, `meaning ..` and `help ..`. plan reads modes and no script.
+look_up() {
+	case $asked:$1 in
+	plan:'htl: script '*) awk -v line="$1" -f "$tools/answers.awk" "$tools/plan.txt" ;;
+	*) awk -v line="$1" -f "$tools/answers.awk" "$tools/answers.txt" ;;
+	esac
+}
 
 # A line of a file by its number, with a heading, and cut where it is long. $4 is `script` for a script.
 numbered_line() {
@@ -36,23 +42,6 @@ at_byte() {
 	fi
 }
 
-# A fault of a mode or an invocation, MODULE.MODE or MODULE.MODE.TASK.
-at_item() {
-	line=$(outline "$1" | awk -v place="$2" '
-	$1 == "mode" && $3 "." $4 == place || $1 == "invoke" && $3 "." $4 "." $5 == place {
-		print $2
-		exit
-	}')
-	if [ -n "$line" ]; then
-		numbered_line "$1" "$line" "$2: $meaning"
-	else
-		echo "$2: $meaning"
-	fi
-}
-
-# Invocations by their numbers in the tables.
-by_number() { outline "$1" | awk -v wanted="$2" -f "$tools/numbers.awk" | sed 's/^/    /'; }
-
 at_program() {
 	line=$(outline "$1" | awk -v number="$2" '$1 == "program" && number-- == 0 { print $2; exit }')
 	[ -z "$line" ] && echo "$meaning" || numbered_line "$1" "$line" "$meaning"
@@ -67,15 +56,16 @@ at_script_line() {
 	fi
 }
 
-# A fault of the platform file, at the entry of this number where there is one: its line and its key.
+# A fault of the kind $1 of the platform file, at the entry $2 where there is one: its line and its key.
 at_entry() {
 	shown=$platform
-	entry=$(LC_ALL=C awk -v number="$1" -f "$tools/entries.awk" <"$platform" 2>/dev/null)
-	if [ -n "$entry" ]; then
-		numbered_line "$platform" "${entry%% *}" "${entry#* }: $meaning"
-	else
-		echo "$shown: $meaning"
-	fi
+	entry=$(LC_ALL=C awk -v kind="$1" -v number="$2" -f "$tools/entries.awk" <"$platform" 2>/dev/null)
+	case $entry in
+	'') echo "$shown: $meaning" ;;
+	'no name') echo "$shown: the file has no name, a line as name = \"$(basename "$platform" .toml | tr -c 'A-Za-z0-9_\n' _)\" in front of [worst]" ;;
+	*) numbered_line "$platform" "${entry%% *}" "${entry#* }: $meaning" ;;
+	esac
+	[ "$1:${entry#* }" != shape:name ] || echo "    the name is letters, digits and _, begins with no digit, and has at most 48 bytes"
 }
 
 # $1 the fault line, empty where there is none; $2 the source and $3 the script, where they are known.
@@ -96,21 +86,12 @@ explain_fault() {
 		'htl: source limit '* | 'htl: source too-long '*) echo "$shown: $meaning" ;;
 		'htl: source '*' '[0-9]*)
 			at_byte "$2" "${1##* }"
-			case $1 in *' unknown '*) names_like "$2" "${1##* }" ;; esac
-			;;
-		'htl: ill-formed '*)
-			item=${1#* at }
-			at_item "$2" "${item%% *}"
-			have=${item#* have }
 			case $1 in
-			'htl: ill-formed 2 '*) frame_rows "$2" ;;
-			'htl: ill-formed 12 '*)
-				outline "$2" | awk -v number="${1##* }" '$1 == "comm" && number-- == 0 { print "    communicator " $3 " of line " $2 }'
-				by_number "$2" "${have%% *}"
-				;;
-			'htl: ill-formed 15 '*) by_number "$2" "${have%% *} ${1##* }" ;;
+			*' unknown '*) names_wanted "$2" "${1##* }" ;;
+			*' syntax '*) usual_slip "$2" "${1##* }" ;;
 			esac
 			;;
+		'htl: ill-formed '*) at_rule "$2" ${1#htl: ill-formed } ;;
 		'htl: unschedulable '*) overload "$2" ${1#htl: unschedulable } ;;
 		'htl: object schedule '*) unserved_path "$2" ${1#htl: object schedule } ;;
 		'htl: task')
@@ -120,9 +101,10 @@ explain_fault() {
 		'htl: patch '*) at_patch ${1#htl: patch } ;;
 		'htl: platform text') echo "$platform: $meaning" ;;
 		'htl: platform '*)
-			at_entry "${1##* }"
+			number=${1#htl: platform }
+			at_entry "${number%% *}" "${1##* }"
 			key=${entry#*'"'}
-			case $1 in *' unknown '*) source_tasks "$2" | nearest "${key%'"'}" ;; esac
+			[ "${number%% *}" != unknown ] || source_tasks "$2" | nearest "${key%'"'}"
 			;;
 		'htl: log '*)
 			number=${1#htl: log }
@@ -135,6 +117,7 @@ explain_fault() {
 			kind=${number#* }
 			at_script_line "$3" "${kind%% *}" "${number%% *}"
 			[ "$kind" != unknown ] || [ -z "$3" ] || names_for_line "$3" "${number%% *}" "$2"
+			[ "$asked" != plan ] || [ -z "$3" ] || next_mode "$3" "${number%% *}"
 			;;
 		'htl: read') echo "(standard input): $meaning" ;;
 		'htl: write') echo "(standard output): $meaning" ;;

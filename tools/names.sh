@@ -41,17 +41,18 @@ names_for_line() {
 	names_for "$1" "${2-}" | nearest "${3-}"
 }
 
-# The declarations whose names are like the one at the byte $2 of the source $1.
-names_like() {
-	name=$(tail -c +$(($2 + 1)) <"$1" | head -c 48 | LC_ALL=C sed 's/[^A-Za-z0-9_].*//; q')
-	LC_ALL=C awk '{
-		sub(/\/\/.*/, "")
-		gsub(/[^A-Za-z0-9_]/, " & ")
-		n = split($0, token, " ")
-		for (i = 1; i <= n; i++) {
-			if (before ~ /^(int|bool|module|mode|task)$/ || before == "program" && front !~ /^[0-9]/) print token[i] " of line " NR
-			front = before
-			before = token[i]
-		}
-	}' <"$1" | nearest "$name" "$((${#name} < 2 ? 0 : ${#name} < 5 ? 1 : 2))" | sed 's/^    /    declared: /'
+# What may stand in the place of the unknown name at the byte $2 of the source $1: its kind, and the names that there are.
+names_wanted() {
+	[ "$1" != /dev/null ] || return 0
+	outline "$1" >"$room/outline"
+	set -- "$1" $(line_and_column "$1" "$2")
+	LC_ALL=C awk -v line="$2" -v column="$3" -f "$tools/wanted.awk" reading=outline "$room/outline" reading=source - <"$1" >"$room/wanted" 2>/dev/null
+	name=$(sed -n "$2p" <"$1" | LC_ALL=C cut -c "$3-" | LC_ALL=C sed 's/[^A-Za-z0-9_].*//; q')
+	sed -n 's/^name //p' "$room/wanted" | nearest "$name" | awk -v what="$(sed -n 's/^what //p' "$room/wanted")" '
+	{ list = list (NR == 1 ? ": " : /^ *and [0-9]+ more$/ ? " " : ", ") substr($0, 5) }
+	END {
+		if (sub(/^none: /, "", what)) print "    " what
+		else if (what != "") print "    " what " is wanted here" (list == "" ? ", and there is none" : list)
+	}'
+	sed -n 's/^other /    /p' "$room/wanted"
 }

@@ -1,5 +1,5 @@
 # Over the bytes of an object, as `od -An -v -tu1` prints them, up to its invocations: an outline of its modules, modes and
-# invocations, as outline.awk prints one of a source, without lines and ends. It reads what has been found well-formed.
+# invocations, as outline.awk prints one of a source, without lines and ends; a module's line ends with the mode that it refines, or -. It reads what has been found well-formed.
 
 function byte() {
 	while (taken == count) {
@@ -46,7 +46,8 @@ BEGIN {
 	print "program 0 object"
 	for (i = 0; i < modules; i++) {
 		module[i] = name()
-		print "module 0", module[i], (number(2) == 65535 ? "object" : "-")
+		parent = number(2)
+		print "module 0", module[i], (parent == 65535 ? "object -" : "- " module[of[parent]] "." mode[parent])
 		pass(2)
 	}
 	for (i = 0; i < modes; i++) print "mode 0", module[of[i]], mode[i], period[i], "-"

@@ -1,10 +1,13 @@
 # The outline of a source that has been read without a fault of its grammar: one line for each item, in the order of
 # the source, each with the number of the line on which it begins.
-#   program LINE NAME                        comm LINE NAME PERIOD KIND
+#   program LINE NAME                        comm LINE NAME PERIOD KIND TYPE
 #   module LINE NAME PROGRAM                 task LINE MODULE NAME WORST HEAD
+#   param LINE MODULE TASK SIDE TYPE NAME    in front of the line of their task; SIDE is input or output
 #   mode LINE MODULE NAME PERIOD PROGRAM     PROGRAM is the one that refines the mode, or -
-#   invoke LINE MODULE MODE TASK ENDS..      ENDS are <C:I or >C:I for an instance read or written, <P or >P for a port
-# KIND is communicator or sensor; HEAD is task or abstract.
+#   port LINE MODULE MODE TYPE NAME          switch LINE MODULE MODE TARGET COMMUNICATORS..
+#   invoke LINE MODULE MODE TASK ENDS..      ENDS are <C:I or >C:I for an instance read or written, <P or >P for a port,
+#                                            and ^I for the parent
+# KIND is communicator or sensor; HEAD is task or abstract; TYPE is int or bool.
 
 # Carries on after a name or number that an item waits for.
 function take(token) {
@@ -26,7 +29,11 @@ function take(token) {
 	} else if (want == "invoke") {
 		item = "invoke " line " " module " " mode " " token
 	} else if (want == "comm period") {
-		print "comm", line, comm, token, sort
+		print "comm", line, comm, token, sort, type
+	} else if (want == "param") {
+		print "param", NR, module, task, side, type, token
+	} else if (want == "port") {
+		print "port", line, module, mode, type, token
 	} else if (want == "worst") {
 		print "task", line, module, task, token, head
 	} else if (want == "mode period") {
@@ -45,9 +52,22 @@ function end_token(token) {
 	}
 }
 
+# Inside a switch: the communicators of its condition, and at last its target.
+function switch_token(token) {
+	if (token == ";") {
+		print "switch " line " " module " " mode " " last names
+		tested = 0
+	} else if (token ~ /^[A-Za-z_]/ && token !~ /^(if|true|false)$/) {
+		if (last != "") names = names " " last
+		last = token
+	}
+}
+
 # A word or sign; `kind` is the head that began last.
 function read(token) {
-	if (item != "") {
+	if (tested) {
+		switch_token(token)
+	} else if (item != "") {
 		if (token == "input") side = "<"
 		else if (token == "output") side = ">"
 		else if (token == "parent") side = "^"
@@ -61,7 +81,20 @@ function read(token) {
 		typed = 1
 	} else if (typed) {
 		typed = 0
+		type = token
 		want = "comm"
+	} else if (token == "port") {
+		line = NR
+		kind = token
+	} else if (token == "int" || token == "bool") {
+		type = token
+		want = kind == "port" ? "port" : "param"
+	} else if (token == "switch") {
+		line = NR
+		tested = 1
+		last = names = ""
+	} else if (kind == "task" && (token == "input" || token == "output")) {
+		side = token
 	} else if (token == "program" && kind == "mode") {
 		want = "refined"
 	} else if (token == "program" || token == "module" || token == "mode" || token == "invoke") {

@@ -25,3 +25,9 @@ unserved_path() {
 
 # What each module of the first program of the source $1 asks of a frame.
 frame_rows() { outline "$1" | awk -f "$tools/common.awk" -f "$tools/path.awk" -f "$tools/frame.awk" | sed 's/^/    /'; }
+
+# The line that should come next of the modes for plan, of which the file $1 has those up to line $2.
+next_mode() {
+	object_outline "$given" >"$room/outline"
+	LC_ALL=C awk -v number="$2" -f "$tools/modes.awk" reading=outline "$room/outline" reading=modes - <"$1" 2>/dev/null | sed 's/^/    /'
+}

@@ -35,3 +35,10 @@ excerpt() {
 	od -An -v -tu1 -j "$from" -N 700 <"$1" |
 		LC_ALL=C awk -v first="$from" -v start="$3" -v at="$2" -v asked=700 -v utf8="$(takes_utf8)" -f "$tools/excerpt.awk"
 }
+
+# The slip that is usual at the byte $2 of the source $1, where its grammar ends.
+usual_slip() {
+	[ -s "$1" ] || return 0
+	set -- "$1" $(line_and_column "$1" "$2")
+	LC_ALL=C awk -v line="$2" -v column="$3" -f "$tools/slips.awk" <"$1" 2>/dev/null | sed 's/^/    /'
+}
