@@ -1,10 +1,14 @@
 # The rows of tools/bench: each makes its inputs, where it is chosen, and measures a run, less another where it says so.
 
-# Whether the label $1 has all words that were given.
+# Whether the label $1 has all words that were given. The first that has prints the heading.
 is_chosen() {
+	labels="$labels$1
+"
 	for word in $chosen; do
 		case " $1 " in *" $word "*) ;; *) return 1 ;; esac
 	done
+	[ -n "$any" ] || printf '%-34s %9s %8s %8s %15s %12s   %-10s%s\n' row bytes lines seconds instructions each unit answer
+	any=yes
 }
 
 # A source: $1 its label, $2 its kind, $3 its bytes.

@@ -1,4 +1,5 @@
-# How long the crates of the program take to be proved: what each took last time here, else what stands in tools/crate-seconds.txt.
+# How long the crates of the program take to be proved: what each took last time here, else what stands in tools/crate-seconds.txt,
+# seconds of a first proof of an hour, shared out as one run on a busy machine went.
 taken=$crate/out/prove.seconds
 
 # The crates below htl and htl itself, each behind those that it uses.
