@@ -7,5 +7,9 @@ told=$(awk -v word="$*" -f "$tools/answers.awk" "$tools/answers.txt") || {
 of_plan=
 [ $# -eq 0 ] || of_plan=$(awk -v word="$*" -f "$tools/answers.awk" "$tools/plan.txt" | sed 's/^htl: .*/&, of the modes for plan/')
 [ -z "$of_plan" ] || told=$(printf '%s\n\n%s' "$told" "$of_plan")
-printf '%s\n' "$told" 2>/dev/null || fail "the output failed"
+if [ -t 1 ]; then
+	printf '%s\n' "$told" | LC_ALL=C awk -v width="${COLUMNS:-80}" -f "$tools/wrap.awk"
+else
+	printf '%s\n' "$told" 2>/dev/null || fail "the output failed"
+fi
 exit 0

@@ -18,6 +18,7 @@ form_of() {
 	bulk) echo "bulk N" ;;
 	--prove | --version | --help) echo "$1" ;;
 	--unproved | --explain) echo "$1 WORDS" ;;
+	--each) echo "--each COMMANDS" ;;
 	--svg) echo "--svg [LISTING] < RUN" ;;
 	--vcd) echo "--vcd [UNIT] [LISTING] < RUN" ;;
 	esac
@@ -25,7 +26,7 @@ form_of() {
 
 # The word that is likest to $1, if few signs are to be changed.
 likest_word() {
-	printf '%s\n' go compile jobs run code check show plan slack audit patch bulk --prove --unproved --explain --svg --vcd --version --help |
+	printf '%s\n' go compile jobs run code check show plan slack audit patch bulk --prove --each --unproved --explain --svg --vcd --version --help |
 		WANTED=$1 LC_ALL=C awk -v most=$((${#1} < 5 ? 1 : 2)) -f "$tools/nearest.awk" | head -n 1
 }
 
