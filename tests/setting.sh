@@ -21,6 +21,7 @@ set_up() {
 	echo '// a source' >"$repo/crates/htl/data/source.htl"
 	echo 'end 0' >"$repo/crates/htl/stdin"
 	echo 'v 0 bytes 6' >"$repo/crates/htl/stdout"
+	printf 'low 60\nhtl 60\n' >"$repo/tools/crate-seconds.txt"
 	cp "$root/tests/fake-rt" "$work/tools/rt"
 	chmod +x "$work/tools/rt"
 	case $1 in

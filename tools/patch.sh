@@ -27,7 +27,7 @@ at_patch() {
 	case $1 in
 	mode)
 		modes_without "$shown"
-		modes_without "$donor"
+		[ "$shown" = "$donor" ] || modes_without "$donor"
 		;;
 	comms)
 		item_of "$shown" 'comm sensor' "$2"
