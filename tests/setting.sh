@@ -96,6 +96,9 @@ all_states() {
 	echo x >>"$work/copied/crates.txt"
 	echo "another clone with both files: $(state_of "$work/copied")"
 	rm -r "$work/copied"
+	printf '#!/bin/sh\necho another machine\n' >"$work/tools/uname" && chmod +x "$work/tools/uname"
+	echo "on another machine: $(state_of)"
+	rm "$work/tools/uname"
 	printf '#!/bin/sh\necho all is well\n' >"$repo/crates/htl/out/htl"
 	echo "a script in its place: $(state_of)"
 	set_up foreign

@@ -117,7 +117,7 @@ explain_fault() {
 			kind=${number#* }
 			at_script_line "$3" "${kind%% *}" "${number%% *}"
 			[ "$kind" != unknown ] || [ -z "$3" ] || names_for_line "$3" "${number%% *}" "$2"
-			[ "$asked" != plan ] || [ -z "$3" ] || next_mode "$3" "${number%% *}"
+			[ "$asked" != plan ] || next_mode "$3" "${number%% *}"
 			;;
 		'htl: read') echo "(standard input): $meaning" ;;
 		'htl: write') echo "(standard output): $meaning" ;;

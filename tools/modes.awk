@@ -1,5 +1,5 @@
 # Over the outline of an object (object.awk), and then the lines that plan was given (`reading` says which): what the line `number`
-# should be.
+# should be; or, with `all`, the modules in their order, each with its modes.
 
 reading == "outline" && $1 == "module" {
 	module[++modules] = $3
@@ -15,7 +15,15 @@ reading == "modes" && FNR < number {
 	lines++
 }
 
+function list_all(    i) {
+	for (i = 1; i <= modules; i++) print "module " module[i] (parent[i] == "-" ? "" : ", active where " parent[i] " runs") ", with the modes" modes[module[i]]
+}
+
 END {
+	if (all) {
+		list_all()
+		exit
+	}
 	k = lines + 1
 	if (k > modules) exit
 	text = "the next line is that of the module " module[k]

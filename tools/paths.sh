@@ -26,8 +26,8 @@ unserved_path() {
 # What each module of the first program of the source $1 asks of a frame.
 frame_rows() { outline "$1" | awk -f "$tools/common.awk" -f "$tools/path.awk" -f "$tools/frame.awk" | sed 's/^/    /'; }
 
-# The line that should come next of the modes for plan, of which the file $1 has those up to line $2.
+# The line that should come next of the modes for plan, of which the file $1 has those up to line $2; all modules where none was kept.
 next_mode() {
 	object_outline "$given" >"$room/outline"
-	LC_ALL=C awk -v number="$2" -f "$tools/modes.awk" reading=outline "$room/outline" reading=modes - <"$1" 2>/dev/null | sed 's/^/    /'
+	LC_ALL=C awk -v number="$2" -v all="$([ -n "$1" ] || echo yes)" -f "$tools/modes.awk" reading=outline "$room/outline" reading=modes - <"${1:-/dev/null}" 2>/dev/null | sed 's/^/    /'
 }

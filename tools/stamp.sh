@@ -1,5 +1,5 @@
-# What stands at crates/htl/out/htl, by the stamp beside it: an item a line, `program SUM`, `sources SUM` of all that the proof
-# read, `toolchain ..` and `by WHO at COMMIT`. It guards against slips, and not against who may write both files.
+# What stands at crates/htl/out/htl, by the stamp beside it: an item a line, `program SUM`, `machine ..` on which it runs, `sources SUM` of
+# all that the proof read, `toolchain ..` and `by WHO at COMMIT`. It guards against slips, and not against who may write both files.
 # Wants `here`, the folder of the repository.
 program=$here/crates/htl/out/htl
 stamp=$program.proved
@@ -42,12 +42,12 @@ is_untouched() (
 # A time before all that is done from here on, for the stamp.
 now_for_stamp() { date +%Y%m%d%H%M.%S; }
 
-# none: no program stands; foreign: it isn't the one that was proved here; stale: a source changed since; proved: it is what
+# none: no program stands; foreign: it isn't the one of the stamp, or not for this machine; stale: a source changed since; proved: it is what
 # the sources say.
 state() {
 	if [ ! -f "$program" ] || [ ! -x "$program" ]; then
 		echo none
-	elif [ ! -f "$stamp" ] || [ "$(of_stamp program)" != "$(sum_of <"$program")" ]; then
+	elif [ ! -f "$stamp" ] || [ "$(of_stamp program)" != "$(sum_of <"$program")" ] || [ "$(of_stamp machine)" != "$(uname -s -m)" ]; then
 		echo foreign
 	elif is_untouched; then
 		echo proved
@@ -76,6 +76,7 @@ write_stamp() {
 	}
 	{
 		echo "program $(sum_of <"$program")"
+		echo "machine $(uname -s -m)"
 		echo "sources $proved"
 		echo "toolchain $(rt version)"
 		echo "by $2, at ${commit:+commit }${commit:-no commit}"
