@@ -4,7 +4,7 @@
 #   module LINE NAME PROGRAM                 task LINE MODULE NAME WORST HEAD
 #   param LINE MODULE TASK SIDE TYPE NAME    in front of the line of their task; SIDE is input or output
 #   mode LINE MODULE NAME PERIOD PROGRAM     PROGRAM is the one that refines the mode, or -
-#   port LINE MODULE MODE TYPE NAME          switch LINE MODULE MODE TARGET COMMUNICATORS..
+#   port LINE MODULE MODE TYPE NAME          test LINE MODULE MODE TARGET COMMUNICATORS.., of a switch
 #   invoke LINE MODULE MODE TASK ENDS..      ENDS are <C:I or >C:I for an instance read or written, <P or >P for a port,
 #                                            and ^I for the parent
 # KIND is communicator or sensor; HEAD is task or abstract; TYPE is int or bool.
@@ -55,7 +55,7 @@ function end_token(token) {
 # Inside a switch: the communicators of its condition, and at last its target.
 function switch_token(token) {
 	if (token == ";") {
-		print "switch " line " " module " " mode " " last names
+		print "test " line " " module " " mode " " last names
 		tested = 0
 	} else if (token ~ /^[A-Za-z_]/ && token !~ /^(if|true|false)$/) {
 		if (last != "") names = names " " last

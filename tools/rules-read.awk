@@ -27,7 +27,7 @@ $1 == "port" {
 	port_line[$3 "." $4 " " $6] = $2
 	port_type[$3 "." $4 " " $6] = $5
 }
-$1 == "switch" {
+$1 == "test" {
 	switches++
 	switch_mode[switches] = $3 "." $4
 	switch_text[switches] = "the switch to " $5 " of line " $2
