@@ -1,8 +1,8 @@
 # Reads the lines of a run. Of communicator c: name_c[c], its changes at[c, k] to value[c, k], k from 1 to changes[c], least[c],
 # greatest[c]. Of module m: name_m[m], moves[m], when[m, k], mode[m, k]. Of invocation j: name_j[j], slices[j], from[j, k],
-# upto[j, k], finishes[j], done[j, k]. instants: how many distinct ones; last: the last; totals: the totals line. Of the line of a
-# log that `audit` refuses: refused, its number, refused_for, the kind, and refused_slice[j, k], where it is a slice.
+# upto[j, k], finishes[j], done[j, k]. last: where the run ends, as far as its lines say; totals: the totals line.
 # Lines of instructions, which `code` adds, are passed over. `reading` is run, or listing for the file of listing.awk.
+# Behind the line of an audit that refuses a log stands the log, which refused.awk reads.
 
 function refuse(why) {
 	if (!failed) print "bin/htl: line " FNR " of the " reading " " why | "cat 1>&2"
@@ -13,10 +13,7 @@ function refuse(why) {
 # An instant; it is refused where it is none.
 function instant(text) {
 	if (text !~ /^[0-9]+$/ || length(text) > 10) refuse("has no instant where one belongs: " shown(text))
-	if (!(text in seen_at)) {
-		seen_at[text] = 1
-		instants++
-	}
+	instants = 1
 	if (text + 0 > last) last = text + 0
 	return text + 0
 }
@@ -43,12 +40,14 @@ function invocation(name,    j) {
 	return j
 }
 
+function add_slice(j, a, b) {
+	from[j, ++slices[j]] = a
+	upto[j, slices[j]] = b
+}
+
 { sub(/\r$/, "") }
 
-/^htl: log [0-9]+ [a-z]+$/ {
-	refused = $3 + 0
-	refused_for = $4
-}
+is_of_refusal() { next }
 
 /^$/ || /^htl: / || /^bin\/htl: / || /^[es] [0-9]+ / { next }
 
@@ -72,11 +71,9 @@ $1 == "m" && NF == 4 && is_name($3, 1) && ($4 == "-" || is_name($4, 1)) {
 
 $1 == "j" && NF == 4 && is_name($4, 3) {
 	j = invocation($4)
-	from[j, ++slices[j]] = instant($2)
-	upto[j, slices[j]] = instant($3)
+	add_slice(j, instant($2), instant($3))
 	if ($3 + 0 <= $2 + 0) refuse("ends before it begins: " shown($0))
 	if (slices[j] > 1 && $2 + 0 < upto[j, slices[j] - 1]) refuse("overlaps a slice before it: " shown($0))
-	slice_of[++slices_told] = j SUBSEP slices[j]
 	next
 }
 
@@ -87,7 +84,7 @@ $1 == "d" && NF == 3 && is_name($3, 3) {
 }
 
 ($1 == "end" || $1 == "plan" || $1 == "audited") && NF > 3 {
-	instant($2)
+	told_end = instant($2)
 	totals = $0
 	next
 }
@@ -96,7 +93,8 @@ $1 == "d" && NF == 3 && is_name($3, 3) {
 
 { refuse("is none that a run, a plan or an audit prints: " shown($0)) }
 
-# A plan has no lines of modes: each module stays in the mode that its jobs are of. The order is that of the listing, where one is there.
+# A plan has no lines of modes: each module stays in the mode that its jobs are of, and what it refines in the mode that is refined. The
+# order is that of the listing, where one is there.
 function modes_of_plan(    i, j) {
 	for (i = 1; i <= invs; i++) if (("j", inv_name[i]) in numbers) stay_in_mode(inv_name[i])
 	for (j = 1; j <= items["j"]; j++) stay_in_mode(name_j[j])
@@ -104,6 +102,7 @@ function modes_of_plan(    i, j) {
 
 function stay_in_mode(name,    part, m) {
 	split(name, part, ".")
+	if (part[1] in refines) stay_in_mode(refines[part[1]])
 	m = number_of("m", part[1])
 	name_m[m] = part[1]
 	moves[m] = 1
@@ -111,12 +110,22 @@ function stay_in_mode(name,    part, m) {
 	mode[m, 1] = part[2]
 }
 
+# Nothing is drawn behind the end of the run: slices end there at the latest.
+function cut_at_end(j,    k) {
+	for (k = slices[j]; k > 0 && upto[j, k] > last; k--) {
+		behind_end++
+		if (from[j, k] < last) upto[j, k] = last
+		else slices[j] = k - 1
+	}
+}
+
 END {
-	if (!failed && !instants) {
+	if (!failed && !instants && !refused) {
 		print "bin/htl: standard input has no line of a run; try: bin/htl go SOURCE < SCRIPT > RUN" | "cat 1>&2"
 		failed = 1
 	}
 	if (failed) exit 1
 	if (totals ~ /^plan / && !items["m"]) modes_of_plan()
-	if (refused in slice_of && refused_for != "short") refused_slice[slice_of[refused]] = 1
+	if (told_end != "") last = told_end
+	for (j = 1; j <= items["j"]; j++) cut_at_end(j)
 }

@@ -34,8 +34,8 @@ fi
 [ "$(head -c 4 <"$room/in" | tr -d '\000')" != HTLO ] || fail "standard input is an object, and no run; bin/htl jobs OBJECT < SCRIPT > RUN makes one"
 asked=$#
 case $option in
---vcd) set -- listing lines windows common rounds vcd vcd-signs ;;
-*) set -- listing lines windows common rounds svg svg-lanes svg-signs ;;
+--vcd) set -- listing lines refused windows common rounds vcd vcd-signs ;;
+*) set -- listing lines refused windows common rounds svg svg-rows svg-lanes svg-windows svg-signs ;;
 esac
 for it; do
 	set -- "$@" -f "$tools/$it.awk"

@@ -1,10 +1,12 @@
-# Behind lines.awk, windows.awk and rounds.awk, with svg-lanes.awk and svg-signs.awk: a timeline of the run as SVG. A long run is cut into
-# rows by time, each of which has every lane: modules, communicators, invocations.
+# Behind lines.awk, refused.awk, windows.awk and rounds.awk, with the other files svg-*.awk: a timeline of the run as SVG. A long run is cut
+# into rows by time, each of which has every lane: modules, communicators, the processor, invocations. Where `bare` is set, the picture
+# stands in a page that has its style.
 
 function escaped(text) {
 	gsub(/&/, "\\&amp;", text)
 	gsub(/</, "\\&lt;", text)
 	gsub(/>/, "\\&gt;", text)
+	gsub(/"/, "\\&quot;", text)
 	return text
 }
 
@@ -18,13 +20,13 @@ function x_of(time) { return sprintf("%.2f", gutter + (time - begin) * scale) + 
 
 function text(x, y, class, content) { printf "<text x=\"%s\" y=\"%s\" class=\"%s\">%s</text>\n", x, y, class, escaped(content) }
 
-# A box from one instant to another, which is cut at the ends of the row and is seen however short the time is.
-function box(class, a, b, y, height, title,    x, width) {
-	x = x_of(a < begin ? begin : a)
-	width = sprintf("%.2f", x_of(b > finish ? finish : b) - x) + 0
-	if (width < 1.5) width = 1.5
-	if (x + width > right) x = right - width
-	printf "<rect class=\"%s\" x=\"%s\" y=\"%s\" width=\"%s\" height=\"%s\"><title>%s</title></rect>\n", class, x, y, width, height, escaped(title)
+# A box from one instant to another, which is cut at the ends of the row and is seen however short the time is. Sets box_x and box_width.
+function box(class, a, b, y, height, title) {
+	box_x = x_of(a < begin ? begin : a)
+	box_width = sprintf("%.2f", x_of(b > finish ? finish : b) - box_x) + 0
+	if (box_width < 1.5) box_width = 1.5
+	if (box_x + box_width > right) box_x = right - box_width
+	printf "<rect class=\"%s\" x=\"%s\" y=\"%s\" width=\"%s\" height=\"%s\"><title>%s</title></rect>\n", class, box_x, y, box_width, height, escaped(title)
 }
 
 # Skips the label where the one before it reaches so far; one that would leave the picture stands before its place, where
@@ -37,75 +39,82 @@ function label(x, height, class, content, room,    wide) {
 	free = x + wide + 5
 }
 
-# Lines of the grid behind the lanes, and the axis with its numbers above them, to the end of the row.
-function axis(height,    time) {
-	free = 0
-	for (time = begin; time < finish; time += tick) grid_line(time, height)
-	grid_line(finish, height)
-	if (frame * scale >= 10) for (time = multiple(begin, frame); time <= finish; time += frame) frame_line(time, height)
-	y += 20
-}
+function counted(number, word) { return number " " word (number == 1 ? "" : "s") }
 
-function grid_line(time, height) {
-	printf "<path class=\"grid\" d=\"M%s %sV%s\"/>\n", x_of(time), y + 16, y + 20 + height
-	label(x_of(time) - 3 * length(time), y + 12, "axis", time "", 1000)
-}
-
-function frame_line(time, height) { printf "<path class=\"frame\" d=\"M%s %sV%s\"><title>a frame of %s begins at %s</title></path>\n", x_of(time), y + 16, y + 20 + height, frame, time }
-
-# Makes room for a lane's name on the left.
-function fit(name) {
-	if (length(name) * 6.1 + 20 > gutter) gutter = length(name) * 6.1 + 20
-	if (gutter > 228) gutter = 228
-}
-
-# How many rows there are, and how much time each has.
-function divide() {
-	rows = int((instants * 16 + 939) / 940)
-	if (rows > 200) rows = 200
-	if (rows < 1) rows = 1
-	tick = nice((last ? last : 1) / rows / 10)
-	span = tick * int(((last ? last : 1) / rows + tick - 1) / tick)
-	if (span < 1) span = 1
-	rows = int((last + span - 1) / span)
-	if (rows < 1) rows = 1
-	scale = 940 / (rows > 1 || !last ? span : last)
+# What the picture is of.
+function in_words(    w) {
+	split(totals, w, " ")
+	if (w[1] == "end") return "Run of " counted(w[2], "tick") ": " counted(w[4], "job") " done, " w[6] " E and " w[8] " S instructions"
+	if (w[1] == "plan") return "A frame of " counted(w[2], "tick") ", each job with its worst case: " counted(w[4], "job")
+	if (w[1] == "audited") return "Audited log of a run of " counted(w[2], "tick") ", legal: " counted(w[4], "job") " in " counted(w[6], "slice")
+	return (refused ? "Audited log, refused: lines of a run up to " last : "Lines of a run up to " last ", without its totals")
 }
 
 # What is said in words below the title.
 function remarks() {
-	if (refused) remark[++remarked] = "refused by the audit: line " refused " of the log, " refused_for
-	if (rows > 1) remark[++remarked] = "cut by time into " rows " rows of at most " span " ticks"
-	if (least_left != "") remark[++remarked] = "least ticks left: " name_j[least_of] ", " how_near(least_of, least_at)
+	if (refused) say_refused()
+	if (rows > 1) remark[++remarked] = "cut by time into " rows " rows of at most " span " ticks" row_is
+	if (least_left != "") remark[++remarked] = "least ticks left: " name_shown("j", name_j[least_of]) ", " how_near(least_of, least_at)
+	if (missing && !refused) remark[++remarked] = counted(missing, "job") " never ran, though the window ended"
 	if (outside && !refused) remark[++remarked] = "slices outside the windows of the listing: " outside "; it may be of another object"
+	if (behind_end) remark[++remarked] = counted(behind_end, "slice") " behind the end of the run at " last (behind_end == 1 ? " isn't" : " aren't") " drawn there"
+	if (all_windows > 200000) remark[++remarked] = "windows behind the first 200000 aren't drawn"
+}
+
+function say_refused() {
+	remark[++remarked] = "refused by the audit: line " refused " of the log" (refused_text == "" ? "" : ", " refused_text) ", " refused_for
+	is_fault[remarked] = 1
+	remark[++remarked] = why_refused()
+	if (refused_for == "short" && missing) remark[remarked] = remark[remarked] "; of " missing " no tick is in the log"
+	if (refused_for == "short" && !missing) remark[remarked] = remark[remarked] "; which one, bin/htl --explain audit tells"
+	if (undrawn) remark[++remarked] = counted(undrawn, "line") " of the log can't be drawn as slices of one processor"
+}
+
+# A name, what it is of, and all that is said, for who can't see the picture.
+function description(    i) {
+	printf "<title>%s</title>\n<desc>", escaped(in_words())
+	printf "%s, %s, %s, over time.", counted(items["m"] + 0, "module"), counted(items["v"] + 0, "value"), counted(lanes + 0, "invocation")
+	for (i = 1; i <= remarked; i++) printf " %s.", escaped(remark[i])
+	print "</desc>"
+}
+
+# Pictures that are still too high are drawn smaller: some viewers take no more than 32767 points.
+function open_picture(width, height,    shrink) {
+	shrink = height > 32000 ? 32000 / height : 1
+	printf "<svg%s class=\"run\" role=\"img\" viewBox=\"0 0 %s %s\" width=\"%s\" height=\"%s\">\n", (bare ? "" : " xmlns=\"http://www.w3.org/2000/svg\""), width, height, sprintf("%.2f", width * shrink) + 0, sprintf("%.2f", height * shrink) + 0
+	description()
+	if (bare) return
+	style()
+	print "<rect class=\"back\" width=\"100%\" height=\"100%\"/>"
+}
+
+function one_row(    m, c, i) {
+	begin = row * span
+	finish = begin + span < last || rows == 1 && last == 0 ? begin + span : last
+	axis(height)
+	for (m = 1; m <= items["m"]; m++) mode_lane(m)
+	for (c = 1; c <= items["v"]; c++) value_lane(c)
+	if (lanes) processor_lane()
+	for (i = 1; i <= lanes; i++) job_lane(lane[i])
+	y += 18
 }
 
 END {
-	gutter = 60
-	for (m = 1; m <= items["m"]; m++) fit(name_m[m])
-	for (c = 1; c <= items["v"]; c++) fit(name_c[c])
-	for (i = 1; i <= lanes; i++) fit(name_j[lane[i]])
-	right = gutter + 940
-	divide()
-	remarks()
+	name_lanes()
 	lane_height = listed ? 36 : 26
-	height = 24 * items["m"] + 42 * items["v"] + lane_height * lanes
-	y = 36 + 16 * remarked
-	printf "<svg xmlns=\"http://www.w3.org/2000/svg\" viewBox=\"0 0 %s %s\" width=\"%s\" height=\"%s\">\n", right + 24, y + rows * (height + 38), right + 24, y + rows * (height + 38)
-	style()
-	printf "<rect class=\"back\" width=\"100%%\" height=\"100%%\"/>\n"
-	title = totals == "" ? "lines of a run up to " last ", without its totals" : totals
-	text(8, 22, "title", title)
-	legend(8 + 7.9 * length(title) + 24)
-	for (i = 1; i <= remarked; i++) text(8, 24 + 16 * i, "axis", remark[i])
-	for (row = 0; row < rows; row++) {
-		begin = row * span
-		finish = begin + span < last || rows == 1 && last == 0 ? begin + span : last
-		axis(height)
-		for (m = 1; m <= items["m"]; m++) mode_lane(m)
-		for (c = 1; c <= items["v"]; c++) value_lane(c)
-		for (i = 1; i <= lanes; i++) job_lane(lane[i])
-		y += 18
+	height = (lanes ? 26 : 0) + 24 * items["m"] + lane_height * lanes
+	for (c = 1; c <= items["v"]; c++) height += value_height(c)
+	divide()
+	right = gutter + row_width
+	remarks()
+	y = 52 + 16 * remarked
+	open_picture(right + 24, y + rows * (height + 38))
+	text(8, 22, "title", in_words())
+	legend(8)
+	for (i = 1; i <= remarked; i++) {
+		if (i in is_fault) cross(14, 52 + 16 * i - 16, 4)
+		text(i in is_fault ? 24 : 8, 56 + 16 * i - 16, i in is_fault ? "fault" : "axis", remark[i])
 	}
+	for (row = 0; row < rows; row++) one_row()
 	print "</svg>"
 }

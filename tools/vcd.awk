@@ -1,4 +1,4 @@
-# Behind lines.awk, windows.awk and rounds.awk, with vcd-signs.awk: the run as a Value Change Dump. A communicator whose values are
+# Behind lines.awk, refused.awk, windows.awk and rounds.awk, with vcd-signs.awk: the run as a Value Change Dump. A communicator whose values are
 # 0 and 1 alone is a wire, another an integer of 64 bits; each mode is a wire, and each module has its mode's name as a string too,
 # as GTKWave takes them; each invocation is a wire that is 1 while it runs, with an event where it is done. With a listing there are
 # events where a round of a module, a frame or a job's window begins, and where a window ends. One time unit of the dump is one
@@ -68,11 +68,13 @@ function runs(    j, k, id) {
 		id = declare_event(name_j[j] ".due")
 		for (k = 1; k <= windows[j] && closes[j, k] <= last; k++) change(closes[j, k], id, 1)
 	}
+	if (refused_j) change(refused_from < last ? refused_from : last, declare_event("refused"), 1)
 	print "$upscope $end"
 }
 
 END {
 	print "$comment the lines of a run of htl; one unit of time is one tick $end"
+	if (refused) print "$comment refused by the audit: line " refused " of the log" (refused_text == "" ? "" : ", " refused_text) ", " refused_for " $end"
 	print "$timescale " (unit + 0) " " substr(unit, length(unit + 0 "") + 1) " $end"
 	count_rounds()
 	values()

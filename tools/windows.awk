@@ -1,14 +1,14 @@
-# Behind listing.awk and lines.awk: the lanes of jobs, lane[i], i from 1 to lanes, in the order of the listing where there is
-# one; and then the windows of the jobs of invocation j, opens[j, k] to closes[j, k], k from 1 to windows[j], with ready[j, k],
-# when that job was done, where the run tells it. A log that was audited doesn't, but it is legal: there a job whose window ended
-# was done with its last slice in it.
-# Rounds of a mode begin at the multiples of its period, so an instant says of which round a job is.
+# Behind listing.awk, lines.awk and refused.awk: the lanes of jobs, lane[i], i from 1 to lanes, in the order of the listing where there
+# is one; and then the windows of the jobs of invocation j, opens[j, k] to closes[j, k], k from 1 to windows[j], with the ticks that
+# its slices have there, used[j, k], and with ready[j, k], when that job was done, where the run tells it. A log that was audited
+# doesn't, but it is legal: there a job whose window ended was done with its last slice in it.
+# A job has a window in each round that begins in its mode, whether it ran or not: a run's lines of modes say which rounds these are.
 
 function compare(    c, m, k, j) {
 	for (c = 1; c <= items["v"]; c++) if (!(name_c[c] in kind)) lacks(name_c[c])
 	for (m = 1; m <= items["m"]; m++)
 		for (k = 1; k <= moves[m]; k++) if (mode[m, k] != "-" && !((name_m[m] "." mode[m, k]) in period)) lacks(name_m[m] "." mode[m, k])
-	for (j = 1; j <= items["j"]; j++) if (!(name_j[j] in is_listed)) lacks(name_j[j])
+	for (j = 1; j <= items["j"]; j++) if (!(name_j[j] in is_listed) && refused_for !~ /^(form|unknown)$/) lacks(name_j[j])
 	for (j = 1; j <= invs; j++) if (!(mode_of(inv_name[j]) in period)) lacks("the mode of `" inv_name[j] "'")
 }
 
@@ -24,41 +24,43 @@ function mode_of(name) {
 	return name
 }
 
-# The round in which a job of this invocation was done; one at the end of a round is of that round.
-function round_done(j, k, length_of_round) { return done[j, k] > 0 ? int((done[j, k] - 1) / length_of_round) : 0 }
-
-function add_window(j, round, length_of_round) {
-	opens[j, ++windows[j]] = round * length_of_round + release[name_j[j]]
-	closes[j, windows[j]] = round * length_of_round + window_end[name_j[j]]
-	last_round[j] = round
-}
-
-# The windows of the jobs that the run tells, and of one that was released and isn't told by the end.
-function find_windows(j,    by_slices, its_mode, its_period, s, f, a, b, round) {
-	its_mode = mode_of(name_j[j])
-	its_period = period[its_mode]
-	by_slices = totals ~ /^audited / && !finishes[j]
-	for (s = f = 1; s <= slices[j] || f <= finishes[j];) {
-		a = s <= slices[j] ? int(from[j, s] / its_period) : 1e15
-		b = f <= finishes[j] ? round_done(j, f, its_period) : 1e15
-		round = a < b ? a : b
-		add_window(j, round, its_period)
-		for (; s <= slices[j] && int(from[j, s] / its_period) == round; s++)
-			if (from[j, s] < opens[j, windows[j]] || upto[j, s] > closes[j, windows[j]]) outside++
-		if (by_slices && closes[j, windows[j]] <= last) done[j, ++finishes[j]] = upto[j, s - 1]
-		if (f <= finishes[j] && round_done(j, f, its_period) == round) note_done(j, windows[j], done[j, f++])
-	}
-	round = last > 0 ? int((last - 1) / its_period) : 0
-	if (runs_in(its_mode, round * its_period) && round * its_period + release[name_j[j]] < last && !(windows[j] && last_round[j] >= round)) add_window(j, round, its_period)
-}
-
-# Whether the run's last lines of modes say that this mode runs from that instant on.
-function runs_in(its_mode, start,    m, part) {
-	split(its_mode, part, ".")
-	if (!(("m", part[1]) in numbers)) return 0
+# The windows of an invocation that are released before the end of the run, by the times at which its mode runs; of all of them the
+# first 200,000.
+function find_windows(j,    part, m, i, start, end) {
+	split(name_j[j], part, ".")
+	if (!(("m", part[1]) in numbers)) return
 	m = numbers["m", part[1]]
-	return mode[m, moves[m]] == part[2] && when[m, moves[m]] <= start
+	for (i = 1; i <= moves[m]; i++) {
+		if (mode[m, i] != part[2]) continue
+		end = i < moves[m] && when[m, i + 1] < last ? when[m, i + 1] : last
+		for (start = multiple(when[m, i], period[part[1] "." part[2]]); start < end; start += period[part[1] "." part[2]]) {
+			if (start + release[name_j[j]] >= last || ++all_windows > 200000) break
+			opens[j, ++windows[j]] = start + release[name_j[j]]
+			closes[j, windows[j]] = start + window_end[name_j[j]]
+		}
+	}
 }
+
+# Gives the slices and the ends of the jobs to their windows.
+function fill_windows(j,    k, s, f, legal) {
+	legal = totals ~ /^audited / && !finishes[j]
+	s = f = 1
+	for (k = 1; k <= windows[j]; k++) {
+		for (; s <= slices[j] && from[j, s] < closes[j, k]; s++) {
+			if (from[j, s] < opens[j, k] || upto[j, s] > closes[j, k]) outside++
+			else used[j, k] += upto[j, s] - from[j, s]
+		}
+		if (legal && used[j, k] && closes[j, k] <= last) done[j, ++finishes[j]] = upto[j, s - 1]
+		for (; f <= finishes[j] && done[j, f] <= closes[j, k]; f++) note_done(j, k, done[j, f])
+	}
+	if (windows[j]) outside += slices[j] - s + 1
+}
+
+# Whether a job never ran, though its window ended.
+function is_missing(j, k) { return !used[j, k] && !((j, k) in ready) && closes[j, k] <= judged_to() }
+
+# Whether a job has fewer ticks than it may take, in a log that is short of some.
+function is_scarce(j, k) { return refused_for == "short" && !missing && used[j, k] < worst[name_j[j]] && closes[j, k] <= last }
 
 function note_done(j, k, time) {
 	ready[j, k] = time
@@ -69,17 +71,24 @@ function note_done(j, k, time) {
 	}
 }
 
+# A lane for each invocation that has something to show.
+function find_lanes(    told, i, j, k) {
+	told = items["j"] || refused
+	for (i = 1; told && i <= invs; i++) {
+		find_windows(j = invocation(inv_name[i]))
+		fill_windows(j)
+		for (k = 1; k <= windows[j]; k++) missing += is_missing(j, k)
+		if (windows[j] || slices[j] || finishes[j] || j == refused_j) in_lane[lane[++lanes] = j] = 1
+	}
+	for (j = 1; j <= items["j"]; j++) if (!(j in in_lane) && (slices[j] || finishes[j] || j == refused_j)) lane[++lanes] = j
+}
+
 END {
-	told = items["j"]
 	if (listed) compare()
 	if (asked && !listed) {
 		print "bin/htl: the listing has no line; bin/htl show OBJECT > LISTING makes one" | "cat 1>&2"
 		failed = 1
 	}
 	if (failed) exit 1
-	for (i = 1; told && i <= invs; i++) {
-		find_windows(j = invocation(inv_name[i]))
-		if (windows[j]) lane[++lanes] = j
-	}
-	for (j = 1; j <= told; j++) if (!windows[j]) lane[++lanes] = j
+	find_lanes()
 }
