@@ -161,6 +161,25 @@ ask_frames() {
 	done
 }
 
+# Asks what the pages about four objects are made of, as tests/runs/NAME-report.txt has it, and for runs of random readings.
+ask_reports() {
+	for it in boiler cascade tanks motor; do
+		sed -n 's/^> //p' "$RUNS/$it-report.txt" >"$work/asked/words"
+		n=0
+		while read -r word rest; do
+			n=$((n + 1))
+			echo "$rest" | awk 'NF > 1 { for (i = 1; i < NF; i += 2) print "mode " $i " " $(i + 1) }' >"$work/asked/lines"
+			[ "$word" != plan ] || rest=
+			ask report-$it-$n lines $word $it.object $rest
+		done <"$work/asked/words"
+		step=$(awk '/^(sensor|comm) / && (least == "" || $5 < least) { least = $5 } END { print least }' "$RUNS/$it-listing.txt")
+		for seed in 1 2 3; do
+			awk -v seed=$seed -v count=400 -v step="$step" -f "$root/tests/readings.awk" "$RUNS/$it-listing.txt" >"$work/asked/lines"
+			ask random-$it-$seed lines jobs $it.object
+		done
+	done
+}
+
 # All that is asked, in the folder of the files that the words name.
 ask_for_all() {
 	cp "$root/examples/cascade.log" monotonic.log
@@ -204,6 +223,7 @@ ask_for_all() {
 	for it in filter control guard none; do ask slack-$it /dev/null slack motor.object Drive.$it; done
 	ask slack-cascade /dev/null slack cascade.object Outer.plan
 	ask slack-tanks /dev/null slack tanks.object T2.direct
+	ask_reports
 	for it in soft slow; do ask patch-$it /dev/null patch tanks.object T1.hold $it.object; done
 	for it in on-slow on-fast; do
 		ask check-$it /dev/null check $it.object

@@ -17,7 +17,7 @@ _htl() {
 			ill-formed hyperperiod starts paths positions unschedulable object magic version short index tag spelling trailing function ecode target action delay endless branch
 			schedule late unfinished before order script form range overrun no-end after size shelf failed read write memory
 			platform text shape log outside over task mode comms parent done"
-		COMPREPLY=($(compgen -W "$commands --explain --unproved --each $answers --prove --svg --vcd --help --version" -- "$word"))
+		COMPREPLY=($(compgen -W "$commands --explain --unproved --each $answers --prove --svg --vcd --report --help --version" -- "$word"))
 		;;
 	compile)
 		case $before in
@@ -42,6 +42,13 @@ _htl() {
 		compopt -o filenames 2>/dev/null
 		local IFS=$'\n'
 		COMPREPLY=($(compgen -f -- "$word"))
+		;;
+	--report)
+		[ "$before" = --report ] || [ "${COMP_WORDS[COMP_CWORD - 2]}" = --report ] || return
+		compopt -o filenames 2>/dev/null
+		local IFS=$'\n' pattern='*'
+		[ "$before" = --report ] || pattern='*.htl'
+		COMPREPLY=($(compgen -d -- "$word") $(compgen -f -X "!$pattern" -- "$word" | while read -r i; do [ -d "$i" ] || printf '%s\n' "$i"; done))
 		;;
 	--svg | --vcd)
 		[ "$before" = "$command" ] || [ "$command:${COMP_WORDS[COMP_CWORD - 2]}" = --vcd:--vcd ] || return

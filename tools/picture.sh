@@ -35,7 +35,7 @@ fi
 asked=$#
 case $option in
 --vcd) set -- listing lines refused windows common rounds vcd vcd-signs ;;
-*) set -- listing lines refused windows common rounds svg svg-rows svg-lanes svg-windows svg-signs ;;
+*) set -- listing lines refused windows common rounds svg svg-style svg-rows svg-lanes svg-windows svg-signs ;;
 esac
 for it; do
 	set -- "$@" -f "$tools/$it.awk"
