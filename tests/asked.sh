@@ -3,7 +3,7 @@
 # output, its fault line, its status.
 
 asked() {
-	[ -d "$work/asked" ] || ask_all
+	[ -d "$work/asked" ] || (ask_all)
 	cat "$work/asked/$1.out"
 	cat "$work/asked/$1.err" >&2
 	return "$(cat "$work/asked/$1.status")"

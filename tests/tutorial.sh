@@ -5,7 +5,7 @@ tutorial=$work/tutorial
 # Does what the page says, up to its block of that number of what is seen, and prints what is seen there; with `all`
 # up to its end.
 follow() {
-	[ -d "$work/asked" ] || ask_all
+	[ -d "$work/asked" ] || (ask_all)
 	follow_page "$1"
 }
 
