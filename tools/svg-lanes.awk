@@ -85,6 +85,7 @@ function processor_lane(    i, j, k) {
 		for (k = first_s[j] + !first_s[j]; k <= slices[j] && from[j, k] < finish; k++)
 			if (upto[j, k] > begin) box("slice", from[j, k], upto[j, k], y + 7, 12, "the processor has " name_j[j] " from " from[j, k] " to " upto[j, k])
 	}
+	if (untold < last && untold < finish) box("untold", untold, last, y + 7, 12, "a job may have the processor from " untold " on: its slice isn't told, since the run ends in it")
 	if (refused_j) refused_sign(refused_j, 7)
 	y += 26
 }

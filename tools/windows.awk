@@ -71,6 +71,18 @@ function note_done(j, k, time) {
 	}
 }
 
+# From where on the lines of a run don't tell who has the processor: a slice that the end cuts off isn't told, where a job is open there.
+function find_untold(    i, j, k) {
+	untold = last
+	if (totals ~ /^(audited|plan) / || refused) return
+	for (i = 1; i <= lanes; i++) {
+		j = lane[i]
+		k = windows[j]
+		if (k && closes[j, k] > last && !((j, k) in ready) && opens[j, k] < untold) untold = opens[j, k]
+	}
+	for (i = 1; i <= lanes && untold < last; i++) if (slices[lane[i]] && upto[lane[i], slices[lane[i]]] > untold) untold = upto[lane[i], slices[lane[i]]]
+}
+
 # A lane for each invocation that has something to show.
 function find_lanes(    told, i, j, k) {
 	told = items["j"] || refused
@@ -91,4 +103,5 @@ END {
 	}
 	if (failed) exit 1
 	find_lanes()
+	find_untold()
 }
