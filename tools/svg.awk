@@ -55,6 +55,7 @@ function remarks() {
 	if (refused) say_refused()
 	if (rows > 1) remark[++remarked] = "cut by time into " rows " rows of at most " span " ticks" row_is
 	if (least_left != "") remark[++remarked] = "least ticks left: " name_shown("j", name_j[least_of]) ", " how_near(least_of, least_at)
+	if (items["v"] && last && at[1, 1] == last) remark[++remarked] = "these lines tell the last values of the run alone, as bulk does"
 	if (missing && !refused) remark[++remarked] = counted(missing, "job") " never ran, though the window ended"
 	if (outside && !refused) remark[++remarked] = "slices outside the windows of the listing: " outside "; it may be of another object"
 	if (behind_end) remark[++remarked] = counted(behind_end, "slice") " behind the end of the run at " last (behind_end == 1 ? " isn't" : " aren't") " drawn there"
