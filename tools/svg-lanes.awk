@@ -70,11 +70,12 @@ function value_lane(c,    k, a, b, level, path, marks, of) {
 
 # From the least value to the greatest, where there is room for it.
 function value_range(c,    k, low, high) {
+	if (c in range_of) return range_of[c]
 	for (k = 1; k <= changes[c]; k++) {
 		if (value[c, k] + 0 == least[c]) low = value[c, k]
 		if (value[c, k] + 0 == greatest[c]) high = value[c, k]
 	}
-	return 6.1 * length(low ".." high) > gutter - 18 ? "" : low ".." high
+	return range_of[c] = 6.1 * length(low ".." high) > gutter - 18 ? "" : low ".." high
 }
 
 # Who has the processor: all slices in one lane, so that idle time is seen.
