@@ -74,6 +74,7 @@ $1 == "j" && NF == 4 && is_name($4, 3) {
 	add_slice(j, instant($2), instant($3))
 	if ($3 + 0 <= $2 + 0) refuse("ends before it begins: " shown($0))
 	if (slices[j] > 1 && $2 + 0 < upto[j, slices[j] - 1]) refuse("overlaps a slice before it: " shown($0))
+	told_slice[++slices_told] = $0
 	next
 }
 
@@ -126,6 +127,7 @@ END {
 	}
 	if (failed) exit 1
 	if (totals ~ /^plan / && !items["m"]) modes_of_plan()
+	if (refused && !in_log) find_refused()
 	if (told_end != "") last = told_end
 	for (j = 1; j <= items["j"]; j++) cut_at_end(j)
 }

@@ -46,6 +46,17 @@ function take_refused(a, b) {
 	if (refused_for != "order" && b > last) last = b
 }
 
+# The refused slice, where the line of the audit stands behind its log.
+function find_refused(    part) {
+	log_end = last
+	if (!(refused in told_slice)) return
+	split(told_slice[refused], part, " ")
+	refused_text = shown(told_slice[refused])
+	refused_j = invocation(part[4])
+	refused_from = part[2] + 0
+	refused_upto = part[3] + 0
+}
+
 # Up to which instant a window without a slice is one whose job never ran: to the end of a run that is told whole, of a log that lacks
 # nothing but that, or of what a log has at all.
 function judged_to() {
