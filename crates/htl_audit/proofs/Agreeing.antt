@@ -11,8 +11,10 @@ use Rattle.htl_audit.specs.declared.slice.LogKind.TheVariants as kind
 use Rattle.htl_audit.specs.Jobs.{BeginningJobs}
 use Rattle.htl_audit.specs.Legal.{lies_in, ticks, job_length, is_done, is_free, is_over, is_short, any_job, any_short, last_end, slice_is_out_of_order, line_fault}
 use Rattle.htl_audit.specs.Agreeing.{Matches, Agree, AreEarly}
-use Rattle.htl_audit.proofs.JobTests.{same_truth, both, all_at_0, all_pass_0, job_found, job_there}
+use Rattle.htl_audit.proofs.JobTests.{all_at_0, all_pass_0, job_found, job_there}
 use Rattle.htl_audit.proofs.Judging.{lies, rest}
+use Rattle.std.proofs.lemmas.Bool.{and_parts, cases_lt, leb-false, lt-leb, ltb-true}
+use Rattle.htl_base.proofs.Tests.{same_truth}
 
 -- ticks depend on a round by its start alone
 lies_start : (r s : BeginningJobs) (j : Job) (x : Slice) → r.start ≡ s.start → lies_in r j x ≡ lies_in s j x
@@ -33,13 +35,10 @@ no_ticks now r j (x ∷ xs) early h =
     out false e = e
     out true e = absurd (omega (arith, (lies r j x e).from, early 0 x refl, h))
 
-order : (a b : ℕ) → (a < b) ⊎ (b ≤ a)
-order a b = grind arith
-
 module _ (now : ℕ) (log : List Slice) (early : AreEarly now log) where
   -- whether a job's slices add up
   pub done_alike : (r s : BeginningJobs) (p : ℕ) (j : Job) → Matches now r s → slice_get r.jobs p ≡ Some j → j.present ≡ true → is_done r log (p, j) ≡ is_done s log (p, j)
-  done_alike r s p j m at here = elim (order (r.start + j.release) now) [
+  done_alike r s p j m at here = elim (cases_lt (r.start + j.release) now) [
     | inl h ↦ ap₂ (λ a b. eqb a b) (ticks_start r s j log m.start) (m.lengths p j at here h)
     | inr h ↦
         let a : ticks r j log ≡ 0 = no_ticks now r j log early h in
@@ -93,7 +92,7 @@ module _ (now : ℕ) (log : List Slice) (early : AreEarly now log) where
     with_test test other same =
         any_same (λ r j. lies_in r j.1 x && test r j) (λ r j. lies_in r j.1 x && other r j)
         (λ r s p j m at. by (lies_in r j x) (lies_in s j x) (test r (p, j)) (other s (p, j)) (lies_start r s j x m.start) (same r s p j m at))
-        (λ s p j e. (both (lies_in s j x) (other s (p, j)) e).0)
+        (λ s p j e. (and_parts (lies_in s j x) (other s (p, j)) e).0)
       where
         by : (a b c d : Bool) → a ≡ b → (a ≡ true → c ≡ d) → (a && c) ≡ (b && d)
         by true b c d e f = ap₂ (λ u v. u && v) e (f refl)
@@ -116,17 +115,11 @@ module _ (now : ℕ) (log : List Slice) (early : AreEarly now log) where
   pub fault_alike : (rounds later : List BeginningJobs) (first then : ℕ) (x : Slice) → Agree now rounds later → first ≤ then → x.to ≤ now → x.to < first → line_fault rounds first log x ≡ line_fault later then log x
   fault_alike rounds later first then x agree h by_now soon = by (leb x.to x.from) refl
     where
-      large : (a b : ℕ) → b < a → leb a b ≡ false
-      large a b h = grind (arith, nat_tests)
-
-      less : (a b : ℕ) → leb a b ≡ false → b < a
-      less a b e = grind (arith, nat_tests)
-
       sorted : slice_is_out_of_order first log x ≡ slice_is_out_of_order then log x
-      sorted = ap (λ b. leb x.to x.from || ltb x.from (last_end log) || b) (large first x.to soon ∙ sym (large then x.to (omega (arith, h, soon))))
+      sorted = ap (λ b. leb x.to x.from || ltb x.from (last_end log) || b) (lt-leb first x.to soon ∙ sym (lt-leb then x.to (omega (arith, h, soon))))
 
       by : (b : Bool) → leb x.to x.from ≡ b → line_fault rounds first log x ≡ line_fault later then log x
-      by false e = ap₂ (λ p q. cond p (Some kind.Order) q) sorted (rest_alike rounds later agree x (omega (arith, less x.to x.from e, by_now)))
+      by false e = ap₂ (λ p q. cond p (Some kind.Order) q) sorted (rest_alike rounds later agree x (omega (arith, leb-false x.to x.from e, by_now)))
       by true e =
           let a : slice_is_out_of_order first log x ≡ true = ap (λ z. z || ltb x.from (last_end log) || leb first x.to) e in
           let b : slice_is_out_of_order then log x ≡ true = sym sorted ∙ a in
@@ -140,9 +133,6 @@ module _ (now : ℕ) (log : List Slice) (early : AreEarly now log) where
   pub short_alike : (rounds later : List BeginningJobs) → Agree now rounds later → any_short rounds now log ≡ any_short later now log
   short_alike rounds later agree = same_truth _ _ there back
     where
-      small : (a b : ℕ) → ltb a b ≡ true → a < b
-      small a b e = grind (arith, nat_tests)
-
       same : (r s : BeginningJobs) (p : ℕ) (j : Job) → Matches now r s → slice_get r.jobs p ≡ Some j → is_short now r log (p, j) ≡ is_short now s log (p, j)
       same r s p j m at = by (j.present) (ltb (r.start + j.end) now) refl refl
         where
@@ -155,7 +145,7 @@ module _ (now : ℕ) (log : List Slice) (early : AreEarly now log) where
               ap₂ (λ y z. y && z && ltb (ticks r j log) (job_length r p)) e f ∙ sym (ap₂ (λ y z. y && z && ltb (ticks s j log) (job_length s p)) e g)
           by true true e f =
               ap₂ (λ n w. j.present && ltb (n + j.end) now && w) m.start
-              (ap₂ (λ a b. ltb a b) (ticks_start r s j log m.start) (m.lengths p j at e (omega (arith, m.window p j at e, small (r.start + j.end) now f))))
+              (ap₂ (λ a b. ltb a b) (ticks_start r s j log m.start) (m.lengths p j at e (omega (arith, m.window p j at e, ltb-true (r.start + j.end) now f))))
 
       there : any_short rounds now log ≡ true → any_short later now log ≡ true
       there e =
@@ -172,7 +162,7 @@ module _ (now : ℕ) (log : List Slice) (early : AreEarly now log) where
                 let at : slice_get m.round.jobs f.position ≡ Some f.job = ap (λ js. slice_get js f.position) m.same.jobs ∙ f.is.job in
                 job_there (λ r j. is_short now r log j) rounds m.round f.position f.job (record { number = m.number; at = m.at; job = at }) (same m.round f.round f.position f.job m.same at ∙ f.passes)
             | inr h ↦
-                let two = both (f.job.present && ltb (f.round.start + f.job.end) now) (ltb (ticks f.round f.job log) (job_length f.round f.position)) f.passes in
-                let one = both f.job.present (ltb (f.round.start + f.job.end) now) two.0 in
-                absurd (omega (arith, h, small (f.round.start + f.job.end) now one.1))
+                let two = and_parts (f.job.present && ltb (f.round.start + f.job.end) now) (ltb (ticks f.round f.job log) (job_length f.round f.position)) f.passes in
+                let one = and_parts f.job.present (ltb (f.round.start + f.job.end) now) two.0 in
+                absurd (omega (arith, h, ltb-true (f.round.start + f.job.end) now one.1))
           ]

@@ -2,11 +2,10 @@
 -- ended; all others keep what they had.
 use Rattle.std.proofs.Common.{◌≡◌, ℕ, zero, suc, ◌+◌, ◌-◌, ◌*◌, ◌/◌, ◌%◌, ◌≤◌, ◌<◌, ◌⊎◌, inl, inr, Bool, true, false, cond, List, [], ◌∷◌, ◌++◌, length, get_or, map, Some, refl, sym, ◌∙◌, ap, subst, arith}
 use Rattle.std.specs.Prelude.{slice_get}
-use Rattle.std.proofs.lemmas.Bool.{eqb-true}
+use Rattle.std.proofs.lemmas.Bool.{eqb-true, cases_lt}
 use Rattle.std.proofs.lemmas.List.{map-append}
-use Rattle.std.proofs.lemmas.Option.{slice_get_within}
+use Rattle.std.proofs.lemmas.Option.{slice_get_within, none-some}
 use Rattle.std.proofs.Math.Nat.{div-add-mod}
-use Rattle.htl_form.proofs.PartLaws.{none_some}
 use Rattle.htl_model.specs.declared.event.Event.{Event}
 use Rattle.htl_model.specs.declared.parts.Inv.{Inv}
 use Rattle.htl_model.specs.FrameRules.{KeptApart}
@@ -21,21 +20,18 @@ use Rattle.htl_audit.specs.Growing.{HaveRounds}
 use Rattle.htl_audit.specs.Jobs.{BeginningJobs, round_of, starts_before, all_rounds}
 use Rattle.htl_audit.specs.Keeping.{Kept, has_job, start_at, begins_round, lengths_begun}
 use Rattle.htl_audit.specs.Rosters.{IsIn, IsCurrent, HasJob, AreKept, IsSized}
-use Rattle.htl_audit.proofs.Growing.{in_two, in_front, in_back, start_is, round_is}
+use Rattle.htl_audit.proofs.Growing.{start_is, round_is}
 use Rattle.htl_audit.proofs.Renewing.{IsNew, IsStill, all_new, all_still, runs_is}
 use Rattle.htl_audit.proofs.RoundJobs.{begins_is, fresh, fresh_begins, has_fresh, precedes_is, feeds_begin}
 use Rattle.htl_audit.proofs.RoundJobs as jobs
-use Rattle.htl_audit.proofs.Settling.{stands_within}
-
-either : (a b : ℕ) → (a < b) ⊎ (b ≤ a)
-either a b = grind arith
+use Rattle.htl_base.proofs.Places.{get_either, get_front, into_back, marked_within}
 
 -- two multiples of a period are a period apart at least
 pub multiples : (p a b : ℕ) → a % p ≡ 0 → b % p ≡ 0 → a < b → a + p ≤ b
 multiples p a b e g h =
     let whole : p * (a / p) ≡ a = omega (arith, div-add-mod a p, e) in
     let other : p * (b / p) ≡ b = omega (arith, div-add-mod b p, g) in
-    elim (either (a / p) (b / p)) [
+    elim (cases_lt (a / p) (b / p)) [
       | inl less ↦
           let d = b / p - suc (a / p) in
           let is : b / p ≡ suc (a / p) + (b / p - suc (a / p)) = omega (arith, less) in
@@ -84,11 +80,11 @@ module _ (t : Tables) (range : AreInRange t) (kept : KeptApart t 16) (rounds : H
 
   -- a job is of an earlier round, or of the new one
   pub split : (r : BeginningJobs) (p : ℕ) (j : Job) (i : IsIn (old ++ new ∷ []) r p j) → ((o : IsIn old r p j) × (o.number ≡ i.number)) ⊎ ((i.number ≡ length old) × (r ≡ new))
-  split r p j i = by (in_two old (new ∷ []) i.number r i.at)
+  split r p j i = by (get_either old (new ∷ []) i.number r i.at)
     where
       last : (m : ℕ) → i.number ≡ length old + m → slice_get (new ∷ []) m ≡ Some r → (i.number ≡ length old) × (r ≡ new)
       last zero e g = (omega (arith, e), let one : new ≡ r = cc in sym one)
-      last (suc m) e g = absurd (none_some r g)
+      last (suc m) e g = absurd (none-some r g)
 
       by : (slice_get old i.number ≡ Some r) ⊎ ((m : ℕ) × (i.number ≡ length old + m) × (slice_get (new ∷ []) m ≡ Some r)) → ((o : IsIn old r p j) × (o.number ≡ i.number)) ⊎ ((i.number ≡ length old) × (r ≡ new))
       by (inl h) = inl (record { number = i.number; at = h; job = i.job; present = i.present }, refl)
@@ -149,14 +145,14 @@ module _ (t : Tables) (range : AreInRange t) (kept : KeptApart t 16) (rounds : H
     both_ways i e g = absurd (let z : true ≡ false = sym e ∙ g in let y : ⊥ = cc in y)
 
     in_all : (r : BeginningJobs) (p : ℕ) (j : Job) → IsIn old r p j → IsIn (old ++ new ∷ []) r p j
-    in_all r p j i = record { number = i.number; at = in_front old (new ∷ []) i.number r i.at; job = i.job; present = i.present }
+    in_all r p j i = record { number = i.number; at = get_front old (new ∷ []) i.number r i.at; job = i.job; present = i.present }
 
     pub kept_new : AreKept t old k.roster → length then.roster.stands ≡ length t.invs → AreKept t (old ++ new ∷ []) then.roster
     kept_new was rows = record { has = has; only = only; together = together; before = before; mates = mates; once = once }
       where
         fresh_at : (i : ℕ) → begins_round t s i ≡ true → has_job then.roster i ≡ true → (p : ℕ) × (j : Job) × (slice_get new.jobs p ≡ Some j) × (j.present ≡ true) × (j.inv ≡ i)
         fresh_at i b e =
-            let h = stands_within then.roster.stands i e in
+            let h = marked_within then.roster.stands i e in
             has_fresh t range kept rounds es s i (sym (is_new i (omega (arith, h, rows)) b).stands ∙ e) b
 
         has : (i : ℕ) → has_job then.roster i ≡ true → HasJob t (old ++ new ∷ []) then.roster i
@@ -167,7 +163,7 @@ module _ (t : Tables) (range : AreInRange t) (kept : KeptApart t 16) (rounds : H
                 round = new;
                 position = p.0;
                 job = p.1;
-                is = record { number = length old + 0; at = in_back old (new ∷ []) 0 new refl; job = p.2; present = p.3 };
+                is = record { number = length old + 0; at = into_back old (new ∷ []) 0 new refl; job = p.2; present = p.3 };
                 inv = p.4;
                 current = current p.0 p.1 p.2 p.3;
               }

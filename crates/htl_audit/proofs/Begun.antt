@@ -27,11 +27,14 @@ use Rattle.htl_audit.specs.Verdicts.{LogFollows, LogEnds}
 use Rattle.htl_audit.proofs.Agreeing.{fault_alike, no_ticks}
 use Rattle.htl_audit.proofs.Beginning.{grown, split, is_new, is_still, begins_or_not, old_current, kept_new}
 use Rattle.htl_audit.proofs.RoundJobs.{fresh, fresh_begins}
-use Rattle.htl_audit.proofs.Growing.{in_front, rounds_agree, rounds_still}
+use Rattle.htl_audit.proofs.Growing.{rounds_agree, rounds_still}
 use Rattle.htl_audit.proofs.Onward.{early, kept_then}
 use Rattle.htl_audit.proofs.Renewing.{renewed_sized, renewed_else, start_past}
 use Rattle.htl_audit.proofs.Summing.{passes}
-use Rattle.htl_audit.proofs.JobTests.{same_truth, both, job_found, job_there}
+use Rattle.htl_audit.proofs.JobTests.{job_found, job_there}
+use Rattle.std.proofs.lemmas.Bool.{and_parts, cases_lt, ltb-true}
+use Rattle.htl_base.proofs.Places.{get_front}
+use Rattle.htl_base.proofs.Tests.{same_truth}
 
 -- a job takes at least one tick
 pub some_took : (t : Tables) → AreInRange t → (es : List Event) → AreTookWithin t es → (i u : ℕ) (x : Inv) → slice_get t.invs i ≡ Some x → 1 ≤ took t es i u
@@ -107,15 +110,12 @@ module _ (t : Tables) (range : AreInRange t) (kept : KeptApart t 16) (rounds : H
   short_new : any_short all (suc s) (take c log) ≡ any_short (all_rounds t es s) (suc s) (take c log)
   short_new = same_truth _ _ there back
     where
-      less : (a b : ℕ) → ltb a b ≡ true → a < b
-      less a b e = grind (arith, nat_tests)
-
       there : any_short all (suc s) (take c log) ≡ true → any_short (all_rounds t es s) (suc s) (take c log) ≡ true
       there e =
           let g = job_found (λ r j. is_short (suc s) r (take c log) j) all e in
-          let two = both (g.job.present && ltb (g.round.start + g.job.end) (suc s)) (ltb (ticks g.round g.job (take c log)) (rules.job_length g.round g.position)) g.passes in
-          let one = both g.job.present (ltb (g.round.start + g.job.end) (suc s)) two.0 in
-          let ended : g.round.start + g.job.end < suc s = less (g.round.start + g.job.end) (suc s) one.1 in
+          let two = and_parts (g.job.present && ltb (g.round.start + g.job.end) (suc s)) (ltb (ticks g.round g.job (take c log)) (rules.job_length g.round g.position)) g.passes in
+          let one = and_parts g.job.present (ltb (g.round.start + g.job.end) (suc s)) two.0 in
+          let ended : g.round.start + g.job.end < suc s = ltb-true (g.round.start + g.job.end) (suc s) one.1 in
           let i : IsIn all g.round g.position g.job = record { number = g.is.number; at = g.is.at; job = g.is.job; present = one.0 } in
           elim (split t range kept rounds es s is g.round g.position g.job i) [
             | inl o ↦ job_there (λ r j. is_short (suc s) r (take c log) j) (all_rounds t es s) g.round g.position g.job (record { number = o.0.number; at = o.0.at; job = o.0.job }) g.passes
@@ -129,7 +129,7 @@ module _ (t : Tables) (range : AreInRange t) (kept : KeptApart t 16) (rounds : H
       back e =
           let g = job_found (λ r j. is_short (suc s) r (take c log) j) (all_rounds t es s) e in
           job_there (λ r j. is_short (suc s) r (take c log) j) all g.round g.position g.job
-          (record { number = g.is.number; at = in_front (all_rounds t es s) (round_of t es s ∷ []) g.is.number g.round g.is.at; job = g.is.job }) g.passes
+          (record { number = g.is.number; at = get_front (all_rounds t es s) (round_of t es s ∷ []) g.is.number g.round g.is.at; job = g.is.job }) g.passes
 
   -- ---- at the end of a run
 
@@ -156,15 +156,12 @@ module _ (t : Tables) (range : AreInRange t) (kept : KeptApart t 16) (rounds : H
 
     began : BeganBefore (suc s) then
     began i = elim (begins_or_not t range kept rounds es s is takes takes_are k sized i) [
-      | inl b ↦ elim (either i (length t.invs)) [
+      | inl b ↦ elim (cases_lt i (length t.invs)) [
         | inl h ↦ inl (omega (arith, (is_new t range kept rounds es s is takes takes_are k sized i h b).start))
         | inr h ↦ inr (start_past t (modes_at t es s) takes s (length t.invs) i then rows h)
       ]
       | inr b ↦ subst (λ n. (n < suc s) ⊎ (n ≡ 0)) (sym (is_still t range kept rounds es s is takes takes_are k sized i b).start) (f.began i)
     ]
-      where
-        either : (a b : ℕ) → (a < b) ⊎ (b ≤ a)
-        either a b = grind arith
 
     summed : AreSummed t (all_rounds t es s) (take c log) k → AreSummed t all (take c log) then
     summed n =

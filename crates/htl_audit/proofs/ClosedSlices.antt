@@ -15,10 +15,10 @@ use Rattle.htl_refine.proofs.DoneRecords.{done_some}
 use Rattle.htl_refine.proofs.RecordOrder.{walk_rises, not_some}
 use Rattle.htl_refine.proofs.SliceOrder.{slice_inside}
 use Rattle.htl_refine.proofs.SliceSums.{spent_is}
-use Rattle.htl_walk.proofs.Finishes.{some_same}
 use Rattle.htl_machine.proofs.Turning.{done_exactly}
 use Rattle.htl_audit.specs.declared.slice.Slice.{Slice}
 use Rattle.htl_audit.specs.Own.{own_slice}
+use Rattle.std.proofs.lemmas.Option.{same_Some}
 
 -- ---- slices have room
 
@@ -38,7 +38,7 @@ slice_room jobs (Dispatch p h) x u e = by_work (get_or x.left p 0) e
             → ◌≡◌ {A = Option (ℕ × ℕ)} (elim b [ true ↦ Some (dispatch_begins x.time (job_at jobs p).release h, time_after x.time (suc w) (job_at jobs p).release h) | false ↦ None ]) (Some u) → u.0 < u.1
         by_room false is e = not_some u e
         by_room true is e =
-            let same : ◌≡◌ {A = ℕ × ℕ} (dispatch_begins x.time (job_at jobs p).release h, time_after x.time (suc w) (job_at jobs p).release h) u = some_same _ _ e in
+            let same : ◌≡◌ {A = ℕ × ℕ} (dispatch_begins x.time (job_at jobs p).release h, time_after x.time (suc w) (job_at jobs p).release h) u = same_Some _ _ e in
             omega (arith, room_after x.time w (job_at jobs p).release h (ltb-true (dispatch_begins x.time (job_at jobs p).release h) h is), ap (λ (z : ℕ × ℕ). z.0) same, ap (λ (z : ℕ × ℕ). z.1) same)
 
 -- and are of a position with work
@@ -65,7 +65,7 @@ runs_at jobs [] x P some k l u at has = not_some l at
 runs_at jobs (i ∷ is) x P some (suc k) l u at has =
     runs_at jobs is (next_point jobs i x) P (λ p more. some p (omega (arith, more, left_falls jobs i x p))) k l u at has
 runs_at jobs (i ∷ is) x P some zero l u at has =
-    let same = some_same _ _ at in
+    let same = same_Some _ _ at in
     let slice : slice_of jobs i x (next_point jobs i x).time ≡ Some u = ap (λ (m : Left). m.slice) same ∙ has in
     let works = slice_works jobs i x u slice in
     record {
@@ -177,7 +177,7 @@ closed_from jobs s now (l ∷ ls) i x at = by (eqb (s + l.at) now) refl l.positi
     by true then None sl of runs i at next = next i at
     by true then (Some p) None of runs i at next = next i at
     by true then (Some p) (Some u) of runs zero at next =
-        record { number = 0; left = l; position = p; slice = u; at = refl; then = eqb-true (s + l.at) now then; of = of; runs = runs; is = some_same _ _ at }
+        record { number = 0; left = l; position = p; slice = u; at = refl; then = eqb-true (s + l.at) now then; of = of; runs = runs; is = same_Some _ _ at }
     by true then (Some p) (Some u) of runs (suc i) at next = next i at
 
 -- ---- the ticks of a position

@@ -1,7 +1,6 @@
 -- The values that a legal log gives are those of logical execution time, instant by instant.
 use Rattle.std.proofs.Common.{◌≡◌, ◌≤◌, ◌<◌, ◌⊎◌, inl, inr, ℕ, zero, suc, ◌-◌, Bool, true, false, cond, ◌||◌, eqb, List, [], ◌∷◌, ◌++◌, length, slice_get, Option, Some, ℤ, refl, sym, ap, ap₂, ◌∙◌, subst, arith}
 use Rattle.std.proofs.lemmas.Bool.{eqb-true, eqb-false, ne_eqb}
-use Rattle.htl_form.proofs.PartLaws.{none_some}
 use Rattle.htl_model.specs.declared.event.Event.{Event}
 use Rattle.htl_model.specs.declared.parts.Inv.{Inv}
 use Rattle.htl_model.specs.declared.state.Stay.{Stay}
@@ -31,6 +30,7 @@ use Rattle.htl_audit.proofs.Judging.{lies, ticks_more}
 use Rattle.htl_audit.proofs.LegalLogs.{ended_next, ending_at, kept, one_ending, none_first}
 use Rattle.htl_audit.proofs.Rounds.{accepted_range, accepted_kept, first_rules, have_rounds}
 use Rattle.htl_audit.proofs.StandingJobs.{HasJobFrom, stands_order}
+use Rattle.std.proofs.lemmas.Option.{none-some}
 
 module _ (t : Tables) (lists : List (List SInstr)) (range : AreInRange t) (kept16 : KeptApart t 16) (feasible : AreFeasible t lists) (rounds : HaveRounds t) (es : List Event) (within : AreTookWithin t es) (end : ℕ) (log : List Slice) (legal : IsLegal t es end log) where
   first12 : KeptApart t 12
@@ -149,7 +149,7 @@ module _ (t : Tables) (lists : List (List SInstr)) (range : AreInRange t) (kept1
   lines_at zero late w follows places =
       let same : w ≡ done_at 0 w = ap (λ ys. with_lines t es [] (ended 0 log) ys w) (sym (none_first (all_rounds t es (suc end)) (suc end) log legal)) in (
         subst (λ v. ValuesFollow t es 0 (finished 0 1) v) same
-            (alike t es 0 (finished 0 0) (finished 0 1) w (λ i x s st. absurd (none_some (record { mode = x.mode; start = s }) st.in_round)) follows),
+            (alike t es 0 (finished 0 0) (finished 0 1) w (λ i x s st. absurd (none-some (record { mode = x.mode; start = s }) st.in_round)) follows),
         subst (HasPlaces t) same places,
       )
   lines_at (suc n) late w follows places = lines_done n (omega (arith, late)) w follows places (ending (suc n) log) refl
@@ -193,8 +193,8 @@ module _ (t : Tables) (lists : List (List SInstr)) (range : AreInRange t) (kept1
         stays = refl;
         follows = record {
           values = refl;
-          inputs = λ i x s k c n st fin at past. absurd (none_some (record { mode = x.mode; start = s }) st.in_round);
-          outputs = λ i x s k st fin at. absurd (none_some (record { mode = x.mode; start = s }) st.in_round);
+          inputs = λ i x s k c n st fin at past. absurd (none-some (record { mode = x.mode; start = s }) st.in_round);
+          outputs = λ i x s k st fin at. absurd (none-some (record { mode = x.mode; start = s }) st.in_round);
         };
         places = has_places t (first_content t) range first12 (first_shaped t range);
       }

@@ -1,16 +1,18 @@
 -- From when on a job may fall short that isn't noted yet.
 use Rattle.std.proofs.Common.{◌≡◌, ◌≤◌, ◌<◌, ◌⊎◌, inl, inr, ℕ, zero, suc, ◌+◌, Bool, true, false, cond, ◌&&◌, ◌||◌, eqb, leb, ltb, min, List, [], ◌∷◌, length, get_or, set, Option, Some, None, refl, sym, ◌∙◌, ap, subst, arith}
-use Rattle.std.proofs.lemmas.Bool.{eqb-true, lt-ltb, ltb-true}
+use Rattle.std.proofs.lemmas.Bool.{eqb-true, lt-ltb, ltb-true, and_from, and_parts}
 use Rattle.htl_model.specs.Tables.{Tables}
 use Rattle.htl_audit.specs.declared.slice.Slice.{Slice}
 use Rattle.htl_audit.specs.declared.slice.LogKind.{LogKind}
 use Rattle.htl_audit.specs.declared.slice.LogFault.{LogFault}
 use Rattle.htl_audit.specs.Auditing.{AreDue}
 use Rattle.htl_audit.specs.Keeping.{Kept, Roster, has_job, sum_at, length_at, start_at, end_at, release_at, ticks_of, kind_of, with_kind, judged, judged_to, fell_short, any_fell_short, settled, inv_takes}
-use Rattle.htl_audit.proofs.JobTests.{both, and_true}
 use Rattle.htl_audit.proofs.Passing.{judged_leaves}
-use Rattle.htl_audit.proofs.Settling.{short_found, short_there, stands_within}
+use Rattle.htl_audit.proofs.Settling.{short_found, short_there}
 use Rattle.htl_audit.proofs.Taking.{taken_leaves, taken_length}
+use Rattle.htl_base.proofs.Places.{marked_within}
+use Rattle.htl_base.proofs.Tests.{or_with_false}
+use Rattle.htl_base.proofs.Numbers.{cases_below_next}
 
 -- ---- lines
 
@@ -49,11 +51,7 @@ judged_due t now due xs k d i e =
 
 -- where nobody falls short, nothing is noted
 pub none_noted : (t : Tables) (now : ℕ) (k : Kept) → any_fell_short t now k ≡ false → settled t now k ≡ k
-none_noted t now k e = ap (λ b. record k { short = b }) (ap (λ b. k.short || b) e ∙ or_false k.short)
-  where
-    or_false : (b : Bool) → (b || false) ≡ b
-    or_false true = refl
-    or_false false = refl
+none_noted t now k e = ap (λ b. record k { short = b }) (ap (λ b. k.short || b) e ∙ or_with_false k.short)
 
 -- so it is where no window ends before the instant that isn't noted
 pub none_due : (t : Tables) (now due : ℕ) (k : Kept) → AreDue t due k → now ≤ due → settled t now k ≡ k
@@ -63,8 +61,8 @@ none_due t now due k d soon = by (any_fell_short t now k) refl
     by false e = none_noted t now k e
     by true e =
         let f = short_found t now k 0 t.invs e in
-        let two = both (has_job k.roster f.0 && ltb (start_at k.roster f.0 + end_at t f.0) now) (ltb (sum_at k.sums f.0) (length_at k.roster f.0)) f.1 in
-        let one = both (has_job k.roster f.0) (ltb (start_at k.roster f.0 + end_at t f.0) now) two.0 in
+        let two = and_parts (has_job k.roster f.0 && ltb (start_at k.roster f.0 + end_at t f.0) now) (ltb (sum_at k.sums f.0) (length_at k.roster f.0)) f.1 in
+        let one = and_parts (has_job k.roster f.0) (ltb (start_at k.roster f.0 + end_at t f.0) now) two.0 in
         elim (d f.0 one.0) [
           | inl later ↦ absurd (omega (arith, later, soon, ltb-true (start_at k.roster f.0 + end_at t f.0) now one.1))
           | inr noted ↦
@@ -79,9 +77,9 @@ settled_due t now due k rows next i e = elim (next i e) [
   | inl past ↦
       inr
       (λ less.
-      let within = stands_within k.roster.stands i e in
+      let within = marked_within k.roster.stands i e in
       let fell : fell_short t now k i ≡ true =
-      and_true (has_job k.roster i && ltb (start_at k.roster i + end_at t i) now) (ltb (sum_at k.sums i) (length_at k.roster i)) (and_true (has_job k.roster i) (ltb (start_at k.roster i + end_at t i) now) e (lt-ltb (start_at k.roster i + end_at t i) now past))
+      and_from (has_job k.roster i && ltb (start_at k.roster i + end_at t i) now) (ltb (sum_at k.sums i) (length_at k.roster i)) (and_from (has_job k.roster i) (ltb (start_at k.roster i + end_at t i) now) e (lt-ltb (start_at k.roster i + end_at t i) now past))
       (lt-ltb (sum_at k.sums i) (length_at k.roster i) less) in
       let any : any_fell_short t now k ≡ true = short_there t now k 0 t.invs i (omega (arith, within, rows)) (subst (λ z. fell_short t now k z ≡ true) (let z : i ≡ 0 + i = omega arith in z) fell) in
       ap (λ b. k.short || b) any ∙ or_true k.short)
@@ -96,13 +94,10 @@ settled_due t now due k rows next i e = elim (next i e) [
 pub next_more : (t : Tables) (now due new n : ℕ) (o : Roster) → new ≤ due → (has_job o n ≡ true → (start_at o n + end_at t n < now) ⊎ (new ≤ start_at o n + end_at t n))
     → ((i : ℕ) → i < n → has_job o i ≡ true → (start_at o i + end_at t i < now) ⊎ (due ≤ start_at o i + end_at t i))
     → (i : ℕ) → i < n + 1 → has_job o i ≡ true → (start_at o i + end_at t i < now) ⊎ (new ≤ start_at o i + end_at t i)
-next_more t now due new n o less here before i within e = elim (order i n within) [
+next_more t now due new n o less here before i within e = elim (cases_below_next i n within) [
   | inl lower ↦ elim (before i lower e) [ inl past ↦ inl past | inr later ↦ inr (omega (arith, later, less)) ]
   | inr same ↦ subst (λ z. (start_at o z + end_at t z < now) ⊎ (new ≤ start_at o z + end_at t z)) (sym same) (here (ap (has_job o) (sym same) ∙ e))
 ]
-  where
-    order : (i n : ℕ) → i < n + 1 → (i < n) ⊎ (i ≡ n)
-    order i n h = grind arith
 
 -- ---- a length
 

@@ -1,8 +1,7 @@
 -- A log has one first fault at most, and none exactly where it is legal.
 use Rattle.std.proofs.Common.{◌≡◌, ℕ, zero, suc, ◌+◌, ◌<◌, inl, inr, Bool, true, false, List, [], ◌∷◌, ◌++◌, length, slice_get, take, Option, Some, None, refl, sym, ◌∙◌, ap, arith}
 use Rattle.std.proofs.lemmas.List.{append_assoc, append-nil}
-use Rattle.std.proofs.lemmas.Option.{slice_get_within}
-use Rattle.htl_form.proofs.PartLaws.{none_some}
+use Rattle.std.proofs.lemmas.Option.{slice_get_within, none-some}
 use Rattle.htl_model.specs.declared.event.Event.{Event}
 use Rattle.htl_model.specs.Tables.{Tables}
 use Rattle.htl_audit.specs.declared.slice.Slice.{Slice}
@@ -23,13 +22,13 @@ module _ (rounds : List BeginningJobs) (now : ℕ) where
 
   -- no fault among the lines: each keeps the rules
   none_found : (n : ℕ) (log xs : List Slice) → first_line_fault rounds now n log xs ≡ None → (i : ℕ) (y : Slice) → slice_get xs i ≡ Some y → line_fault rounds now (log ++ take i xs) y ≡ None
-  none_found n log [] e = λ i y at. absurd (none_some y at)
+  none_found n log [] e = λ i y at. absurd (none-some y at)
   none_found n log (x ∷ xs) e = by (line_fault rounds now log x) refl e (none_found (suc n) (log ++ x ∷ []) xs)
     where
       by : (o : Option LogKind) → line_fault rounds now log x ≡ o → elim o as (λ _. Option LogFault) [ Some k ↦ Some (fault_at n k) | None ↦ first_line_fault rounds now (suc n) (log ++ x ∷ []) xs ] ≡ None
           → (first_line_fault rounds now (suc n) (log ++ x ∷ []) xs ≡ None → (i : ℕ) (y : Slice) → slice_get xs i ≡ Some y → line_fault rounds now (log ++ x ∷ [] ++ take i xs) y ≡ None)
           → (i : ℕ) (y : Slice) → slice_get (x ∷ xs) i ≡ Some y → line_fault rounds now (log ++ take i (x ∷ xs)) y ≡ None
-      by (Some k) is f later i y at = absurd (none_some (fault_at n k) (sym f))
+      by (Some k) is f later i y at = absurd (none-some (fault_at n k) (sym f))
       by None is f later zero y at = let one : x ≡ y = cc in ap (λ zs. line_fault rounds now zs y) (append-nil log) ∙ ap (line_fault rounds now log) (sym one) ∙ is
       by None is f later (suc i) y at = join log x xs i y None (later f i y at)
 
@@ -51,7 +50,7 @@ module _ (rounds : List BeginningJobs) (now : ℕ) where
     line : f.line ≡ n + place
 
   found : (n : ℕ) (log xs : List Slice) (f : LogFault) → first_line_fault rounds now n log xs ≡ Some f → IsFound n log xs f
-  found n log [] f e = absurd (none_some f e)
+  found n log [] f e = absurd (none-some f e)
   found n log (x ∷ xs) f e = by (line_fault rounds now log x) refl e (λ g. found (suc n) (log ++ x ∷ []) xs f g)
     where
       by : (o : Option LogKind) → line_fault rounds now log x ≡ o → elim o as (λ _. Option LogFault) [ Some k ↦ Some (fault_at n k) | None ↦ first_line_fault rounds now (suc n) (log ++ x ∷ []) xs ] ≡ Some f
@@ -85,7 +84,7 @@ module _ (rounds : List BeginningJobs) (now : ℕ) where
   there : (n : ℕ) (log xs : List Slice) (k : LogKind) (place : ℕ) (y : Slice) → slice_get xs place ≡ Some y
       → ((i : ℕ) (z : Slice) → i < place → slice_get xs i ≡ Some z → line_fault rounds now (log ++ take i xs) z ≡ None) → line_fault rounds now (log ++ take place xs) y ≡ Some k
       → first_line_fault rounds now n log xs ≡ Some (fault_at (n + place) k)
-  there n log [] k place y at h e = absurd (none_some y at)
+  there n log [] k place y at h e = absurd (none-some y at)
   there n log (x ∷ xs) k zero y at h e =
       let one : x ≡ y = cc in
       let here : line_fault rounds now log x ≡ Some k = ap (λ zs. line_fault rounds now zs x) (sym (append-nil log)) ∙ ap (line_fault rounds now (log ++ [])) one ∙ e in
@@ -102,7 +101,7 @@ module _ (rounds : List BeginningJobs) (now : ℕ) where
 
   end_is : (b : Bool) (n : ℕ) (f : LogFault) → end_fault b n ≡ Some f → (b ≡ true) × (f.kind ≡ kind.Short) × (f.line ≡ suc n)
   end_is true n f e = let one : fault_at (suc n) kind.Short ≡ f = cc in (refl, sym (ap (λ (z : LogFault). z.kind) one), sym (ap (λ (z : LogFault). z.line) one))
-  end_is false n f e = absurd (none_some f e)
+  end_is false n f e = absurd (none-some f e)
 
   pub fault_is : (log : List Slice) (f : LogFault) → first_fault_in rounds now log ≡ Some f → IsFirstFaultIn rounds now log f
   fault_is log f e = by (first_line_fault rounds now 1 [] log) refl e
@@ -125,14 +124,14 @@ module _ (rounds : List BeginningJobs) (now : ℕ) where
       ∙ ap (λ b. end_fault b (length log)) r.short ∙ ap (λ k. Some (fault_at (suc (length log)) k)) (sym r.kind) ∙ ap (λ n. Some (fault_at n f.kind)) (sym r.line)
 
   end_none : (b : Bool) (n : ℕ) → end_fault b n ≡ None → b ≡ false
-  end_none true n e = absurd (none_some (fault_at (suc n) kind.Short) (sym e))
+  end_none true n e = absurd (none-some (fault_at (suc n) kind.Short) (sym e))
   end_none false n e = refl
 
   pub legal_is : (log : List Slice) → first_fault_in rounds now log ≡ None → IsLegalIn rounds now log
   legal_is log e = by (first_line_fault rounds now 1 [] log) refl e
     where
       by : (o : Option LogFault) → first_line_fault rounds now 1 [] log ≡ o → whole log o ≡ None → IsLegalIn rounds now log
-      by (Some g) is h = absurd (none_some g (sym h))
+      by (Some g) is h = absurd (none-some g (sym h))
       by None is h = record { lines = none_found 1 [] log is; whole = end_none (any_short rounds now log) (length log) h }
 
   pub is_legal : (log : List Slice) → IsLegalIn rounds now log → first_fault_in rounds now log ≡ None
@@ -149,7 +148,7 @@ pub legal_without_fault : (t : Tables) (es : List Event) (end : ℕ) (log : List
     → (first_fault t es end log ≡ None → IsLegal t es end log) × (IsLegal t es end log → (f : LogFault) → IsFirstFault t es end log f → ⊥)
 legal_without_fault t es end log =
     let rounds = all_rounds t es (suc end) in
-    (legal_is rounds (suc end) log, λ h f g. none_some f (sym (is_legal rounds (suc end) log h) ∙ is_fault rounds (suc end) log f g))
+    (legal_is rounds (suc end) log, λ h f g. none-some f (sym (is_legal rounds (suc end) log h) ∙ is_fault rounds (suc end) log f g))
 
 pub one_first_fault : (t : Tables) (es : List Event) (end : ℕ) (log : List Slice) (f g : LogFault) → IsFirstFault t es end log f → IsFirstFault t es end log g → f ≡ g
 one_first_fault t es end log f g a b = one_fault (all_rounds t es (suc end)) (suc end) log f g a b

@@ -50,10 +50,6 @@ feeders_within t i k d h = omega (arith, within_from t i 0 t.invs k d h)
 pub row_is : (t : Tables) (i : ℕ) → i < length t.invs → get_or (all_feeders t) i [] ≡ feeders_of t i
 row_is t i h = get_list_to (feeders_of t) (length t.invs) i [] h
 
-pub rows_are : {A : Type 0} (f : ℕ → A) (n : ℕ) → length (list_to f n) ≡ n
-rows_are f zero = refl
-rows_are f (suc n) = length-append (list_to f n) (f n ∷ []) ∙ omega (arith, rows_are f n)
-
 -- ---- the test
 
 free_of : (t : Tables) (o : Roster) (sums : List ℕ) (i n : ℕ) (xs : List Inv) → is_free_from t o sums i n xs ≡ are_done o sums (feeders_from t i n xs)

@@ -1,7 +1,6 @@
 -- What a legal log says of finished jobs: they have read all, and are finished when an output is due.
 use Rattle.std.proofs.Common.{◌≡◌, ◌≤◌, ◌<◌, ℕ, suc, ◌+◌, Bool, true, false, cond, ◌&&◌, eqb, List, slice_get, Option, Some, None, refl, sym, ap, ap₂, ◌∙◌, arith}
-use Rattle.std.proofs.lemmas.Bool.{eqb-true, eq-eqb, ne_eqb}
-use Rattle.htl_form.proofs.PartLaws.{none_some}
+use Rattle.std.proofs.lemmas.Bool.{eqb-true, eq-eqb, ne_eqb, and_from, and_parts}
 use Rattle.htl_model.specs.declared.event.Event.{Event}
 use Rattle.htl_model.specs.declared.parts.Inv.{Inv}
 use Rattle.htl_model.specs.declared.parts.End.{End}
@@ -17,17 +16,18 @@ use Rattle.htl_emach.specs.Contents.{Content}
 use Rattle.htl_refine.specs.Records.{AreTookWithin}
 use Rattle.htl_machine.specs.Values.{InvStands, IsDue, IsPast, HasReadInputs, Ready, AreCarried, ValuesFollow}
 use Rattle.htl_machine.proofs.JobWindows.{reads_before_release, end_before_writes}
-use Rattle.htl_walk.proofs.Finishes.{some_same}
 use Rattle.htl_refine.proofs.Standing.{standing_at}
 use Rattle.htl_audit.specs.declared.slice.Slice.{Slice}
 use Rattle.htl_audit.specs.Computed.{ended, is_done_in, is_done_from, is_finished}
 use Rattle.htl_audit.specs.Growing.{HaveRounds}
 use Rattle.htl_audit.specs.Jobs.{BeginningJobs, round_of, all_rounds}
 use Rattle.htl_audit.specs.Legal.{lies_in, ticks, job_length, is_done, IsLegal}
-use Rattle.htl_audit.proofs.JobTests.{same_truth, both, and_true, item_found, item_there, IsJobOf, job_found}
+use Rattle.htl_audit.proofs.JobTests.{item_found, item_there, IsJobOf, job_found}
 use Rattle.htl_audit.proofs.Judging.{Lies, lies}
 use Rattle.htl_audit.proofs.LegalLogs.{ended_less, ended_front, ended_all, ended_some, kept, ordered, never_more, window_done, waited}
 use Rattle.htl_audit.proofs.StandingJobs.{HasJobFrom, stands_job, stands_fed, same_start}
+use Rattle.std.proofs.lemmas.Option.{none-some, same_Some}
+use Rattle.htl_base.proofs.Tests.{same_truth}
 
 -- ---- whoever stands is finished where the slices of his job add up
 
@@ -48,18 +48,18 @@ module _ (t : Tables) (es : List Event) (stays : List (Option Stay)) (i s : ℕ)
         there : is_done_in t es s lines i ≡ true → eqb (ticks (round_of t es s) j.job lines) (job_length (round_of t es s) j.position) ≡ true
         there e =
             let f = item_found test 0 (round_of t es s).jobs e in
-            let two = both (f.1.present && eqb f.1.inv i) (is_done (round_of t es s) lines (0 + f.0, f.1)) f.3 in
-            let one = both f.1.present (eqb f.1.inv i) two.0 in
+            let two = and_parts (f.1.present && eqb f.1.inv i) (is_done (round_of t es s) lines (0 + f.0, f.1)) f.3 in
+            let one = and_parts f.1.present (eqb f.1.inv i) two.0 in
             let place : f.0 ≡ j.position = j.once f.0 f.1 f.2 one.0 (eqb-true f.1.inv i one.1) in
-            let same : f.1 ≡ j.job = some_same _ _ (sym f.2 ∙ ap (slice_get (round_of t es s).jobs) place ∙ j.at) in
+            let same : f.1 ≡ j.job = same_Some _ _ (sym f.2 ∙ ap (slice_get (round_of t es s).jobs) place ∙ j.at) in
             let number : 0 + f.0 ≡ j.position = omega (arith, place) in
             ap₂ (λ (k : Job) (p : ℕ). eqb (ticks (round_of t es s) k lines) (job_length (round_of t es s) p)) (sym same) (sym number) ∙ two.1
 
         back : eqb (ticks (round_of t es s) j.job lines) (job_length (round_of t es s) j.position) ≡ true → is_done_in t es s lines i ≡ true
         back e =
             item_there test 0 (round_of t es s).jobs j.position j.job j.at
-            (and_true (j.job.present && eqb j.job.inv i) (is_done (round_of t es s) lines (0 + j.position, j.job))
-            (and_true j.job.present (eqb j.job.inv i) j.present (eq-eqb j.job.inv i j.inv))
+            (and_from (j.job.present && eqb j.job.inv i) (is_done (round_of t es s) lines (0 + j.position, j.job))
+            (and_from j.job.present (eqb j.job.inv i) j.present (eq-eqb j.job.inv i j.inv))
             (ap (λ (p : ℕ). eqb (ticks (round_of t es s) j.job lines) (job_length (round_of t es s) p)) (let z : 0 + j.position ≡ j.position = omega arith in z) ∙ e))
 
     pub finished_is : is_finished t es stays lines i ≡ eqb (ticks (round_of t es s) j.job lines) (job_length (round_of t es s) j.position)
@@ -132,7 +132,7 @@ module _ (t : Tables) (range : AreInRange t) (kept16 : KeptApart t 16) (rounds :
         same_start t range kept16 rounds es n i s x st (suc end) f.is.number f.round f.is.at (omega (arith, l.from, own.room, to)) f.position f.job f.is.job l.present (sym l.inv ∙ inv) (omega (arith, l.to, to)) in
         let there : slice_get (round_of t es s).jobs f.position ≡ Some f.job = ap (λ (z : BeginningJobs). slice_get z.jobs f.position) (sym round) ∙ f.is.job in
         let place = own_job.once f.position f.job there l.present (sym l.inv ∙ inv) in
-        let same : f.job ≡ own_job.job = some_same _ _ (sym there ∙ ap (slice_get (round_of t es s).jobs) place ∙ own_job.at) in
+        let same : f.job ≡ own_job.job = same_Some _ _ (sym there ∙ ap (slice_get (round_of t es s).jobs) place ∙ own_job.at) in
         ap₂ (λ (z : BeginningJobs) (k : Job). lies_in z k y) (sym round) (sym same) ∙ f.passes
 
     -- who has a line has read all by its end, and what he reads from is finished
@@ -192,8 +192,8 @@ module _ (t : Tables) (range : AreInRange t) (kept16 : KeptApart t 16) (rounds :
   pub none_ready : Ready t es 0 (finished 0 1)
   none_ready =
       record {
-        in_time = λ i k c due. absurd (none_some (record { mode = due.inv.mode; start = due.start }) due.stands.in_round);
-        after_reads = λ i x s st fin. absurd (none_some (record { mode = x.mode; start = s }) st.in_round);
+        in_time = λ i k c due. absurd (none-some (record { mode = due.inv.mode; start = due.start }) due.stands.in_round);
+        after_reads = λ i x s st fin. absurd (none-some (record { mode = x.mode; start = s }) st.in_round);
       }
 
   -- who stands on has what he had, and none of a round that begins is finished

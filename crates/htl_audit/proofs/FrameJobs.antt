@@ -1,9 +1,8 @@
 -- The jobs of a frame are those of the rounds that begin in it, and each frame of a run is sound.
 use Rattle.std.proofs.Common.{◌≡◌, ◌≤◌, ◌<◌, ℕ, zero, suc, ◌+◌, ◌-◌, ◌*◌, ◌/◌, ◌%◌, max, Bool, true, false, ◌&&◌, eqb, List, [], ◌∷◌, cond, length, get_or, map, take, slice_get, Option, Some, None, option_map, refl, sym, ap, ap₂, ◌∙◌, subst, arith}
 use Rattle.std.proofs.Math.Nat.{div-add-mod, mul-mod_right}
-use Rattle.std.proofs.lemmas.Bool.{eq-eqb}
-use Rattle.std.proofs.lemmas.Option.{get_or_from_slice_get, slice_get_within}
-use Rattle.htl_form.proofs.PartLaws.{none_some}
+use Rattle.std.proofs.lemmas.Bool.{eq-eqb, and_from}
+use Rattle.std.proofs.lemmas.Option.{get_or_from_slice_get, slice_get_within, none-some, same_Some}
 use Rattle.htl_model.specs.declared.event.Event.{Event}
 use Rattle.htl_model.specs.declared.frame.Place.{Place}
 use Rattle.htl_model.specs.declared.frame.Round.{Round as FrameRound}
@@ -45,7 +44,6 @@ use Rattle.htl_machine.specs.RunFrames.{now_of}
 use Rattle.htl_machine.specs.Values.{InvStands}
 use Rattle.htl_machine.proofs.FramePlaced.{entry_is, there_front}
 use Rattle.htl_machine.proofs.RunFrames.{feasible_runs}
-use Rattle.htl_walk.proofs.Finishes.{some_same}
 use Rattle.htl_audit.specs.Growing.{HaveRounds}
 use Rattle.htl_audit.specs.Jobs.{round_of}
 use Rattle.htl_audit.specs.Legal.{job_length}
@@ -58,14 +56,15 @@ use Rattle.htl_audit.proofs.OwnTicks.{IsSound}
 use Rattle.htl_audit.proofs.RoundJobs.{fresh, precedes_is}
 use Rattle.htl_audit.proofs.Rounds.{first_rules}
 use Rattle.htl_audit.proofs.StandingJobs.{stands_job}
+use Rattle.htl_base.proofs.Tests.{and_none}
 
 -- the rounds at a start begin there
 starts_there : (t : Tables) (a : ℕ) (us : List ℕ) (q : ℕ) (r : FrameRound) → slice_get (rounds_of t a us) q ≡ Some r → r.at ≡ a
-starts_there t a [] q r e = absurd (none_some r e)
+starts_there t a [] q r e = absurd (none-some r e)
 starts_there t a (u ∷ us) q r e = by (eqb (a % unit_period t u) 0) q e (starts_there t a us)
   where
     by : (b : Bool) (i : ℕ) → slice_get (cond b (record { at = a; unit = u } ∷ rounds_of t a us) (rounds_of t a us)) i ≡ Some r → ((i : ℕ) (r : FrameRound) → slice_get (rounds_of t a us) i ≡ Some r → r.at ≡ a) → r.at ≡ a
-    by true zero g later = sym (ap (λ (z : FrameRound). z.at) (some_same _ _ g))
+    by true zero g later = sym (ap (λ (z : FrameRound). z.at) (same_Some _ _ g))
     by true (suc i) g later = later i r g
     by false i g later = later i r g
 
@@ -198,8 +197,8 @@ module _ (t : Tables) (lists : List (List SInstr)) (es : List Event) (rounds_fit
       }
     where
       stay_there : (o : Option Stay) (m : ℕ) → option_map (λ (y : Stay). y.mode) o ≡ Some m → (y : Stay) × (o ≡ Some y) × (y.mode ≡ m)
-      stay_there None m e = absurd (none_some m e)
-      stay_there (Some y) m e = (y, refl, some_same _ _ e)
+      stay_there None m e = absurd (none-some m e)
+      stay_there (Some y) m e = (y, refl, same_Some _ _ e)
 
   pub record InRound (f q : ℕ) (k : Job) : Type 0 where
     pub start : ℕ
@@ -221,8 +220,8 @@ module _ (t : Tables) (lists : List (List SInstr)) (es : List Event) (rounds_fit
       let x = c.0 in
       let s = c.1 in
       let job = c.3 in
-      let same : job.job ≡ k = some_same _ _ (sym job.at ∙ front) in
-      let one : w.inv ≡ x = some_same _ _ (sym w.known ∙ c.2.known) in
+      let same : job.job ≡ k = same_Some _ _ (sym job.at ∙ front) in
+      let one : w.inv ≡ x = same_Some _ _ (sym w.known ∙ c.2.known) in
       let start : f + d ≡ s = omega (arith, job.release, ap (λ (z : Job). z.release) same, w.release_is, ap (release t) one) in
       let own = stands_job t run.range run.kept rounds_fit es (f + d) k.inv s x c.2 run.within in
       let z = fresh t run.range run.kept rounds_fit es s own.position own.job own.at own.present in
@@ -268,23 +267,16 @@ module _ (t : Tables) (lists : List (List SInstr)) (es : List Event) (rounds_fit
       let y = placed f r i b.at_frame b.here in
       let u = fresh t run.range run.kept rounds_fit es s p j a.at_round a.there in
       let v = fresh t run.range run.kept rounds_fit es s m h b.at_round b.there in
-      let one : x.inv ≡ u.inv = some_same _ _ (sym x.known ∙ ap (slice_get t.invs) a.inv ∙ u.known) in
-      let other : y.inv ≡ v.inv = some_same _ _ (sym y.known ∙ ap (slice_get t.invs) b.inv ∙ v.known) in
+      let one : x.inv ≡ u.inv = same_Some _ _ (sym x.known ∙ ap (slice_get t.invs) a.inv ∙ u.known) in
+      let other : y.inv ≡ v.inv = same_Some _ _ (sym y.known ∙ ap (slice_get t.invs) b.inv ∙ v.known) in
       let from : f + x.at ≡ s = omega (arith, a.release_is, x.release_is, u.release, ap (release t) one) in
       let then : f + y.at ≡ s = omega (arith, b.release_is, y.release_is, v.release, ap (release t) other) in
       let same : y.at ≡ x.at = omega (arith, from, then) in
       let fed : feeds t i.inv k.inv ≡ true = ap₂ (feeds t) b.inv a.inv ∙ sym (precedes_is t run.range run.kept rounds_fit es s p m j h a.at_round b.at_round a.there b.there) ∙ before in
       let ys = standing_places t es f in
       let test : Place → Bool = λ z. eqb z.at x.at && is_fed_by t k.inv z.inv in
-      ap (precedes r) (sym x.made) ∙ mask_bit (map test ys) r ∙ get_mapped test ys no_place r (none_there (eqb 0 x.at)) ∙ ap test (get_or_from_slice_get ys r (place i.inv y.at) no_place y.place_is)
-      ∙ both_true (eqb y.at x.at) (feeds t i.inv k.inv) (eq-eqb y.at x.at same) fed
-    where
-      both_true : (a b : Bool) → a ≡ true → b ≡ true → (a && b) ≡ true
-      both_true a b e f = grind arith
-
-      none_there : (b : Bool) → (b && false) ≡ false
-      none_there true = refl
-      none_there false = refl
+      ap (precedes r) (sym x.made) ∙ mask_bit (map test ys) r ∙ get_mapped test ys no_place r (and_none (eqb 0 x.at)) ∙ ap test (get_or_from_slice_get ys r (place i.inv y.at) no_place y.place_is)
+      ∙ and_from (eqb y.at x.at) (feeds t i.inv k.inv) (eq-eqb y.at x.at same) fed
 
   -- ---- each frame is sound
 

@@ -22,6 +22,7 @@ use Rattle.htl_audit.specs.declared.slice.Slice.{Slice}
 use Rattle.htl_audit.specs.Own.{own_slice, own_of, own_at}
 use Rattle.htl_audit.proofs.ClosedSlices.{mine, onto, closed, closed_is, none_closed}
 use Rattle.htl_audit.proofs.OwnTicks.{Plan, walk_of}
+use Rattle.htl_base.proofs.Tests.{cond_same}
 
 -- the lists of a frame as one
 abbrev pub plan_in : Frame → Plan
@@ -33,10 +34,6 @@ frame_plan t lists es f = plan_in (frame_at t lists es f)
 -- the slices that close at an instant, of the frames that began before it
 abbrev pub frame_slices_at : (ℕ → Plan) → ℕ → ℕ → List Slice
 frame_slices_at plan h now = up_to (λ k. closed (plan (k * h)).jobs (k * h) now (walk_of (plan (k * h)))) (rounds_before h now)
-
-one_of_two : {A : Type 0} (b : Bool) (x : A) → cond b x x ≡ x
-one_of_two true x = refl
-one_of_two false x = refl
 
 -- ---- lists end to end
 
@@ -62,11 +59,11 @@ module _ (jobs : List Job) (f now : ℕ) where
   closed_body (Idle h ∷ s) is x ls e =
       let y = next_point jobs (Idle h) x in
       ap (λ rest. cond (eqb (f + y.time) now) rest rest) (closed_body s is y ls e)
-  closed_body (End ∷ s) is x ls e = one_of_two (eqb (f + x.time) now) (closed jobs f now (walk_from jobs s x ++ ls)) ∙ closed_body s is x ls e
+  closed_body (End ∷ s) is x ls e = cond_same (eqb (f + x.time) now) (closed jobs f now (walk_from jobs s x ++ ls)) ∙ closed_body s is x ls e
 
   pub closed_joined : (ss : List (List SInstr)) (gs : List Leg) (a h n : ℕ) (x : Point) → AreInForm ss gs → AreChained a h n gs → x.time ≤ a
       → closed jobs f now (end_to_end (walks_from jobs ss gs x)) ≡ closed jobs f now (walk_from jobs (joining.joined ss gs) x)
-  closed_joined [] [] a h n x form chain early = sym (one_of_two (eqb (f + x.time) now) [])
+  closed_joined [] [] a h n x form chain early = sym (cond_same (eqb (f + x.time) now) [])
   closed_joined [] (g ∷ gs) a h n x form chain early = absurd form
   closed_joined (s ∷ ss) [] a h n x form chain early = absurd form
   closed_joined (s ∷ ss) (g ∷ gs) a h n x form chain early =
@@ -76,7 +73,7 @@ module _ (jobs : List Job) (f now : ℕ) where
       let rest = closed_joined ss gs g.to h n (last_point jobs s y) form.1 chain.3 t in
       closed_body s (joining.joined ss gs) y (end_to_end (walks_from jobs ss gs (last_point jobs s y))) rest
       ∙ ap (λ z. closed jobs f now (walk_from jobs (body s ++ joining.joined ss gs) z)) (sym e)
-      ∙ sym (one_of_two (eqb (f + (next_point jobs (Idle g.from) x).time) now) (closed jobs f now (walk_from jobs (body s ++ joining.joined ss gs) (next_point jobs (Idle g.from) x))))
+      ∙ sym (cond_same (eqb (f + (next_point jobs (Idle g.from) x).time) now) (closed jobs f now (walk_from jobs (body s ++ joining.joined ss gs) (next_point jobs (Idle g.from) x))))
 
   -- ---- a list that begins at the instant or later has closed nothing yet
 

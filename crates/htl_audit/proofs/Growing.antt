@@ -3,9 +3,8 @@ use Rattle.std.proofs.Common.{◌≡◌, ℕ, zero, suc, ◌+◌, ◌-◌, ◌�
 use Rattle.std.specs.Prelude.{slice_get, option_map}
 use Rattle.std.specs.List.{flat_map}
 use Rattle.std.proofs.lemmas.List.{append-nil}
-use Rattle.std.proofs.lemmas.Option.{get_or_from_slice_get}
+use Rattle.std.proofs.lemmas.Option.{get_or_from_slice_get, none-some}
 use mathlib.Core.Path.{fun_ext}
-use Rattle.htl_form.proofs.PartLaws.{none_some}
 use Rattle.htl_model.specs.declared.event.Event.{Event}
 use Rattle.htl_model.specs.declared.parts.Inv.{Inv}
 use Rattle.htl_model.specs.declared.state.Stay.{Stay}
@@ -23,52 +22,27 @@ use Rattle.htl_refine.proofs.Inherit.{mapped, map_at}
 use Rattle.htl_audit.specs.Jobs.{BeginningJobs, beginning, jobs_from, round_of, starts_before, all_rounds}
 use Rattle.htl_audit.specs.Agreeing.{Matches, HasMatch, IsMatched, Agree}
 use Rattle.htl_audit.specs.Growing.{AgreeBefore, HaveRounds}
+use Rattle.htl_base.proofs.Places.{get_either, map_same}
+use Rattle.htl_machine.proofs.FrameMembers.{below_start}
+use Rattle.std.proofs.lemmas.Bool.{cases_lt}
 
 -- ---- items of lists that are put together
-
-pub in_two : {A : Type 0} (xs ys : List A) (n : ℕ) (r : A) → slice_get (xs ++ ys) n ≡ Some r → (slice_get xs n ≡ Some r) ⊎ ((m : ℕ) × (n ≡ length xs + m) × (slice_get ys m ≡ Some r))
-in_two [] ys n r e = inr (n, omega arith, e)
-in_two (x ∷ xs) ys zero r e = inl e
-in_two (x ∷ xs) ys (suc n) r e = elim (in_two xs ys n r e) [ inl h ↦ inl h | inr h ↦ inr (h.0, omega (arith, h.1), h.2) ]
-
-pub in_front : {A : Type 0} (xs ys : List A) (m : ℕ) (r : A) → slice_get xs m ≡ Some r → slice_get (xs ++ ys) m ≡ Some r
-in_front [] ys m r e = absurd (none_some r e)
-in_front (x ∷ xs) ys zero r e = e
-in_front (x ∷ xs) ys (suc m) r e = in_front xs ys m r e
-
-pub in_back : {A : Type 0} (xs ys : List A) (m : ℕ) (r : A) → slice_get ys m ≡ Some r → slice_get (xs ++ ys) (length xs + m) ≡ Some r
-in_back [] ys m r e = ap (slice_get ys) (let z : 0 + m ≡ m = omega arith in z) ∙ e
-in_back (x ∷ xs) ys m r e = ap (slice_get (x ∷ xs ++ ys)) (let z : suc (length xs) + m ≡ suc (length xs + m) = omega arith in z) ∙ in_back xs ys m r e
 
 -- ---- the instants at which rounds begin
 
 pub start_is : (ps : List ℕ) (n m s : ℕ) → slice_get (starts_below ps n) m ≡ Some s → (s < n) × (begins ps s ≡ true)
-start_is ps zero m s e = absurd (none_some s e)
-start_is ps (suc n) m s e = by (in_two (starts_below ps n) (cond (begins ps n) (n ∷ []) []) m s e) (λ q g. start_is ps n q s g)
+start_is ps zero m s e = absurd (none-some s e)
+start_is ps (suc n) m s e = by (get_either (starts_below ps n) (cond (begins ps n) (n ∷ []) []) m s e) (λ q g. start_is ps n q s g)
   where
     last : (b : Bool) (q : ℕ) → begins ps n ≡ b → slice_get (cond b (n ∷ []) []) q ≡ Some s → (s < suc n) × (begins ps s ≡ true)
     last true zero is g = let one : n ≡ s = cc in (omega (arith, one), subst (λ z. begins ps z ≡ true) one is)
-    last true (suc q) is g = absurd (none_some s g)
-    last false q is g = absurd (none_some s g)
+    last true (suc q) is g = absurd (none-some s g)
+    last false q is g = absurd (none-some s g)
 
     by : (slice_get (starts_below ps n) m ≡ Some s) ⊎ ((q : ℕ) × (m ≡ length (starts_below ps n) + q) × (slice_get (cond (begins ps n) (n ∷ []) []) q ≡ Some s))
         → ((q : ℕ) → slice_get (starts_below ps n) q ≡ Some s → (s < n) × (begins ps s ≡ true)) → (s < suc n) × (begins ps s ≡ true)
     by (inl h) later = let g = later m h in (omega (arith, g.0), g.1)
     by (inr h) later = last (begins ps n) h.0 refl h.2
-
-order : (a b : ℕ) → a < suc b → (a < b) ⊎ (a ≡ b)
-order a b h = grind arith
-
-pub start_there : (ps : List ℕ) (n s : ℕ) → s < n → begins ps s ≡ true → (m : ℕ) × (slice_get (starts_below ps n) m ≡ Some s)
-start_there ps zero s h is = absurd (omega (arith, h))
-start_there ps (suc n) s h is = by (order s n h) (λ g. start_there ps n s g is)
-  where
-    by : (s < n) ⊎ (s ≡ n) → (s < n → (m : ℕ) × (slice_get (starts_below ps n) m ≡ Some s)) → (m : ℕ) × (slice_get (starts_below ps n ++ cond (begins ps n) (n ∷ []) []) m ≡ Some s)
-    by (inl g) later = let q = later g in (q.0, in_front (starts_below ps n) (cond (begins ps n) (n ∷ []) []) q.0 s q.1)
-    by (inr g) later =
-        let here : begins ps n ≡ true = subst (λ z. begins ps z ≡ true) g is in
-        let at : slice_get (cond (begins ps n) (n ∷ []) []) 0 ≡ Some s = ap (λ b. slice_get (cond b (n ∷ []) []) 0) here ∙ ap (λ z. Some z) (sym g) in
-        (length (starts_below ps n) + 0, in_back (starts_below ps n) (cond (begins ps n) (n ∷ []) []) 0 s at)
 
 -- where no round begins from one instant up to another, the starts before them are the same
 pub starts_still : (ps : List ℕ) (a d : ℕ) → ((n : ℕ) → a ≤ n → n < a + d → begins ps n ≡ false) → starts_below ps a ≡ starts_below ps (a + d)
@@ -147,28 +121,21 @@ module _ (t : Tables) (rounds : HaveRounds t) (es fs : List Event) (now : ℕ) (
       there n r at =
           let s = round_is t es now n r at in
           let is = start_is (root_periods t) now n s.0 s.1 in
-          let m = start_there (root_periods t) later s.0 (omega (arith, is.0, h)) is.1 in
+          let m = below_start (root_periods t) later s.0 (omega (arith, is.0, h)) is.1 in
           record { round = round_of t fs s.0; number = m.0; at = map_at (round_of t fs) (starts_before t later) m.0 s.0 m.1; same = subst (λ z. Matches now z (round_of t fs s.0)) s.2 (matched s.0 is.0) }
-
-      less : (a b : ℕ) → (a < b) ⊎ (b ≤ a)
-      less a b = grind arith
 
       back : (n : ℕ) (r : BeginningJobs) → slice_get (all_rounds t fs later) n ≡ Some r → HasMatch now (all_rounds t es now) r ⊎ (now ≤ r.start)
       back n r at =
           let s = round_is t fs later n r at in
           let is = start_is (root_periods t) later n s.0 s.1 in
-          elim (less s.0 now) [
+          elim (cases_lt s.0 now) [
             | inl early ↦
-                let m = start_there (root_periods t) now s.0 early is.1 in
+                let m = below_start (root_periods t) now s.0 early is.1 in
                 inl (record { round = round_of t es s.0; number = m.0; at = map_at (round_of t es) (starts_before t now) m.0 s.0 m.1; same = subst (λ z. Matches now (round_of t es s.0) z) s.2 (matched s.0 early) })
             | inr late ↦ inr (omega (arith, late, ap (λ (z : BeginningJobs). z.start) s.2))
           ]
 
 -- ---- events after which the rounds are the very same
-
-map_same : {A B : Type 0} (f g : A → B) (xs : List A) → ((n : ℕ) (x : A) → slice_get xs n ≡ Some x → f x ≡ g x) → map f xs ≡ map g xs
-map_same f g [] h = refl
-map_same f g (x ∷ xs) h = ap₂ (λ a b. a ∷ b) (h 0 x refl) (map_same f g xs (λ n y at. h (suc n) y at))
 
 -- the sensors show the same before `now`, and all jobs take the same time
 pub rounds_same : (t : Tables) (es fs : List Event) (now : ℕ) → ((c u : ℕ) → u < now → sense t es c u ≡ sense t fs c u) → ((i u : ℕ) → took t es i u ≡ took t fs i u)

@@ -3,9 +3,7 @@ use Rattle.std.proofs.Common.{◌≡◌, ℕ, zero, suc, ◌+◌, ◌%◌, ◌<�
 use Rattle.std.specs.Prelude.{slice_get}
 use Rattle.std.specs.List.{filter, flat_map}
 use Rattle.std.proofs.lemmas.Bool.{eqb-true, eq-eqb}
-use Rattle.std.proofs.lemmas.Option.{slice_get_within}
-use Rattle.htl_form.proofs.PartLaws.{none_some}
-use Rattle.htl_model.proofs.TestLaws.{equal, same_number}
+use Rattle.std.proofs.lemmas.Option.{slice_get_within, none-some}
 use Rattle.htl_model.specs.declared.parts.Inv.{Inv}
 use Rattle.htl_model.specs.declared.parts.Mode.{Mode}
 use Rattle.htl_model.specs.declared.parts.Module.{Module}
@@ -17,22 +15,21 @@ use Rattle.htl_model.specs.SecondWriters.{parent_mode}
 use Rattle.htl_model.specs.Selected.{entry, Runs, IsEntry, IsSelection}
 use Rattle.htl_model.specs.Selections.{is_root, root_modules, inv_of_mode, invs_of}
 use Rattle.htl_model.specs.Tables.{Tables, is_concrete, mode_module, mode_period}
-use Rattle.htl_walk.proofs.Work.{all_at}
 use Rattle.htl_refine.specs.ConcreteJobs.{running_invs}
 use Rattle.htl_refine.proofs.Chains.{Under, same, under_more, one_top, no_parent}
 use Rattle.htl_refine.proofs.Exact.{chosen_exact_apart}
 use Rattle.htl_refine.proofs.Inherit.{mapped, map_at}
-use Rattle.htl_refine.proofs.Members.{front_at, back_at, of_flat, in_flat, of_places, at_place}
+use Rattle.htl_refine.proofs.Members.{of_flat, in_flat, of_places, at_place}
 use Rattle.htl_refine.proofs.RisingPositions.{AreRising, running_rise}
 use Rattle.htl_machine.proofs.RootModes.{unit_period_is, has_root}
 use Rattle.htl_machine.proofs.Tops.{climb, down}
 use Rattle.htl_audit.specs.Jobs.{beginning}
-use Rattle.htl_audit.proofs.Growing.{in_two}
+use Rattle.htl_base.proofs.Places.{each_at, get_either, get_front, into_back}
 
 -- ---- the items that pass a test
 
 filter_of : {A : Type 0} (test : A → Bool) (xs : List A) (j : ℕ) (x : A) → slice_get (filter test xs) j ≡ Some x → (i : ℕ) × (slice_get xs i ≡ Some x) × (test x ≡ true)
-filter_of test [] j x at = absurd (none_some x at)
+filter_of test [] j x at = absurd (none-some x at)
 filter_of {A} test (y ∷ ys) j x at = by (test y) refl j at (λ q e. filter_of test ys q x e)
   where
     by : (b : Bool) → test y ≡ b → (q : ℕ) → slice_get (cond b (y ∷ filter test ys) (filter test ys)) q ≡ Some x
@@ -42,7 +39,7 @@ filter_of {A} test (y ∷ ys) j x at = by (test y) refl j at (λ q e. filter_of 
     by false is q e next = let n = next q e in (suc n.0, n.1, n.2)
 
 filter_in : {A : Type 0} (test : A → Bool) (xs : List A) (i : ℕ) (x : A) → slice_get xs i ≡ Some x → test x ≡ true → (j : ℕ) × (slice_get (filter test xs) j ≡ Some x)
-filter_in test [] i x at pass = absurd (none_some x at)
+filter_in test [] i x at pass = absurd (none-some x at)
 filter_in test (y ∷ ys) zero x at pass =
     let one : y ≡ x = cc in
     (0, ap (λ b. slice_get (cond b (y ∷ filter test ys) (filter test ys)) 0) (ap test one ∙ pass) ∙ at)
@@ -58,7 +55,7 @@ abbrev AreOnce : List ℕ → Type 0
 AreOnce xs = (p q k : ℕ) → slice_get xs p ≡ Some k → slice_get xs q ≡ Some k → p ≡ q
 
 rising_once : (xs : List ℕ) → AreRising xs → AreOnce xs
-rising_once [] r p q k a b = absurd (none_some k a)
+rising_once [] r p q k a b = absurd (none-some k a)
 rising_once (x ∷ xs) r zero zero k a b = refl
 rising_once (x ∷ xs) r zero (suc q) k a b = let one : x ≡ k = cc in absurd (omega (arith, one, r.0 k (q, b)))
 rising_once (x ∷ xs) r (suc p) zero k a b = let one : x ≡ k = cc in absurd (omega (arith, one, r.0 k (p, a)))
@@ -67,7 +64,7 @@ rising_once (x ∷ xs) r (suc p) (suc q) k a b = ap suc (rising_once xs r.1 p q 
 -- so it is of the parts that pass a test
 module _ (g : ℕ → List ℕ) (test : ℕ → Bool) where
   back_once : (xs ys : List ℕ) → AreOnce (xs ++ ys) → AreOnce ys
-  back_once xs ys once p q k a b = let same = once (length xs + p) (length xs + q) k (back_at xs ys p k a) (back_at xs ys q k b) in omega (arith, same)
+  back_once xs ys once p q k a b = let same = once (length xs + p) (length xs + q) k (into_back xs ys p k a) (into_back xs ys q k b) in omega (arith, same)
 
   passed_in : (us : List ℕ) (p k : ℕ) → slice_get (flat_map g (filter test us)) p ≡ Some k → (q : ℕ) × (slice_get (flat_map g us) q ≡ Some k)
   passed_in us p k e =
@@ -88,16 +85,16 @@ module _ (g : ℕ → List ℕ) (test : ℕ → Bool) where
       apart : (p k m : ℕ) → slice_get (g u) p ≡ Some k → slice_get (flat_map g (filter test us)) m ≡ Some k → ⊥
       apart p k m a b =
           let q = passed_in us m k b in
-          let same = once p (length (g u) + q.0) k (front_at (g u) (flat_map g us) p k a) (back_at (g u) (flat_map g us) q.0 k q.1) in
+          let same = once p (length (g u) + q.0) k (get_front (g u) (flat_map g us) p k a) (into_back (g u) (flat_map g us) q.0 k q.1) in
           omega (arith, same, slice_get_within (g u) p k a)
 
       both : AreOnce (flat_map g (filter test us)) → AreOnce (g u ++ flat_map g (filter test us))
-      both later p q k a b = elim (in_two (g u) (flat_map g (filter test us)) p k a) [
-        | inl c ↦ elim (in_two (g u) (flat_map g (filter test us)) q k b) [
-          | inl d ↦ once p q k (front_at (g u) (flat_map g us) p k c) (front_at (g u) (flat_map g us) q k d)
+      both later p q k a b = elim (get_either (g u) (flat_map g (filter test us)) p k a) [
+        | inl c ↦ elim (get_either (g u) (flat_map g (filter test us)) q k b) [
+          | inl d ↦ once p q k (get_front (g u) (flat_map g us) p k c) (get_front (g u) (flat_map g us) q k d)
           | inr d ↦ absurd (apart p k d.0 c d.2)
         ]
-        | inr c ↦ elim (in_two (g u) (flat_map g (filter test us)) q k b) [
+        | inr c ↦ elim (get_either (g u) (flat_map g (filter test us)) q k b) [
           | inl d ↦ absurd (apart q k c.0 d c.2)
           | inr d ↦ (let same = later c.0 d.0 k c.2 d.2 in omega (arith, c.1, d.1, same))
         ]
@@ -138,7 +135,7 @@ module _ (t : Tables) (range : AreInRange t) (kept : KeptApart t 16) where
     running_of u j k e = by (entry modes u) refl e
       where
         by : (o : Option ℕ) → entry modes u ≡ o → slice_get (elim o as (λ _. List ℕ) [ Some q ↦ invs_of t q | None ↦ [] ]) j ≡ Some k → (q : ℕ) × (entry modes u ≡ Some q) × (slice_get (invs_of t q) j ≡ Some k)
-        by None g h = absurd (none_some k h)
+        by None g h = absurd (none-some k h)
         by (Some q) g h = (q, g, h)
 
     -- the root invocation at a position
@@ -164,7 +161,7 @@ module _ (t : Tables) (range : AreInRange t) (kept : KeptApart t 16) where
         let unit : mode_module t run.0 ≡ u = ap (λ (o : Option Mode). elim o [ Some z ↦ z.«module» | None ↦ 0 ]) mode_at.1 ∙ mode_at.2 in
         let kx = of_places (inv_of_mode run.0) 0 t.invs f.3 k run.2 in
         let inv_at : slice_get t.invs k ≡ Some kx.1 = ap (slice_get t.invs) (let z : k ≡ kx.0 = omega (arith, kx.2) in z) ∙ kx.3 in
-        let mode : kx.1.mode ≡ run.0 = same_number kx.1.mode run.0 kx.4 in
+        let mode : kx.1.mode ≡ run.0 = eqb-true kx.1.mode run.0 kx.4 in
         let is_of : mode_module t kx.1.mode ≡ u = ap (mode_module t) mode ∙ unit in
         let period : mode_period t kx.1.mode ≡ unit_period t u = ap (mode_period t) mode ∙ unit_period_is t range kept u run.0 m.1 unit_at (slice_get_within t.modes run.0 mode_at.0 mode_at.1) unit in
         record {
@@ -212,12 +209,12 @@ module _ (t : Tables) (range : AreInRange t) (kept : KeptApart t 16) where
     has_position_of c b =
         let top = climb t range kept modes selection (suc (mode_module t b.inv.mode)) c c (mode_period t b.inv.mode) b.inv (omega arith) b.known b.runs (itself c b.inv b.known b.concrete) refl in
         let q = top.inv.mode in
-        let real : q < length t.modes = (all_at (IsInvInRange t) t.invs range.invs top.number top.inv top.at).owner in
+        let real : q < length t.modes = (each_at (IsInvInRange t) t.invs range.invs top.number top.inv top.at).owner in
         let h = has_root t range kept q real top.root in
         let u = mode_module t q in
         let whole : s % unit_period t u ≡ 0 = ap (λ z. s % z) (sym h.period ∙ top.period) ∙ b.whole in
         let begun = filter_in (λ v. eqb (s % unit_period t v) 0) (root_modules t) h.index u h.at (eq-eqb (s % unit_period t u) 0 whole) in
-        let j = at_place (inv_of_mode q) t.invs top.number top.inv top.at (equal q q refl) in
+        let j = at_place (inv_of_mode q) t.invs top.number top.inv top.at (eq-eqb q q refl) in
         let running : slice_get (running_invs t modes u) j.0 ≡ Some top.number = ap (λ (o : Option ℕ). slice_get (elim o as (λ _. List ℕ) [ Some z ↦ invs_of t z | None ↦ [] ]) j.0) top.runs ∙ j.1 in
         let p = in_flat (running_invs t modes) (beginning t s) begun.0 j.0 u top.number begun.1 running in
         let is : chosen t modes top.number ≡ Some c = (chosen_exact_apart t modes range kept top.number c).1 top.stands in

@@ -2,39 +2,12 @@
 use Rattle.std.proofs.Common.{◌≡◌, ℕ, zero, suc, ◌+◌, Bool, true, false, ◌&&◌, ◌||◌, List, [], ◌∷◌, Some, refl, sym, ◌∙◌, ap, subst, arith}
 use Rattle.std.specs.Prelude.{slice_get}
 use Rattle.std.specs.List.{list_all, list_any}
-use Rattle.htl_form.proofs.PartLaws.{none_some}
 use Rattle.htl_model.specs.Lists.{numbered}
 use Rattle.htl_walk.specs.declared.job.Job.{Job}
 use Rattle.htl_audit.specs.Jobs.{BeginningJobs}
 use Rattle.htl_audit.specs.Legal.{any_job}
-
-pub same_truth : (a b : Bool) → (a ≡ true → b ≡ true) → (b ≡ true → a ≡ true) → a ≡ b
-same_truth true true f g = refl
-same_truth true false f g = sym (f refl)
-same_truth false true f g = g refl
-same_truth false false f g = refl
-
-pub both : (a b : Bool) → (a && b) ≡ true → (a ≡ true) × (b ≡ true)
-both true true e = (refl, refl)
-both true false e = absurd (let z : ⊥ = cc in z)
-both false b e = absurd (let z : ⊥ = cc in z)
-
-pub and_true : (a b : Bool) → a ≡ true → b ≡ true → (a && b) ≡ true
-and_true true true e f = refl
-and_true true false e f = f
-and_true false b e f = e
-
-pub neither : (a b : Bool) → (a || b) ≡ false → (a ≡ false) × (b ≡ false)
-neither true b e = absurd (let z : ⊥ = cc in z)
-neither false b e = (refl, e)
-
-pub or_left : (a b : Bool) → a ≡ true → (a || b) ≡ true
-or_left true b e = refl
-or_left false b e = absurd (let z : ⊥ = cc in z)
-
-pub or_right : (a b : Bool) → b ≡ true → (a || b) ≡ true
-or_right true b e = refl
-or_right false b e = e
+use Rattle.std.proofs.lemmas.Bool.{and_from, and_parts, or_left, or_right}
+use Rattle.std.proofs.lemmas.Option.{none-some}
 
 -- an item of a list that passes
 pub item_found : {A : Type 0} (test : ℕ × A → Bool) (q : ℕ) (js : List A) → list_any test (numbered q js) ≡ true → (d : ℕ) × (j : A) × (slice_get js d ≡ Some j) × (test (q + d, j) ≡ true)
@@ -48,7 +21,7 @@ item_found {A} test q (j ∷ js) e = by (test (q, j)) refl e (λ g. item_found t
     by false is f later = let r = later f in (suc r.0, r.1, r.2, subst (λ z. test (z, r.1) ≡ true) (let z : suc q + r.0 ≡ q + suc r.0 = omega arith in z) r.3)
 
 pub item_there : {A : Type 0} (test : ℕ × A → Bool) (q : ℕ) (js : List A) (d : ℕ) (j : A) → slice_get js d ≡ Some j → test (q + d, j) ≡ true → list_any test (numbered q js) ≡ true
-item_there test q [] d j at e = absurd (none_some j at)
+item_there test q [] d j at e = absurd (none-some j at)
 item_there test q (h ∷ js) zero j at e =
     let one : h ≡ j = cc in
     or_left (test (q, h)) (list_any test (numbered (suc q) js)) (ap (λ z. test (q, z)) one ∙ subst (λ z. test (z, j) ≡ true) (let z : q + 0 ≡ q = omega arith in z) e)
@@ -57,17 +30,17 @@ item_there test q (h ∷ js) (suc d) j at e =
 
 -- all items pass
 pub all_at : {A : Type 0} (test : ℕ × A → Bool) (q : ℕ) (js : List A) → list_all test (numbered q js) ≡ true → (d : ℕ) (j : A) → slice_get js d ≡ Some j → test (q + d, j) ≡ true
-all_at test q [] e d j at = absurd (none_some j at)
+all_at test q [] e d j at = absurd (none-some j at)
 all_at test q (h ∷ js) e zero j at =
     let one : h ≡ j = cc in
-    subst (λ z. test (z, j) ≡ true) (let z : q ≡ q + 0 = omega arith in z) (ap (λ z. test (q, z)) (sym one) ∙ (both (test (q, h)) (list_all test (numbered (suc q) js)) e).0)
+    subst (λ z. test (z, j) ≡ true) (let z : q ≡ q + 0 = omega arith in z) (ap (λ z. test (q, z)) (sym one) ∙ (and_parts (test (q, h)) (list_all test (numbered (suc q) js)) e).0)
 all_at test q (h ∷ js) e (suc d) j at =
-    subst (λ z. test (z, j) ≡ true) (let z : suc q + d ≡ q + suc d = omega arith in z) (all_at test (suc q) js (both (test (q, h)) (list_all test (numbered (suc q) js)) e).1 d j at)
+    subst (λ z. test (z, j) ≡ true) (let z : suc q + d ≡ q + suc d = omega arith in z) (all_at test (suc q) js (and_parts (test (q, h)) (list_all test (numbered (suc q) js)) e).1 d j at)
 
 pub all_pass : {A : Type 0} (test : ℕ × A → Bool) (q : ℕ) (js : List A) → ((d : ℕ) (j : A) → slice_get js d ≡ Some j → test (q + d, j) ≡ true) → list_all test (numbered q js) ≡ true
 all_pass test q [] f = refl
 all_pass test q (h ∷ js) f =
-    and_true (test (q, h)) (list_all test (numbered (suc q) js)) (subst (λ z. test (z, h) ≡ true) (let z : q + 0 ≡ q = omega arith in z) (f 0 h refl))
+    and_from (test (q, h)) (list_all test (numbered (suc q) js)) (subst (λ z. test (z, h) ≡ true) (let z : q + 0 ≡ q = omega arith in z) (f 0 h refl))
     (all_pass test (suc q) js (λ d j at. subst (λ z. test (z, j) ≡ true) (let z : q + suc d ≡ suc q + d = omega arith in z) (f (suc d) j at)))
 
 -- counted from 0
@@ -108,7 +81,7 @@ pub job_there : (test : BeginningJobs → ℕ × Job → Bool) (rounds : List Be
 job_there test rounds r p j is e = by rounds is.number is.at
   where
     by : (rs : List BeginningJobs) (n : ℕ) → slice_get rs n ≡ Some r → any_job test rs ≡ true
-    by [] n at = absurd (none_some r at)
+    by [] n at = absurd (none-some r at)
     by (x ∷ rs) zero at =
         let one : x ≡ r = cc in
         or_left (list_any (test x) (numbered 0 x.jobs)) (any_job test rs) (ap (λ (z : BeginningJobs). list_any (test z) (numbered 0 z.jobs)) one ∙ item_there (test r) 0 r.jobs p j is.job (subst (λ z. test r (z, j) ≡ true) (let z : p ≡ 0 + p = omega arith in z) e))

@@ -1,9 +1,8 @@
 -- The auditor judges the next line by what it keeps as the definition does by all lines before.
 use Rattle.std.proofs.Common.{◌≡◌, ℕ, zero, suc, ◌+◌, ◌-◌, ◌≤◌, ◌<◌, inl, inr, Bool, true, false, cond, not, ◌&&◌, ◌||◌, eqb, leb, ltb, List, [], ◌∷◌, ◌++◌, Option, Some, None, refl, sym, ◌∙◌, ap, ap₂, subst, arith}
 use Rattle.std.specs.Prelude.{slice_get}
-use Rattle.std.proofs.lemmas.Bool.{eqb-true, leb-true}
+use Rattle.std.proofs.lemmas.Bool.{eqb-true, leb-true, and_from, and_parts, or_parts, eq-eqb, leb-false, ltb-false}
 use Rattle.std.proofs.lemmas.Bool.Decides.{nat_tests}
-use Rattle.htl_form.proofs.PartLaws.{none_some}
 use Rattle.htl_model.specs.declared.parts.Inv.{Inv}
 use Rattle.htl_model.specs.PortOrder.{feeds, feeds_at}
 use Rattle.htl_model.specs.Tables.{Tables}
@@ -17,7 +16,9 @@ use Rattle.htl_audit.specs.Legal as rules
 use Rattle.htl_audit.specs.Legal.{lies_in, ticks, is_done, is_free, is_over, any_job, last_end, slice_is_out_of_order, line_fault}
 use Rattle.htl_audit.specs.Keeping.{Roster, Kept, has_job, sum_at, length_at, start_at, release_at, end_at, is_inside, is_full, is_clear_of, is_free_from, is_free_at, ticks_of, kind_of}
 use Rattle.htl_audit.specs.Rosters.{IsIn, IsCurrent, AreKept, AreSummed}
-use Rattle.htl_audit.proofs.JobTests.{same_truth, both, neither, and_true, all_at_0, all_pass_0, IsJobOf, job_found, job_there}
+use Rattle.htl_audit.proofs.JobTests.{all_at_0, all_pass_0, IsJobOf, job_found, job_there}
+use Rattle.std.proofs.lemmas.Option.{none-some}
+use Rattle.htl_base.proofs.Tests.{same_truth}
 
 -- ---- one job and one slice
 
@@ -30,9 +31,9 @@ pub record Lies (r : BeginningJobs) (j : Job) (x : Slice) : Type 0 where
 
 pub lies : (r : BeginningJobs) (j : Job) (x : Slice) → lies_in r j x ≡ true → Lies r j x
 lies r j x e =
-    let a = both (j.present && eqb x.inv j.inv && leb (r.start + j.release) x.from) (leb x.to (r.start + j.end)) e in
-    let b = both (j.present && eqb x.inv j.inv) (leb (r.start + j.release) x.from) a.0 in
-    let c = both j.present (eqb x.inv j.inv) b.0 in
+    let a = and_parts (j.present && eqb x.inv j.inv && leb (r.start + j.release) x.from) (leb x.to (r.start + j.end)) e in
+    let b = and_parts (j.present && eqb x.inv j.inv) (leb (r.start + j.release) x.from) a.0 in
+    let c = and_parts j.present (eqb x.inv j.inv) b.0 in
     record { present = c.0; inv = eqb-true x.inv j.inv c.1; from = leb-true (r.start + j.release) x.from b.1; to = leb-true x.to (r.start + j.end) a.1 }
 
 -- the first broken rule behind that of order
@@ -47,15 +48,15 @@ waits_for r log j h = not (precedes h.0 j && h.1.present) || is_done r log h
 free_pass : (t : Tables) (o : Roster) (sums : List ℕ) (i n : ℕ) (xs : List Inv) → ((d : ℕ) (y : Inv) → slice_get xs d ≡ Some y → is_clear_of t o sums i (n + d) ≡ true) → is_free_from t o sums i n xs ≡ true
 free_pass t o sums i n [] h = refl
 free_pass t o sums i n (x ∷ xs) h =
-    and_true (is_clear_of t o sums i n) (is_free_from t o sums i (suc n) xs) (subst (λ z. is_clear_of t o sums i z ≡ true) (let z : n + 0 ≡ n = omega arith in z) (h 0 x refl))
+    and_from (is_clear_of t o sums i n) (is_free_from t o sums i (suc n) xs) (subst (λ z. is_clear_of t o sums i z ≡ true) (let z : n + 0 ≡ n = omega arith in z) (h 0 x refl))
     (free_pass t o sums i (suc n) xs (λ d y at. subst (λ z. is_clear_of t o sums i z ≡ true) (let z : n + suc d ≡ suc n + d = omega arith in z) (h (suc d) y at)))
 
 free_all : (t : Tables) (o : Roster) (sums : List ℕ) (i n : ℕ) (xs : List Inv) → is_free_from t o sums i n xs ≡ true → (d : ℕ) (y : Inv) → slice_get xs d ≡ Some y → is_clear_of t o sums i (n + d) ≡ true
-free_all t o sums i n [] e d y at = absurd (none_some y at)
+free_all t o sums i n [] e d y at = absurd (none-some y at)
 free_all t o sums i n (x ∷ xs) e zero y at =
-    subst (λ z. is_clear_of t o sums i z ≡ true) (let z : n ≡ n + 0 = omega arith in z) (both (is_clear_of t o sums i n) (is_free_from t o sums i (suc n) xs) e).0
+    subst (λ z. is_clear_of t o sums i z ≡ true) (let z : n ≡ n + 0 = omega arith in z) (and_parts (is_clear_of t o sums i n) (is_free_from t o sums i (suc n) xs) e).0
 free_all t o sums i n (x ∷ xs) e (suc d) y at =
-    subst (λ z. is_clear_of t o sums i z ≡ true) (let z : suc n + d ≡ n + suc d = omega arith in z) (free_all t o sums i (suc n) xs (both (is_clear_of t o sums i n) (is_free_from t o sums i (suc n) xs) e).1 d y at)
+    subst (λ z. is_clear_of t o sums i z ≡ true) (let z : suc n + d ≡ n + suc d = omega arith in z) (free_all t o sums i (suc n) xs (and_parts (is_clear_of t o sums i n) (is_free_from t o sums i (suc n) xs) e).1 d y at)
 
 free_at : (t : Tables) (o : Roster) (sums : List ℕ) (i : ℕ) (xs : List Inv) → is_free_from t o sums i 0 xs ≡ true → (d : ℕ) (y : Inv) → slice_get xs d ≡ Some y → is_clear_of t o sums i d ≡ true
 free_at t o sums i xs e d y at = subst (λ z. is_clear_of t o sums i z ≡ true) (let z : 0 + d ≡ d = omega arith in z) (free_all t o sums i 0 xs e d y at)
@@ -88,15 +89,12 @@ module _ (t : Tables) (rounds : List BeginningJobs) (o : Roster) (kept : AreKept
   pub lies_inside : (r : BeginningJobs) (p : ℕ) (j : Job) → IsIn rounds r p j → IsCurrent t o r p j → x.inv ≡ j.inv → lies_in r j x ≡ is_inside t o x
   lies_inside r p j i c e =
       let a : (j.present && eqb x.inv j.inv) ≡ has_job o x.inv =
-      and_true j.present (eqb x.inv j.inv) i.present (same_number x.inv j.inv e) ∙ sym (ap (has_job o) e ∙ c.stands) in
+      and_from j.present (eqb x.inv j.inv) i.present (eq-eqb x.inv j.inv e) ∙ sym (ap (has_job o) e ∙ c.stands) in
       let b : leb (r.start + j.release) x.from ≡ leb (start_at o x.inv + release_at t x.inv) x.from =
       ap₂ (λ m n. leb (m + n) x.from) (c.start ∙ ap (start_at o) (sym e)) (c.release ∙ ap (release_at t) (sym e)) in
       let d : leb x.to (r.start + j.end) ≡ leb x.to (start_at o x.inv + end_at t x.inv) =
       ap₂ (λ m n. leb x.to (m + n)) (c.start ∙ ap (start_at o) (sym e)) (c.end ∙ ap (end_at t) (sym e)) in
       ap₂ (λ m n. m && n) (ap₂ (λ m n. m && n) a b) d
-    where
-      same_number : (a b : ℕ) → a ≡ b → eqb a b ≡ true
-      same_number a b e = grind (arith, nat_tests)
 
   inside_is : any_job (λ r j. lies_in r j.1 x) rounds ≡ is_inside t o x
   inside_is = same_truth _ _ there back
@@ -109,7 +107,7 @@ module _ (t : Tables) (rounds : List BeginningJobs) (o : Roster) (kept : AreKept
 
       back : is_inside t o x ≡ true → any_job (λ r j. lies_in r j.1 x) rounds ≡ true
       back e =
-          let s = (both (has_job o x.inv) (leb (start_at o x.inv + release_at t x.inv) x.from) (both (has_job o x.inv && leb (start_at o x.inv + release_at t x.inv) x.from) (leb x.to (start_at o x.inv + end_at t x.inv)) e).0).0 in
+          let s = (and_parts (has_job o x.inv) (leb (start_at o x.inv + release_at t x.inv) x.from) (and_parts (has_job o x.inv && leb (start_at o x.inv + release_at t x.inv) x.from) (leb x.to (start_at o x.inv + end_at t x.inv)) e).0).0 in
           let h = kept.has x.inv s in
           job_there (λ r j. lies_in r j.1 x) rounds h.round h.position h.job (record { number = h.is.number; at = h.is.at; job = h.is.job })
           (lies_inside h.round h.position h.job h.is h.current (sym h.inv) ∙ e)
@@ -122,16 +120,16 @@ module _ (t : Tables) (rounds : List BeginningJobs) (o : Roster) (kept : AreKept
       there : any_job (λ r j. lies_in r j.1 x && test r j) rounds ≡ true → b ≡ true
       there g =
           let f = job_found (λ r j. lies_in r j.1 x && test r j) rounds g in
-          let two = both (lies_in f.round f.job x) (test f.round (f.position, f.job)) f.passes in
+          let two = and_parts (lies_in f.round f.job x) (test f.round (f.position, f.job)) f.passes in
           let c = lies_current f.round f.position f.job f.is two.0 in
           sym (same f.round f.position f.job c.0 c.1 (lies f.round f.job x two.0).inv) ∙ two.1
 
       back : b ≡ true → any_job (λ r j. lies_in r j.1 x && test r j) rounds ≡ true
       back g =
-          let s = (both (has_job o x.inv) (leb (start_at o x.inv + release_at t x.inv) x.from) (both (has_job o x.inv && leb (start_at o x.inv + release_at t x.inv) x.from) (leb x.to (start_at o x.inv + end_at t x.inv)) e).0).0 in
+          let s = (and_parts (has_job o x.inv) (leb (start_at o x.inv + release_at t x.inv) x.from) (and_parts (has_job o x.inv && leb (start_at o x.inv + release_at t x.inv) x.from) (leb x.to (start_at o x.inv + end_at t x.inv)) e).0).0 in
           let h = kept.has x.inv s in
           job_there (λ r j. lies_in r j.1 x && test r j) rounds h.round h.position h.job (record { number = h.is.number; at = h.is.at; job = h.is.job })
-          (and_true (lies_in h.round h.job x) (test h.round (h.position, h.job)) (lies_inside h.round h.position h.job h.is h.current (sym h.inv) ∙ e)
+          (and_from (lies_in h.round h.job x) (test h.round (h.position, h.job)) (lies_inside h.round h.position h.job h.is h.current (sym h.inv) ∙ e)
           (same h.round h.position h.job h.is h.current (sym h.inv) ∙ g))
 
   module _ (log : List Slice) (sums : List ℕ) (ticked : (r : BeginningJobs) (p : ℕ) (j : Job) → IsIn rounds r p j → IsCurrent t o r p j → ticks r j log ≡ sum_at sums j.inv) where
@@ -151,7 +149,7 @@ module _ (t : Tables) (rounds : List BeginningJobs) (o : Roster) (kept : AreKept
     free_is r p j i c = same_truth _ _ there back
       where
         there : is_free r log j ≡ true → is_free_at t o sums j.inv ≡ true
-        there e = free_pass t o sums j.inv 0 t.invs (λ n y at. implied (has_job o (0 + n) && feeds t (0 + n) j.inv) (is_full o sums (0 + n)) (λ g. one (0 + n) (both (has_job o (0 + n)) (feeds t (0 + n) j.inv) g)))
+        there e = free_pass t o sums j.inv 0 t.invs (λ n y at. implied (has_job o (0 + n) && feeds t (0 + n) j.inv) (is_full o sums (0 + n)) (λ g. one (0 + n) (and_parts (has_job o (0 + n)) (feeds t (0 + n) j.inv) g)))
           where
             one : (n : ℕ) → (has_job o n ≡ true) × (feeds t n j.inv ≡ true) → is_full o sums n ≡ true
             one n two =
@@ -159,17 +157,17 @@ module _ (t : Tables) (rounds : List BeginningJobs) (o : Roster) (kept : AreKept
                 let h = m.1 in
                 let d = kept.together r p m.0 j h i m.3 (ap (λ z. feeds t z j.inv) m.2 ∙ two.1) c in
                 let pre : precedes m.0 j ≡ true = kept.before r p m.0 j h i m.3 ∙ ap (λ z. feeds t z j.inv) m.2 ∙ two.1 in
-                let done : is_done r log (m.0, h) ≡ true = applied (precedes m.0 j && h.present) (is_done r log (m.0, h)) (all_at_0 (waits_for r log j) r.jobs e m.0 h m.3.job) (and_true (precedes m.0 j) h.present pre m.3.present) in
+                let done : is_done r log (m.0, h) ≡ true = applied (precedes m.0 j && h.present) (is_done r log (m.0, h)) (all_at_0 (waits_for r log j) r.jobs e m.0 h m.3.job) (and_from (precedes m.0 j) h.present pre m.3.present) in
                 ap (is_full o sums) (sym m.2) ∙ sym (full_is r m.0 h m.3 d) ∙ done
 
         back : is_free_at t o sums j.inv ≡ true → is_free r log j ≡ true
-        back e = all_pass_0 (waits_for r log j) r.jobs (λ q h at. implied (precedes q j && h.present) (is_done r log (q, h)) (λ g. one q h at (both (precedes q j) h.present g)))
+        back e = all_pass_0 (waits_for r log j) r.jobs (λ q h at. implied (precedes q j && h.present) (is_done r log (q, h)) (λ g. one q h at (and_parts (precedes q j) h.present g)))
           where
             full : (n : ℕ) → has_job o n ≡ true → feeds t n j.inv ≡ true → is_full o sums n ≡ true
             full n s f = by (slice_get t.invs n) refl
               where
                 by : (y : Option Inv) → slice_get t.invs n ≡ y → is_full o sums n ≡ true
-                by (Some y) at = applied (has_job o n && feeds t n j.inv) (is_full o sums n) (free_at t o sums j.inv t.invs e n y at) (and_true (has_job o n) (feeds t n j.inv) s f)
+                by (Some y) at = applied (has_job o n && feeds t n j.inv) (is_full o sums n) (free_at t o sums j.inv t.invs e n y at) (and_from (has_job o n) (feeds t n j.inv) s f)
                 by None at = absurd (let z : false ≡ true = sym (ap (λ (y : Option Inv). feeds_at y (slice_get t.invs j.inv)) at) ∙ f in cc)
 
             one : (q : ℕ) (h : Job) → slice_get r.jobs q ≡ Some h → (precedes q j ≡ true) × (h.present ≡ true) → is_done r log (q, h) ≡ true
@@ -213,16 +211,10 @@ kind_is t rounds now log k x s later = by (slice_is_out_of_order now log x) refl
     broken_too g =
         ap (λ z. cond z (Some kind.Order) (rest (is_inside t k.roster x) (ltb (length_at k.roster x.inv) (sum_at k.sums x.inv + ticks_of x)) (not (is_free_at t k.roster k.sums x.inv)))) g
 
-    lt : (a b : ℕ) → leb a b ≡ false → b < a
-    lt a b e = grind (arith, nat_tests)
-
-    le : (a b : ℕ) → ltb a b ≡ false → b ≤ a
-    le a b e = grind (arith, nat_tests)
-
     by : (b : Bool) → slice_is_out_of_order now log x ≡ b → line_fault rounds now log x ≡ kind_of t now k x
     by true e = broken e ∙ sym (broken_too (sym sorted ∙ e))
     by false e =
-        let two = neither (leb x.to x.from || ltb x.from (last_end log)) (leb now x.to) e in
-        let ends = neither (leb x.to x.from) (ltb x.from (last_end log)) two.0 in
+        let two = or_parts (leb x.to x.from || ltb x.from (last_end log)) (leb now x.to) e in
+        let ends = or_parts (leb x.to x.from) (ltb x.from (last_end log)) two.0 in
         ap₂ (λ p q. cond p (Some kind.Order) q) sorted
-        (rest_is t rounds k.roster s.kept x (later (lt x.to x.from ends.0) (le x.from k.end (ap (ltb x.from) s.end ∙ ends.1))) log k.sums s.sums)
+        (rest_is t rounds k.roster s.kept x (later (leb-false x.to x.from ends.0) (ltb-false x.from k.end (ap (ltb x.from) s.end ∙ ends.1))) log k.sums s.sums)

@@ -4,9 +4,7 @@ use Rattle.std.specs.Prelude.{slice_get}
 use Rattle.std.proofs.lemmas.Bool.{eqb-true}
 use Rattle.std.proofs.lemmas.Bool.Decides.{nat_tests}
 use Rattle.std.proofs.lemmas.List.{get_or-set_same, get_or-set_other, length-set, length-drop}
-use Rattle.std.proofs.lemmas.Option.{get_or_from_slice_get, slice_get_within}
-use Rattle.htl_form.proofs.PartLaws.{none_some}
-use Rattle.htl_form.proofs.Places.{item_at}
+use Rattle.std.proofs.lemmas.Option.{get_or_from_slice_get, slice_get_within, none-some}
 use Rattle.htl_model.specs.declared.event.Event.{Event}
 use Rattle.htl_model.specs.declared.event.Event.TheVariants as V
 use Rattle.htl_model.specs.declared.parts.Inv.{Inv}
@@ -18,7 +16,6 @@ use Rattle.htl_object.specs.Accepted.{IsAccepted}
 use Rattle.htl_refine.specs.Records.{took, IsTookWithin}
 use Rattle.htl_refine.proofs.Inherit.{map_at}
 use Rattle.htl_refine.proofs.RoundLaws.{worst_some}
-use Rattle.htl_walk.proofs.Work.{all_at}
 use Rattle.htl_console.specs.declared.shown.Shown.TheVariants.{Values}
 use Rattle.htl_machine.specs.Calls as machines
 use Rattle.htl_machine.specs.Calls.{IsLength}
@@ -37,6 +34,7 @@ use Rattle.htl_audit.proofs.Renewing.{renewed_sized, renewed_else}
 use Rattle.htl_audit.proofs.Rounds.{accepted_range, have_rounds}
 use Rattle.htl_audit.proofs.Steps.{judged_within}
 use Rattle.htl_audit.proofs.Taking.{taken_leaves, taken_follows}
+use Rattle.htl_base.proofs.Places.{all_zero, each_at, item_at, length_mapped, none_marked}
 
 -- ---- a beginning
 
@@ -101,8 +99,8 @@ length_known m o t i n same tables l = omega (arith, slice_get_within m.tables.i
 pub length_small : (o : Object) → IsAccepted o → (i n : ℕ) → IsLength o.tables i n → n ≤ 1000000
 length_small o accepted i n l =
     let range = accepted_range o accepted in
-    let inv = (all_at (IsInvInRange o.tables) o.tables.invs range.invs i l.inv l.known).task in
-    let worst = (all_at (IsTaskInRange o.tables) o.tables.tasks range.tasks l.inv.task inv.0 inv.1).worst in
+    let inv = (each_at (IsInvInRange o.tables) o.tables.invs range.invs i l.inv l.known).task in
+    let worst = (each_at (IsTaskInRange o.tables) o.tables.tasks range.tasks l.inv.task inv.0 inv.1).worst in
     let is : task_worst o.tables l.inv.task ≡ inv.0.worst = ap (λ (z : Option Task). elim z [ Some x ↦ x.worst | None ↦ 0 ]) inv.1 in
     omega (arith, l.worst, is, worst.most)
 
@@ -131,16 +129,6 @@ taken_auditor o m new takes log k t now i n few same a =
 
 -- ---- nothing is followed yet
 
-none_of : (n i : ℕ) → get_or (replicate n false) i false ≡ false
-none_of zero i = refl
-none_of (suc n) zero = refl
-none_of (suc n) (suc i) = none_of n i
-
-zero_of : (n i : ℕ) → ◌≡◌ {A = ℕ} (get_or (replicate n 0) i 0) 0
-zero_of zero i = refl
-zero_of (suc n) zero = refl
-zero_of (suc n) (suc i) = zero_of n i
-
 length_of : {A : Type 0} (n : ℕ) (x : A) → length (replicate n x) ≡ n
 length_of zero x = refl
 length_of (suc n) x = ap suc (length_of n x)
@@ -148,12 +136,12 @@ length_of (suc n) x = ap suc (length_of n x)
 first_roster : (t : Tables) (n : ℕ) → AreKept t [] (first_kept n).roster
 first_roster t n =
     record {
-      has = λ i e. absurd (let z : false ≡ true = sym (none_of n i) ∙ e in let y : ⊥ = cc in y);
-      only = λ r p j i. absurd (none_some r i.at);
-      together = λ r p q j h i m c. absurd (none_some r i.at);
-      before = λ r p q j h i m. absurd (none_some r i.at);
-      mates = λ r p j i m c e f. absurd (none_some r m.at);
-      once = λ r s p q j h a b c d e. absurd (none_some r a.at);
+      has = λ i e. absurd (let z : false ≡ true = sym (none_marked n i) ∙ e in let y : ⊥ = cc in y);
+      only = λ r p j i. absurd (none-some r i.at);
+      together = λ r p q j h i m c. absurd (none-some r i.at);
+      before = λ r p q j h i m. absurd (none-some r i.at);
+      mates = λ r p j i m c e f. absurd (none-some r m.at);
+      once = λ r s p q j h a b c d e. absurd (none-some r a.at);
     }
 
 pub first_follows : (t : Tables) (log : List Slice) (n : ℕ) → LogFollows t [] 0 log (first_kept n)
@@ -161,7 +149,7 @@ first_follows t log n =
     record {
       judged = record { count = 0; few = omega arith; keep = λ i x below at. absurd (omega (arith, below)); next = (summed, late (slice_get log 0)) };
       short = λ e. refl;
-      began = λ i. inr (zero_of n i);
+      began = λ i. inr (all_zero n i);
     }
   where
     summed : AreSummed t [] [] (first_kept n)
@@ -171,7 +159,7 @@ first_follows t log n =
           place = refl;
           end = refl;
           room = length_of n 0 ∙ sym (length_of n false);
-          sums = λ r p j i c. absurd (none_some r i.at);
+          sums = λ r p j i c. absurd (none-some r i.at);
           done = refl;
         }
 
@@ -190,10 +178,6 @@ worst_small t range [] h i = omega arith
 worst_small t range (x ∷ xs) h zero = h 0 x refl
 worst_small t range (x ∷ xs) h (suc i) = worst_small t range xs (λ j y at. h (suc j) y at) i
 
-length_map : {A B : Type 0} (f : A → B) (xs : List A) → length (map f xs) ≡ length xs
-length_map f [] = refl
-length_map f (x ∷ xs) = ap suc (length_map f xs)
-
 pub first_auditor : (o : Object) → IsAccepted o → (m : machines.Seen) (takes : List ℕ) (log : List Slice) (k : Kept) → m.object ≡ o → takes ≡ map (λ (x : Inv). task_worst o.tables x.task) o.tables.invs → k ≡ first_kept (length o.tables.invs)
     → All (λ (x : Slice). x.inv < length o.tables.invs) log → IsAuditor o m takes log k
 first_auditor o accepted m takes log k object takes_are kept lines =
@@ -205,7 +189,7 @@ first_auditor o accepted m takes log k object takes_are kept lines =
       starts = length_of (length o.tables.invs) 0;
       lengths = length_of (length o.tables.invs) 0;
       sums = length_of (length o.tables.invs) 0;
-      count = length_map (λ (x : Inv). task_worst o.tables x.task) o.tables.invs;
+      count = length_mapped (λ (x : Inv). task_worst o.tables x.task) o.tables.invs;
       small = worst_small o.tables range o.tables.invs each;
       lines = lines;
       place = omega arith;
@@ -216,8 +200,8 @@ first_auditor o accepted m takes log k object takes_are kept lines =
 
     each : (i : ℕ) (x : Inv) → slice_get o.tables.invs i ≡ Some x → task_worst o.tables x.task ≤ 1000000
     each i x at =
-        let inv = (all_at (IsInvInRange o.tables) o.tables.invs range.invs i x at).task in
-        let worst = (all_at (IsTaskInRange o.tables) o.tables.tasks range.tasks x.task inv.0 inv.1).worst in
+        let inv = (each_at (IsInvInRange o.tables) o.tables.invs range.invs i x at).task in
+        let worst = (each_at (IsTaskInRange o.tables) o.tables.tasks range.tasks x.task inv.0 inv.1).worst in
         let is : task_worst o.tables x.task ≡ inv.0.worst = ap (λ (z : Option Task). elim z [ Some y ↦ y.worst | None ↦ 0 ]) inv.1 in
         omega (arith, is, worst.most)
 

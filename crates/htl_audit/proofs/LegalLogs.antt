@@ -1,10 +1,9 @@
 -- Legal logs line by line: in order of time, never more ticks than a job takes, and all of them where its window ended.
 use Rattle.std.proofs.Common.{◌≡◌, ◌≤◌, ◌<◌, ◌⊎◌, inl, inr, ℕ, zero, suc, ◌+◌, ◌-◌, Bool, true, false, cond, not, ◌&&◌, ◌||◌, eqb, leb, ltb, List, [], ◌∷◌, ◌++◌, length, get_or, take, slice_get, Some, None, refl, sym, ap, ◌∙◌, arith}
 use Rattle.std.proofs.Math.Seq.{take-length}
-use Rattle.std.proofs.lemmas.Bool.{eqb-true, eqb-false, ltb-true, ltb-false, lt-ltb}
+use Rattle.std.proofs.lemmas.Bool.{eqb-true, eqb-false, ltb-true, ltb-false, lt-ltb, and_from, or_parts, leb-false}
 use Rattle.std.proofs.lemmas.Bool.Decides.{nat_tests}
-use Rattle.std.proofs.lemmas.Option.{slice_get_cases}
-use Rattle.htl_form.proofs.PartLaws.{none_some}
+use Rattle.std.proofs.lemmas.Option.{slice_get_cases, none-some}
 use Rattle.htl_walk.specs.declared.job.Job.{Job}
 use Rattle.htl_walk.specs.Jobs.{precedes}
 use Rattle.htl_audit.specs.declared.slice.Slice.{Slice}
@@ -12,10 +11,11 @@ use Rattle.htl_audit.specs.declared.slice.LogKind.TheVariants as kind
 use Rattle.htl_audit.specs.Computed.{ended, ending}
 use Rattle.htl_audit.specs.Jobs.{BeginningJobs}
 use Rattle.htl_audit.specs.Legal.{lies_in, ticks, job_length, is_done, is_free, is_over, is_short, any_job, last_end, slice_is_out_of_order, line_fault, IsLegalIn}
-use Rattle.htl_audit.proofs.JobTests.{neither, and_true, all_at_0, IsJobOf, job_there}
+use Rattle.htl_audit.proofs.JobTests.{all_at_0, IsJobOf, job_there}
 use Rattle.htl_audit.proofs.Judging.{rest, applied, ticks_more}
 use Rattle.htl_audit.proofs.Passing.{take_next, get_before}
 use Rattle.htl_audit.proofs.Summing.{last_more}
+use Rattle.htl_base.proofs.Numbers.{cases_below as order}
 
 -- ---- the lines that end before an instant
 
@@ -78,7 +78,7 @@ module _ (r : BeginningJobs) (j : Job) where
 -- ---- those that end at it
 
 pub ending_at : (n : ℕ) (xs : List Slice) (m : ℕ) (x : Slice) → slice_get (ending n xs) m ≡ Some x → (k : ℕ) × (slice_get xs k ≡ Some x) × (x.to ≡ n)
-ending_at n [] m x at = absurd (none_some x at)
+ending_at n [] m x at = absurd (none-some x at)
 ending_at n (y ∷ ys) m x at = by (eqb y.to n) refl m at (λ q e. let r = ending_at n ys q x e in (suc r.0, r.1, r.2))
   where
     by : (b : Bool) → eqb y.to n ≡ b → (m : ℕ) → slice_get (cond b (y ∷ ending n ys) (ending n ys)) m ≡ Some x
@@ -124,28 +124,22 @@ kept_line rounds now before x e =
     by (slice_is_out_of_order now before x) (any_job (λ r j. lies_in r j.1 x) rounds) (any_job (λ r j. lies_in r j.1 x && is_over r (before ++ x ∷ []) j) rounds)
     (any_job (λ r j. lies_in r j.1 x && not (is_free r before j.1)) rounds) refl refl refl refl e
   where
-    lt : (a b : ℕ) → leb a b ≡ false → b < a
-    lt a b e = grind (arith, nat_tests)
-
     by : (o a b c : Bool) → slice_is_out_of_order now before x ≡ o → any_job (λ r j. lies_in r j.1 x) rounds ≡ a → any_job (λ r j. lies_in r j.1 x && is_over r (before ++ x ∷ []) j) rounds ≡ b
         → any_job (λ r j. lies_in r j.1 x && not (is_free r before j.1)) rounds ≡ c → cond o (Some kind.Order) (rest a b c) ≡ None → IsKept rounds now before x
-    by true a b c f g h i n = absurd (none_some kind.Order (sym n))
-    by false false b c f g h i n = absurd (none_some kind.Outside (sym n))
-    by false true true c f g h i n = absurd (none_some kind.Over (sym n))
-    by false true false true f g h i n = absurd (none_some kind.Before (sym n))
+    by true a b c f g h i n = absurd (none-some kind.Order (sym n))
+    by false false b c f g h i n = absurd (none-some kind.Outside (sym n))
+    by false true true c f g h i n = absurd (none-some kind.Over (sym n))
+    by false true false true f g h i n = absurd (none-some kind.Before (sym n))
     by false true false false f g h i n =
-        let two = neither (leb x.to x.from || ltb x.from (last_end before)) (leb now x.to) f in
-        let ends = neither (leb x.to x.from) (ltb x.from (last_end before)) two.0 in
-        record { room = lt x.to x.from ends.0; order = ltb-false x.from (last_end before) ends.1; soon = lt now x.to two.1; inside = g; most = h; free = i }
+        let two = or_parts (leb x.to x.from || ltb x.from (last_end before)) (leb now x.to) f in
+        let ends = or_parts (leb x.to x.from) (ltb x.from (last_end before)) two.0 in
+        record { room = leb-false x.to x.from ends.0; order = ltb-false x.from (last_end before) ends.1; soon = leb-false now x.to two.1; inside = g; most = h; free = i }
 
 take_past : (xs : List Slice) (i : ℕ) → length xs ≤ i → take (suc i) xs ≡ take i xs
 take_past [] zero h = refl
 take_past [] (suc i) h = refl
 take_past (x ∷ xs) zero h = absurd (omega (arith, h))
 take_past (x ∷ xs) (suc i) h = ap (λ zs. x ∷ zs) (take_past xs i (omega (arith, h)))
-
-order : (i k : ℕ) → i < suc k → (i < k) ⊎ (i ≡ k)
-order i k h = grind arith
 
 -- ---- a legal log
 
@@ -188,7 +182,7 @@ module _ (rounds : List BeginningJobs) (now : ℕ) (log : List Slice) (legal : I
             by_test : (b : Bool) → is_over r (take i log ++ x ∷ []) (p, j) ≡ b → ticks r j (take i log ++ x ∷ []) ≤ job_length r p
             by_test false f = ltb-false (job_length r p) (ticks r j (take i log ++ x ∷ [])) f
             by_test true f =
-                let found = job_there (λ r j. lies_in r j.1 x && is_over r (take i log ++ x ∷ []) j) rounds r p j is (and_true (lies_in r j x) (is_over r (take i log ++ x ∷ []) (p, j)) e f) in
+                let found = job_there (λ r j. lies_in r j.1 x && is_over r (take i log ++ x ∷ []) j) rounds r p j is (and_from (lies_in r j x) (is_over r (take i log ++ x ∷ []) (p, j)) e f) in
                 let z : true ≡ false = sym found ∙ (kept i x at).most in
                 let y : ⊥ = cc in
                 absurd y
@@ -213,7 +207,7 @@ module _ (rounds : List BeginningJobs) (now : ℕ) (log : List Slice) (legal : I
         by false e = omega (arith, ltb-false (ticks r j log) (job_length r p) e, never_more)
         by true e =
             let short : is_short now r log (p, j) ≡ true =
-            and_true (j.present && ltb (r.start + j.end) now) (ltb (ticks r j log) (job_length r p)) (and_true j.present (ltb (r.start + j.end) now) here (lt-ltb (r.start + j.end) now late)) e in
+            and_from (j.present && ltb (r.start + j.end) now) (ltb (ticks r j log) (job_length r p)) (and_from j.present (ltb (r.start + j.end) now) here (lt-ltb (r.start + j.end) now late)) e in
             let found = job_there (λ r j. is_short now r log j) rounds r p j is short in
             let z : true ≡ false = sym found ∙ legal.whole in
             let y : ⊥ = cc in
@@ -225,12 +219,12 @@ module _ (rounds : List BeginningJobs) (now : ℕ) (log : List Slice) (legal : I
         let free : is_free r (take k log) j ≡ true = by (is_free r (take k log) j) refl in
         let test = all_at_0 (λ (z : ℕ × Job). not (precedes z.0 j && z.1.present) || is_done r (take k log) z) r.jobs free q h at_q in
         eqb-true (ticks r h (take k log)) (job_length r q)
-        (applied (precedes q j && h.present) (is_done r (take k log) (q, h)) test (and_true (precedes q j) h.present before here))
+        (applied (precedes q j && h.present) (is_done r (take k log) (q, h)) test (and_from (precedes q j) h.present before here))
       where
         by : (b : Bool) → is_free r (take k log) j ≡ b → is_free r (take k log) j ≡ true
         by true f = f
         by false f =
-            let found = job_there (λ r j. lies_in r j.1 x && not (is_free r (take k log) j.1)) rounds r p j is (and_true (lies_in r j x) (not (is_free r (take k log) j)) e (ap not f)) in
+            let found = job_there (λ r j. lies_in r j.1 x && not (is_free r (take k log) j.1)) rounds r p j is (and_from (lies_in r j x) (not (is_free r (take k log) j)) e (ap not f)) in
             let z : true ≡ false = sym found ∙ (kept k x at).free in
             let y : ⊥ = cc in
             absurd y

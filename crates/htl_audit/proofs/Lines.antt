@@ -14,6 +14,7 @@ use Rattle.htl_audit.specs.Rosters.{AreSummed}
 use Rattle.htl_audit.specs.Lines.{IsNext, AreJudged, IsLate, BeganBefore}
 use Rattle.htl_audit.proofs.Judging.{kind_is}
 use Rattle.htl_audit.proofs.Summing.{Keeps, keeps, summed_more}
+use Rattle.std.proofs.lemmas.Bool.{ltb-false, ltb-true}
 
 -- behind a fault nothing is judged
 stopped : (t : Tables) (now : ℕ) (xs : List Slice) (k : Kept) (f : LogFault) → k.fault ≡ Some f → judged_to t now xs k ≡ k
@@ -65,12 +66,6 @@ module _ (t : Tables) (rounds : List BeginningJobs) (now bound : ℕ) where
       late_next [] keep = tt
       late_next (y ∷ ys) keep = inr (elim late [ inl h ↦ h | inr h ↦ omega (arith, h, keep.some, keep.order) ])
 
-      small : (a b : ℕ) → ltb a b ≡ true → a < b
-      small a b e = grind (arith, nat_tests)
-
-      large : (a b : ℕ) → ltb a b ≡ false → b ≤ a
-      large a b e = grind (arith, nat_tests)
-
       by_kind : (o : Option LogKind) → kind_of t now k x ≡ o → x.to < now
           → (AreSummed t rounds (log ++ x ∷ []) (with_slice x k) → k.fault ≡ None → IsLate bound (with_slice x k) xs → AreJudged t rounds now (log ++ x ∷ []) xs (judged_to t now xs (with_slice x k)))
           → AreJudged t rounds now log (x ∷ xs) (judged_to t now xs (with_kind x o k))
@@ -92,5 +87,5 @@ module _ (t : Tables) (rounds : List BeginningJobs) (now bound : ℕ) where
       by : (b : Bool) → ltb x.to now ≡ b
           → (AreSummed t rounds (log ++ x ∷ []) (with_slice x k) → k.fault ≡ None → IsLate bound (with_slice x k) xs → AreJudged t rounds now (log ++ x ∷ []) xs (judged_to t now xs (with_slice x k)))
           → AreJudged t rounds now log (x ∷ xs) (cond b (judged_to t now xs (judged t now x k)) k)
-      by false e next = none_judged log (x ∷ xs) k s fresh (large x.to now e)
-      by true e next = by_kind (kind_of t now k x) refl (small x.to now e) next
+      by false e next = none_judged log (x ∷ xs) k s fresh (ltb-false x.to now e)
+      by true e next = by_kind (kind_of t now k x) refl (ltb-true x.to now e) next

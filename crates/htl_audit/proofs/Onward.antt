@@ -3,7 +3,6 @@ use Rattle.std.proofs.Common.{◌≡◌, ℕ, zero, suc, ◌+◌, ◌-◌, ◌�
 use Rattle.std.specs.Prelude.{slice_get}
 use Rattle.std.proofs.lemmas.Bool.Decides.{nat_tests}
 use Rattle.std.proofs.lemmas.List.{length-drop}
-use Rattle.htl_form.proofs.PartLaws.{none_some}
 use Rattle.htl_model.specs.Tables.{Tables}
 use Rattle.htl_audit.specs.declared.slice.Slice.{Slice}
 use Rattle.htl_audit.specs.declared.slice.LogKind.TheVariants as kind
@@ -17,6 +16,8 @@ use Rattle.htl_audit.specs.Rosters.{AreSummed}
 use Rattle.htl_audit.proofs.Agreeing.{fault_alike}
 use Rattle.htl_audit.proofs.Judging.{rest}
 use Rattle.htl_audit.proofs.Lines.{lines_judged}
+use Rattle.std.proofs.lemmas.Option.{none-some}
+use Rattle.std.proofs.lemmas.Bool.{leb-false}
 
 -- ---- lists
 
@@ -35,8 +36,8 @@ get_drop [] (suc n) d = refl
 get_drop (x ∷ xs) (suc n) d = get_drop xs n d ∙ ap (slice_get (x ∷ xs)) (let z : suc (n + d) ≡ suc n + d = omega arith in z)
 
 pub in_front : (xs : List Slice) (n i : ℕ) (x : Slice) → slice_get (take n xs) i ≡ Some x → (i < n) × (slice_get xs i ≡ Some x)
-in_front xs zero i x e = absurd (none_some x e)
-in_front [] (suc n) i x e = absurd (none_some x e)
+in_front xs zero i x e = absurd (none-some x e)
+in_front [] (suc n) i x e = absurd (none-some x e)
 in_front (y ∷ xs) (suc n) zero x e = (omega arith, e)
 in_front (y ∷ xs) (suc n) (suc i) x e = let h = in_front xs n i x e in (omega (arith, h.0), h.1)
 
@@ -44,16 +45,13 @@ in_front (y ∷ xs) (suc n) (suc i) x e = let h = in_front xs n i x e in (omega 
 pub is_some_slice : (rounds : List BeginningJobs) (now : ℕ) (log : List Slice) (x : Slice) → line_fault rounds now log x ≡ None → x.from < x.to
 is_some_slice rounds now log x e = by (leb x.to x.from) refl
   where
-    less : (a b : ℕ) → leb a b ≡ false → b < a
-    less a b e = grind (arith, nat_tests)
-
     by : (b : Bool) → leb x.to x.from ≡ b → x.from < x.to
-    by false g = less x.to x.from g
+    by false g = leb-false x.to x.from g
     by true g =
         let out : slice_is_out_of_order now log x ≡ true = ap (λ z. z || ltb x.from (last_end log) || leb now x.to) g in
         let broken : line_fault rounds now log x ≡ Some kind.Order =
         ap (λ z. cond z (Some kind.Order) (rest (any_job (λ r j. lies_in r j.1 x) rounds) (any_job (λ r j. lies_in r j.1 x && is_over r (log ++ x ∷ []) j) rounds) (any_job (λ r j. lies_in r j.1 x && not (is_free r log j.1)) rounds))) out in
-        absurd (none_some kind.Order (sym e ∙ broken))
+        absurd (none-some kind.Order (sym e ∙ broken))
 
 -- the lines were judged that end before `now`, by the rounds that begin before it or, where a round begins just then, before `at`
 module _ (t : Tables) (rounds : List BeginningJobs) (now at : ℕ) (near : now ≤ suc at) (log : List Slice) (k : Kept) (f : AreJudged t rounds now [] log k) (others : List BeginningJobs) (later : ℕ) (agree : Agree at rounds others)

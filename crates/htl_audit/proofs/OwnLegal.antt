@@ -1,7 +1,6 @@
 -- The job lines of a run make a legal log.
 use Rattle.std.proofs.Common.{◌≡◌, ◌≤◌, ◌<◌, inl, inr, ℕ, suc, ◌+◌, ◌-◌, ◌*◌, ◌/◌, Bool, true, false, cond, not, ◌&&◌, ◌||◌, eqb, leb, ltb, List, [], ◌∷◌, ◌++◌, length, map, take, slice_get, get_or, Option, Some, None, refl, sym, ap, ap₂, ◌∙◌, subst, arith}
-use Rattle.std.proofs.lemmas.Bool.{eq-eqb, ltb-true}
-use Rattle.htl_form.proofs.PartLaws.{none_some}
+use Rattle.std.proofs.lemmas.Bool.{eq-eqb, ltb-true, and_parts, cases_lt}
 use Rattle.htl_model.specs.declared.event.Event.{Event}
 use Rattle.htl_model.specs.Frames.{root_periods, begins, unit_period, hyper, frame_of, multiple_of}
 use Rattle.htl_model.specs.Lists.{up_to}
@@ -17,7 +16,6 @@ use Rattle.htl_walk.proofs.Work.{job_is}
 use Rattle.htl_refine.specs.ServedFrames.{IsFeasibleRun}
 use Rattle.htl_refine.proofs.ServedFrames.{frames_are_served}
 use Rattle.htl_machine.specs.Programs.{schedules_of}
-use Rattle.htl_machine.proofs.InstantRecords.{up_to_none}
 use Rattle.htl_audit.specs.declared.slice.Slice.{Slice}
 use Rattle.htl_audit.specs.Growing.{HaveRounds}
 use Rattle.htl_audit.specs.Jobs.{BeginningJobs, round_of, all_rounds}
@@ -28,13 +26,15 @@ use Rattle.htl_audit.proofs.ClosedSlices.{given}
 use Rattle.htl_audit.proofs.FrameJobs.{IsFramed, of_round, of_frame, framed_precedes, frames_run}
 use Rattle.htl_audit.proofs.FrameSlices.{frame_plan, frame_slices_at, slices_are}
 use Rattle.htl_audit.proofs.Growing.{start_is, round_is}
-use Rattle.htl_audit.proofs.JobTests.{both, all_pass_0, IsJobOf, job_found, job_there}
+use Rattle.htl_audit.proofs.JobTests.{all_pass_0, IsJobOf, job_found, job_there}
 use Rattle.htl_audit.proofs.Judging.{lies, implied}
-use Rattle.htl_audit.proofs.OwnSoFar.{start_of, cut, last_early, same_round, mod_below, either, keeps, IsRun, again, later_at, few, IsAt, is_at, elsewhere, ticks_before}
+use Rattle.htl_audit.proofs.OwnSoFar.{start_of, cut, last_early, same_round, mod_below, keeps, IsRun, again, later_at, few, IsAt, is_at, elsewhere, ticks_before}
 use Rattle.htl_audit.proofs.OwnTicks.{Plan, walk_of, IsSound, audited, IsOwn, own, own_lies, never_over, window_given, all_given, ready, before}
 use Rattle.htl_audit.proofs.RoundJobs.{fresh}
 use Rattle.htl_audit.proofs.Rounds.{accepted_range, accepted_kept, have_rounds}
 use Rattle.htl_audit.proofs.StandingJobs.{round_there}
+use Rattle.std.proofs.lemmas.Option.{none-some}
+use Rattle.htl_refine.proofs.RecordLists.{up_to_none}
 
 -- ---- a job by its rounds and by its frame
 
@@ -137,7 +137,7 @@ module _ (t : Tables) (lists : List (List SInstr)) (es : List Event) (rounds_fit
     sorted = last_early x.from (up_to at (suc m)) earlier
       where
         past : (n : ℕ) (y : Slice) → n < m → IsOwn (plan (start_of h n)) (start_of h n) (suc n) y → y.to ≡ suc n → y.to ≤ x.from
-        past n y less o to = elim (either n s) [
+        past n y less o to = elim (cases_lt n s) [
           | inl other ↦ omega (arith, to, other, from)
           | inr first ↦
               let near : m < s + h = mod_below h m runs.some in
@@ -168,7 +168,7 @@ module _ (t : Tables) (lists : List (List SInstr)) (es : List Event) (rounds_fit
     never_more : any_job (λ r j. lies_in r j.1 x && is_over r (up_to at (suc m) ++ x ∷ []) j) rounds ≡ true → ⊥
     never_more e =
         let f = job_found (λ r j. lies_in r j.1 x && is_over r (up_to at (suc m) ++ x ∷ []) j) rounds e in
-        let two = both (lies_in f.round f.job x) (is_over f.round (up_to at (suc m) ++ x ∷ []) (f.position, f.job)) f.passes in
+        let two = and_parts (lies_in f.round f.job x) (is_over f.round (up_to at (suc m) ++ x ∷ []) (f.position, f.job)) f.passes in
         let present = (lies f.round f.job x two.0).present in
         let k = job_known (suc end) f.position f.round f.job f.is present in
         let over = ltb-true (job_length f.round f.position) (ticks f.round f.job (up_to at (suc m) ++ x ∷ [])) two.1 in
@@ -194,7 +194,7 @@ module _ (t : Tables) (lists : List (List SInstr)) (es : List Event) (rounds_fit
         (λ q i at_q.
         implied (precedes q j && i.present) (is_done other (up_to at (suc m)) (q, i))
         (λ waits.
-        let w = both (precedes q j) i.present waits in
+        let w = and_parts (precedes q j) i.present waits in
         let g = job_in_frame other k.start q i k.of at_q w.1 in
         let frame : g.frame ≡ k.frame = sym g.own ∙ ap (start_of h) (start_same g.start k.start other g.of k.of) ∙ k.own in
         let moved : IsFramed t lists es rounds_fit run k.frame g.position g.job k.start q i =
@@ -215,7 +215,7 @@ module _ (t : Tables) (lists : List (List SInstr)) (es : List Event) (rounds_fit
     always_free : any_job (λ r j. lies_in r j.1 x && not (is_free r (up_to at (suc m)) j.1)) rounds ≡ true → ⊥
     always_free e =
         let f = job_found (λ r j. lies_in r j.1 x && not (is_free r (up_to at (suc m)) j.1)) rounds e in
-        let two = both (lies_in f.round f.job x) (not (is_free f.round (up_to at (suc m)) f.job)) f.passes in
+        let two = and_parts (lies_in f.round f.job x) (not (is_free f.round (up_to at (suc m)) f.job)) f.passes in
         let z : not true ≡ true = ap not (sym (free f.position f.job f.round f.is two.0)) ∙ two.1 in
         let y : ⊥ = cc in
         y
@@ -238,8 +238,8 @@ module _ (t : Tables) (lists : List (List SInstr)) (es : List Event) (rounds_fit
       by false e = refl
       by true e =
           let f = job_found (λ r j. is_short (suc end) r (up_to at (suc end)) j) (all_rounds t es (suc end)) e in
-          let two = both (f.job.present && ltb (f.round.start + f.job.end) (suc end)) (ltb (ticks f.round f.job (up_to at (suc end))) (job_length f.round f.position)) f.passes in
-          let one = both f.job.present (ltb (f.round.start + f.job.end) (suc end)) two.0 in
+          let two = and_parts (f.job.present && ltb (f.round.start + f.job.end) (suc end)) (ltb (ticks f.round f.job (up_to at (suc end))) (job_length f.round f.position)) f.passes in
+          let one = and_parts f.job.present (ltb (f.round.start + f.job.end) (suc end)) two.0 in
           let k = job_known (suc end) f.position f.round f.job f.is one.0 in
           let late = ltb-true (f.round.start + f.job.end) (suc end) one.1 in
           let less = ltb-true (ticks f.round f.job (up_to at (suc end))) (job_length f.round f.position) two.1 in
@@ -251,7 +251,7 @@ module _ (t : Tables) (lists : List (List SInstr)) (es : List Event) (rounds_fit
 
 -- without modules there are neither rounds nor slices
 no_round_is_legal : (t : Tables) (es : List Event) → root_modules t ≡ [] → (end : ℕ) → IsLegalIn (all_rounds t es (suc end)) (suc end) []
-no_round_is_legal t es none end = record { lines = λ i x at. absurd (none_some x at); whole = by (any_short (all_rounds t es (suc end)) (suc end) []) refl }
+no_round_is_legal t es none end = record { lines = λ i x at. absurd (none-some x at); whole = by (any_short (all_rounds t es (suc end)) (suc end) []) refl }
   where
     never : (n : ℕ) → begins (root_periods t) n ≡ false
     never n = ap (λ us. begins (map (unit_period t) us) n) none

@@ -1,11 +1,10 @@
 -- The slices of a run, instant by instant, and the ticks that a job has of those before an instant.
 use Rattle.std.proofs.Common.{◌≡◌, ◌≤◌, ◌<◌, ◌⊎◌, inl, inr, ℕ, zero, suc, ◌+◌, ◌*◌, ◌/◌, Bool, true, false, cond, not, ◌&&◌, ◌||◌, leb, List, [], ◌∷◌, ◌++◌, length, take, slice_get, Some, None, refl, sym, ap, ap₂, ◌∙◌, subst, arith}
 use Rattle.std.proofs.Math.Nat.{div-add-mod, mod-lt, mul-div-le, mul-div_cancel_left}
-use Rattle.std.proofs.lemmas.Bool.{le-ltb, lt-leb}
+use Rattle.std.proofs.lemmas.Bool.{le-ltb, lt-leb, cases_eq, false_from_ne_true}
 use Rattle.std.proofs.lemmas.List.{take-append-le}
-use Rattle.std.proofs.lemmas.Option.{slice_get_within}
+use Rattle.std.proofs.lemmas.Option.{slice_get_within, none-some}
 use Rattle.std.proofs.Math.Seq.{take-append_seam}
-use Rattle.htl_form.proofs.PartLaws.{none_some}
 use Rattle.htl_model.specs.Lists.{up_to}
 use Rattle.htl_walk.specs.declared.job.Job.{Job}
 use Rattle.htl_walk.specs.Walk.{first_point}
@@ -16,9 +15,10 @@ use Rattle.htl_audit.specs.Jobs.{BeginningJobs}
 use Rattle.htl_audit.specs.Legal.{lies_in, ticks, is_free, is_over, any_job, last_end, slice_is_out_of_order, line_fault}
 use Rattle.htl_audit.proofs.ClosedSlices.{closed, one_closed, given, given_first}
 use Rattle.htl_audit.proofs.FrameSlices.{frame_slices_at, none_past}
-use Rattle.htl_audit.proofs.Growing.{in_two}
 use Rattle.htl_audit.proofs.Judging.{lies, rest}
 use Rattle.htl_audit.proofs.OwnTicks.{ticks_both, no_ticks, Plan, walk_of, IsSound, audited, IsOwn, own, ticks_now}
+use Rattle.htl_base.proofs.Places.{get_either}
+use Rattle.htl_base.proofs.Numbers.{times_grow}
 
 -- ---- lists of at most one item, end to end
 
@@ -29,14 +29,14 @@ pub record IsCut {A : Type 0} (f : ℕ → List A) (n i : ℕ) (x : A) : Type 0 
   pub front : take i (up_to f n) ≡ up_to f now
 
 single : {A : Type 0} (xs : List A) (m : ℕ) (x : A) → length xs ≤ 1 → slice_get xs m ≡ Some x → (m ≡ 0) × (xs ≡ x ∷ [])
-single [] m x few at = absurd (none_some x at)
+single [] m x few at = absurd (none-some x at)
 single (y ∷ []) zero x few at = let one : y ≡ x = cc in (refl, ap (λ z. z ∷ []) one)
-single (y ∷ []) (suc m) x few at = absurd (none_some x at)
+single (y ∷ []) (suc m) x few at = absurd (none-some x at)
 single (y ∷ z ∷ ys) m x few at = absurd (omega (arith, few))
 
 pub cut : {A : Type 0} (f : ℕ → List A) → ((k : ℕ) → length (f k) ≤ 1) → (n i : ℕ) (x : A) → slice_get (up_to f n) i ≡ Some x → IsCut f n i x
-cut f few zero i x at = absurd (none_some x at)
-cut {A} f few (suc n) i x at = by (in_two (up_to f n) (f n) i x at) (λ e. cut f few n i x e)
+cut f few zero i x at = absurd (none-some x at)
+cut {A} f few (suc n) i x at = by (get_either (up_to f n) (f n) i x at) (λ e. cut f few n i x e)
   where
     by : (slice_get (up_to f n) i ≡ Some x) ⊎ ((m : ℕ) × (i ≡ length (up_to f n) + m) × (slice_get (f n) m ≡ Some x)) → (slice_get (up_to f n) i ≡ Some x → IsCut f n i x) → IsCut f (suc n) i x
     by (inl e) next =
@@ -61,12 +61,6 @@ same_round period a m some first last = grind arith
 pub mod_below : (period m : ℕ) → 0 < period → m < period * (m / period) + period
 mod_below period m some = omega (arith, div-add-mod m period, mod-lt m some)
 
-pub either : (a b : ℕ) → (a < b) ⊎ (b ≤ a)
-either a b = grind arith
-
-equal_or : (a b : ℕ) → (a ≡ b) ⊎ (a ≡ b → ⊥)
-equal_or a b = grind arith
-
 -- ---- a line that breaks no rule
 
 pub keeps : (rounds : List BeginningJobs) (now : ℕ) (log : List Slice) (x : Slice) → x.from < x.to → last_end log ≤ x.from → x.to < now → any_job (λ r j. lies_in r j.1 x) rounds ≡ true
@@ -76,11 +70,7 @@ keeps rounds now log x room order soon lies over early =
     ap₂ (λ a b. a || b || leb now x.to) (lt-leb x.to x.from room) (le-ltb x.from (last_end log) order) ∙ lt-leb now x.to soon in
     ap (λ b. cond b (Some kind.Order) (rest (any_job (λ r j. lies_in r j.1 x) rounds) (any_job (λ r j. lies_in r j.1 x && is_over r (log ++ x ∷ []) j) rounds) (any_job (λ r j. lies_in r j.1 x && not (is_free r log j.1)) rounds))) sorted
     ∙ ap (λ a. rest a (any_job (λ r j. lies_in r j.1 x && is_over r (log ++ x ∷ []) j) rounds) (any_job (λ r j. lies_in r j.1 x && not (is_free r log j.1)) rounds)) lies
-    ∙ ap₂ (λ b c. rest true b c) (is_false (any_job (λ r j. lies_in r j.1 x && is_over r (log ++ x ∷ []) j) rounds) over) (is_false (any_job (λ r j. lies_in r j.1 x && not (is_free r log j.1)) rounds) early)
-  where
-    is_false : (b : Bool) → (b ≡ true → ⊥) → b ≡ false
-    is_false true h = absurd (h refl)
-    is_false false h = refl
+    ∙ ap₂ (λ b c. rest true b c) (false_from_ne_true (any_job (λ r j. lies_in r j.1 x && is_over r (log ++ x ∷ []) j) rounds) over) (false_from_ne_true (any_job (λ r j. lies_in r j.1 x && not (is_free r log j.1)) rounds) early)
 
 -- ---- a run in frames
 
@@ -112,12 +102,9 @@ module _ (plan : ℕ → Plan) (h : ℕ) (run : IsRun plan h) where
   past : (m k : ℕ) → k < m / h → closed (plan (k * h)).jobs (k * h) (suc m) (walk_of (plan (k * h))) ≡ []
   past m k less =
       let whole : start_of h (k * h) ≡ k * h = ap (start_of h) (sym (turned k)) ∙ ap (λ z. h * z) (mul-div_cancel_left k run.some) ∙ turned k in
-      let over : k * h + h ≤ m = omega (arith, more h (suc k) (m / h) less, mul-div-le m h, one_more h k) in
+      let over : k * h + h ≤ m = omega (arith, times_grow h (suc k) (m / h) less, mul-div-le m h, one_more h k) in
       none_past (plan (k * h)).jobs (k * h) (suc m) (walk_of (plan (k * h))) (λ i l e. omega (arith, (run.sound (k * h) whole).inside i l e, over))
     where
-      more : (p a b : ℕ) → a ≤ b → p * a ≤ p * b
-      more p a b g = grind arith
-
       one_more : (p a : ℕ) → p * suc a ≡ a * p + p
       one_more p a = grind arith
 
@@ -144,7 +131,7 @@ module _ (plan : ℕ → Plan) (h : ℕ) (run : IsRun plan h) where
     pub start : start_of h before ≤ x.from
 
   pub is_at : (now i : ℕ) (x : Slice) → slice_get (at now) i ≡ Some x → IsAt now x
-  is_at zero i x e = absurd (none_some x (ap (λ (xs : List Slice). slice_get xs i) (sym first_at) ∙ e))
+  is_at zero i x e = absurd (none-some x (ap (λ (xs : List Slice). slice_get xs i) (sym first_at) ∙ e))
   is_at (suc m) i x e =
       let s = start_of h m in
       let o = own (plan s) s h (run.sound s (again m)) (suc m) i x (ap (λ (xs : List Slice). slice_get xs i) (sym (later_at m)) ∙ e) in
@@ -173,7 +160,7 @@ module _ (plan : ℕ → Plan) (h : ℕ) (run : IsRun plan h) where
         (λ i x e l.
         let o = own r s h (run.sound s whole) 0 i x e in
         omega (arith, o.room, o.ends, o.from.then)))
-    ticks_at (suc m) = by (equal_or (start_of h m) s)
+    ticks_at (suc m) = by (cases_eq (start_of h m) s)
       where
         by : (start_of h m ≡ s) ⊎ (start_of h m ≡ s → ⊥)
             → ticks (audited (plan s) s) j (at (suc m)) ≡ ticks (audited (plan s) s) j (closed (plan s).jobs s (suc m) (walk_of (plan s)))

@@ -1,6 +1,6 @@
 -- A frame that meets: where its slices lie, whose ticks they are, and what they have before an instant.
 use Rattle.std.proofs.Common.{◌≡◌, ◌≤◌, ◌<◌, ◌⊎◌, inl, inr, ℕ, zero, suc, ◌+◌, ◌-◌, Bool, true, false, cond, ◌&&◌, eqb, leb, ltb, List, [], ◌∷◌, ◌++◌, slice_get, get_or, Option, Some, None, refl, sym, ap, ap₂, ◌∙◌, subst, arith}
-use Rattle.std.proofs.lemmas.Bool.{eqb-true, eqb-false, eq-eqb, ltb-true, ltb-false, le-leb}
+use Rattle.std.proofs.lemmas.Bool.{eqb-true, eqb-false, eq-eqb, ltb-true, ltb-false, le-leb, and_from}
 use Rattle.htl_walk.specs.declared.job.Job.{Job}
 use Rattle.htl_walk.specs.Jobs.{precedes}
 use Rattle.htl_walk.specs.declared.schedule.SInstr.{SInstr}
@@ -8,14 +8,14 @@ use Rattle.htl_walk.specs.Walk.{Left, job_at, walk, first_point, is_position, sl
 use Rattle.htl_walk.proofs.Work.{job_is, job_there, work_some, work_present}
 use Rattle.htl_refine.proofs.SliceOrder.{slices_apart}
 use Rattle.htl_refine.proofs.SliceSums.{spent_is}
-use Rattle.htl_walk.proofs.Finishes.{some_same}
 use Rattle.htl_refine.proofs.RecordOrder.{not_some}
 use Rattle.htl_audit.specs.declared.slice.Slice.{Slice}
 use Rattle.htl_audit.specs.Jobs.{BeginningJobs}
 use Rattle.htl_audit.specs.Legal.{lies_in, ticks}
 use Rattle.htl_audit.proofs.ClosedSlices.{Runs, runs_at, mine, onto, closed, IsClosed, closed_from, gives, given, given_less, given_all}
-use Rattle.htl_audit.proofs.JobTests.{and_true}
 use Rattle.htl_audit.proofs.Judging.{lies}
+use Rattle.htl_base.proofs.Numbers.{cases_less_more}
+use Rattle.std.proofs.lemmas.Option.{same_Some}
 
 -- what the processor is given: jobs, how long each takes, and one list
 pub record Plan : Type 0 where
@@ -46,7 +46,7 @@ no_ticks r j (x ∷ xs) out = by (lies_in r j x) refl (no_ticks r j xs (λ i y a
 within_at : (a b q : ℕ) (ls : List Left) (k : ℕ) (l : Left) (u : ℕ × ℕ) → AllWithin a b (slices ls q) → slice_get ls k ≡ Some l → l.position ≡ Some q → l.slice ≡ Some u → (a ≤ u.0) × (u.1 ≤ b)
 within_at a b q [] k l u all at of runs = not_some l at
 within_at a b q (m ∷ ls) zero l u all at of runs =
-    let same = some_same _ _ at in
+    let same = same_Some _ _ at in
     let first : cond (is_position m.position q) (slice_onto m.slice (slices ls q)) (slices ls q) ≡ u ∷ slices ls q =
     ap₂ (λ (o : Option ℕ) (v : Option (ℕ × ℕ)). cond (is_position o q) (slice_onto v (slices ls q)) (slices ls q)) (ap (λ (x : Left). x.position) same ∙ of) (ap (λ (x : Left). x.slice) same ∙ runs)
     ∙ ap (λ (c : Bool). cond c (u ∷ slices ls q) (slices ls q)) (eq-eqb q q refl) in
@@ -72,7 +72,7 @@ record HasFirst (ls : List Left) (p k : ℕ) : Type 0 where
 first_of : (ls : List Left) (p k : ℕ) (l : Left) (u : ℕ × ℕ) → slice_get ls k ≡ Some l → l.position ≡ Some p → l.slice ≡ Some u → HasFirst ls p k
 first_of [] p k l u at of runs = not_some l at
 first_of (m ∷ ls) p zero l u at of runs =
-    let same = some_same _ _ at in
+    let same = same_Some _ _ at in
     record {
       slice = u;
       first =
@@ -141,9 +141,6 @@ pub record IsOwn (r : Plan) (s now : ℕ) (x : Slice) : Type 0 where
   pub early : (job_at r.jobs from.position).release ≤ from.slice.0
   pub late : from.slice.1 ≤ (job_at r.jobs from.position).end
 
-order : (a b : ℕ) → (a < b) ⊎ ((b < a) ⊎ (a ≡ b))
-order a b = grind arith
-
 module _ (r : Plan) (s period : ℕ) (sound : IsSound r period) where
   pub runs : (k : ℕ) (l : Left) (u : ℕ × ℕ) → slice_get (walk_of r) k ≡ Some l → l.slice ≡ Some u → Runs (λ p. (job_at r.jobs p).present ≡ true) l u
   runs k l u at has = runs_at r.jobs r.schedule (first_point r.jobs r.lengths) (λ p. (job_at r.jobs p).present ≡ true) (λ p more. work_some r.jobs r.lengths p more) k l u at has
@@ -152,7 +149,7 @@ module _ (r : Plan) (s period : ℕ) (sound : IsSound r period) where
   own now i x at =
       let c = closed_from r.jobs s now (walk_of r) i x at in
       let w = runs c.number c.left c.slice c.at c.runs in
-      let same : w.position ≡ c.position = some_same _ _ (sym w.of ∙ c.of) in
+      let same : w.position ≡ c.position = same_Some _ _ (sym w.of ∙ c.of) in
       let here : (job_at r.jobs c.position).present ≡ true = ap (λ (p : ℕ). (job_at r.jobs p).present) (sym same) ∙ w.has in
       let job = job_there r.jobs c.position here in
       let j = job_at r.jobs c.position in
@@ -162,8 +159,8 @@ module _ (r : Plan) (s period : ℕ) (sound : IsSound r period) where
   -- a slice in the window of a job
   in_window : (j : Job) (x : Slice) → j.present ≡ true → x.inv ≡ j.inv → s + j.release ≤ x.from → x.to ≤ s + j.end → lies_in (audited r s) j x ≡ true
   in_window j x here inv from to =
-      and_true (j.present && eqb x.inv j.inv && leb (s + j.release) x.from) (leb x.to (s + j.end))
-      (and_true (j.present && eqb x.inv j.inv) (leb (s + j.release) x.from) (and_true j.present (eqb x.inv j.inv) here (eq-eqb x.inv j.inv inv)) (le-leb (s + j.release) x.from from))
+      and_from (j.present && eqb x.inv j.inv && leb (s + j.release) x.from) (leb x.to (s + j.end))
+      (and_from (j.present && eqb x.inv j.inv) (leb (s + j.release) x.from) (and_from j.present (eqb x.inv j.inv) here (eq-eqb x.inv j.inv inv)) (le-leb (s + j.release) x.from from))
       (le-leb x.to (s + j.end) to)
 
   pub own_lies : (now : ℕ) (x : Slice) (o : IsOwn r s now x) → lies_in (audited r s) (job_at r.jobs o.from.position) x ≡ true
@@ -193,7 +190,7 @@ module _ (r : Plan) (s period : ℕ) (sound : IsSound r period) where
             by_lies false e differ = refl
             by_lies true e differ =
                 let w = runs k l u is has in
-                let same : w.position ≡ q = some_same _ _ (sym w.of ∙ of) in
+                let same : w.position ≡ q = same_Some _ _ (sym w.of ∙ of) in
                 let there : (job_at r.jobs q).present ≡ true = ap (λ (p : ℕ). (job_at r.jobs p).present) (sym same) ∙ w.has in
                 let own = within_at (job_at r.jobs q).release (job_at r.jobs q).end q (walk_of r) k l u (sound.meets q (job_at r.jobs q) (job_there r.jobs q there) there).within is of has in
                 let lie = lies (audited r s) j (record { from = s + u.0; to = s + u.1; inv = (job_at r.jobs q).inv }) e in
@@ -263,10 +260,10 @@ module _ (r : Plan) (s period : ℕ) (sound : IsSound r period) where
         let done = (sound.meets p j at here).after q first.slice before there first.first in
         let room = (runs k l u is has).room in
         let early = (runs first.number first.left first.slice first.at first.runs).room in
-        let starts : first.slice.0 < u.1 = elim (order first.number k) [
+        let starts : first.slice.0 < u.1 = elim (cases_less_more first.number k) [
           | inl less ↦ (let apart = slices_apart r.jobs r.schedule (first_point r.jobs r.lengths) first.number k first.left l first.slice u less first.at is first.runs has in omega (arith, apart, early, room))
           | inr (inl more) ↦ absurd (omega (arith, more, first.early))
-          | inr (inr same) ↦ (let one = some_same _ _ (sym first.runs ∙ ap (λ (z : Left). z.slice) (some_same _ _ (sym first.at ∙ ap (slice_get (walk_of r)) same ∙ is)) ∙ has) in omega (arith, room, ap (λ (z : ℕ × ℕ). z.0) one))
+          | inr (inr same) ↦ (let one = same_Some _ _ (sym first.runs ∙ ap (λ (z : Left). z.slice) (same_Some _ _ (sym first.at ∙ ap (slice_get (walk_of r)) same ∙ is)) ∙ has) in omega (arith, room, ap (λ (z : ℕ × ℕ). z.0) one))
         ] in
         (done.0, done.1, omega (arith, done.2, starts))
 
@@ -278,11 +275,11 @@ module _ (r : Plan) (s period : ℕ) (sound : IsSound r period) where
       let d = b.from in
       let to : s + d.slice.1 ≡ y.to = ap (λ (z : Slice). z.to) d.is in
       let from : s + c.slice.0 ≡ x.from = ap (λ (z : Slice). z.from) c.is in
-      let apart : d.slice.1 ≤ c.slice.0 = elim (order d.number c.number) [
+      let apart : d.slice.1 ≤ c.slice.0 = elim (cases_less_more d.number c.number) [
         | inl first ↦ slices_apart r.jobs r.schedule (first_point r.jobs r.lengths) d.number c.number d.left c.left d.slice c.slice first d.at c.at d.runs c.runs
         | inr (inl second) ↦
             (let apart = slices_apart r.jobs r.schedule (first_point r.jobs r.lengths) c.number d.number c.left d.left c.slice d.slice second c.at d.at c.runs d.runs in
             absurd (omega (arith, apart, b.room, less, c.then, d.then, a.ends, b.ends)))
-        | inr (inr same) ↦ (let one = some_same _ _ (sym d.at ∙ ap (slice_get (walk_of r)) same ∙ c.at) in absurd (omega (arith, ap (λ (z : Left). z.at) one, less, c.then, d.then)))
+        | inr (inr same) ↦ (let one = same_Some _ _ (sym d.at ∙ ap (slice_get (walk_of r)) same ∙ c.at) in absurd (omega (arith, ap (λ (z : Left). z.at) one, less, c.then, d.then)))
       ] in
       omega (arith, to, from, apart)

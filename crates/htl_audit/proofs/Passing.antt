@@ -2,7 +2,6 @@
 use Rattle.std.proofs.Common.{◌≡◌, ℕ, zero, suc, ◌+◌, ◌-◌, ◌≤◌, ◌<◌, ◌⊎◌, inl, inr, Bool, true, false, cond, not, ◌&&◌, ◌||◌, ltb, List, [], ◌∷◌, ◌++◌, length, take, drop, Option, Some, None, IfSome, is_some, refl, sym, ◌∙◌, ap, subst, arith}
 use Rattle.std.specs.Prelude.{slice_get}
 use Rattle.std.proofs.lemmas.Bool.Decides.{nat_tests}
-use Rattle.htl_form.proofs.PartLaws.{none_some}
 use Rattle.htl_model.specs.Tables.{Tables}
 use Rattle.htl_audit.specs.declared.slice.Slice.{Slice}
 use Rattle.htl_audit.specs.declared.slice.LogKind.{LogKind}
@@ -21,6 +20,8 @@ use Rattle.htl_audit.proofs.Settling.{short_later}
 use Rattle.htl_audit.proofs.Steps.{judged_stopped, judged_roster}
 use Rattle.htl_audit.proofs.Summing.{last_more}
 use Rattle.htl_audit.proofs.Verdicts.{length_take}
+use Rattle.std.proofs.lemmas.Option.{none-some}
+use Rattle.std.proofs.lemmas.Bool.{ltb-false}
 
 -- ---- judging leaves the roster and the jobs that fell short, and passes on no fault
 
@@ -58,29 +59,26 @@ short_next t rounds now log next k b None n = (record { kept = n.0.kept; place =
 in_order : (rounds : List BeginningJobs) (now : ℕ) (log : List Slice) (x : Slice) → line_fault rounds now log x ≡ None → last_end log ≤ x.from
 in_order rounds now log x e = by (ltb x.from (last_end log)) refl
   where
-    large : (a b : ℕ) → ltb a b ≡ false → b ≤ a
-    large a b e = grind (arith, nat_tests)
-
     second : (a b c : Bool) → b ≡ true → (a || b || c) ≡ true
     second true b c e = refl
     second false true c e = refl
     second false false c e = absurd (let z : ⊥ = cc in z)
 
     by : (b : Bool) → ltb x.from (last_end log) ≡ b → last_end log ≤ x.from
-    by false g = large x.from (last_end log) g
+    by false g = ltb-false x.from (last_end log) g
     by true g =
         let out : slice_is_out_of_order now log x ≡ true = second _ (ltb x.from (last_end log)) _ g in
         let broken : line_fault rounds now log x ≡ Some kind.Order =
         ap (λ z. cond z (Some kind.Order) (rest (any_job (λ r j. lies_in r j.1 x) rounds) (any_job (λ r j. lies_in r j.1 x && is_over r (log ++ x ∷ []) j) rounds) (any_job (λ r j. lies_in r j.1 x && not (is_free r log j.1)) rounds))) out in
-        absurd (none_some kind.Order (sym e ∙ broken))
+        absurd (none-some kind.Order (sym e ∙ broken))
 
 pub take_next : (xs : List Slice) (n : ℕ) (x : Slice) → slice_get xs n ≡ Some x → take (suc n) xs ≡ take n xs ++ x ∷ []
-take_next [] n x e = absurd (none_some x e)
+take_next [] n x e = absurd (none-some x e)
 take_next (y ∷ xs) zero x e = let one : y ≡ x = cc in ap (λ z. z ∷ []) one
 take_next (y ∷ xs) (suc n) x e = ap (λ z. y ∷ z) (take_next xs n x e)
 
 pub get_before : (xs : List Slice) (n : ℕ) (x : Slice) → slice_get xs (suc n) ≡ Some x → (y : Slice) × (slice_get xs n ≡ Some y)
-get_before [] n x e = absurd (none_some x e)
+get_before [] n x e = absurd (none-some x e)
 get_before (y ∷ xs) zero x e = (y, refl)
 get_before (y ∷ xs) (suc n) x e = get_before xs n x e
 
@@ -123,7 +121,7 @@ module _ (t : Tables) (rounds : List BeginningJobs) (at later : ℕ) (order : at
       here =
           record {
             judged = record { count = stays.count; few = stays.few; keep = stays.keep; next = short_next t rounds later ([] ++ take stays.count log) (slice_get log stays.count) k (k.short || any_fell_short t later k) k.fault stays.next };
-            short = λ none. absurd (none_some g (sym none ∙ e));
+            short = λ none. absurd (none-some g (sym none ∙ e));
             began = began_later (settled t later k) refl;
           }
 

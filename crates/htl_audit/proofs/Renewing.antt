@@ -1,7 +1,7 @@
 -- What is kept of the invocations whose rounds begin.
 use Rattle.std.proofs.Common.{◌≡◌, ◌≢◌, ℕ, zero, suc, ◌≤◌, ◌<◌, ◌⊎◌, inl, inr, Bool, true, false, cond, ◌&&◌, eqb, List, [], ◌∷◌, length, get_or, Option, Some, None, refl, sym, ◌∙◌, ap, subst, arith}
 use Rattle.std.specs.Prelude.{slice_get}
-use Rattle.std.proofs.lemmas.Bool.{eqb-true}
+use Rattle.std.proofs.lemmas.Bool.{eqb-true, and_from, and_parts}
 use Rattle.std.proofs.lemmas.Bool.Decides.{nat_tests}
 use Rattle.std.proofs.lemmas.List.{get_or-set_same, get_or-set_other, length-set}
 use Rattle.htl_emach.specs.Calendars.{list_at}
@@ -10,19 +10,15 @@ use Rattle.htl_model.specs.Selected.{is_at, Runs}
 use Rattle.htl_model.specs.Tables.{Tables, is_concrete, mode_module}
 use Rattle.htl_audit.specs.Keeping.{Kept, has_job, sum_at, length_at, start_at, inv_runs_in, begins_round, renewed, renewed_to}
 use Rattle.htl_audit.specs.Rosters.{IsSized}
-use Rattle.htl_audit.proofs.JobTests.{both, and_true}
+use Rattle.htl_machine.proofs.Settling.{list_is}
+use Rattle.htl_base.proofs.Numbers.{cases_below}
 
 -- ---- whose mode runs
 
-list_get : (xs : List (Option ℕ)) (k : ℕ) → get_or xs k None ≡ list_at xs k
-list_get [] k = refl
-list_get (x ∷ xs) zero = refl
-list_get (x ∷ xs) (suc k) = list_get xs k
-
 pub runs_is : (t : Tables) (modes : List (Option ℕ)) (i : ℕ) (x : Inv) → slice_get t.invs i ≡ Some x → is_concrete t x ≡ true → Runs t modes x.mode → inv_runs_in t modes i ≡ true
 runs_is t modes i x at concrete runs =
-    let here : list_at modes (mode_module t x.mode) ≡ Some x.mode = sym (list_get modes (mode_module t x.mode)) ∙ runs in
-    let both_are : (is_concrete t x && is_at (list_at modes (mode_module t x.mode)) x.mode) ≡ true = and_true (is_concrete t x) (is_at (list_at modes (mode_module t x.mode)) x.mode) concrete (ap (λ o. is_at o x.mode) here ∙ same x.mode) in
+    let here : list_at modes (mode_module t x.mode) ≡ Some x.mode = sym (list_is modes (mode_module t x.mode)) ∙ runs in
+    let both_are : (is_concrete t x && is_at (list_at modes (mode_module t x.mode)) x.mode) ≡ true = and_from (is_concrete t x) (is_at (list_at modes (mode_module t x.mode)) x.mode) concrete (ap (λ o. is_at o x.mode) here ∙ same x.mode) in
     ap (λ (o : Option Inv). elim o [ Some y ↦ is_concrete t y && is_at (list_at modes (mode_module t y.mode)) y.mode | None ↦ false ]) at ∙ both_are
   where
     same : (n : ℕ) → eqb n n ≡ true
@@ -39,8 +35,8 @@ runs_of t modes i e = by (slice_get t.invs i) refl e
         → (x : Inv) × (slice_get t.invs i ≡ Some x) × (is_concrete t x ≡ true) × Runs t modes x.mode
     by None at f = absurd (let z : ⊥ = cc in z)
     by (Some x) at f =
-        let two = both (is_concrete t x) (is_at (list_at modes (mode_module t x.mode)) x.mode) f in
-        (x, at, two.0, list_get modes (mode_module t x.mode) ∙ found (list_at modes (mode_module t x.mode)) x.mode two.1)
+        let two = and_parts (is_concrete t x) (is_at (list_at modes (mode_module t x.mode)) x.mode) f in
+        (x, at, two.0, list_is modes (mode_module t x.mode) ∙ found (list_at modes (mode_module t x.mode)) x.mode two.1)
 
 -- ---- the entries of an invocation
 
@@ -48,9 +44,6 @@ get_past : {A : Type 0} (xs : List A) (i : ℕ) (d : A) → length xs ≤ i → 
 get_past [] i d h = refl
 get_past (x ∷ xs) zero d h = absurd (omega (arith, h))
 get_past (x ∷ xs) (suc i) d h = get_past xs i d (omega (arith, h))
-
-order : (i n : ℕ) → i < suc n → (i < n) ⊎ (i ≡ n)
-order i n h = grind arith
 
 module _ (t : Tables) (modes : List (Option ℕ)) (takes : List ℕ) (s count : ℕ) where
   one_sized : (m i : ℕ) (k : Kept) → IsSized count k → IsSized count (renewed t modes s m i k)
@@ -105,7 +98,7 @@ module _ (t : Tables) (modes : List (Option ℕ)) (takes : List ℕ) (s count : 
 
   pub all_new : (n i : ℕ) (k : Kept) → IsSized count k → n ≤ count → i < n → begins_round t s i ≡ true → IsNew i (renewed_to t modes takes s n k)
   all_new zero i k z few h begins = absurd (omega (arith, h))
-  all_new (suc n) i k z few h begins = by (order i n h) (λ g. all_new n i k z (omega (arith, few)) g begins)
+  all_new (suc n) i k z few h begins = by (cases_below i n h) (λ g. all_new n i k z (omega (arith, few)) g begins)
     where
       earlier : (b : Bool) → i < n → IsNew i (renewed_to t modes takes s n k) → IsNew i (cond b (renewed t modes s (get_or takes n 0) n (renewed_to t modes takes s n k)) (renewed_to t modes takes s n k))
       earlier false g w = w

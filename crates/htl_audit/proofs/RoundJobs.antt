@@ -2,7 +2,7 @@
 use Rattle.std.proofs.Common.{◌≡◌, ℕ, ◌+◌, ◌%◌, ◌≤◌, ◌<◌, Bool, true, false, eqb, List, map, Option, Some, None, refl, sym, ◌∙◌, ap, arith}
 use Rattle.std.specs.Prelude.{slice_get}
 use Rattle.std.specs.List.{flat_map, list_any}
-use Rattle.std.proofs.lemmas.Bool.{eqb-true, eq-eqb}
+use Rattle.std.proofs.lemmas.Bool.{eqb-true, eq-eqb, and_parts}
 use Rattle.std.proofs.lemmas.Option.{get_or_from_slice_get}
 use Rattle.htl_model.specs.declared.event.Event.{Event}
 use Rattle.htl_model.specs.declared.parts.Inv.{Inv}
@@ -28,7 +28,6 @@ use Rattle.htl_audit.specs.Keeping.{release_at, end_at, begins_round, inv_runs_i
 use Rattle.htl_audit.specs.Legal as rules
 use Rattle.htl_audit.proofs.Growing.{round_job, length_is, placed}
 use Rattle.htl_audit.proofs.Having.{IsRootAt, whose_round, has_position_of, one_place}
-use Rattle.htl_audit.proofs.JobTests.{both}
 use Rattle.htl_audit.proofs.Renewing.{runs_of}
 
 made : (t : Tables) (st : List (Option ℕ)) (k : ℕ) (o : Option Inv) → slice_get t.invs k ≡ o → job_of t st (Some k) ≡ elim o as (λ _. Job) [ None ↦ absent_job | Some x ↦ placed t st k x ]
@@ -145,7 +144,7 @@ feeds_mode t a b y fed at = by (slice_get t.invs a) refl (sym (ap (feeds_at (sli
   where
     by : (o : Option Inv) → slice_get t.invs a ≡ o → feeds_at o (Some y) ≡ true → (x : Inv) × (slice_get t.invs a ≡ Some x) × (x.mode ≡ y.mode)
     by None here e = absurd (let z : ⊥ = cc in z)
-    by (Some x) here e = (x, here, eqb-true x.mode y.mode (both (eqb x.mode y.mode) (list_any (is_read_from x.writes) y.reads) e).0)
+    by (Some x) here e = (x, here, eqb-true x.mode y.mode (and_parts (eqb x.mode y.mode) (list_any (is_read_from x.writes) y.reads) e).0)
 
 pub feeds_begin : (t : Tables) (s a b : ℕ) (y : Inv) → feeds t a b ≡ true → slice_get t.invs b ≡ Some y → begins_round t s a ≡ begins_round t s b
 feeds_begin t s a b y fed at =

@@ -2,7 +2,6 @@
 use Rattle.std.proofs.Common.{◌≡◌, ℕ, ◌≤◌, ◌<◌, length, get_or, Option, Some, None, All, ◌∙◌, ap, subst, arith}
 use Rattle.std.specs.Prelude.{slice_get}
 use Rattle.std.proofs.lemmas.Option.{get_or_from_slice_get, slice_get-get_or, slice_get_within}
-use Rattle.htl_form.proofs.Places.{item_at}
 use Rattle.htl_model.specs.declared.parts.Mode.{Mode}
 use Rattle.htl_model.specs.declared.parts.Module.{Module}
 use Rattle.htl_model.specs.FrameRules.{KeptApart}
@@ -16,9 +15,9 @@ use Rattle.htl_object.specs.Accepted.{IsAccepted}
 use Rattle.htl_refine.proofs.Kept.{kept_apart}
 use Rattle.htl_refine.proofs.OneFault.{kept_all}
 use Rattle.htl_walk.proofs.PathReady.{window_small}
-use Rattle.htl_walk.proofs.Work.{all_at}
 use Rattle.htl_walk.proofs.PathReady.{window_within}
 use Rattle.htl_audit.specs.Growing.{HaveRounds}
+use Rattle.htl_base.proofs.Places.{each_at, item_at}
 
 -- ---- periods
 
@@ -35,7 +34,7 @@ module _ (t : Tables) (range : AreInRange t) where
       let start = (range.modules u x.0 x.1).start in
       let mode : unit_start t u ≡ x.0.start = ap (λ (o : Option Module). elim o as (λ _. ℕ) [ Some y ↦ y.start | None ↦ 0 ]) x.1 in
       let is : unit_period t u ≡ start.0.period = ap (mode_period t) mode ∙ ap (λ (o : Option Mode). elim o as (λ _. ℕ) [ Some y ↦ y.period | None ↦ 0 ]) start.1 in
-      let bounds = (all_at (IsModeInRange t) t.modes range.modes x.0.start start.0 start.1).period in
+      let bounds = (each_at (IsModeInRange t) t.modes range.modes x.0.start start.0 start.1).period in
       (omega (arith, is, bounds.some), omega (arith, is, bounds.most))
 
   pub periods_within : All (λ u. (1 ≤ unit_period t u) × (unit_period t u ≤ 1000000)) (root_modules t)

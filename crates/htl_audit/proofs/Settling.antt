@@ -14,7 +14,11 @@ use Rattle.htl_audit.specs.Keeping.{Kept, has_job, sum_at, length_at, start_at, 
 use Rattle.htl_audit.specs.Lines.{BeganBefore}
 use Rattle.htl_audit.specs.Rosters.{IsIn, IsCurrent, AreSummed}
 use Rattle.htl_audit.proofs.Judging.{lies}
-use Rattle.htl_audit.proofs.JobTests.{same_truth, both, and_true, or_left, or_right, IsFound, job_found, job_there}
+use Rattle.htl_audit.proofs.JobTests.{IsFound, job_found, job_there}
+use Rattle.std.proofs.lemmas.Bool.{and_from, and_parts, lt-ltb, ltb-true, or_left, or_right}
+use Rattle.htl_base.proofs.Tests.{same_truth}
+use Rattle.htl_base.proofs.Places.{marked_within}
+use Rattle.htl_audit.proofs.OwnTicks.{ticks_both}
 
 -- ---- the test of the invocations
 
@@ -32,16 +36,7 @@ short_there t now k n (x ∷ xs) zero h e = or_left (fell_short t now k n) (any_
 short_there t now k n (x ∷ xs) (suc d) h e =
     or_right (fell_short t now k n) (any_fell_short_from t now k (suc n) xs) (short_there t now k (suc n) xs d (omega (arith, h)) (subst (λ z. fell_short t now k z ≡ true) (let z : n + suc d ≡ suc n + d = omega arith in z) e))
 
-pub stands_within : (bs : List Bool) (i : ℕ) → get_or bs i false ≡ true → i < length bs
-stands_within [] i e = absurd (let z : ⊥ = cc in z)
-stands_within (b ∷ bs) zero e = omega arith
-stands_within (b ∷ bs) (suc i) e = omega (arith, stands_within bs i e)
-
 -- ---- lines behind the end of a window add nothing
-
-pub ticks_both : (r : BeginningJobs) (j : Job) (xs ys : List Slice) → ticks r j (xs ++ ys) ≡ ticks r j xs + ticks r j ys
-ticks_both r j [] ys = omega arith
-ticks_both r j (x ∷ xs) ys = omega (arith, ticks_both r j xs ys)
 
 pub ticks_behind : (r : BeginningJobs) (j : Job) (ys : List Slice) → ((i : ℕ) (x : Slice) → slice_get ys i ≡ Some x → r.start + j.end < x.to) → ticks r j ys ≡ 0
 ticks_behind r j [] h = refl
@@ -52,12 +47,6 @@ ticks_behind r j (x ∷ xs) h =
     out : (b : Bool) → lies_in r j x ≡ b → lies_in r j x ≡ false
     out false e = e
     out true e = absurd (omega (arith, (lies r j x e).to, h 0 x refl))
-
-less : (a b : ℕ) → ltb a b ≡ true → a < b
-less a b e = grind (arith, nat_tests)
-
-is_less : (a b : ℕ) → a < b → ltb a b ≡ true
-is_less a b h = grind (arith, nat_tests)
 
 module _ (t : Tables) (rounds : List BeginningJobs) (at later : ℕ) (order : at ≤ later) (agree : Agree at rounds rounds) (log more : List Slice) (k : Kept) (s : AreSummed t rounds (log ++ more) k) (rows : length k.roster.stands ≡ length t.invs)
     (began : BeganBefore at k) (behind : (i : ℕ) (x : Slice) → slice_get more i ≡ Some x → at ≤ x.to) where
@@ -81,10 +70,10 @@ module _ (t : Tables) (rounds : List BeginningJobs) (at later : ℕ) (order : at
           f = job_found (test later (log ++ more)) rounds e
 
           two : ((f.job.present && ltb (f.round.start + f.job.end) later) ≡ true) × (ltb (ticks f.round f.job (log ++ more)) (rules.job_length f.round f.position) ≡ true)
-          two = both (f.job.present && ltb (f.round.start + f.job.end) later) (ltb (ticks f.round f.job (log ++ more)) (rules.job_length f.round f.position)) f.passes
+          two = and_parts (f.job.present && ltb (f.round.start + f.job.end) later) (ltb (ticks f.round f.job (log ++ more)) (rules.job_length f.round f.position)) f.passes
 
           one : (f.job.present ≡ true) × (ltb (f.round.start + f.job.end) later ≡ true)
-          one = both f.job.present (ltb (f.round.start + f.job.end) later) two.0
+          one = and_parts f.job.present (ltb (f.round.start + f.job.end) later) two.0
 
           i : IsIn rounds f.round f.position f.job
           i = record { number = f.is.number; at = f.is.at; job = f.is.job; present = one.0 }
@@ -93,8 +82,8 @@ module _ (t : Tables) (rounds : List BeginningJobs) (at later : ℕ) (order : at
           old h =
               or_left (any_short rounds at log) (any_fell_short t later k)
               (job_there (test at log) rounds f.round f.position f.job f.is
-              (and_true (f.job.present && ltb (f.round.start + f.job.end) at) (ltb (ticks f.round f.job log) (rules.job_length f.round f.position))
-              (and_true f.job.present (ltb (f.round.start + f.job.end) at) one.0 (is_less (f.round.start + f.job.end) at h))
+              (and_from (f.job.present && ltb (f.round.start + f.job.end) at) (ltb (ticks f.round f.job log) (rules.job_length f.round f.position))
+              (and_from f.job.present (ltb (f.round.start + f.job.end) at) one.0 (lt-ltb (f.round.start + f.job.end) at h))
               (ap (λ n. ltb n (rules.job_length f.round f.position)) (sym (stay f.round f.job h)) ∙ two.1)))
 
           by : IsCurrent t k.roster f.round f.position f.job ⊎ (f.round.start + f.job.end ≤ start_at k.roster f.job.inv) → (any_short rounds at log || any_fell_short t later k) ≡ true
@@ -103,9 +92,9 @@ module _ (t : Tables) (rounds : List BeginningJobs) (at later : ℕ) (order : at
               let ended : ltb (start_at k.roster n + end_at t n) later ≡ true = ap₂ (λ a b. ltb (a + b) later) (sym c.start) (sym c.end) ∙ one.1 in
               let few : ltb (sum_at k.sums n) (length_at k.roster n) ≡ true = ap₂ (λ a b. ltb a b) (sym (s.sums f.round f.position f.job i c)) (sym c.length) ∙ two.1 in
               let fell : fell_short t later k n ≡ true =
-              and_true (has_job k.roster n && ltb (start_at k.roster n + end_at t n) later) (ltb (sum_at k.sums n) (length_at k.roster n)) (and_true (has_job k.roster n) (ltb (start_at k.roster n + end_at t n) later) c.stands ended) few in
+              and_from (has_job k.roster n && ltb (start_at k.roster n + end_at t n) later) (ltb (sum_at k.sums n) (length_at k.roster n)) (and_from (has_job k.roster n) (ltb (start_at k.roster n + end_at t n) later) c.stands ended) few in
               or_right (any_short rounds at log) (any_fell_short t later k)
-              (short_there t later k 0 t.invs n (omega (arith, rows, stands_within k.roster.stands n c.stands)) (subst (λ z. fell_short t later k z ≡ true) (let z : n ≡ 0 + n = omega arith in z) fell))
+              (short_there t later k 0 t.invs n (omega (arith, rows, marked_within k.roster.stands n c.stands)) (subst (λ z. fell_short t later k z ≡ true) (let z : n ≡ 0 + n = omega arith in z) fell))
           by (inr past) = elim (began f.job.inv) [ inl b ↦ old (omega (arith, past, b)) | inr z ↦ absurd (omega (arith, past, z, room f.round f.position f.job i)) ]
 
       back : (any_short rounds at log || any_fell_short t later k) ≡ true → any_short rounds later (log ++ more) ≡ true
@@ -114,27 +103,27 @@ module _ (t : Tables) (rounds : List BeginningJobs) (at later : ℕ) (order : at
           was : any_short rounds at log ≡ true → any_short rounds later (log ++ more) ≡ true
           was g =
               let f = job_found (test at log) rounds g in
-              let two = both (f.job.present && ltb (f.round.start + f.job.end) at) (ltb (ticks f.round f.job log) (rules.job_length f.round f.position)) f.passes in
-              let one = both f.job.present (ltb (f.round.start + f.job.end) at) two.0 in
-              let h : f.round.start + f.job.end < at = less (f.round.start + f.job.end) at one.1 in
+              let two = and_parts (f.job.present && ltb (f.round.start + f.job.end) at) (ltb (ticks f.round f.job log) (rules.job_length f.round f.position)) f.passes in
+              let one = and_parts f.job.present (ltb (f.round.start + f.job.end) at) two.0 in
+              let h : f.round.start + f.job.end < at = ltb-true (f.round.start + f.job.end) at one.1 in
               job_there (test later (log ++ more)) rounds f.round f.position f.job f.is
-              (and_true (f.job.present && ltb (f.round.start + f.job.end) later) (ltb (ticks f.round f.job (log ++ more)) (rules.job_length f.round f.position))
-              (and_true f.job.present (ltb (f.round.start + f.job.end) later) one.0 (is_less (f.round.start + f.job.end) later (omega (arith, h, order))))
+              (and_from (f.job.present && ltb (f.round.start + f.job.end) later) (ltb (ticks f.round f.job (log ++ more)) (rules.job_length f.round f.position))
+              (and_from f.job.present (ltb (f.round.start + f.job.end) later) one.0 (lt-ltb (f.round.start + f.job.end) later (omega (arith, h, order))))
               (ap (λ n. ltb n (rules.job_length f.round f.position)) (stay f.round f.job h) ∙ two.1))
 
           is : any_fell_short t later k ≡ true → any_short rounds later (log ++ more) ≡ true
           is g =
               let n = short_found t later k 0 t.invs g in
-              let two = both (has_job k.roster n.0 && ltb (start_at k.roster n.0 + end_at t n.0) later) (ltb (sum_at k.sums n.0) (length_at k.roster n.0)) n.1 in
-              let one = both (has_job k.roster n.0) (ltb (start_at k.roster n.0 + end_at t n.0) later) two.0 in
+              let two = and_parts (has_job k.roster n.0 && ltb (start_at k.roster n.0 + end_at t n.0) later) (ltb (sum_at k.sums n.0) (length_at k.roster n.0)) n.1 in
+              let one = and_parts (has_job k.roster n.0) (ltb (start_at k.roster n.0 + end_at t n.0) later) two.0 in
               let h = s.kept.has n.0 one.0 in
               let c = h.current in
               let ended : ltb (h.round.start + h.job.end) later ≡ true = ap₂ (λ a b. ltb (a + b) later) (c.start ∙ ap (start_at k.roster) h.inv) (c.end ∙ ap (end_at t) h.inv) ∙ one.1 in
               let few : ltb (ticks h.round h.job (log ++ more)) (rules.job_length h.round h.position) ≡ true =
               ap₂ (λ a b. ltb a b) (s.sums h.round h.position h.job h.is c ∙ ap (sum_at k.sums) h.inv) (c.length ∙ ap (length_at k.roster) h.inv) ∙ two.1 in
               job_there (test later (log ++ more)) rounds h.round h.position h.job (record { number = h.is.number; at = h.is.at; job = h.is.job })
-              (and_true (h.job.present && ltb (h.round.start + h.job.end) later) (ltb (ticks h.round h.job (log ++ more)) (rules.job_length h.round h.position))
-              (and_true h.job.present (ltb (h.round.start + h.job.end) later) h.is.present ended) few)
+              (and_from (h.job.present && ltb (h.round.start + h.job.end) later) (ltb (ticks h.round h.job (log ++ more)) (rules.job_length h.round h.position))
+              (and_from h.job.present (ltb (h.round.start + h.job.end) later) h.is.present ended) few)
 
           by : (b : Bool) → any_short rounds at log ≡ b → (b || any_fell_short t later k) ≡ true → any_short rounds later (log ++ more) ≡ true
           by true g f = was g

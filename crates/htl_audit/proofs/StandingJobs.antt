@@ -2,7 +2,7 @@
 use Rattle.std.proofs.Common.{◌≡◌, ◌≤◌, ◌<◌, ◌⊎◌, inl, inr, ℕ, ◌+◌, ◌*◌, ◌/◌, ◌%◌, true, List, length, slice_get, Some, option_map, sym, ap, ap₂, ◌∙◌, arith}
 use Rattle.std.proofs.Math.Nat.{div-add-mod, mod-lt, mul-mod_right}
 use Rattle.std.proofs.lemmas.Bool.{eq-eqb}
-use Rattle.std.proofs.lemmas.Option.{slice_get_within}
+use Rattle.std.proofs.lemmas.Option.{slice_get_within, same_Some}
 use Rattle.htl_model.specs.declared.event.Event.{Event}
 use Rattle.htl_model.specs.declared.parts.Inv.{Inv}
 use Rattle.htl_model.specs.declared.parts.End.TheVariants as E
@@ -33,17 +33,18 @@ use Rattle.htl_machine.proofs.Outs.{writer_is, writer_stands}
 use Rattle.htl_machine.proofs.Owing.{in_order}
 use Rattle.htl_machine.proofs.Placing.{fed}
 use Rattle.htl_machine.proofs.RunFrames.{feasible_runs}
-use Rattle.htl_walk.proofs.Finishes.{some_same}
 use Rattle.htl_refine.proofs.Standing.{standing_at}
 use Rattle.htl_audit.specs.Growing.{HaveRounds}
 use Rattle.htl_audit.specs.Jobs.{BeginningJobs, round_of, starts_before, all_rounds}
 use Rattle.htl_audit.specs.Legal.{job_length}
 use Rattle.htl_audit.proofs.Beginning.{multiples}
 use Rattle.htl_audit.proofs.Begun.{some_took}
-use Rattle.htl_audit.proofs.Growing.{round_is, start_there}
+use Rattle.htl_audit.proofs.Growing.{round_is}
 use Rattle.htl_audit.proofs.Renewing.{runs_is}
 use Rattle.htl_audit.proofs.Rounds.{first_rules}
 use Rattle.htl_audit.proofs.RoundJobs.{IsFresh, begins_is, fresh, fresh_start, has_fresh, once, precedes_is}
+use Rattle.htl_machine.proofs.FrameMembers.{below_start}
+use Rattle.htl_base.proofs.Numbers.{cases_less_more}
 
 -- the job of an invocation in the rounds from s
 pub record HasJobFrom (t : Tables) (es : List Event) (s i : ℕ) (x : Inv) : Type 0 where
@@ -63,7 +64,7 @@ module _ (t : Tables) (range : AreInRange t) (kept : KeptApart t 16) (rounds : H
   -- rounds that begin at an instant are among those of the audit
   pub round_there : (now s : ℕ) (p : ℕ) (j : Job) → IsFresh t range kept rounds es s p j → s < now → (m : ℕ) × (slice_get (all_rounds t es now) m ≡ Some (round_of t es s))
   round_there now s p j f early =
-      let m = start_there (root_periods t) now s early (fresh_start t range kept rounds es s p j f) in
+      let m = below_start (root_periods t) now s early (fresh_start t range kept rounds es s p j f) in
       (m.0, map_at (round_of t es) (starts_before t now) m.0 s m.1)
 
   module _ (n i s : ℕ) (x : Inv) (st : InvStands t (state t es n).stays i x s) where
@@ -95,7 +96,7 @@ module _ (t : Tables) (range : AreInRange t) (kept : KeptApart t 16) (rounds : H
     pub stands_job : AreTookWithin t es → HasJobFrom t es s i x
     stands_job within =
         let f = fresh t range kept rounds es s own.0 own.1 own.2 own.3 in
-        let same : f.inv ≡ x = some_same _ _ (sym f.known ∙ ap (slice_get t.invs) own.4 ∙ st.known) in
+        let same : f.inv ≡ x = same_Some _ _ (sym f.known ∙ ap (slice_get t.invs) own.4 ∙ st.known) in
         record {
           position = own.0;
           job = own.1;
@@ -130,22 +131,19 @@ module _ (t : Tables) (range : AreInRange t) (kept : KeptApart t 16) (rounds : H
     same_start now m r at began p j job here inv late =
         let a = round_is t es now m r at in
         let f = fresh t range kept rounds es a.0 p j (ap (λ (z : BeginningJobs). slice_get z.jobs p) a.2 ∙ job) here in
-        let same : f.inv ≡ x = some_same _ _ (sym f.known ∙ ap (slice_get t.invs) inv ∙ st.known) in
+        let same : f.inv ≡ x = same_Some _ _ (sym f.known ∙ ap (slice_get t.invs) inv ∙ st.known) in
         let start : a.0 ≡ r.start = ap (λ (z : BeginningJobs). z.start) a.2 in
         let q = mode_period t x.mode in
         let first : a.0 % q ≡ 0 = ap (λ (z : Inv). a.0 % mode_period t z.mode) (sym same) ∙ f.whole in
         let within : j.end ≤ q = omega (arith, f.within, ap (λ (z : Inv). mode_period t z.mode) same) in
         let rest : q * (n / q) + n % q ≡ n = div-add-mod n q in
         let small : n % q < q = mod-lt n period_some in
-        let one : a.0 ≡ s = elim (order a.0 s) [
+        let one : a.0 ≡ s = elim (cases_less_more a.0 s) [
           | inl sooner ↦ absurd (omega (arith, multiples q a.0 s first whole sooner, own_start, rest, late, start, within))
           | inr (inl later) ↦ absurd (omega (arith, multiples q s a.0 whole first later, own_start, rest, small, began, start))
           | inr (inr e) ↦ e
         ] in
         sym a.2 ∙ ap (round_of t es) one
-      where
-        order : (a b : ℕ) → (a < b) ⊎ ((b < a) ⊎ (a ≡ b))
-        order a b = grind arith
 
     -- who writes a port comes before who reads it, in a run whose lists are feasible
     pub stands_order : (lists : List (List SInstr)) → AreFeasible t lists → AreTookWithin t es → (r : ℕ → ℕ) × Orders t x.mode r

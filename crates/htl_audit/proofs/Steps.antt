@@ -7,6 +7,7 @@ use Rattle.htl_audit.specs.declared.slice.Slice.{Slice}
 use Rattle.htl_audit.specs.declared.slice.LogFault.{LogFault}
 use Rattle.htl_audit.specs.declared.slice.LogKind.{LogKind}
 use Rattle.htl_audit.specs.Keeping.{Kept, kind_of, with_kind, judged, judged_to, fell_short, any_fell_short_from}
+use Rattle.std.proofs.lemmas.Bool.{le-ltb, lt-ltb}
 
 drop_suc : {A : Type 0} (d : A) (xs : List A) (n : ℕ) → n < length xs → drop n xs ≡ get_or xs n d ∷ drop (suc n) xs
 drop_suc d [] n h = absurd (omega arith)
@@ -34,24 +35,18 @@ judged_late t now n d log k h late = ap (λ xs. judged_to t now xs k) (drop_at d
     x : Slice
     x = get_or log n d
 
-    large : (a b : ℕ) → b ≤ a → ltb a b ≡ false
-    large a b h = grind (arith, nat_tests)
-
     by : (o : Option LogFault) → elim o as (λ _. Kept) [ Some g ↦ k | None ↦ cond (ltb (get_or log n d).to now) (judged_to t now (drop (n + 1) log) (judged t now (get_or log n d) k)) k ] ≡ k
     by (Some f) = refl
-    by None = ap (λ b. cond b (judged_to t now (drop (n + 1) log) (judged t now (get_or log n d) k)) k) (large (get_or log n d).to now late)
+    by None = ap (λ b. cond b (judged_to t now (drop (n + 1) log) (judged t now (get_or log n d) k)) k) (le-ltb (get_or log n d).to now late)
 
 pub judged_next : (t : Tables) (now n : ℕ) (d : Slice) (log : List Slice) (k : Kept) → n < length log → is_some k.fault ≡ false → (get_or log n d).to < now
     → judged_to t now (drop n log) k ≡ judged_to t now (drop (n + 1) log) (judged t now (get_or log n d) k)
 judged_next t now n d log k h fresh early = ap (λ xs. judged_to t now xs k) (drop_at d log n h) ∙ by k.fault fresh
   where
-    small : (a b : ℕ) → a < b → ltb a b ≡ true
-    small a b h = grind (arith, nat_tests)
-
     by : (o : Option LogFault) → is_some o ≡ false
         → elim o as (λ _. Kept) [ Some g ↦ k | None ↦ cond (ltb (get_or log n d).to now) (judged_to t now (drop (n + 1) log) (judged t now (get_or log n d) k)) k ] ≡ judged_to t now (drop (n + 1) log) (judged t now (get_or log n d) k)
     by (Some f) e = absurd (let z : ⊥ = cc in z)
-    by None e = ap (λ b. cond b (judged_to t now (drop (n + 1) log) (judged t now (get_or log n d) k)) k) (small (get_or log n d).to now early)
+    by None e = ap (λ b. cond b (judged_to t now (drop (n + 1) log) (judged t now (get_or log n d) k)) k) (lt-ltb (get_or log n d).to now early)
 
 -- judging a line leaves the roster, and passes one line at most
 pub judged_roster : (t : Tables) (now : ℕ) (x : Slice) (k : Kept) → (judged t now x k).roster ≡ k.roster

@@ -1,10 +1,9 @@
 -- What is kept once one more line keeps the rules.
 use Rattle.std.proofs.Common.{◌≡◌, ◌≢◌, ℕ, zero, suc, ◌+◌, ◌-◌, ◌≤◌, ◌<◌, Bool, true, false, cond, not, ◌&&◌, ◌||◌, eqb, leb, ltb, List, [], ◌∷◌, ◌++◌, length, get_or, set, Some, None, refl, sym, ◌∙◌, ap, ap₂, subst, arith}
 use Rattle.std.specs.Prelude.{slice_get}
-use Rattle.std.proofs.lemmas.Bool.{eqb-true}
+use Rattle.std.proofs.lemmas.Bool.{eqb-true, and_parts, or_parts, eq-eqb, leb-false, ltb-false}
 use Rattle.std.proofs.lemmas.Bool.Decides.{nat_tests}
 use Rattle.std.proofs.lemmas.List.{get_or-set_same, get_or-set_other, length-set, length-append}
-use Rattle.htl_form.proofs.PartLaws.{none_some}
 use Rattle.htl_model.specs.Functions.{of_bool}
 use Rattle.htl_model.specs.Lists.{numbered}
 use Rattle.htl_model.specs.Tables.{Tables}
@@ -16,8 +15,10 @@ use Rattle.htl_audit.specs.Legal as rules
 use Rattle.htl_audit.specs.Legal.{lies_in, ticks, is_done, last_end, how_many, jobs_done}
 use Rattle.htl_audit.specs.Keeping.{Roster, Kept, has_job, sum_at, length_at, start_at, is_inside, is_free_at, ticks_of, kind_of, with_slice}
 use Rattle.htl_audit.specs.Rosters.{IsIn, IsCurrent, HasJob, AreSummed}
-use Rattle.htl_audit.proofs.JobTests.{both, neither}
 use Rattle.htl_audit.proofs.Judging.{lies, ticks_more, lies_current, lies_inside}
+use Rattle.std.proofs.lemmas.Option.{none-some}
+use Rattle.htl_base.proofs.Places.{marked_within}
+use Rattle.htl_base.proofs.Tests.{eqb_less}
 
 -- ---- counts
 
@@ -31,7 +32,7 @@ count_same f g q (j ∷ js) h =
 
 count_one : {A : Type 0} (f g : ℕ × A → Bool) (b : Bool) (q : ℕ) (js : List A) (d : ℕ) (j : A) → slice_get js d ≡ Some j → f (q + d, j) ≡ false → g (q + d, j) ≡ b
     → ((e : ℕ) (i : A) → e ≢ d → slice_get js e ≡ Some i → f (q + e, i) ≡ g (q + e, i)) → how_many g (numbered q js) ≡ how_many f (numbered q js) + of_bool b
-count_one f g b q [] d j at off on same = absurd (none_some j at)
+count_one f g b q [] d j at off on same = absurd (none-some j at)
 count_one f g b q (h ∷ js) zero j at off on same =
     let one : h ≡ j = cc in
     let was : f (q, h) ≡ false = ap (λ z. f (q, z)) one ∙ subst (λ z. f (z, j) ≡ false) (let z : q + 0 ≡ q = omega arith in z) off in
@@ -71,7 +72,7 @@ done_same (r ∷ rs) log new h =
 done_one : (rounds : List BeginningJobs) (log new : List Slice) (b : Bool) (n : ℕ) (r : BeginningJobs) (p : ℕ) (j : Job) → slice_get rounds n ≡ Some r → slice_get r.jobs p ≡ Some j → passes log r (p, j) ≡ false → passes new r (p, j) ≡ b
     → ((m : ℕ) (s : BeginningJobs) (q : ℕ) (h : Job) → slice_get rounds m ≡ Some s → slice_get s.jobs q ≡ Some h → (m ≡ n → q ≡ p → ⊥) → passes log s (q, h) ≡ passes new s (q, h))
     → jobs_done rounds new ≡ jobs_done rounds log + of_bool b
-done_one [] log new b n r p j at is off on same = absurd (none_some r at)
+done_one [] log new b n r p j at is off on same = absurd (none-some r at)
 done_one (x ∷ rs) log new b zero r p j at is off on same =
     let one : x ≡ r = cc in
     let here : how_many (passes new x) (numbered 0 x.jobs) ≡ how_many (passes log x) (numbered 0 x.jobs) + of_bool b =
@@ -111,27 +112,21 @@ pub keeps : (t : Tables) (now : ℕ) (k : Kept) (x : Slice) → kind_of t now k 
 keeps t now k x e =
     by (leb x.to x.from || ltb x.from k.end || leb now x.to) (is_inside t k.roster x) (ltb (length_at k.roster x.inv) (sum_at k.sums x.inv + ticks_of x)) (is_free_at t k.roster k.sums x.inv) refl refl refl refl e
   where
-    lt : (a b : ℕ) → leb a b ≡ false → b < a
-    lt a b e = grind (arith, nat_tests)
-
-    le : (a b : ℕ) → ltb a b ≡ false → b ≤ a
-    le a b e = grind (arith, nat_tests)
-
     by : (a b c d : Bool) → (leb x.to x.from || ltb x.from k.end || leb now x.to) ≡ a → is_inside t k.roster x ≡ b → ltb (length_at k.roster x.inv) (sum_at k.sums x.inv + ticks_of x) ≡ c → is_free_at t k.roster k.sums x.inv ≡ d
         → cond a (Some kind.Order) (cond (not b) (Some kind.Outside) (cond c (Some kind.Over) (cond (not d) (Some kind.Before) None))) ≡ None → Keeps t now k x
-    by true b c d e f g h n = absurd (none_some kind.Order (sym n))
-    by false false c d e f g h n = absurd (none_some kind.Outside (sym n))
-    by false true true d e f g h n = absurd (none_some kind.Over (sym n))
-    by false true false false e f g h n = absurd (none_some kind.Before (sym n))
+    by true b c d e f g h n = absurd (none-some kind.Order (sym n))
+    by false false c d e f g h n = absurd (none-some kind.Outside (sym n))
+    by false true true d e f g h n = absurd (none-some kind.Over (sym n))
+    by false true false false e f g h n = absurd (none-some kind.Before (sym n))
     by false true false true e f g h n =
-        let two = neither (leb x.to x.from || ltb x.from k.end) (leb now x.to) e in
-        let ends = neither (leb x.to x.from) (ltb x.from k.end) two.0 in
+        let two = or_parts (leb x.to x.from || ltb x.from k.end) (leb now x.to) e in
+        let ends = or_parts (leb x.to x.from) (ltb x.from k.end) two.0 in
         record {
-          some = lt x.to x.from ends.0;
-          order = le x.from k.end ends.1;
-          ends = lt now x.to two.1;
+          some = leb-false x.to x.from ends.0;
+          order = ltb-false x.from k.end ends.1;
+          ends = leb-false now x.to two.1;
           inside = f;
-          room = le (length_at k.roster x.inv) (sum_at k.sums x.inv + ticks_of x) g;
+          room = ltb-false (length_at k.roster x.inv) (sum_at k.sums x.inv + ticks_of x) g;
           free = h;
         }
 
@@ -144,12 +139,7 @@ module _ (t : Tables) (rounds : List BeginningJobs) (log : List Slice) (k : Kept
 
   there : x.inv < length k.sums
   unfolding new_sums
-  there = let h = (both (has_job k.roster x.inv) _ (both (has_job k.roster x.inv && _) _ keep.inside).0).0 in omega (arith, s.room, get_true k.roster.stands x.inv h)
-    where
-      get_true : (bs : List Bool) (i : ℕ) → get_or bs i false ≡ true → i < length bs
-      get_true [] i e = absurd (let z : ⊥ = cc in z)
-      get_true (b ∷ bs) zero e = omega arith
-      get_true (b ∷ bs) (suc i) e = omega (arith, get_true bs i e)
+  there = let h = (and_parts (has_job k.roster x.inv) _ (and_parts (has_job k.roster x.inv && _) _ keep.inside).0).0 in omega (arith, s.room, marked_within k.roster.stands x.inv h)
 
   -- the ticks of a current job
   summed : (r : BeginningJobs) (p : ℕ) (j : Job) → IsIn rounds r p j → IsCurrent t k.roster r p j → ticks r j (log ++ x ∷ []) ≡ sum_at (set k.sums x.inv (sum_at k.sums x.inv + ticks_of x)) j.inv
@@ -171,11 +161,8 @@ module _ (t : Tables) (rounds : List BeginningJobs) (log : List Slice) (k : Kept
           not_in true c d false e = refl
           not_in true c d true e = absurd (let z : ⊥ = cc in z)
 
-          same_number : (a b : ℕ) → a ≡ b → eqb a b ≡ true
-          same_number a b e = grind (arith, nat_tests)
-
           differ : j.inv ≡ x.inv → ⊥
-          differ z = let y : eqb x.inv j.inv ≡ true = same_number x.inv j.inv (sym z) in let w : true ≡ false = sym y ∙ e in cc
+          differ z = let y : eqb x.inv j.inv ≡ true = eq-eqb x.inv j.inv (sym z) in let w : true ≡ false = sym y ∙ e in cc
 
   -- a job in whose window the line doesn't lie stays as it was
   unchanged : (r : BeginningJobs) (p : ℕ) (j : Job) → lies_in r j x ≡ false → passes log r (p, j) ≡ passes (log ++ x ∷ []) r (p, j)
@@ -184,19 +171,16 @@ module _ (t : Tables) (rounds : List BeginningJobs) (log : List Slice) (k : Kept
 
   pub done_more : jobs_done rounds (log ++ x ∷ []) ≡ k.done + of_bool (eqb (sum_at k.sums x.inv + ticks_of x) (length_at k.roster x.inv))
   done_more =
-      let h = s.kept.has x.inv (both (has_job k.roster x.inv) _ (both (has_job k.roster x.inv && _) _ keep.inside).0).0 in
+      let h = s.kept.has x.inv (and_parts (has_job k.roster x.inv) _ (and_parts (has_job k.roster x.inv && _) _ keep.inside).0).0 in
       done_one rounds log (log ++ x ∷ []) (eqb (sum_at k.sums x.inv + ticks_of x) (length_at k.roster x.inv)) h.is.number h.round h.position h.job h.is.at h.is.job (off h) (on h) (others h)
       ∙ ap (λ n. n + of_bool (eqb (sum_at k.sums x.inv + ticks_of x) (length_at k.roster x.inv))) (sym s.done)
     where
-      less : (a b : ℕ) → a < b → eqb a b ≡ false
-      less a b e = grind (arith, nat_tests)
-
       off : (h : HasJob t rounds k.roster x.inv) → passes log h.round (h.position, h.job) ≡ false
       off h =
           let sum : ticks h.round h.job log ≡ sum_at k.sums x.inv = s.sums h.round h.position h.job h.is h.current ∙ ap (sum_at k.sums) h.inv in
           let len : rules.job_length h.round h.position ≡ length_at k.roster x.inv = h.current.length ∙ ap (length_at k.roster) h.inv in
           ap (λ b. b && is_done h.round log (h.position, h.job)) h.is.present ∙ ap₂ (λ m n. eqb m n) sum len
-          ∙ less (sum_at k.sums x.inv) (length_at k.roster x.inv) (omega (arith, keep.room, keep.some))
+          ∙ eqb_less (sum_at k.sums x.inv) (length_at k.roster x.inv) (omega (arith, keep.room, keep.some))
 
       on : (h : HasJob t rounds k.roster x.inv) → passes (log ++ x ∷ []) h.round (h.position, h.job) ≡ eqb (sum_at k.sums x.inv + ticks_of x) (length_at k.roster x.inv)
       on h =

@@ -1,7 +1,7 @@
 -- What an auditor follows of a log, where a length comes for the jobs that are released from now on.
 use Rattle.std.proofs.Common.{◌≡◌, ℕ, suc, ◌+◌, ◌≤◌, ◌<◌, ◌⊎◌, inl, inr, Bool, true, false, cond, ◌&&◌, eqb, leb, List, [], ◌∷◌, ◌++◌, length, get_or, map, set, take, Option, Some, None, IfSome, refl, sym, ◌∙◌, ap, ap₂, subst, arith}
 use Rattle.std.specs.Prelude.{slice_get}
-use Rattle.std.proofs.lemmas.Bool.{eqb-true}
+use Rattle.std.proofs.lemmas.Bool.{eqb-true, eq-eqb, lt-leb}
 use Rattle.std.proofs.lemmas.Bool.Decides.{nat_tests}
 use Rattle.std.proofs.lemmas.List.{get_or-set_same, get_or-set_other, length-set}
 use Rattle.htl_model.specs.declared.event.Event.{Event}
@@ -56,9 +56,6 @@ taken_leaves t now i n k = by (leb now (start_at k.roster i + release_at t i))
     by false = record { place = refl; fault = refl; end = refl; stands = refl; starts = refl; sums = refl; done = refl; short = refl; lengths = refl }
     by true = record { place = refl; fault = refl; end = refl; stands = refl; starts = refl; sums = refl; done = refl; short = refl; lengths = length-set k.roster.lengths i n }
 
-same_number : (a b : ℕ) → a ≡ b → eqb a b ≡ true
-same_number a b e = grind (arith, nat_tests)
-
 pub taken_length : (t : Tables) (now i n m : ℕ) (k : Kept) → i < length k.roster.lengths → length_at (inv_takes t now i n k).roster m ≡ cond (eqb m i && leb now (start_at k.roster i + release_at t i)) n (length_at k.roster m)
 taken_length t now i n m k h = by (eqb m i) (leb now (start_at k.roster i + release_at t i)) refl
   where
@@ -66,7 +63,7 @@ taken_length t now i n m k h = by (eqb m i) (leb now (start_at k.roster i + rele
     by false false e = refl
     by true false e = refl
     by true true e = ap (get_or (set k.roster.lengths i n) m) refl ∙ subst (λ z. get_or (set k.roster.lengths i n) z 0 ≡ n) (sym (eqb-true m i e)) (get_or-set_same k.roster.lengths i n 0 h)
-    by false true e = get_or-set_other k.roster.lengths i m n 0 (λ z. let y : true ≡ false = sym (same_number m i z) ∙ e in let w : ⊥ = cc in w)
+    by false true e = get_or-set_other k.roster.lengths i m n 0 (λ z. let y : true ≡ false = sym (eq-eqb m i z) ∙ e in let w : ⊥ = cc in w)
 
 module _ (t : Tables) (range : AreInRange t) (rounds : HaveRounds t) (es : List Event) (within : AreTookWithin t es) (i n : ℕ) (fits : IsTookWithin t (V.Took i n)) (log : List Slice) (k : Kept) (room : i < length k.roster.lengths)
     (f : LogFollows t (all_rounds t es (reading_of 0 es)) (reading_of 0 es) log k) where
@@ -90,11 +87,8 @@ module _ (t : Tables) (range : AreInRange t) (rounds : HaveRounds t) (es : List 
         some = λ m u x at. (some_took t range es within m u x at, some_took t range fs within_then m u x at);
       }
     where
-      before : (a u : ℕ) → u < a → leb a u ≡ false
-      before a u h = grind (arith, nat_tests)
-
       not_yet : (a : Bool) (u : ℕ) → u < now → (a && leb now u) ≡ false
-      not_yet true u h = before now u h
+      not_yet true u h = lt-leb now u h
       not_yet false u h = refl
 
   agree : Agree now (all_rounds t es now) (all_rounds t fs now)

@@ -3,8 +3,7 @@ use Rattle.std.proofs.Common.{◌≡◌, ℕ, zero, suc, ◌≤◌, ◌<◌, inl
 use Rattle.std.specs.Prelude.{slice_get}
 use Rattle.std.specs.declared.result.Result.{Result}
 use Rattle.std.proofs.lemmas.Bool.Decides.{nat_tests}
-use Rattle.std.proofs.lemmas.Option.{slice_get_within}
-use Rattle.htl_form.proofs.PartLaws.{none_some}
+use Rattle.std.proofs.lemmas.Option.{slice_get_within, none-some}
 use Rattle.htl_audit.specs.declared.slice.Slice.{Slice}
 use Rattle.htl_audit.specs.declared.slice.LogKind.TheVariants as kind
 use Rattle.htl_audit.specs.declared.slice.LogFault.{LogFault}
@@ -15,6 +14,7 @@ use Rattle.htl_audit.specs.Lines.{IsLast}
 use Rattle.htl_audit.specs.Verdicts.{LogEnds, Numbers, ended, verdict_of, fault_in}
 use Rattle.htl_audit.proofs.FaultLaws.{is_fault, is_legal}
 use Rattle.htl_audit.proofs.Judging.{rest}
+use Rattle.std.proofs.lemmas.Bool.{le-leb, ltb-false, ltb-true, or_right}
 
 pub whole_take : (xs : List Slice) (n : ℕ) → length xs ≤ n → take n xs ≡ xs
 whole_take [] zero h = refl
@@ -35,14 +35,7 @@ there (x ∷ xs) (suc n) h = there xs n (omega (arith, h))
 module _ (rounds : List BeginningJobs) (now : ℕ) (log : List Slice) (k : Kept) (f : LogEnds rounds now log k) where
   -- a line that doesn't end before `now` is out of order
   late : (before : List Slice) (x : Slice) → now ≤ x.to → line_fault rounds now before x ≡ Some kind.Order
-  late before x h = ap (λ b. cond b (Some kind.Order) (rest (any_job (λ r j. lies_in r j.1 x) rounds) (any_job (λ r j. lies_in r j.1 x && is_over r (before ++ x ∷ []) j) rounds) (any_job (λ r j. lies_in r j.1 x && not (is_free r before j.1)) rounds))) (or_last (leb x.to x.from || ltb x.from (last_end before)) (leb now x.to) (below now x.to h))
-    where
-      or_last : (a b : Bool) → b ≡ true → (a || b) ≡ true
-      or_last true b e = refl
-      or_last false b e = e
-
-      below : (a b : ℕ) → a ≤ b → leb a b ≡ true
-      below a b h = grind (arith, nat_tests)
+  late before x h = ap (λ b. cond b (Some kind.Order) (rest (any_job (λ r j. lies_in r j.1 x) rounds) (any_job (λ r j. lies_in r j.1 x && is_over r (before ++ x ∷ []) j) rounds) (any_job (λ r j. lies_in r j.1 x && not (is_free r before j.1)) rounds))) (or_right (leb x.to x.from || ltb x.from (last_end before)) (leb now x.to) (le-leb now x.to h))
 
   found : (o : Option LogFault) → k.fault ≡ o → IsLast rounds now (take f.judged.count log) (slice_get log f.judged.count) k o → first_fault_in rounds now log ≡ fault_in (elim o as (λ _. Result Numbers LogFault) [ Some g ↦ Err g | None ↦ ended k (length log) ])
   found (Some g) e n =
@@ -52,12 +45,6 @@ module _ (rounds : List BeginningJobs) (now : ℕ) (log : List Slice) (k : Kept)
     where
       placed : k.place ≡ f.judged.count
       placed = n.0 ∙ length_take log f.judged.count f.judged.few
-
-      small : (a b : ℕ) → ltb a b ≡ true → a < b
-      small a b e = grind (arith, nat_tests)
-
-      large : (a b : ℕ) → ltb a b ≡ false → b ≤ a
-      large a b e = grind (arith, nat_tests)
 
       by_short : length log ≤ f.judged.count → (b : Bool) → k.short ≡ b → first_fault_in rounds now log ≡ fault_in (cond b (Err (fault_at (suc (length log)) kind.Short)) (Ok (record { jobs = k.done; slices = length log })))
       by_short all true g =
@@ -71,11 +58,11 @@ module _ (rounds : List BeginningJobs) (now : ℕ) (log : List Slice) (k : Kept)
       by : (b : Bool) → ltb k.place (length log) ≡ b
           → first_fault_in rounds now log ≡ fault_in (cond b (Err (fault_at (suc k.place) kind.Order)) (cond k.short (Err (fault_at (suc (length log)) kind.Short)) (Ok (record { jobs = k.done; slices = length log }))))
       by true g =
-          let x = there log f.judged.count (omega (arith, small k.place (length log) g, placed)) in
+          let x = there log f.judged.count (omega (arith, ltb-true k.place (length log) g, placed)) in
           let last : now ≤ x.0.to = subst (λ o. IfSome o (λ y. now ≤ y.to)) x.1 n.2 in
           is_fault rounds now log (fault_at (suc k.place) kind.Order)
           (inl (record { place = f.judged.count; slice = x.0; at = x.1; earlier = λ i y below at. (f.judged.keep i y below at).0; kind = late (take f.judged.count log) x.0 last; line = ap suc placed }))
-      by false g = by_short (omega (arith, large k.place (length log) g, placed)) k.short refl
+      by false g = by_short (omega (arith, ltb-false k.place (length log) g, placed)) k.short refl
 
   -- the verdict tells the first fault, and none where the log is legal
   pub verdict_is : first_fault_in rounds now log ≡ fault_in (verdict_of k (length log))
@@ -88,7 +75,7 @@ module _ (rounds : List BeginningJobs) (now : ℕ) (log : List Slice) (k : Kept)
       by : (o : Option LogFault) → k.fault ≡ o → IsLast rounds now (take f.judged.count log) (slice_get log f.judged.count) k o
           → fault_in (elim o as (λ _. Result Numbers LogFault) [ Some g ↦ Err g | None ↦ ended k (length log) ]) ≡ None
           → (k.done ≡ jobs_done rounds log) × (elim o as (λ _. Result Numbers LogFault) [ Some g ↦ Err g | None ↦ ended k (length log) ] ≡ Ok (record { jobs = k.done; slices = length log }))
-      by (Some g) e n h = absurd (none_some g (sym h))
+      by (Some g) e n h = absurd (none-some g (sym h))
       by None e n h = all (ltb k.place (length log)) k.short refl h
         where
           large : (a b : ℕ) → ltb a b ≡ false → b ≤ a
@@ -97,8 +84,8 @@ module _ (rounds : List BeginningJobs) (now : ℕ) (log : List Slice) (k : Kept)
           all : (b c : Bool) → ltb k.place (length log) ≡ b
               → fault_in (cond {A = Result Numbers LogFault} b (Err (fault_at (suc k.place) kind.Order)) (cond {A = Result Numbers LogFault} c (Err (fault_at (suc (length log)) kind.Short)) (Ok (record { jobs = k.done; slices = length log })))) ≡ None
               → (k.done ≡ jobs_done rounds log) × (cond {A = Result Numbers LogFault} b (Err (fault_at (suc k.place) kind.Order)) (cond {A = Result Numbers LogFault} c (Err (fault_at (suc (length log)) kind.Short)) (Ok (record { jobs = k.done; slices = length log }))) ≡ Ok (record { jobs = k.done; slices = length log }))
-          all true c g h = absurd (none_some (fault_at (suc k.place) kind.Order) (sym h))
-          all false true g h = absurd (none_some (fault_at (suc (length log)) kind.Short) (sym h))
+          all true c g h = absurd (none-some (fault_at (suc k.place) kind.Order) (sym h))
+          all false true g h = absurd (none-some (fault_at (suc (length log)) kind.Short) (sym h))
           all false false g h =
               let end : length log ≤ f.judged.count = omega (arith, large k.place (length log) g, n.0, length_take log f.judged.count f.judged.few) in
               (n.1 ∙ ap (jobs_done rounds) (whole_take log f.judged.count end), refl)

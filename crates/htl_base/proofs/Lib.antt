@@ -1,2 +1,6 @@
-mod Numbers
+mod LimitRows
 pub mod Firsts
+pub mod Places
+pub mod Numbers
+pub mod Options
+pub mod Tests

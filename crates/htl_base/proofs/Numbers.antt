@@ -1,17 +1,55 @@
--- The limits as numbers. Contracts and definitions name them, so what they are is said here once more.
-use Rattle.std.specs.Prelude.{◌≡◌, ◌^◌, [], ◌∷◌, refl}
-use Rattle.htl_base.specs.declared.limits.TheConstants.{MAX_COMMUNICATORS, MAX_MODULES, MAX_MODES, MAX_PORTS, MAX_TASKS, MAX_INVOCATIONS, MAX_SWITCHES, MAX_MODE_INVOCATIONS, MAX_LEVELS, MAX_SELECTIONS, MAX_POSITIONS, MAX_SOURCE, MAX_OBJECT, MAX_NAME, MAX_STATEMENT, MAX_PERIOD, MAX_ENDS, MAX_ARGUMENTS, MAX_INSTRUCTIONS, MAX_STACK, MAX_LINE, MAX_SCRIPT, MAX_INSTANT}
+-- Plain facts of numbers: their order by cases, products and remainders.
+use Rattle.std.proofs.Common.{ap, arith, suc, sym, zero, ℕ, ◌*◌, ◌/◌, ◌<◌, ◌∙◌, ◌≡◌, ◌≤◌, ◌⊎◌, ◌+◌}
+use Rattle.std.proofs.Math.Nat.{mul-div_cancel}
 
-numbered : MAX_COMMUNICATORS ∷ MAX_MODULES ∷ MAX_MODES ∷ MAX_PORTS ∷ MAX_TASKS ∷ MAX_INVOCATIONS ∷ MAX_SWITCHES ∷ MAX_MODE_INVOCATIONS ∷ MAX_LEVELS ∷ MAX_SELECTIONS ∷ MAX_POSITIONS ∷ []
-    ≡ 1024 ∷ 64 ∷ 256 ∷ 4096 ∷ 4096 ∷ 2048 ∷ 4096 ∷ 128 ∷ 8 ∷ 1024 ∷ 128 ∷ []
-numbered = refl
+pub cases_at_most : (u n : ℕ) → u ≤ suc n → (u ≤ n) ⊎ (u ≡ suc n)
+cases_at_most u n p = grind arith
 
-of_names_and_times : MAX_NAME ∷ MAX_STATEMENT ∷ MAX_LINE ∷ MAX_PERIOD ∷ MAX_INSTANT ∷ [] ≡ 48 ∷ 512 ∷ 255 ∷ 1000000 ∷ 1000000000 ∷ []
-of_names_and_times = refl
+pub cases_below : (a b : ℕ) → a < suc b → (a < b) ⊎ (a ≡ b)
+cases_below a b h = grind arith
 
-of_functions : MAX_ENDS ∷ MAX_ARGUMENTS ∷ MAX_INSTRUCTIONS ∷ MAX_STACK ∷ [] ≡ 256 ∷ 256 ∷ 512 ∷ 64 ∷ []
-of_functions = refl
+pub cases_less_more : (a b : ℕ) → (a < b) ⊎ ((b < a) ⊎ (a ≡ b))
+cases_less_more a b = grind arith
 
--- in bytes
-of_files : MAX_SOURCE ∷ MAX_OBJECT ∷ MAX_SCRIPT ∷ [] ≡ 2 ^ 20 ∷ 2 ^ 24 ∷ 2 ^ 30 ∷ []
-of_files = refl
+pub cases_less_same : (a b : ℕ) → (a < b) ⊎ (a ≡ b) ⊎ (b < a)
+cases_less_same a b = grind arith
+
+pub cases_up_to : (k u : ℕ) → k ≤ u → (k < u) ⊎ (k ≡ u)
+cases_up_to k u h = grind arith
+
+pub product_parts : (a b : ℕ) → 0 < a * b → (0 < a) × (0 < b)
+product_parts zero b h = absurd (omega (arith, h))
+product_parts (suc a) zero h = let z : suc a * 0 ≡ 0 = omega arith in absurd (omega (arith, h, z))
+product_parts (suc a) (suc b) h = (omega arith, omega arith)
+
+pub round_down : (p n : ℕ) → p * (n / p) ≤ n
+round_down zero n = omega arith
+round_down (suc p) n = omega arith
+
+pub same_from_neither : (j k : ℕ) → (j < k → ⊥) → (k < j → ⊥) → j ≡ k
+same_from_neither j k one two = omega arith
+
+pub times_grow : (p a b : ℕ) → a ≤ b → p * a ≤ p * b
+times_grow p a b h = grind arith
+
+pub times_same : (a b p : ℕ) → 0 < p → a * p ≡ b * p → a ≡ b
+times_same a b p h e = sym (mul-div_cancel a h) ∙ ap (λ z. z / p) e ∙ mul-div_cancel b h
+
+pub zero_down : (p : ℕ) → p * (0 / p) ≡ 0
+zero_down zero = omega arith
+zero_down (suc p) = omega arith
+
+pub cases_below_next : (n m : ℕ) → n < m + 1 → (n < m) ⊎ (n ≡ m)
+cases_below_next n m h = grind arith
+
+pub cases_le : (a b : ℕ) → (a ≤ b) ⊎ (b < a)
+cases_le a b = grind arith
+
+pub grow_times : (a b n : ℕ) → a ≤ b → a * n ≤ b * n
+grow_times a b n h = grind arith
+
+pub one_more_time : (a b : ℕ) → suc a * b ≡ a * b + b
+one_more_time a b = grind arith
+
+pub below_from_other : (a b : ℕ) → a ≤ b → (a ≡ b → ⊥) → a < b
+below_from_other a b h n = grind (arith, h, n)

@@ -20,16 +20,10 @@ use Rattle.htl_model.specs.Small.{IsSmallFunction, AreSmall}
 use Rattle.htl_model.specs.Tables.{Tables, Fun, Formula, Compiled, fun}
 use Rattle.htl_model.specs.declared.form_fault.FormFault.{FormFault}
 use Rattle.htl_object.specs.Ranges.{IsFunctionCode}
+use Rattle.htl_base.proofs.Places.{within_front}
+use Rattle.htl_base.proofs.Numbers.{cases_below}
 
 -- ---- lists by places
-
-split : (k n : ℕ) → k < suc n → (k < n) ⊎ (k ≡ n)
-split k n h = grind arith
-
-get_front : {A : Type 0} (xs ys : List A) (k : ℕ) → k < length xs → slice_get (xs ++ ys) k ≡ slice_get xs k
-get_front [] ys k h = absurd (omega arith)
-get_front (x ∷ xs) ys zero h = refl
-get_front (x ∷ xs) ys (suc k) h = get_front xs ys k (omega arith)
 
 get_last : {A : Type 0} (xs : List A) (y : A) → slice_get (xs ++ y ∷ []) (length xs) ≡ Some y
 get_last [] y = refl
@@ -38,7 +32,7 @@ get_last (x ∷ xs) y = get_last xs y
 pub list_to_at : {A : Type 0} (f : ℕ → A) (n k : ℕ) → k < n → slice_get (list_to f n) k ≡ Some (f k)
 list_to_at f zero k h = absurd (omega arith)
 list_to_at f (suc n) k h =
-    by (split k n h) (λ less. get_front (list_to f n) (f n ∷ []) k (omega (arith, length-list_to f n, less)) ∙ list_to_at f n k less)
+    by (cases_below k n h) (λ less. within_front (list_to f n) (f n ∷ []) k (omega (arith, length-list_to f n, less)) ∙ list_to_at f n k less)
   where
     by : (k < n) ⊎ (k ≡ n) → (k < n → slice_get (list_to f n ++ f n ∷ []) k ≡ Some (f k)) → slice_get (list_to f n ++ f n ∷ []) k ≡ Some (f k)
     by (inl less) rest = rest less

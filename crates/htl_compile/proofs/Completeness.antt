@@ -18,6 +18,7 @@ use Rattle.htl_model.specs.Tables.{Tables}
 use Rattle.htl_model.specs.declared.form_fault.FormFault.{FormFault}
 use Rattle.htl_refine.proofs.OneFault.{formed, one_first_broken}
 use Rattle.htl_walk.specs.PathJobs.{path_jobs}
+use Rattle.htl_base.proofs.Numbers.{cases_less_same}
 
 -- ---- completeness
 
@@ -50,13 +51,10 @@ one_front_fault bytes (front.Source f) (front.Source g) p q h i = ap front.Sourc
 one_front_fault bytes (front.Source f) front.Memory p q h i = absurd (q refl)
 one_front_fault bytes front.Memory g p q h i = absurd (p refl)
 
-order : (a b : ℕ) → (a < b) ⊎ (a ≡ b) ⊎ (b < a)
-order a b = grind arith
-
 -- a first overload is one
 one_overload : (t : Tables) (j k a c b d m n : ℕ) → IsFirstOverload t j a b m → IsFirstOverload t k c d n
     → ◌≡◌ {A = BackFault} (back.Unschedulable j a b m) (back.Unschedulable k c d n)
-one_overload t j k a c b d m n p q = by (order j k)
+one_overload t j k a c b d m n p q = by (cases_less_same j k)
   where
     by : (j < k) ⊎ (j ≡ k) ⊎ (k < j) → ◌≡◌ {A = BackFault} (back.Unschedulable j a b m) (back.Unschedulable k c d n)
     by (inl less) = absurd (q.free j less a (pos b) m p.here.over)

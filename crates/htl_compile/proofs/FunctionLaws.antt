@@ -11,7 +11,7 @@ use Rattle.htl_func.specs.Compiled.{IsFunction, IsCompiled}
 use Rattle.htl_func.specs.Expressions.{ill_typed}
 use Rattle.htl_func.specs.declared.compiler.FnFault.{FnFault}
 use Rattle.htl_func.specs.declared.compiler.FnFault.TheVariants as fn_fault
-use Rattle.htl_object.proofs.FunctionPlaces.{either, function_at, outputs_count}
+use Rattle.htl_object.proofs.FunctionPlaces.{function_at, outputs_count}
 use Rattle.htl_model.specs.Small.{IsSmallFunction, AreSmall}
 use Rattle.htl_model.specs.Functions.{Term, type_of, held}
 use Rattle.htl_model.specs.Lists.{list_to}
@@ -20,6 +20,7 @@ use Rattle.htl_model.specs.declared.parts.Task.{Task}
 use Rattle.htl_model.specs.declared.parts.Parts.{Parts}
 use Rattle.htl_model.specs.declared.function.Code.{Code}
 use Rattle.htl_model.specs.declared.function.Function.{Function}
+use Rattle.std.proofs.lemmas.Bool.{cases_lt}
 
 -- ---- one function
 
@@ -60,7 +61,7 @@ task_end t ts k id count x same less is counted =
     omega (arith, outputs_count t ts k x same inside is, counted)
 
 pub typed_on : (t : Tables) (from mid to : ℕ) → TypedBetween t from mid → TypedBetween t mid to → TypedBetween t from to
-typed_on t from mid to h g = λ k a b. elim (either k mid) [ inl less ↦ h k a less | inr more ↦ g k more b ]
+typed_on t from mid to h g = λ k a b. elim (cases_lt k mid) [ inl less ↦ h k a less | inr more ↦ g k more b ]
 
 pub typed_to : (t : Tables) (from a b : ℕ) → a ≡ b → TypedBetween t from a → TypedBetween t from b
 typed_to t from a b e h = subst (TypedBetween t from) e h
@@ -77,7 +78,7 @@ typed_none t from to e = λ k a b. absurd (omega (arith, e, a, b))
 
 -- one more
 pub typed_further : (t : Tables) (from to next : ℕ) → next ≡ to + 1 → TypedBetween t from to → IsTypedAt t to → TypedBetween t from next
-typed_further t from to next e h here = λ k a b. elim (either k to) [
+typed_further t from to next e h here = λ k a b. elim (cases_lt k to) [
   | inl less ↦ h k a less
   | inr more ↦ subst (IsTypedAt t) (let same : to ≡ k = omega (arith, e, more, b) in same) here
 ]

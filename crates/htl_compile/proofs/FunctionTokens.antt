@@ -12,6 +12,7 @@ use Rattle.htl_func.specs.declared.compiler.FnFault.TheVariants as fn_fault
 use Rattle.htl_model.specs.FunctionTypes.{FunctionType, function_types}
 use Rattle.htl_model.specs.Functions.{Term, Number, Truth, Arg, Unary, Binary, Choose, type_of, type_one, type_two, type_choose}
 use Rattle.htl_model.specs.Tables.{Tables, Fun, Formula, Compiled}
+use Rattle.htl_base.proofs.Numbers.{cases_less_same}
 
 -- ---- the token of an ill-typed function
 
@@ -111,9 +112,6 @@ one_fault f (Compiled code) (fn_fault.IllTyped k) d p q h i = absurd h
 one_fault f (Compiled code) (fn_fault.Deep k) d p q h i = absurd h
 one_fault f (Compiled code) fn_fault.Memory d p q h i = absurd p
 
-order : (a b : ℕ) → (a < b) ⊎ (a ≡ b) ⊎ (b < a)
-order a b = grind arith
-
 one_place : (t : Tables) (a b : ℕ) (e d : FnFault) → a ≡ b → IsTold e → IsTold d → IsFaultAt t a e → IsFaultAt t b d → e ≡ d
 one_place t a b e d same p q h i =
     let types : ◌≡◌ {A = Option FunctionType} (Some h.type) (Some i.type) = sym h.typed ∙ ap (slice_get (function_types t)) same ∙ i.typed in
@@ -125,7 +123,7 @@ one_place t a b e d same p q h i =
 
 -- the first function that isn't compiled has one fault
 pub one_function_fault : (t : Tables) (e d : FnFault) → IsTold e → IsTold d → IsFirstFault t e → IsFirstFault t d → e ≡ d
-one_function_fault t e d p q h i = by (order h.place i.place)
+one_function_fault t e d p q h i = by (cases_less_same h.place i.place)
   where
     by : (h.place < i.place) ⊎ (h.place ≡ i.place) ⊎ (i.place < h.place) → e ≡ d
     by (inl less) =

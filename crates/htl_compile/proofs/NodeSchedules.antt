@@ -28,13 +28,9 @@ use Rattle.htl_walk.specs.PathJobs.{path_jobs, next_of}
 use Rattle.htl_walk.specs.declared.job.Job.{Job}
 use Rattle.htl_walk.specs.declared.schedule.SInstr.TheVariants.{Dispatch, End}
 use Rattle.htl_walk.specs.declared.schedule.Schedule.{Schedule}
+use Rattle.htl_base.proofs.Numbers.{product_parts}
 
 -- ---- the node of a number
-
-both_some : (a b : ℕ) → 0 < a * b → (0 < a) × (0 < b)
-both_some zero b h = absurd (omega (arith, h))
-both_some (suc a) zero h = let z : suc a * 0 ≡ 0 = omega arith in absurd (omega (arith, h, z))
-both_some (suc a) (suc b) h = (omega arith, omega arith)
 
 -- a path behind a start has this number, whatever stands before it in the number of the path
 record IsThrough (cs : List ℕ) (n : ℕ) (x : ℕ × ℕ) : Type 0 where
@@ -50,7 +46,7 @@ module _ (c : ℕ) (cs : List ℕ) (n : ℕ) (some : 0 < c * ways cs) (less : n 
   q = n / suc (nodes_of cs)
 
   wide : 0 < ways cs
-  wide = (both_some c (ways cs) some).1
+  wide = (product_parts c (ways cs) some).1
 
   within : q < c
   within = (div-lt_iff_lt-mul (omega arith)).1 less

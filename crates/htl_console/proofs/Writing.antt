@@ -8,11 +8,9 @@ use Rattle.htl_edge.specs.Content.{Puts}
 use Rattle.htl_edge.proofs.Puts.{append_known-start, append_known-more, Puts-failed, Puts-second}
 use Rattle.htl_model.specs.Lists.{up_to}
 use Rattle.htl_console.specs.Listing.{line_at, all_lines}
+use Rattle.htl_base.proofs.Numbers.{cases_below}
 
 -- ---- the lines of a list
-
-upto : (k n : ℕ) → k < suc n → (k < n) ⊎ (k ≡ n)
-upto k n h = grind arith
 
 -- what follows the line of a place
 abbrev pub Follows : (ℕ → List ℕ) → ℕ → ℕ → Type 0
@@ -21,7 +19,7 @@ Follows f k n = (later : List ℕ) × (up_to f n ≡ up_to f k ++ (f k ++ later)
 follows : (f : ℕ → List ℕ) (k n : ℕ) → k < n → Follows f k n
 follows f k zero h = absurd (omega (arith, h))
 follows f k (suc n) h =
-    elim (upto k n h) [
+    elim (cases_below k n h) [
       | inl q ↦
           let before : Follows f k n = follows f k n q in (
             before.0 ++ f n,

@@ -17,6 +17,7 @@ use Rattle.htl_ecode.specs.Layout.{laid, blocks_code, phase_code, begin_place, w
 use Rattle.htl_ecode.proofs.Spelled.{has_wait, goes_on, has_wait_more, waits_there}
 use Rattle.htl_ecode.proofs.Standing.{StandAt, stand_first, stand_second, stand_between, arrives_here, arrives_by_jump, laid_steps, AreLaid, read_laid, laid_target}
 use Rattle.htl_ecode.proofs.Laying.{enter_no_jumps, do_laid, laid_do, block_laid, begin_laid, decide_laid, block_single, begin_single, laid_length, begin_length, decide_length}
+use Rattle.htl_base.proofs.Numbers.{cases_below}
 
 -- a chain that was laid, with nothing behind it
 read_whole : (code : List EInstr) (to : ℕ → ℕ) (ws : List Want) (a : ℕ) → StandAt code a (laid to a ws) → AreLaid ws → read code a ws ≡ Ok (laid_steps to a ws)
@@ -183,14 +184,11 @@ modes_length t enters (suc n) =
     ∙ ap (λ k. k + length (mode_code t enters (mode_place t n) n)) (modes_length t enters n)
     ∙ ap (λ k. mode_place t n + k) (mode_length t enters [] (mode_place t n) n)
 
-below_cases : (m n : ℕ) → m < suc n → (m < n) ⊎ (m ≡ n)
-below_cases m n h = grind arith
-
 -- what stands before and after one part of a list in parts
 pub part_of : {A : Type 0} (f : ℕ → List A) (n m : ℕ) → m < n → (ys : List A) × (up_to f n ≡ up_to f m ++ (f m ++ ys))
 part_of f zero m h = absurd (omega arith)
 part_of f (suc n) m h =
-    elim (below_cases m n h) [
+    elim (cases_below m n h) [
       | inl q ↦
           let r = part_of f n m q in
           (r.0 ++ f n, ap (λ xs. xs ++ f n) r.1 ∙ append_assoc (up_to f m) (f m ++ r.0) (f n) ∙ ap (λ xs. up_to f m ++ xs) (append_assoc (f m) r.0 (f n)))

@@ -21,8 +21,8 @@ use Rattle.htl_model.specs.FrameRules.{KeptApart}
 use Rattle.htl_model.specs.PortOrder.{Leads, direct, through, feeds, feeds_at}
 use Rattle.htl_model.specs.Ranges.{AreInRange, IsSpan, IsCommInRange, IsModeInRange, IsModuleInRange, IsPortInRange, IsTaskInRange, IsInvInRange, IsSwitchInRange, IsFunInRange, IsEndInRange}
 use Rattle.htl_model.specs.Tables.{mode_period, comm_period, task_worst, task_is_abstract, mode_module}
-use Rattle.htl_walk.proofs.Finishes.{some_same}
 use Rattle.htl_edf.specs.FrameSamples.{frame_comm, frame_mode, frame_task, frame_inv, frame_comms, frame_modes, frame_modules, frame_tasks, frame_invs, frame_sample_of, frame_sample, IsFramed}
+use Rattle.std.proofs.lemmas.Option.{same_Some}
 
 nothing_falls : IsNonDecreasing []
 nothing_falls i j d l b = absurd (omega arith)
@@ -60,8 +60,8 @@ module _ (w : ℕ) (span : IsSpan w) where
   }
 
   module_in_range : (k : ℕ) (x : Module) → slice_get frame_modules k ≡ Some x → IsModuleInRange (frame_sample w) k x
-  module_in_range zero x e = subst (IsModuleInRange (frame_sample w) 0) (some_same _ _ e) (record { start = (frame_mode (codes "m") 0 10, refl, refl); parent = tt; levels = refl })
-  module_in_range (suc zero) x e = subst (IsModuleInRange (frame_sample w) 1) (some_same _ _ e) (record { start = (frame_mode (codes "m") 1 20, refl, refl); parent = tt; levels = refl })
+  module_in_range zero x e = subst (IsModuleInRange (frame_sample w) 0) (same_Some _ _ e) (record { start = (frame_mode (codes "m") 0 10, refl, refl); parent = tt; levels = refl })
+  module_in_range (suc zero) x e = subst (IsModuleInRange (frame_sample w) 1) (same_Some _ _ e) (record { start = (frame_mode (codes "m") 1 20, refl, refl); parent = tt; levels = refl })
   module_in_range (suc (suc k)) x e = absurd (cc)
 
   comm_in_range : (name : List ℕ) → IsCommInRange (frame_comm name)
@@ -162,7 +162,7 @@ module _ (w : ℕ) (small : w ≤ 20) where
     mode = 0;
     comm = 0;
     instance = 1;
-    is = some_same _ _ e;
+    is = same_Some _ _ e;
     some = omega arith;
     last = refl;
     read_divides = refl;
@@ -174,7 +174,7 @@ module _ (w : ℕ) (small : w ≤ 20) where
     mode = 1;
     comm = 1;
     instance = 2;
-    is = some_same _ _ e;
+    is = same_Some _ _ e;
     some = omega arith;
     last = refl;
     read_divides = refl;
@@ -205,11 +205,11 @@ module _ (w : ℕ) (small : w ≤ 20) where
 
   by_mode : (r : FormRule) (m : ℕ) (x : Mode) (have need : ℕ) → (number_of r ≡ 2 → ⊥) → slice_get frame_modes m ≡ Some x → (breach (frame_sample w) r).mode m x have need → ⊥
   by_mode ModulePeriod zero x have need other at h =
-      let g = subst (λ (y : Mode). (breach (frame_sample w) ModulePeriod).mode 0 y have need) (sym (some_same (frame_mode (codes "m") 0 10) x at)) h in
-      g.2 (g.0 ∙ some_same 10 need g.1)
+      let g = subst (λ (y : Mode). (breach (frame_sample w) ModulePeriod).mode 0 y have need) (sym (same_Some (frame_mode (codes "m") 0 10) x at)) h in
+      g.2 (g.0 ∙ same_Some 10 need g.1)
   by_mode ModulePeriod (suc zero) x have need other at h =
-      let g = subst (λ (y : Mode). (breach (frame_sample w) ModulePeriod).mode 1 y have need) (sym (some_same (frame_mode (codes "m") 1 20) x at)) h in
-      g.2 (g.0 ∙ some_same 20 need g.1)
+      let g = subst (λ (y : Mode). (breach (frame_sample w) ModulePeriod).mode 1 y have need) (sym (same_Some (frame_mode (codes "m") 1 20) x at)) h in
+      g.2 (g.0 ∙ same_Some 20 need g.1)
   by_mode ModulePeriod (suc (suc m)) x have need other at h = cc
   by_mode FrameLimits m x have need other at h = other refl
   by_mode Divides m x have need other at h = h
@@ -262,7 +262,7 @@ module _ (w : ℕ) (small : w ≤ 20) where
   by_input Divides k i c have need l h = divided c.mode 0 have need c.some c.read_divides refl h.0 h.1 h.2
   by_input Offsets k i c have need l h = omega (arith, h.0, h.1, h.2, c.some)
   by_input Ends k i c have need l h =
-      h.2 (sym (some_same 0 have h.0) ∙ some_same 0 need (sym (ap (λ (a : CallFacts). option_map type_number (slice_get a.inputs 0)) c.facts) ∙ h.1))
+      h.2 (sym (same_Some 0 have h.0) ∙ same_Some 0 need (sym (ap (λ (a : CallFacts). option_map type_number (slice_get a.inputs 0)) c.facts) ∙ h.1))
   by_input Windows k i c have need l h = h
   by_input WorstCases k i c have need l h = h
   by_input PortWriters k i c have need l h = h
@@ -286,7 +286,7 @@ module _ (w : ℕ) (small : w ≤ 20) where
         | inr z ↦ omega (arith, z, h.0, h.1, c.last)
       ]
   by_output Ends k i c have need l h =
-      h.2 (sym (some_same 0 have (sym (ap (λ (a : CallFacts). option_map type_number a.type) c.facts) ∙ h.0)) ∙ some_same 0 need (sym (ap (λ (a : CallFacts). option_map type_number (slice_get a.outputs 0)) c.facts) ∙ h.1))
+      h.2 (sym (same_Some 0 have (sym (ap (λ (a : CallFacts). option_map type_number a.type) c.facts) ∙ h.0)) ∙ same_Some 0 need (sym (ap (λ (a : CallFacts). option_map type_number (slice_get a.outputs 0)) c.facts) ∙ h.1))
   by_output Windows k i c have need l h = h
   by_output WorstCases k i c have need l h = h
   by_output PortWriters k i c have need l h = h
@@ -300,7 +300,7 @@ module _ (w : ℕ) (small : w ≤ 20) where
   by_output Inheritance k i c have need l h = h
 
   one_end : (e f : End) (j : ℕ) → slice_get (e ∷ []) j ≡ Some f → (j ≡ 0) × (e ≡ f)
-  one_end e f zero at = (refl, some_same _ _ at)
+  one_end e f zero at = (refl, same_Some _ _ at)
   one_end e f (suc j) at = absurd (cc)
 
   broken : (r : FormRule) (m : ℕ) (x : Mode) (o : Option ℕ) (p : Part) (have need : ℕ) → number_of r ≤ 12 → (number_of r ≡ 2 → ⊥) → slice_get frame_modes m ≡ Some x

@@ -1,6 +1,6 @@
 -- Tightening keeps exactly the slices that meet; tightened windows are one, and so is the interval that is reported.
 use Rattle.std.proofs.Common.{◌≡◌, ℕ, ◌-◌, ◌<◌, ◌≤◌, Bool, true, ◌||◌, refl, sym, ap, ◌∙◌, subst, arith, eq-eqb, le-leb, lt-ltb, ℤ, pos, ◌≤ℤ◌, ◌<ℤ◌, List, [], ◌∷◌}
-use Rattle.std.proofs.lemmas.Bool.{and_from, or_right}
+use Rattle.std.proofs.lemmas.Bool.{and_from, or_right, or_left}
 use Rattle.std.proofs.lemmas.Int.{ints}
 use Rattle.htl_edf.specs.Windows.{Windows, demand_of, Overloaded, Reported}
 use Rattle.htl_edf.specs.Tight.{Jobs, NoCycle, tight}
@@ -14,14 +14,11 @@ use Rattle.htl_edf.proofs.Tightening.{tight_is, release_at_is, end_at_is}
 covers_from : (s : Slice) (x : ℕ) → s.start ≤ x → x < s.end → covers s x s.position ≡ true
 covers_from s x a b = and_from _ _ (eq-eqb s.position s.position refl) (and_from _ _ (le-leb s.start x a) (lt-ltb x s.end b))
 
-or_first : (a b : Bool) → a ≡ true → (a || b) ≡ true
-or_first a b e = rw e refl
-
 -- each tick of a slice is on
 covered : (ss all : List Slice) → ((x q : ℕ) → on_slices ss x q ≡ true → on_slices all x q ≡ true) → Each (λ s. (x : ℕ) → s.start ≤ x → x < s.end → on_slices all x s.position ≡ true) ss
 covered [] all up = tt
 covered (s ∷ ss) all up = (
-  λ x a b. up x s.position (or_first (covers s x s.position) (on_slices ss x s.position) (covers_from s x a b)),
+  λ x a b. up x s.position (or_left (covers s x s.position) (on_slices ss x s.position) (covers_from s x a b)),
   covered ss all (λ x q e. up x q (or_right (covers s x q) (on_slices ss x q) e)),
 )
 

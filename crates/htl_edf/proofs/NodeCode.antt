@@ -1,6 +1,6 @@
 -- The lists of all nodes, as the code makes them.
 use Rattle.std.proofs.Common.{◌≡◌, ◌≢◌, ℕ, zero, suc, ◌+◌, ◌-◌, ◌≤◌, ◌<◌, List, [], ◌∷◌, ◌++◌, length, drop, take, set, get_or, add-one, refl, sym, ap, ◌∙◌, subst, arith, inl, inr}
-use Rattle.std.proofs.lemmas.Bool.{cases_lt}
+use Rattle.std.proofs.lemmas.Bool.{cases_lt, cases_eq}
 use Rattle.htl_model.specs.declared.frame.Frame.{Frame}
 use Rattle.htl_model.specs.FrameTables.{IsFrame}
 use Rattle.htl_model.specs.Tables.{Tables}
@@ -13,7 +13,6 @@ use Rattle.htl_walk.specs.declared.schedule.Schedule.{Schedule}
 use Rattle.htl_walk.specs.PathJobs.{path_jobs, next_of}
 use Rattle.htl_walk.specs.FrameLaws.{start_at, start_end_at}
 use Rattle.htl_walk.specs.NodeWalks.{ShareNodes, instrs_of}
-use Rattle.htl_walk.proofs.Steps.{apart}
 pub use Rattle.htl_walk.proofs.NodeNumbers.{depth_same}
 use Rattle.htl_walk.proofs.NodeNumbers.{node_depth}
 use Rattle.htl_walk.proofs.Starts.{Rises, starts_rise}
@@ -22,6 +21,7 @@ use Rattle.htl_walk.proofs.CodeWalk.{start_read, end_read}
 use Rattle.htl_edf.specs.Parts.{part}
 use Rattle.htl_edf.specs.NodePlans.{AreReady, AreNodeLists, HasPart, HaveParts}
 use Rattle.htl_edf.proofs.NodeLists.{one_list_of_node}
+use Rattle.htl_base.proofs.Places.{get_taken}
 
 -- ---- the end of the frame
 
@@ -31,14 +31,8 @@ behind [] h (suc n) e = absurd (omega (arith, e))
 behind (x ∷ xs) h zero e = absurd (omega (arith, e))
 behind (x ∷ xs) h (suc n) e = behind xs h n (omega (arith, e))
 
-front_get : (n : ℕ) (xs : List ℕ) (p : ℕ) → p < n → get_or (take n xs) p 0 ≡ get_or xs p 0
-front_get zero xs p l = absurd (omega (arith, l))
-front_get (suc n) [] p l = refl
-front_get (suc n) (x ∷ xs) zero l = refl
-front_get (suc n) (x ∷ xs) (suc p) l = front_get n xs p (omega (arith, l))
-
 pub frame_end : (t : Tables) (f : Frame) → IsFrame t f → get_or f.starts f.count 0 ≡ frame_of t
-frame_end t f s = sym (front_get (f.count + 1) f.starts f.count (omega arith)) ∙ ap (λ xs. get_or xs f.count 0) s.starts ∙ behind (starts t) (frame_of t) f.count s.count
+frame_end t f s = sym (get_taken (f.count + 1) f.starts f.count (omega arith)) ∙ ap (λ xs. get_or xs f.count 0) s.starts ∙ behind (starts t) (frame_of t) f.count s.count
 
 -- ---- one list more
 
@@ -62,7 +56,7 @@ module _ (t : Tables) (ready : AreReady t) where
   -- a list that is put where its node is takes no other one away
   pub put_part : (xs : List Schedule) (p j n : ℕ) (s : Schedule) → p < paths t → j < length (starts t) → length xs ≡ nodes t → n ≡ node t p j → s.instrs ≡ part (path_jobs t p) (start_at t j) (start_end_at t j)
       → (q i : ℕ) → q < paths t → i < length (starts t) → HasPart t (instrs_of xs) q i → HasPart t (instrs_of (set xs n s)) q i
-  put_part xs p j n s hp l count is part_is q i hq k has = elim (apart n (node t q i)) [
+  put_part xs p j n s hp l count is part_is q i hq k has = elim (cases_eq n (node t q i)) [
     | inl e ↦
         let same : node t p j ≡ node t q i = sym is ∙ e in
         let depth : j ≡ i = node_depth t p q j i hp l k same in

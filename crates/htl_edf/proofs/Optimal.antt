@@ -5,7 +5,7 @@ use Rattle.std.proofs.lemmas.Int.{ints}
 use Rattle.htl_edf.specs.Sums.{sum_below, bit}
 use Rattle.htl_edf.specs.Windows.{Windows, inside, demand_of, Overloaded, given, Ready, IsEdf}
 use Rattle.htl_edf.proofs.Counting.{sum_below-lt, sum_below-term, sum_below-some, sum_below-full}
-use Rattle.htl_edf.proofs.Refusal.{bit-some, bit-le, given-set, inside_from, int_le-yes}
+use Rattle.htl_edf.proofs.Refusal.{bit-some, bit-le, given-set, inside_from, int_le-yes, term}
 
 -- ---- the last place before d at which a test fails
 
@@ -90,10 +90,6 @@ int_le-true a b e = omega (arith, ints)
 pub le_z_refl : (b : ℤ) → b ≤ℤ b
 le_z_refl b = omega (arith, ints)
 
-cond-le : (s : Bool) (a b : ℕ) → a ≤ b → cond s a 0 ≤ cond s b 0
-cond-le true a b h = h
-cond-le false a b h = omega arith
-
 -- a position that misses the end d of its window shows an overloaded interval
 pub missed : (v : Windows) (on : ℕ → ℕ → Bool) (edf : IsEdf v on) (p d : ℕ) → p < v.count → v.due p ≡ pos d → given on p d < v.worst p → (a : ℕ) × (m : ℕ) × Overloaded v a (pos d) m
 missed v on edf p d l e late =
@@ -117,5 +113,5 @@ missed v on edf p d l e late =
     let in' = inside_from v a b p (early p d r.within l due late) due in
     let more = ap (λ t. cond t (given on p d) 0) in' in
     let less = ap (λ t. cond t (v.worst p) 0) in' in
-    let below = sum_below-lt (λ q. cond (s q) (given on q d) 0) (λ q. cond (s q) (v.worst q) 0) v.count p l (omega arith) (λ q k. cond-le (s q) _ _ (given-le v on edf q d)) in
+    let below = sum_below-lt (λ q. cond (s q) (given on q d) 0) (λ q. cond (s q) (v.worst q) 0) v.count p l (omega arith) (λ q k. term (s q) _ _ (given-le v on edf q d)) in
     (a, demand_of v a b, record { some = (p, l, in'); sums = refl; over = omega (arith, ints) })

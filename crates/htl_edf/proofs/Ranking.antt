@@ -8,18 +8,13 @@ use Rattle.std.proofs.lemmas.List.Sorted.{All-permutation, list_any-IsPermutatio
 use Rattle.std.proofs.lemmas.List.Folds.{list_any_at, Any-from_list_any}
 use Rattle.std.proofs.lemmas.Map.Keys.{IsDistinct-from_apart, IsDistinct-IsPermutation, IsStrictlyIncreasing-from_distinct, sorted_from_strictly_increasing, below_from_sorted}
 use Rattle.htl_edf.specs.Ranks.{item, number_of, time_of, AreInOrder}
+use Rattle.htl_base.proofs.Tests.{eqb_flips}
 
 pub time_in : (t n : ℕ) → n < 128 → item t n / 128 ≡ t
 time_in t n l = omega (arith, l)
 
 pub number_in : (t n : ℕ) → n < 128 → item t n % 128 ≡ n
 number_in t n l = omega (arith, l)
-
-eqb_flips : (x y : ℕ) → eqb x y ≡ eqb y x
-eqb_flips x y = ⊎_elim
-    (λ e. e ∙ sym (eq-eqb y x (sym (eqb-true x y e))))
-    (λ e. e ∙ sym (ne_eqb y x (λ same. let no : true ≡ false = sym (eq-eqb x y (sym same)) ∙ e in cc)))
-    (cases_Bool (eqb x y))
 
 module _ (count : ℕ) (time : ℕ → ℕ) (olds items : List ℕ)
     (few : count ≤ 128) (len : length olds ≡ count) (are : (q : ℕ) → q < count → get_or olds q 0 ≡ item (time q) q)

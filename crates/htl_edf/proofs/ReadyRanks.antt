@@ -13,6 +13,7 @@ use Rattle.htl_edf.specs.Tight.{release_at, end_at, tight}
 use Rattle.htl_edf.proofs.Jumps.{edf_from_list}
 use Rattle.htl_edf.proofs.Ticks.{Earliest, earliest_is}
 use Rattle.htl_edf.proofs.Ranking.{one_place}
+use Rattle.htl_base.proofs.Tests.{and_first, none_below}
 
 -- ---- the earliest, from what it is
 
@@ -40,10 +41,6 @@ pub record IsReleasing (js : List Job) (by_end by_release ls : List ℕ) (t read
 bit_kept : (a b : Bool) → b ≡ false → a ≡ (a || b)
 bit_kept true b e = refl
 bit_kept false b e = sym e
-
-left_true : (a b : Bool) → (a && b) ≡ true → a ≡ true
-left_true true b e = refl
-left_true false b e = e
 
 module _ (js : List Job) (by_end by_release : List ℕ) (ranked : AreRanked js by_end by_release) where
   -- where a rank is among the releases
@@ -154,7 +151,7 @@ module _ (js : List Job) (by_end by_release : List ℕ) (ranked : AreRanked js b
             → cond b (has_bit ready rank && ltb 0 now) (has_bit ready r) ≡ (ltb (release_time js (number_of by_end r)) until && ltb 0 (get_or (set ls (number_of by_end rank) now) (number_of by_end r) 0))
         by r k true e =
             let same : r ≡ rank = eqb-true r rank e in
-            let released_before = left_true (ltb (release_time js (number_of by_end rank)) until) (ltb 0 (get_or ls (number_of by_end rank) 0)) (sym (ahead.row rank below) ∙ found) in
+            let released_before = and_first (ltb (release_time js (number_of by_end rank)) until) (ltb 0 (get_or ls (number_of by_end rank) 0)) (sym (ahead.row rank below) ∙ found) in
             ap (λ b. b && ltb 0 now) (found ∙ sym released_before)
             ∙ ap (λ x. ltb (release_time js (number_of by_end rank)) until && ltb 0 x) (sym (get_or-set_same ls (number_of by_end rank) now 0 room))
             ∙ ap (λ x. ltb (release_time js (number_of by_end x)) until && ltb 0 (get_or (set ls (number_of by_end rank) now) (number_of by_end x) 0)) (sym same)
@@ -247,11 +244,8 @@ module _ (js : List Job) (by_end by_release : List ℕ) (ranked : AreRanked js b
 
   pub ahead_start : (ls : List ℕ) (t : ℕ) → IsAhead js by_end by_release ls t 0 0 0
   ahead_start ls t = record {
-    row = λ rank l. has_no_bit rank ∙ sym (ap (λ b. b && ltb 0 (get_or ls (number_of by_end rank) 0)) (none (release_time js (number_of by_end rank))));
+    row = λ rank l. has_no_bit rank ∙ sym (ap (λ b. b && ltb 0 (get_or ls (number_of by_end rank) 0)) (none_below (release_time js (number_of by_end rank))));
     count = omega arith;
     past = λ n b. absurd (omega (arith, b));
     later = λ n b l. omega arith;
   }
-    where
-      none : (x : ℕ) → ltb x 0 ≡ false
-      none x = grind (arith, nat_tests)

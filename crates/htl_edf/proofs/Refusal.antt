@@ -53,7 +53,7 @@ given_at-some v on T a b served x h =
     let w = served.within x r.0 r.1 both.1 in
     (omega arith, omega (arith, ints))
 
-term : (s : Bool) (a b : ℕ) → a ≤ b → cond s a 0 ≤ cond s b 0
+pub term : (s : Bool) (a b : ℕ) → a ≤ b → cond s a 0 ≤ cond s b 0
 term true a b h = h
 term false a b h = omega arith
 

@@ -9,9 +9,7 @@ use Rattle.htl_edf.specs.Lists.{jobs_of, no_window}
 use Rattle.htl_edf.specs.Tight.{release_at, end_at}
 use Rattle.htl_edf.specs.Turns.{HaveReleases, HaveEnds}
 use Rattle.htl_edf.proofs.Tightening.{greatest-same, least-same}
-
-apart : (r q : ℕ) → eqb r q ≡ false → r ≢ q
-apart r q e same = let no : true ≡ false = sym (eq-eqb r q same) ∙ e in cc
+use Rattle.htl_base.proofs.Tests.{eqb_apart}
 
 -- one bit more below a count
 pub below_more : (row new k q : ℕ) → ((p : ℕ) → p < k → has_bit row p ≡ true) → ((p : ℕ) → has_bit new p ≡ (has_bit row p || eqb p k)) → q < k + 1 → has_bit new q ≡ true
@@ -23,7 +21,7 @@ below_more row new k q all bits h = bits q ∙ by (eqb q k) refl
 
     by : (b : Bool) → eqb q k ≡ b → (has_bit row q || b) ≡ true
     by true e = with_true (has_bit row q)
-    by false e = let other : q ≢ k = apart q k e in ap (λ a. a || false) (all q (omega (arith, other)))
+    by false e = let other : q ≢ k = eqb_apart q k e in ap (λ a. a || false) (all q (omega (arith, other)))
 
 still : (waiting new q r : ℕ) → ((p : ℕ) → has_bit new p ≡ cond (eqb p q) false (has_bit waiting p)) → eqb r q ≡ false → has_bit new r ≡ false → has_bit waiting r ≡ false
 still waiting new q r bits e done = sym (bits r ∙ ap (λ b. cond b false (has_bit waiting r)) e) ∙ done
@@ -47,7 +45,7 @@ releases_more js ts waiting new k q w have room free bits is r m below done enou
         let here : r ≡ q = eqb-true r q e in
         ap (λ i. (get_or (set ts q w) i no_window).release) here ∙ ap (λ (t : Tight). t.release) (get_or-set_same ts q w no_window room) ∙ is
         ∙ ap pos (rest m enough) ∙ ap (λ i. pos (release_at (jobs_of js) m i)) (sym here)
-    by false e = ap (λ (t : Tight). t.release) (get_or-set_other ts q r w no_window (apart r q e)) ∙ have r m below (still waiting new q r bits e done) (omega arith)
+    by false e = ap (λ (t : Tight). t.release) (get_or-set_other ts q r w no_window (eqb_apart r q e)) ∙ have r m below (still waiting new q r bits e done) (omega arith)
 
 pub ends_more : (js : List Job) (ts : List Tight) (waiting new k p : ℕ) (w : Tight) → HaveEnds js ts waiting k → p < length ts
     → ((q : ℕ) → q < length js → (jobs_of js).before p q ≡ true → has_bit waiting q ≡ false) → ((q : ℕ) → has_bit new q ≡ cond (eqb q p) false (has_bit waiting q))
@@ -68,7 +66,7 @@ ends_more js ts waiting new k p w have room free bits is r m below done enough =
         let here : r ≡ p = eqb-true r p e in
         ap (λ i. (get_or (set ts p w) i no_window).end) here ∙ ap (λ (t : Tight). t.end) (get_or-set_same ts p w no_window room) ∙ is
         ∙ rest m enough ∙ ap (λ i. end_at (jobs_of js) m i) (sym here)
-    by false e = ap (λ (t : Tight). t.end) (get_or-set_other ts p r w no_window (apart r p e)) ∙ have r m below (still waiting new p r bits e done) (omega arith)
+    by false e = ap (λ (t : Tight). t.end) (get_or-set_other ts p r w no_window (eqb_apart r p e)) ∙ have r m below (still waiting new p r bits e done) (omega arith)
 
 -- a write of the end alone leaves the releases
 pub releases_kept : (ts : List Tight) (p q : ℕ) (w : Tight) → p < length ts → w.release ≡ (get_or ts p no_window).release → (get_or (set ts p w) q no_window).release ≡ (get_or ts q no_window).release
@@ -78,4 +76,4 @@ releases_kept ts p q w room is = by (eqb q p) refl
     by true e =
         let here : q ≡ p = eqb-true q p e in
         ap (λ i. (get_or (set ts p w) i no_window).release) here ∙ ap (λ (t : Tight). t.release) (get_or-set_same ts p w no_window room) ∙ is ∙ ap (λ i. (get_or ts i no_window).release) (sym here)
-    by false e = ap (λ (t : Tight). t.release) (get_or-set_other ts p q w no_window (apart q p e))
+    by false e = ap (λ (t : Tight). t.release) (get_or-set_other ts p q w no_window (eqb_apart q p e))

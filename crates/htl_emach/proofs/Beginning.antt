@@ -9,6 +9,8 @@ use Rattle.htl_emach.specs.Calendars.{Calendar, list_at, triggers_of, target_at,
 use Rattle.htl_emach.specs.Pending.{Between, entry_at}
 use Rattle.htl_emach.specs.Following.{phase_blocks, from_module, blocks_to_come, IsInBlock, IsBetweenBlocks}
 use Rattle.htl_emach.proofs.ModuleLaws.{trigger_in, due_target, ModuleLaws}
+use Rattle.htl_base.proofs.Options.{not_both}
+use Rattle.htl_base.proofs.Numbers.{cases_le}
 
 -- ---- the first trigger that is due
 
@@ -77,9 +79,6 @@ triggers_sized phase n c w s r = by_test (eqb phase 1) (eqb phase 2)
     by_test false true = s
     by_test false false = r
 
-none_is_some : {A : Type 0} (o : Option A) (a : A) → o ≡ None → o ≡ Some a → ⊥
-none_is_some o a n s = let z : None ≡ Some a = sym n ∙ s in cc
-
 module _ (t : Tables) (code : ECode) (es : List Event) (now phase : ℕ) (laws : (j : ℕ) → j < length t.modules → ModuleLaws t code es now phase j) where
   come_next : (k : ℕ) → k < length t.modules → blocks_to_come t code es now phase k ≡ phase_blocks t code es now phase k ++ blocks_to_come t code es now phase (suc k)
   come_next k h =
@@ -105,11 +104,8 @@ module _ (t : Tables) (code : ECode) (es : List Event) (now phase : ℕ) (laws :
 
   -- a trigger that is due is of a module whose block isn't done
   not_passed : (k j a : ℕ) (c : Calendar) → Between t code es now phase c k → k ≤ length t.modules → target_at now (list_at (triggers_of phase c) j) ≡ Some a → k ≤ j
-  not_passed k j a c h within due = elim (apart k j) [ inl less ↦ less | inr more ↦ absurd (none_is_some (target_at now (list_at (triggers_of phase c) j)) a (none more) due) ]
+  not_passed k j a c h within due = elim (cases_le k j) [ inl less ↦ less | inr more ↦ absurd (not_both (target_at now (list_at (triggers_of phase c) j)) a (none more) due) ]
     where
-      apart : (a b : ℕ) → (a ≤ b) ⊎ (b < a)
-      apart a b = grind arith
-
       none : j < k → target_at now (list_at (triggers_of phase c) j) ≡ None
       none more = ap (target_at now) (trigger_of_module phase c j) ∙ ap (λ e. target_at now (trigger_in phase e)) (h.below j more) ∙ (laws j (omega (arith, more, within))).passed
 

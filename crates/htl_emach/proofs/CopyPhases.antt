@@ -1,6 +1,6 @@
 -- What holds of each module in the write phase and in the read phase.
 use Rattle.std.proofs.Common.{◌≡◌, ℕ, suc, ◌+◌, ◌-◌, ◌<◌, ◌≤◌, Bool, true, false, cond, eqb, List, [], length, Option, Some, None, refl, sym, ap, ◌∙◌, subst, arith, ◌⊎◌, inl, inr}
-use Rattle.std.proofs.lemmas.Bool.{eq-eqb}
+use Rattle.std.proofs.lemmas.Bool.{eq-eqb, ne_eqb}
 use Rattle.std.proofs.lemmas.Bool.Decides.{nat_tests}
 use Rattle.htl_model.specs.declared.event.Event.{Event}
 use Rattle.htl_model.specs.declared.state.Stay.{Stay}
@@ -21,6 +21,9 @@ use Rattle.htl_emach.specs.Following.{calendar_replay}
 use Rattle.htl_emach.proofs.ModuleLaws.{ModuleLaws}
 use Rattle.htl_emach.proofs.Effects.{entry_with, with_next, next_here, next_other, next_sized}
 use Rattle.htl_emach.proofs.WriteRead.{BlockIs, phase_block}
+use Rattle.std.proofs.lemmas.Option.{none-some}
+use Rattle.htl_base.proofs.Tests.{true_not_false}
+use Rattle.htl_base.proofs.Numbers.{cases_below}
 
 -- the blocks of a phase in a mode, for module k
 pub record PhaseIs (t : Tables) (code : ECode) (p m k : ℕ) : Type 0 where
@@ -40,9 +43,6 @@ phase_are t code p m k phase r =
 
 -- ---- offsets
 
-true_false : (b : Bool) → b ≡ true → b ≡ false → ⊥
-true_false b e f = let z : true ≡ false = sym e ∙ f in cc
-
 pub at_offset : (o : ℕ) (xs : List ℕ) → holds o xs ≡ true → least_from o xs ≡ Some o
 at_offset o xs h = by_least (least_from o xs) (least_is o xs)
   where
@@ -54,7 +54,7 @@ pub off_offset : (o : ℕ) (xs : List ℕ) → holds o xs ≡ false → least_fr
 off_offset o xs h = by_least (least_from o xs) (least_from (suc o) xs) (least_is o xs) (least_is (suc o) xs)
   where
     other : (q : ℕ) → holds q xs ≡ true → o ≡ q → ⊥
-    other q there same = true_false (holds q xs) there (subst (λ z. holds z xs ≡ false) same h)
+    other q there same = true_not_false (holds q xs) there (subst (λ z. holds z xs ≡ false) same h)
 
     by_least : (r u : Option ℕ) → IsLeast o xs r → IsLeast (suc o) xs u → r ≡ u
     by_least None None l m = refl
@@ -76,19 +76,12 @@ past_offset o q xs e = let l : IsLeast (suc o) xs (Some q) = subst (IsLeast (suc
 
 -- ---- triggers that are due, and those that aren't
 
-not_eqb : (a b : ℕ) → (a ≡ b → ⊥) → eqb a b ≡ false
-not_eqb a b h = by_test (eqb a b) refl
-  where
-    by_test : (q : Bool) → eqb a b ≡ q → q ≡ false
-    by_test true e = absurd (h (let z : a ≡ b = grind (arith, nat_tests) in z))
-    by_test false e = refl
-
 pub due_here : (at now : ℕ) (a : ℕ) → at ≡ now → target_at now (trigger_at at (Some a)) ≡ Some a
 due_here at now a e = ap (λ b. cond b (Some a) None) (eq-eqb at now e)
 
 pub not_due : (at now : ℕ) (x : Option ℕ) → (at ≡ now → ⊥) → target_at now (trigger_at at x) ≡ None
 not_due at now None h = refl
-not_due at now (Some a) h = ap (λ b. cond b (Some a) None) (not_eqb at now h)
+not_due at now (Some a) h = ap (λ b. cond b (Some a) None) (ne_eqb at now h)
 
 pub later_block : (t : Tables) (code : ECode) (m p s now from : ℕ) → ((q : ℕ) → next_offset t m p from ≡ Some q → s + q ≡ now → ⊥) → target_at now (next_block t code m p s from) ≡ None
 later_block t code m p s now from h = by_next (next_offset t m p from) h
@@ -105,11 +98,8 @@ pub record StayLaws (t : Tables) (code : ECode) (p now k : ℕ) (x : Option Stay
   pub busy : (a : ℕ) → target_at now (awaited t code p now x) ≡ Some a → (xs : List ℕ) × (due_path t code p now x ≡ xs)
       × ((hs rs : ℕ → Bool) → Ends code.instrs (goes hs rs) a xs) × AreAllowed t code.instrs p k xs × ((c : Calendar) → calendar_replay t code now k xs c ≡ with_next p k (awaited t code p (suc now) x) c)
 
-none_some : (a : ℕ) → None ≡ Some a → ⊥
-none_some a e = cc
-
 pub none_laws : (t : Tables) (code : ECode) (p now k : ℕ) → StayLaws t code p now k None
-none_laws t code p now k = record { passed = refl; idle = λ e. (refl, refl); busy = λ a e. absurd (none_some a e) }
+none_laws t code p now k = record { passed = refl; idle = λ e. (refl, refl); busy = λ a e. absurd (none-some a e) }
 
 pub stay_laws : (t : Tables) (code : ECode) (p now k : ℕ) (x : Stay) → x.start ≤ now → PhaseIs t code p x.mode k → StayLaws t code p now k (Some x)
 stay_laws t code p now k x from h =
@@ -134,7 +124,7 @@ stay_laws t code p now k x from h =
         ∙ due_here (x.start + (now - x.start)) now b.0 when in
         record {
           passed = ap (λ n. target_at now (next_block t code x.mode p x.start n)) next ∙ late;
-          idle = λ e. absurd (none_some b.0 (sym e ∙ due));
+          idle = λ e. absurd (none-some b.0 (sym e ∙ due));
           busy = λ a e. by_block a b.0 b.2 (some_same b.0 a (sym due ∙ e)) when next;
         }
       where
@@ -162,7 +152,7 @@ stay_laws t code p now k x from h =
             ap (λ (z : Option ℕ). elim z as (λ _. List ℕ) [ Some y ↦ chain_path code y (block_chain t x.mode p (now - x.start)) | None ↦ [] ]) (h.absent (now - x.start) gone),
             after,
           );
-          busy = λ a e. absurd (none_some a (sym late ∙ sym (ap (target_at now) same) ∙ e));
+          busy = λ a e. absurd (none-some a (sym late ∙ sym (ap (target_at now) same) ∙ e));
         }
 
 -- ---- one module in a phase
@@ -175,16 +165,13 @@ pub step_between : (t : Tables) (code : ECode) (es : List Event) (now p : ℕ) (
 step_between t code es now p c d k b inside sized here other above =
     record {
       sized = sized;
-      below = λ j less. elim (apart j k less) [
+      below = λ j less. elim (cases_below j k less) [
         | inl lower ↦ other j (λ e. no j lower e) ∙ b.below j lower
         | inr same ↦ subst (λ z. entry_at d z ≡ entry_after t code now p z (old_stay t es now z) (new_stay t es now z)) (sym same) here
       ];
       above = λ j more within. other j (λ e. yet j more e) ∙ b.above j (omega (arith, more)) within ∙ above j (omega (arith, more)) within;
     }
   where
-    apart : (a b : ℕ) → a < suc b → (a < b) ⊎ (a ≡ b)
-    apart a b h = grind arith
-
     no : (j : ℕ) → j < k → j ≡ k → ⊥
     no j h e = omega (arith, h, e)
 

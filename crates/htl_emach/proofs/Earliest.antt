@@ -17,6 +17,7 @@ use Rattle.htl_emach.specs.Pending.{Entry, entry_at, entry_before, entry_after, 
 use Rattle.htl_emach.specs.Following.{PhaseStands}
 use Rattle.htl_emach.proofs.States.{module_at, parent_at}
 use Rattle.htl_emach.proofs.Instants.{roots_run}
+use Rattle.std.proofs.lemmas.Option.{none-some, same_Some}
 
 -- an instant that is there and no later
 abbrev pub NoLater : Option ℕ → ℕ → Type 0
@@ -27,12 +28,6 @@ pub record IsLeastOf (r x : Option ℕ) (ys : List (Option Trigger)) : Type 0 wh
   pub first : (m : ℕ) → x ≡ Some m → NoLater r m
   pub rest : (k : ℕ) (z : Trigger) → list_at ys k ≡ Some z → NoLater r z.at
   pub from : (n : ℕ) → r ≡ Some n → (x ≡ Some n) ⊎ ((k : ℕ) × (z : Trigger) × (list_at ys k ≡ Some z) × (z.at ≡ n))
-
-some_same : {A : Type 0} (x y : A) → Some x ≡ Some y → x ≡ y
-some_same x y e = cc
-
-none_some : {A : Type 0} (y : A) → None ≡ Some y → ⊥
-none_some y e = cc
 
 no_later : (r : Option ℕ) (n m : ℕ) → NoLater r n → n ≤ m → NoLater r m
 no_later r n m h less = let p = h.2 in (h.0, h.1, omega (arith, p, less))
@@ -48,15 +43,15 @@ earlier_second (Some x) y = (cond (leb x y.at) x y.at, refl, grind (arith, nat_t
 
 earlier_from : (x : Option ℕ) (y : Option Trigger) (n : ℕ) → earlier x y ≡ Some n → (x ≡ Some n) ⊎ ((z : Trigger) × (y ≡ Some z) × (z.at ≡ n))
 earlier_from x None n e = inl e
-earlier_from None (Some y) n e = inr (y, refl, some_same y.at n e)
-earlier_from (Some x) (Some y) n e = by_test (leb x y.at) (some_same (cond (leb x y.at) x y.at) n e)
+earlier_from None (Some y) n e = inr (y, refl, same_Some y.at n e)
+earlier_from (Some x) (Some y) n e = by_test (leb x y.at) (same_Some (cond (leb x y.at) x y.at) n e)
   where
     by_test : (b : Bool) → cond b x y.at ≡ n → (Some x ≡ Some n) ⊎ ((z : Trigger) × (Some y ≡ Some z) × (z.at ≡ n))
     by_test true e = inl (ap (λ (m : ℕ). Some m) e)
     by_test false e = inr (y, refl, e)
 
 pub least_of : (ys : List (Option Trigger)) (x : Option ℕ) → IsLeastOf (earliest x ys) x ys
-least_of [] x = record { first = λ m e. (m, e, omega arith); rest = λ k z e. absurd (none_some z e); from = λ n e. inl e }
+least_of [] x = record { first = λ m e. (m, e, omega arith); rest = λ k z e. absurd (none-some z e); from = λ n e. inl e }
 least_of (y ∷ ys) x = with_first (least_of ys (earlier x y))
   where
     with_first : IsLeastOf (earliest (earlier x y) ys) (earlier x y) ys → IsLeastOf (earliest (earlier x y) ys) x (y ∷ ys)
@@ -110,7 +105,7 @@ earliest_is c = by_result (earliest_of c) refl
     bound other due = subst (NoLater (earliest_of c)) due.4 (by_phase (eqb due.0 1) (eqb due.0 2) due.1 due.2 due.3)
 
     from_writes : (at : ℕ) → (None ≡ Some at) ⊎ ((k : ℕ) × (z : Trigger) × (list_at c.writes k ≡ Some z) × (z.at ≡ at)) → IsDueAt c at
-    from_writes at (inl e) = absurd (none_some at e)
+    from_writes at (inl e) = absurd (none-some at e)
     from_writes at (inr v) = (1, v.0, v.1, v.2, v.3)
 
     from_switches : (at : ℕ) → (after_writes c ≡ Some at) ⊎ ((k : ℕ) × (z : Trigger) × (list_at c.switches k ≡ Some z) × (z.at ≡ at)) → IsDueAt c at
@@ -122,10 +117,10 @@ earliest_is c = by_result (earliest_of c) refl
     from_reads at (inr v) = (3, v.0, v.1, v.2, v.3)
 
     by_result : (o : Option ℕ) → earliest_of c ≡ o → IsEarliest c o
-    by_result None e = λ at due. (let p = bound at due in none_some p.0 (sym e ∙ p.1))
+    by_result None e = λ at due. (let p = bound at due in none-some p.0 (sym e ∙ p.1))
     by_result (Some at) e = (
       from_reads at ((least_of c.reads (after_switches c)).from at e),
-      λ other due. (let p = bound other due in let same : at ≡ p.0 = some_same at p.0 (sym e ∙ p.1) in let less = p.2 in omega (arith, same, less)),
+      λ other due. (let p = bound other due in let same : at ≡ p.0 = same_Some at p.0 (sym e ∙ p.1) in let less = p.2 in omega (arith, same, less)),
     )
 
 -- where no block runs the earliest trigger is next
@@ -150,8 +145,8 @@ pub up_to_next : (m : Standing) (o : Option ℕ) (at : ℕ) → IsNext m o → I
 up_to_next m o at is late = by_running m.running o is late
   where
     by_running : (b : Option Block) (o : Option ℕ) → IsNextOf m.calendar b o → IfSome o (λ n. at ≤ n) → (next : ℕ) → IsNextOf m.calendar b (Some next) → at ≤ next
-    by_running (Some b) None is late next other = absurd (none_some b.at is)
-    by_running (Some b) (Some n) is late next other = let same : n ≡ b.at = some_same n b.at is in let also : next ≡ b.at = some_same next b.at other in omega (arith, same, also, late)
+    by_running (Some b) None is late next other = absurd (none-some b.at is)
+    by_running (Some b) (Some n) is late next other = let same : n ≡ b.at = same_Some n b.at is in let also : next ≡ b.at = same_Some next b.at other in omega (arith, same, also, late)
     by_running None None is late next other = absurd (is next other.0)
     by_running None (Some n) is late next other = let less = is.1 next other.0 in omega (arith, less, late)
 
@@ -220,7 +215,7 @@ pub lacks_modules : (m : Standing) (o : Option ℕ) → IsNext m o → o ≡ Non
 lacks_modules m o next none = λ t code es now phase done rest r mid. by_modules t code es now phase rest r mid.stands t.modules refl
   where
     by_running : (t : Tables) (code : ECode) (es : List Event) (now phase : ℕ) (rest : List Done) (b : Option Block) → AreInRange t → 0 < length t.modules → PhaseStands t code es now phase m.calendar b rest → IsNextOf m.calendar b o → ⊥
-    by_running t code es now phase rest (Some b) r inside s is = none_some b.at (sym none ∙ is)
+    by_running t code es now phase rest (Some b) r inside s is = none-some b.at (sym none ∙ is)
     by_running t code es now phase rest None r inside s is =
         let due = first_due_at t code es now phase s.«module» m.calendar r inside s.calendar in
         subst (λ z. IsNextOf m.calendar None z → ⊥) (sym none) (λ h. h due.0 due.1) is

@@ -8,7 +8,7 @@ use Rattle.htl_model.specs.declared.parts.Task.{Task}
 use Rattle.htl_model.specs.Ranges.{AreInRange, IsTaskInRange}
 use Rattle.htl_model.specs.Meaning.{writer_from}
 use Rattle.htl_emach.specs.Indices.{writer_of, is_own}
-use Rattle.htl_emach.proofs.States.{all_at}
+use Rattle.htl_base.proofs.Places.{each_at}
 
 -- ---- ports
 
@@ -41,5 +41,5 @@ pub count_few : (t : Tables) → AreInRange t → (n : ℕ) → count_before n t
 count_few t r zero = omega arith
 count_few t r (suc n) =
     let before = count_few t r n in
-    let here = few_at (slice_get t.tasks n) (λ x e. (all_at (IsTaskInRange t) t.tasks r.tasks n x e).few_outputs) in
+    let here = few_at (slice_get t.tasks n) (λ x e. (each_at (IsTaskInRange t) t.tasks r.tasks n x e).few_outputs) in
     omega (arith, before, here)

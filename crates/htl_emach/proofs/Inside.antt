@@ -15,10 +15,9 @@ use Rattle.htl_emach.specs.Calendars.{Calendar, list_at, goes, runs_in, calendar
 use Rattle.htl_emach.specs.Leading.{Leads, Ends, goes_at, IsAllowed}
 use Rattle.htl_emach.specs.Pending.{Between, Entry, pending_entry, switched, closed, old_stay, new_stay}
 use Rattle.htl_emach.specs.Following.{calendar_at, calendar_replay, phase_path, blocks_to_come, BlockRuns, IsInBlock, PhaseStands, Onward}
-
-no_end : (front : List ℕ) (b : ℕ) → [] ≡ front ++ b ∷ [] → ⊥
-no_end [] b e = cc
-no_end (x ∷ xs) b e = cc
+use Rattle.htl_base.proofs.Places.{nothing_ends}
+use Rattle.std.proofs.lemmas.Option.{none-some, same_Some}
+use Rattle.htl_emach.proofs.Effects.{list_other}
 
 -- the first address of a block is where it stands; its instruction ends the block, or leads to the rest
 pub next_of_block : (code : List EInstr) (go : ℕ → EInstr → Option ℕ) (a x : ℕ) (xs : List ℕ) → Ends code go a (x ∷ xs) →
@@ -36,18 +35,12 @@ next_of_block code go a x xs (front, b, i, path, leads, stands, stop) = by_front
         let rest : xs ≡ ys ++ b ∷ [] = cc in
         (at ∙ l.0, (l.1.0, l.1.1, inr (l.1.2.0, l.1.2.1, (ys, b, i, rest, l.1.2.2, stands, stop))))
 
-some_same : {A : Type 0} (x y : A) → Some x ≡ Some y → x ≡ y
-some_same x y e = cc
-
-none_some : {A : Type 0} (y : A) → None ≡ Some y → ⊥
-none_some y e = cc
-
 -- the same of an instruction that is known, and of where it leads
 pub step_of_block : (code : List EInstr) (go : ℕ → EInstr → Option ℕ) (a x : ℕ) (xs : List ℕ) (i : EInstr) (n : Option ℕ) → Ends code go a (x ∷ xs) → slice_get code a ≡ Some i → n ≡ go a i →
     ((n ≡ None) × (xs ≡ [])) ⊎ ((c : ℕ) × (n ≡ Some c) × Ends code go c xs)
 step_of_block code go a x xs i n ends at led =
     let r = next_of_block code go a x xs ends in
-    let same : r.1.0 ≡ i = some_same r.1.0 i (sym r.1.1 ∙ at) in
+    let same : r.1.0 ≡ i = same_Some r.1.0 i (sym r.1.1 ∙ at) in
     let here : n ≡ go a r.1.0 = led ∙ sym (ap (go a) same) in
     elim r.1.2 [
       | inl h ↦ inl (here ∙ h.0, h.1)
@@ -56,14 +49,7 @@ step_of_block code go a x xs i n ends at led =
 
 -- ---- what instructions leave as it is
 
-other_list : {A : Type 0} (xs : List (Option A)) (k j : ℕ) (y : Option A) → (j ≡ k → ⊥) → list_at (set xs k y) j ≡ list_at xs j
-other_list [] k j y e = refl
-other_list (x ∷ xs) zero zero y e = absurd (e refl)
-other_list (x ∷ xs) zero (suc j) y e = refl
-other_list (x ∷ xs) (suc k) zero y e = refl
-other_list (x ∷ xs) (suc k) (suc j) y e = other_list xs k j y (λ h. e (ap suc h))
-
-trigger_set_modes : (phase k : ℕ) (x : Option Trigger) (c : Calendar) → (with_trigger phase k x c).modes ≡ c.modes
+pub trigger_set_modes : (phase k : ℕ) (x : Option Trigger) (c : Calendar) → (with_trigger phase k x c).modes ≡ c.modes
 trigger_set_modes phase k x c = by_test (eqb phase 1) (eqb phase 2)
   where
     by_test : (a b : Bool) → (cond a (record c { writes = set c.writes k x }) (cond b (record c { switches = set c.switches k x }) (record c { reads = set c.reads k x }))).modes ≡ c.modes
@@ -80,8 +66,8 @@ mode_stays t code at k j (I.Future d p x) c e = ap (λ zs. list_at zs j) (trigge
 mode_stays t code at k j (I.JumpIf a b) c e = refl
 mode_stays t code at k j (I.Jump a) c e = refl
 mode_stays t code at k j (I.IfMode a b) c e = refl
-mode_stays t code at k j (I.Enter m) c e = other_list c.modes k j (Some m) e
-mode_stays t code at k j I.Leave c e = other_list c.modes k j None e
+mode_stays t code at k j (I.Enter m) c e = list_other c.modes k j (Some m) e
+mode_stays t code at k j I.Leave c e = list_other c.modes k j None e
 mode_stays t code at k j (I.Fork a) c e = ap (λ zs. list_at zs j) (trigger_set_modes 2 a (Some (record { at = at; target = entry_of t code a })) c)
 mode_stays t code at k j I.Return c e = refl
 
@@ -148,7 +134,7 @@ inside t code es now phase c b values done rest i path h at same = by_path h.pat
   where
     by_path : (xs : List ℕ) → BlockRuns t code es now phase c b.«module» b.address xs → rest ≡ on b.«module» xs ++ blocks_to_come t code es now phase (suc b.«module») →
         Onward t code es now phase (stepped t code values now c (record { address = b.address; instr = i; «module» = b.«module» })) done rest (Some (record { address = b.address; instr = i; «module» = b.«module» }))
-    by_path [] r left = absurd (no_end r.ends.0 r.ends.1 r.ends.3)
+    by_path [] r left = absurd (nothing_ends r.ends.0 r.ends.1 r.ends.3)
     by_path (x ∷ xs) r left =
         let one = next_of_block code.instrs (goes_at t es now) b.address x xs r.ends in
         let here : slice_get code.instrs x ≡ Some i = ap (slice_get code.instrs) one.0 ∙ at in
@@ -172,12 +158,12 @@ inside t code es now phase c b values done rest i path h at same = by_path h.pat
               calendar = subst (λ zs. Between t code es now phase (calendar_replay t code now b.«module» zs (calendar_effect t code now b.«module» i c)) (suc b.«module»)) h.1 leads;
               left = ap (λ zs. on b.«module» zs ++ blocks_to_come t code es now phase (suc b.«module»)) h.1;
             }
-        by_next xs r leads None (inr h) = absurd (none_some h.0 h.1)
-        by_next xs r leads (Some e) (inl h) = absurd (none_some e (sym h.0))
+        by_next xs r leads None (inr h) = absurd (none-some h.0 h.1)
+        by_next xs r leads (Some e) (inl h) = absurd (none-some e (sym h.0))
         by_next xs r leads (Some e) (inr h) =
             record {
               at = refl;
               path = xs;
-              runs = record { within = r.within; ends = subst (λ z. Ends code.instrs (goes_at t es now) z xs) (sym (some_same e h.0 h.1)) h.2; allowed = r.allowed.1; leads = leads };
+              runs = record { within = r.within; ends = subst (λ z. Ends code.instrs (goes_at t es now) z xs) (sym (same_Some e h.0 h.1)) h.2; allowed = r.allowed.1; leads = leads };
               left = refl;
             }

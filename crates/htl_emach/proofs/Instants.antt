@@ -71,7 +71,7 @@ roots_run t es now r = λ j inside root none.
     root_on : (x : Module) → x.parent ≡ None → parent_runs t es now x ≡ true
     root_on x e = ap (λ (o : Option ℕ). elim o as (λ _. Bool) [ None ↦ true | Some p ↦ runs t (state t es now).stays p ]) e
 
-starts : (t : Tables) (code : ECode) (es : List Event) (now phase : ℕ) (m : Standing) → m.running ≡ None → Between t code es now phase m.calendar 0 → Midway t code es now phase m [] (phase_path t code es now phase)
+pub starts : (t : Tables) (code : ECode) (es : List Event) (now phase : ℕ) (m : Standing) → m.running ≡ None → Between t code es now phase m.calendar 0 → Midway t code es now phase m [] (phase_path t code es now phase)
 starts t code es now phase m idle b = by_running m.calendar m.running idle b
   where
     by_running : (c : Calendar) (r : Option Block) → r ≡ None → Between t code es now phase c 0 → Midway t code es now phase (record { calendar = c; running = r }) [] (phase_path t code es now phase)

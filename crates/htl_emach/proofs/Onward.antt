@@ -25,10 +25,7 @@ use Rattle.htl_emach.proofs.ModuleLaws.{ModuleLaws}
 use Rattle.htl_emach.proofs.Inside.{next_of_block, inside}
 use Rattle.htl_emach.proofs.Beginning.{no_block, begins}
 use Rattle.htl_emach.proofs.Effects.{sized_module, effect_sized}
-
-no_end : (front : List ℕ) (b : ℕ) → [] ≡ front ++ b ∷ [] → ⊥
-no_end [] b e = cc
-no_end (x ∷ xs) b e = cc
+use Rattle.htl_base.proofs.Places.{each_at, nothing_ends}
 
 -- the next instruction of a block, and what it may be
 pub record Next (t : Tables) (code : ECode) (phase : ℕ) (b : Block) : Type 0 where
@@ -40,7 +37,7 @@ pub next_in : (t : Tables) (code : ECode) (es : List Event) (now phase : ℕ) (c
 next_in t code es now phase c b rest h = by_path h.path h.runs
   where
     by_path : (xs : List ℕ) → BlockRuns t code es now phase c b.«module» b.address xs → Next t code phase b
-    by_path [] r = absurd (no_end r.ends.0 r.ends.1 r.ends.3)
+    by_path [] r = absurd (nothing_ends r.ends.0 r.ends.1 r.ends.3)
     by_path (x ∷ xs) r =
         let one = next_of_block code.instrs (goes_at t es now) b.address x xs r.ends in
         record { instr = one.1.0; stands = one.1.1; allowed = r.allowed.0 one.1.0 (ap (slice_get code.instrs) one.0 ∙ one.1.1) }
@@ -77,9 +74,6 @@ module _ (t : Tables) (code : ECode) (es : List Event) (now phase : ℕ) (laws :
 
 -- ---- the next instruction can be done
 
-all_at : {A : Type 0} (P : A → Type 0) (xs : List A) → All P xs → (k : ℕ) (x : A) → slice_get xs k ≡ Some x → P x
-all_at P xs all k x e = subst P (get_or_from_slice_get xs k x x e) (all k x (slice_get_within xs k x e))
-
 comm_below : (t : Tables) (m : ℕ) (n : ℕ) (e : End) → n ≡ length t.comms → IsEndInRange t m e → IfSome (comm_of (Some e)) (λ c. c < n)
 comm_below t m n (E.Comm c i) same h = subst (λ z. c < z) (sym same) h.0
 comm_below t m n (E.Port p) same h = tt
@@ -89,13 +83,13 @@ end_below t m n k ends same all = by_end (slice_get ends k) refl
   where
     by_end : (o : Option End) → slice_get ends k ≡ o → IfSome (comm_of o) (λ c. c < n)
     by_end None e = tt
-    by_end (Some x) e = comm_below t m n x same (all_at (IsEndInRange t m) ends all k x e)
+    by_end (Some x) e = comm_below t m n x same (each_at (IsEndInRange t m) ends all k x e)
 
 pub allowed_fits : (t : Tables) (c : Calendar) (w : Content) (phase k : ℕ) (i : EInstr) → AreInRange t → HasEnds t → IsShaped t w → IsSized t c → IsAllowed t phase k i → Fits t c w i
 allowed_fits t c w phase k (I.CallWrite u v) r e s z h =
     let row = s.outputs u h.1.0 h.1.1 in
     let ends : writes_at t u ≡ h.1.0.writes = ap (λ (o : Option Inv). elim o as (λ _. List End) [ Some x ↦ x.writes | None ↦ [] ]) h.1.1 in
-    let inv = all_at (IsInvInRange t) t.invs r.invs u h.1.0 h.1.1 in
+    let inv = each_at (IsInvInRange t) t.invs r.invs u h.1.0 h.1.1 in
     record {
       end = subst (λ zs. v < length zs) (sym ends) h.1.2;
       room = (subst (λ n. u < n) (sym s.output_rows) (slice_get_within t.invs u h.1.0 h.1.1), subst (λ n. v < n) (e.writes u h.1.0 h.1.1 ∙ sym row.count) h.1.2);
@@ -104,7 +98,7 @@ allowed_fits t c w phase k (I.CallWrite u v) r e s z h =
 allowed_fits t c w phase k (I.CallRead u v) r e s z h =
     let row = s.inputs u h.1.0 h.1.1 in
     let ends : reads_at t u ≡ h.1.0.reads = ap (λ (o : Option Inv). elim o as (λ _. List End) [ Some x ↦ x.reads | None ↦ [] ]) h.1.1 in
-    let inv = all_at (IsInvInRange t) t.invs r.invs u h.1.0 h.1.1 in
+    let inv = each_at (IsInvInRange t) t.invs r.invs u h.1.0 h.1.1 in
     record {
       end = subst (λ zs. v < length zs) (sym ends) h.1.2;
       room = (subst (λ n. u < n) (sym s.input_rows) (slice_get_within t.invs u h.1.0 h.1.1), subst (λ n. v < n) (e.reads u h.1.0 h.1.1 ∙ sym row.count) h.1.2);

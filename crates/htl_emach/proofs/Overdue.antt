@@ -1,7 +1,7 @@
 -- No trigger is due before the instant at which a run stands.
 use Rattle.std.proofs.Common.{◌≡◌, ℕ, zero, suc, ◌+◌, ◌-◌, ◌≤◌, ◌<◌, Bool, true, false, cond, eqb, List, length, slice_get, Option, Some, None, refl, sym, ap, ◌∙◌, subst, arith, ◌⊎◌, inl, inr}
 use Rattle.std.proofs.lemmas.Bool.{cases_lt}
-use Rattle.std.proofs.lemmas.Option.{slice_get_within}
+use Rattle.std.proofs.lemmas.Option.{slice_get_within, none-some, same_Some}
 use Rattle.htl_model.specs.declared.event.Event.{Event}
 use Rattle.htl_model.specs.declared.state.Stay.{Stay}
 use Rattle.htl_model.specs.Ranges.{AreInRange}
@@ -19,15 +19,10 @@ use Rattle.htl_emach.specs.Following.{PhaseStands}
 use Rattle.htl_emach.specs.Laws.{NothingOverdue}
 use Rattle.htl_emach.proofs.States.{module_at, new_stays, goes_on, begins_now, option_cases}
 use Rattle.htl_emach.proofs.Switching.{positive}
+use Rattle.htl_emach.proofs.Roots.{listed_within}
 
 instant_of : (x y : Trigger) → Some x ≡ Some y → x.at ≡ y.at
 instant_of x y e = let same : x ≡ y = cc in ap (λ (w : Trigger). w.at) same
-
-none_some : {A : Type 0} (y : A) → None ≡ Some y → ⊥
-none_some y e = cc
-
-some_same : (x y : ℕ) → Some x ≡ Some y → x ≡ y
-some_same x y e = cc
 
 -- ---- rounds end no earlier
 
@@ -65,15 +60,15 @@ module _ (t : Tables) (es : List Event) (r : AreInRange t) (j : ℕ) (inside : j
 
 -- a block of the write or the read phase
 awaited_later : (t : Tables) (code : ECode) (p from : ℕ) (s : Option Stay) (z : Trigger) → awaited t code p from s ≡ Some z → from ≤ z.at
-awaited_later t code p from None z e = absurd (none_some z e)
+awaited_later t code p from None z e = absurd (none-some z e)
 awaited_later t code p from (Some x) z e = by_next (next_offset t x.mode p (from - x.start)) (least_is (from - x.start) (phase_offsets t x.mode p)) e
   where
     by_block : (o : ℕ) (a : Option ℕ) → from - x.start ≤ o → trigger_at (x.start + o) a ≡ Some z → from ≤ z.at
-    by_block o None h f = absurd (none_some z f)
+    by_block o None h f = absurd (none-some z f)
     by_block o (Some a) h f = let at : x.start + o ≡ z.at = instant_of (record { at = x.start + o; target = a }) z f in omega (arith, h, at)
 
     by_next : (n : Option ℕ) → IsLeast (from - x.start) (phase_offsets t x.mode p) n → elim n as (λ _. Option Trigger) [ Some o ↦ trigger_at (x.start + o) (block_at t code x.mode p o) | None ↦ None ] ≡ Some z → from ≤ z.at
-    by_next None l f = absurd (none_some z f)
+    by_next None l f = absurd (none-some z f)
     by_next (Some o) l f = by_block o (block_at t code x.mode p o) l.0 f
 
 -- the trigger of a phase
@@ -84,13 +79,6 @@ picked : (a b : Bool) (c : Calendar) (j : ℕ) → list_at (cond a c.writes (con
 picked true b c j = refl
 picked false true c j = refl
 picked false false c j = refl
-
-there : (xs : List (Option Trigger)) (k : ℕ) (x : Trigger) → list_at xs k ≡ Some x → k < length xs
-there xs k x e = by_item (slice_get xs k) refl e
-  where
-    by_item : (o : Option (Option Trigger)) → slice_get xs k ≡ o → elim o as (λ _. Option Trigger) [ Some y ↦ y | None ↦ None ] ≡ Some x → k < length xs
-    by_item None is f = absurd (none_some x f)
-    by_item (Some y) is f = slice_get_within xs k y is
 
 sized_at : (a b : Bool) (t : Tables) (c : Calendar) → IsSized t c → length (cond a c.writes (cond b c.switches c.reads)) ≡ length t.modules
 sized_at true b t c s = s.writes
@@ -106,12 +94,12 @@ module _ (t : Tables) (code : ECode) (es : List Event) (now : ℕ) (r : AreInRan
   turning_later k None n is e = by_test (is_called t k j) n e
     where
       by_test : (b : Bool) (m : Option Stay) → cond b (entering code now m) None ≡ Some z → now ≤ z.at
-      by_test false m f = absurd (none_some z f)
-      by_test true None f = absurd (none_some z f)
+      by_test false m f = absurd (none-some z f)
+      by_test true None f = absurd (none-some z f)
       by_test true (Some y) f = let at : now ≡ z.at = instant_of (record { at = now; target = entered code y.mode }) z f in omega (arith, at)
 
   ended_later : (n : Option Stay) → new_stay t es now j ≡ n → ended t code n ≡ Some z → now ≤ z.at
-  ended_later None is e = absurd (none_some z e)
+  ended_later None is e = absurd (none-some z e)
   ended_later (Some y) is e = at_end y (omega (arith, new_end t es r j inside now (old_end t es r j inside now) y is)) e
 
   opening_later : (p q : Bool) → pick p q (opening t code now j (old_stay t es now j) (new_stay t es now j)) ≡ Some z → now ≤ z.at
@@ -150,7 +138,7 @@ module _ (t : Tables) (code : ECode) (es : List Event) (now : ℕ) (r : AreInRan
 between_later : (t : Tables) (code : ECode) (es : List Event) (now phase k : ℕ) (c : Calendar) → AreInRange t → Between t code es now phase c k → (p : ℕ) → NoneBefore now (triggers_of p c)
 between_later t code es now phase k c r between p j z e =
     let xs : List (Option Trigger) = cond (eqb p 1) c.writes (cond (eqb p 2) c.switches c.reads) in
-    let within : j < length xs = there xs j z e in
+    let within : j < length xs = listed_within xs j z e in
     let even : length xs ≡ length t.modules = sized_at (eqb p 1) (eqb p 2) t c between.sized in
     let inside : j < length t.modules = omega (arith, within, even) in
     let own : pick (eqb p 1) (eqb p 2) (entry_at c j) ≡ Some z = sym (picked (eqb p 1) (eqb p 2) c j) ∙ e in
@@ -163,7 +151,7 @@ pub nothing_overdue : NothingOverdue
 nothing_overdue t code es now phase m done rest r mid = by_running m.running mid.stands
   where
     by_running : (b : Option Block) → PhaseStands t code es now phase m.calendar b rest → (next : ℕ) → IsNextOf m.calendar b (Some next) → now ≤ next
-    by_running (Some b) s next is = let same : next ≡ b.at = some_same next b.at is in let here = s.at in omega (arith, same, here)
+    by_running (Some b) s next is = let same : next ≡ b.at = same_Some next b.at is in let here = s.at in omega (arith, same, here)
     by_running None s next is =
         let due = is.0 in
         let late = between_later t code es now phase s.«module» m.calendar r s.calendar due.0 due.1 due.2 due.3 in

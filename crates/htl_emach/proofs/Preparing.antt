@@ -23,6 +23,7 @@ use Rattle.htl_emach.specs.Contents.{Content}
 use Rattle.htl_emach.specs.Shapes.{HasRoom, HasValues, Applies, comm_types, values_at}
 use Rattle.htl_emach.specs.Calendars.{Calendar, Standing, HasModule, with_trigger, taken, taken_by, first_due, triggers_of}
 use Rattle.htl_emach.specs.Ready.{Fits, IsReady}
+use Rattle.std.proofs.lemmas.Option.{none-some}
 
 -- ---- operands
 
@@ -89,12 +90,9 @@ ready_taken t code m w phase at b h =
 
 -- ---- arguments
 
-no_item : {A : Type 0} (x : A) → None ≡ Some x → ⊥
-no_item x e = cc
-
 -- values of communicators are of their types
 pub values_fit : (t : Tables) (values : List ℤ) → HasValues t values → (cs : List ℕ) → AreArguments (comm_types t cs) (values_at values cs)
-values_fit t values h [] = record { count = refl; fit = λ k type e. absurd (no_item type e) }
+values_fit t values h [] = record { count = refl; fit = λ k type e. absurd (none-some type e) }
 values_fit t values h (c ∷ cs) =
     let rest = values_fit t values h cs in
     record { count = ap suc rest.count; fit = by_place rest }

@@ -15,8 +15,8 @@ use Rattle.htl_emach.specs.declared.trigger.EDone.{EDone}
 use Rattle.htl_emach.specs.Contents.{Content, buffer, comm_of, writes_at, effect}
 use Rattle.htl_emach.specs.Calendars.{content_after}
 use Rattle.htl_emach.specs.Shapes.{SensorsStay}
-use Rattle.htl_emach.proofs.States.{all_at}
-use Rattle.htl_emach.proofs.Soundness.{equal_or, item_at}
+use Rattle.htl_base.proofs.Places.{each_at, item_at}
+use Rattle.std.proofs.lemmas.Bool.{cases_eq}
 
 effect_outputs : (t : Tables) (i : EInstr) (w : Content) → (effect t i w).outputs ≡ w.outputs
 effect_outputs t (I.CallWrite a b) w = refl
@@ -42,7 +42,7 @@ unwritten t i k c n x r kept end at sensor = by_inv (slice_get t.invs i) refl en
     by_inv : (o : Option Inv) → slice_get t.invs i ≡ o → slice_get (elim o as (λ _. List End) [ Some y ↦ y.writes | None ↦ [] ]) k ≡ Some (E.Comm c n) → ⊥
     by_inv None is end = cc
     by_inv (Some y) is end =
-        let m = item_at t.modes y.mode (all_at (IsInvInRange t) t.invs r.invs i y is).owner in
+        let m = item_at t.modes y.mode (each_at (IsInvInRange t) t.invs r.invs i y is).owner in
         kept Sensors (record { mode = y.mode; inv = Some i; part = Output k }) k 0 (omega arith) (λ e. omega (arith, e))
         (m.0, m.1, (y, is, refl, (E.Comm c n, end, (refl, refl, ap (λ (o : Option Comm). elim o as (λ _. Bool) [ Some z ↦ z.sensor | None ↦ false ]) at ∙ sensor))))
 
@@ -52,7 +52,7 @@ write_sensors t w i k r kept = by_end (slice_get (writes_at t i) k) refl
     by_end : (o : Option End) → slice_get (writes_at t i) k ≡ o → SensorsStay t w.values (elim (comm_of o) as (λ _. List ℤ) [ Some d ↦ set w.values d (buffer w.outputs i k) | None ↦ w.values ])
     by_end None e = λ c x at sensor. refl
     by_end (Some (E.Port p)) e = λ c x at sensor. refl
-    by_end (Some (E.Comm d n)) e = λ c x at sensor. elim (equal_or c d) [
+    by_end (Some (E.Comm d n)) e = λ c x at sensor. elim (cases_eq c d) [
       | inl same ↦ absurd (unwritten t i k d n x r kept e (ap (slice_get t.comms) (sym same) ∙ at) sensor)
       | inr other ↦ get_or-set_other w.values d c (buffer w.outputs i k) (pos 0) other
     ]

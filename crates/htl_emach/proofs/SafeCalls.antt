@@ -1,6 +1,6 @@
 -- A machine that stands safely can go on, and stands safely after each call.
 use Rattle.std.proofs.Common.{◌≡◌, ℕ, zero, suc, ◌+◌, ◌<◌, ◌≤◌, Bool, true, false, cond, eqb, List, [], ◌∷◌, length, slice_get, set, map, Option, Some, None, IfSome, ℤ, refl, sym, ap, ◌∙◌, subst, arith, ◌⊎◌, inl, inr, Result, Ok, Err, IfOk}
-use Rattle.std.proofs.lemmas.Option.{slice_get_within}
+use Rattle.std.proofs.lemmas.Option.{slice_get_within, none-some, same_Some}
 use Rattle.std.proofs.lemmas.List.{length-set, length-map, length-replicate}
 use Rattle.htl_model.specs.declared.parts.Module.{Module}
 use Rattle.htl_model.specs.Ranges.{AreInRange}
@@ -29,12 +29,6 @@ use Rattle.htl_emach.proofs.Instants.{IsPhase, list_none}
 use Rattle.htl_emach.proofs.States.{mode_known}
 use Rattle.htl_emach.proofs.Safely.{start_safe}
 
-some_same : {A : Type 0} (x y : A) → Some x ≡ Some y → x ≡ y
-some_same x y e = cc
-
-none_some : {A : Type 0} (y : A) → None ≡ Some y → ⊥
-none_some y e = cc
-
 -- what stands at a safe address
 safe_parts : (t : Tables) (code : ECode) (k : ℕ) {a : ℕ} → IsSafe t code k a → (i : EInstr) × (slice_get code.instrs a ≡ Some i) × IsFit t code k i × ((c : ℕ) → MayLead a i c → IsSafe t code k c)
 safe_parts t code k (safe a i stands fit next) = (i, stands, fit, next)
@@ -58,7 +52,7 @@ safe_ready t code c w k a at r e s z inside h =
     record {
       «module» = sized_module t c k z inside;
       stands = slice_get_within code.instrs a g.0 g.1;
-      fits = λ j is. subst (Fits t c w) (some_same g.0 j (sym g.1 ∙ is)) (fit_fits t code c w k g.0 r e s z g.2);
+      fits = λ j is. subst (Fits t c w) (same_Some g.0 j (sym g.1 ∙ is)) (fit_fits t code c w k g.0 r e s z g.2);
     }
 
 -- ---- triggers
@@ -69,12 +63,12 @@ leads_of t code phase m (inr (inl two)) s = subst (λ p. LeadToBlocks t code p (
 leads_of t code phase m (inr (inr three)) s = subst (λ p. LeadToBlocks t code p (triggers_of p m.calendar)) (sym three) s.reads
 
 target_trigger : (at a : ℕ) (o : Option Trigger) → target_at at o ≡ Some a → (x : Trigger) × (o ≡ Some x) × (x.target ≡ a)
-target_trigger at a None e = absurd (none_some a e)
+target_trigger at a None e = absurd (none-some a e)
 target_trigger at a (Some x) e = by_test (eqb x.at at) e
   where
     by_test : (b : Bool) → cond b (Some x.target) None ≡ Some a → (y : Trigger) × (Some x ≡ Some y) × (y.target ≡ a)
-    by_test true e = (x, refl, some_same x.target a e)
-    by_test false e = absurd (none_some a e)
+    by_test true e = (x, refl, same_Some x.target a e)
+    by_test false e = absurd (none-some a e)
 
 -- the block that a trigger begins is safe
 due_safe : (t : Tables) (code : ECode) (phase at : ℕ) (m : Standing) (p : ℕ × ℕ) → AreInRange t → ((x : ℕ) → x < length t.modes → ModeReads t code x) → IsPhase phase → StandsSafely t code m → first_due at 0 (triggers_of phase m.calendar) ≡ Some p →
@@ -137,10 +131,10 @@ trigger_set_leads t code p k y c (inr (inr three)) h g =
     (record { sized = trigger_set_sized t 3 k y c h.sized; writes = h.writes; switches = h.switches; reads = lead_set t code 3 k y c.reads h.reads (λ z e. subst (λ q. IsStart t code k q z.target) three (g z e)) })
 
 none_is : (t : Tables) (code : ECode) (k p : ℕ) (z : Trigger) → None ≡ Some z → IsStart t code k p z.target
-none_is t code k p z e = absurd (none_some z e)
+none_is t code k p z e = absurd (none-some z e)
 
 set_is : (t : Tables) (code : ECode) (k p : ℕ) (x z : Trigger) → IsStart t code k p x.target → Some x ≡ Some z → IsStart t code k p z.target
-set_is t code k p x z h e = subst (λ (y : Trigger). IsStart t code k p y.target) (some_same x z e) h
+set_is t code k p x z h e = subst (λ (y : Trigger). IsStart t code k p y.target) (same_Some x z e) h
 
 effect_leads : (t : Tables) (code : ECode) (at k : ℕ) (i : EInstr) (c : Calendar) → Leads t code c → IsFit t code k i → Leads t code (calendar_effect t code at k i c)
 effect_leads t code at k (I.CallWrite a b) c h f = h
@@ -187,7 +181,7 @@ after_safely t code values phase at m after result r spelled ph s is next =
     at_block n c b same h inside g = by_instr (slice_get code.instrs b.address) (stepped_safely t code values at b.«module» b.address c h inside g) (let q = safe_parts t code b.«module» g in (q.0, q.1))
       where
         by_instr : (o : Option EInstr) → StandsSafely t code (standing_of t code values at c (done_at b.«module» b.address o)) → (i : EInstr) × (o ≡ Some i) → StandsSafely t code (standing_after t code values phase at n (done_at b.«module» b.address o))
-        by_instr None s i = absurd (none_some i.0 i.1)
+        by_instr None s i = absurd (none-some i.0 i.1)
         by_instr (Some i) s j = subst (λ z. StandsSafely t code (stepped t code values at z (record { address = b.address; instr = i; «module» = b.«module» }))) (sym same) s
 
     by_running : (c : Calendar) (o : Option Block) → StandsSafely t code (record { calendar = c; running = o }) →
@@ -209,7 +203,7 @@ few_safely t code phase m r s = subst (λ n. n ≤ 64) (sym (triggers_sized phas
 -- ---- at the start
 
 map_some : (f : Module → Option Trigger) (xs : List Module) (k : ℕ) (z : Trigger) → list_at (map f xs) k ≡ Some z → (x : Module) × (slice_get xs k ≡ Some x) × (f x ≡ Some z)
-map_some f [] k z e = absurd (none_some z e)
+map_some f [] k z e = absurd (none-some z e)
 map_some f (x ∷ xs) zero z e = (x, refl, e)
 map_some f (x ∷ xs) (suc k) z e = map_some f xs k z e
 
@@ -217,18 +211,18 @@ pub first_safely : (t : Tables) (code : ECode) → AreInRange t → StandsSafely
 first_safely t code r =
     record {
       sized = record { modes = length-replicate (length t.modules) None; writes = length-replicate (length t.modules) None; switches = length-map t.modules (first_trigger code); reads = length-replicate (length t.modules) None };
-      writes = λ k z e. absurd (none_some z (sym (list_none (length t.modules) k) ∙ e));
+      writes = λ k z e. absurd (none-some z (sym (list_none (length t.modules) k) ∙ e));
       switches = λ k z e. (let x = map_some (first_trigger code) t.modules k z e in of_module k x.0 z x.1 x.0.parent refl x.2);
-      reads = λ k z e. absurd (none_some z (sym (list_none (length t.modules) k) ∙ e));
+      reads = λ k z e. absurd (none-some z (sym (list_none (length t.modules) k) ∙ e));
       running = tt;
     }
   where
     of_module : (k : ℕ) (x : Module) (z : Trigger) → slice_get t.modules k ≡ Some x → (o : Option ℕ) → x.parent ≡ o →
         ◌≡◌ {A = Option Trigger} (elim o [ None ↦ Some (record { at = 0; target = entered code x.start }) | Some m ↦ None ]) (Some z) → IsStart t code k 2 z.target
-    of_module k x z at (Some m) e is = absurd (none_some z is)
+    of_module k x z at (Some m) e is = absurd (none-some z is)
     of_module k x z at None e is =
         let known = mode_known t k x.start (r.modules k x at).start in
-        let same : record { at = 0; target = entered code x.start } ≡ z = some_same (record { at = 0; target = entered code x.start }) z is in
+        let same : record { at = 0; target = entered code x.start } ≡ z = same_Some (record { at = 0; target = entered code x.start }) z is in
         record { mode = x.start; known = known.0; owner = known.1; phase = inr (inl refl); starts = inr (inr (sym (ap (λ (y : Trigger). y.target) same))) }
 
 -- a machine that is made is the first one

@@ -1,7 +1,7 @@
 -- Each block of spelled E code is safe, whatever its tests answer.
 use Rattle.std.proofs.Common.{◌≡◌, ℕ, suc, ◌+◌, ◌-◌, ◌<◌, ◌≤◌, Bool, true, false, cond, eqb, List, [], ◌∷◌, ◌++◌, length, slice_get, map, drop, length-append, length-drop, Option, Some, None, Ok, refl, sym, ap, ◌∙◌, subst, arith, ◌⊎◌, inl, inr}
-use Rattle.std.proofs.lemmas.Bool.{eq-eqb, eqb-true}
-use Rattle.std.proofs.lemmas.Option.{slice_get_within}
+use Rattle.std.proofs.lemmas.Bool.{eq-eqb, eqb-true, cases_Bool}
+use Rattle.std.proofs.lemmas.Option.{slice_get_within, none-some, same_Some}
 use Rattle.htl_model.specs.declared.parts.Module.{Module}
 use Rattle.htl_model.specs.declared.parts.Switch.{Switch}
 use Rattle.htl_model.specs.Lists.{places_from}
@@ -25,28 +25,23 @@ use Rattle.htl_emach.proofs.Deciding.{pass_ok, turn_jumps, tests_from}
 use Rattle.htl_emach.proofs.Effects.{WantAllowed, WantsAllowed}
 use Rattle.htl_emach.proofs.Triggers.{IsQuiet, AreQuiet, calls_quiet, length_read}
 use Rattle.htl_emach.proofs.WriteRead.{block_wants}
-use Rattle.htl_emach.proofs.Switching.{bool_cases}
-use Rattle.htl_emach.proofs.States.{mode_known, all_at, true_false}
-
-some_same : {A : Type 0} (x y : A) → Some x ≡ Some y → x ≡ y
-some_same x y e = cc
-
-none_some : {A : Type 0} (y : A) → None ≡ Some y → ⊥
-none_some y e = cc
+use Rattle.htl_emach.proofs.States.{mode_known}
+use Rattle.htl_base.proofs.Places.{each_at}
+use Rattle.htl_base.proofs.Tests.{true_not_false}
 
 module _ (t : Tables) (code : ECode) (k : ℕ) where
   jumps_safe : (a b : ℕ) (xs : List ℕ) → Jumps code.instrs a xs b → IsSafe t code k b → IsSafe t code k a
   jumps_safe a b [] j s = subst (IsSafe t code k) (sym j) s
   jumps_safe a b (x ∷ xs) j s =
       let rest : IsSafe t code k j.1.0 = jumps_safe j.1.0 b xs j.1.2 s in
-      safe a (I.Jump j.1.0) j.1.1 tt (λ c l. subst (IsSafe t code k) (some_same j.1.0 c l.2) rest)
+      safe a (I.Jump j.1.0) j.1.1 tt (λ c l. subst (IsSafe t code k) (same_Some j.1.0 c l.2) rest)
 
   -- an instruction that goes on to the next address
   abbrev Plain : EInstr → Type 0
   Plain i = (a : ℕ) (hs rs : ℕ → Bool) → goes hs rs a i ≡ Some (suc a)
 
   plain_safe : (a : ℕ) (i : EInstr) → slice_get code.instrs a ≡ Some i → IsFit t code k i → Plain i → IsSafe t code k (suc a) → IsSafe t code k a
-  plain_safe a i at fit plain next = safe a i at fit (λ c l. subst (IsSafe t code k) (some_same (suc a) c (sym (plain a l.0 l.1) ∙ l.2)) next)
+  plain_safe a i at fit plain next = safe a i at fit (λ c l. subst (IsSafe t code k) (same_Some (suc a) c (sym (plain a l.0 l.1) ∙ l.2)) next)
 
   -- what a chain owes to be safe
   abbrev pub OwesOne : Want → Step → Type 0
@@ -72,7 +67,7 @@ module _ (t : Tables) (code : ECode) (k : ℕ) where
       let leave_at : slice_get code.instrs p.0.place ≡ Some I.Leave = p.1.1 ∙ ap (λ z. Some z) p.2 in
       let return_at : slice_get code.instrs q.0.place ≡ Some I.Return = q.1.1 ∙ ap (λ z. Some z) q.2 in
       let from : Jumps code.instrs (suc p.0.place) q.0.jumps q.0.place = subst (λ z. Jumps code.instrs z q.0.jumps q.0.place) p.4 q.1.0 in
-      let last : IsSafe t code k q.0.place = safe q.0.place I.Return return_at tt (λ c l. absurd (none_some c l.2)) in
+      let last : IsSafe t code k q.0.place = safe q.0.place I.Return return_at tt (λ c l. absurd (none-some c l.2)) in
       jumps_safe a p.0.place p.0.jumps p.1.0 (plain_safe p.0.place I.Leave leave_at tt (λ a hs rs. refl) (jumps_safe (suc p.0.place) q.0.place q.0.jumps from last))
 
   one_safe : (a : ℕ) (w : Want) (y : Reached) → reach code.instrs a w ≡ Ok y → OwesOne w y.step → IsSafe t code k y.next → IsSafe t code k a
@@ -96,8 +91,8 @@ module _ (t : Tables) (code : ECode) (k : ℕ) where
       (safe r.place r.instr r.stands (subst (IsFit t code k) (sym r.meets.0) o.0) (λ c l. by_test c (l.0 j) on off (sym (ap (goes l.0 l.1 r.place) r.meets.0) ∙ l.2)))
     where
       by_test : {x z : ℕ} (c : ℕ) (b : Bool) → IsSafe t code k x → IsSafe t code k z → Some (cond b x z) ≡ Some c → IsSafe t code k c
-      by_test {x} {z} c true on off e = subst (IsSafe t code k) (some_same x c e) on
-      by_test {x} {z} c false on off e = subst (IsSafe t code k) (some_same z c e) off
+      by_test {x} {z} c true on off e = subst (IsSafe t code k) (same_Some x c e) on
+      by_test {x} {z} c false on off e = subst (IsSafe t code k) (same_Some z c e) off
   one_safe a (Asks q) y e o next =
       let r = reach_is code.instrs a (Asks q) y tt e in
       let on : IsSafe t code k y.step.target = subst (IsSafe t code k) r.meets.1 next in
@@ -106,8 +101,8 @@ module _ (t : Tables) (code : ECode) (k : ℕ) where
       (safe r.place r.instr r.stands (subst (IsFit t code k) (sym r.meets.0) tt) (λ c l. by_test c (l.1 q) on off (sym (ap (goes l.0 l.1 r.place) r.meets.0) ∙ l.2)))
     where
       by_test : {x z : ℕ} (c : ℕ) (b : Bool) → IsSafe t code k x → IsSafe t code k z → Some (cond b x z) ≡ Some c → IsSafe t code k c
-      by_test {x} {z} c true on off e = subst (IsSafe t code k) (some_same x c e) on
-      by_test {x} {z} c false on off e = subst (IsSafe t code k) (some_same z c e) off
+      by_test {x} {z} c true on off e = subst (IsSafe t code k) (same_Some x c e) on
+      by_test {x} {z} c false on off e = subst (IsSafe t code k) (same_Some z c e) off
   one_safe a (Arrives x) y e o next = absurd o
 
   pub chain_safe : (ws : List Want) (a : ℕ) (ss : List Step) → read code.instrs a ws ≡ Ok ss → Owes ws ss → IsSafe t code k a
@@ -121,7 +116,7 @@ module _ (t : Tables) (code : ECode) (k : ℕ) where
       by_return y e =
           let r = reach_is code.instrs a (Does I.Return) y tt e in
           jumps_safe a r.place r.jumps r.leads
-          (safe r.place r.instr r.stands (subst (IsFit t code k) (sym r.meets.0) tt) (λ c l. absurd (none_some c (sym (ap (goes l.0 l.1 r.place) r.meets.0) ∙ l.2))))
+          (safe r.place r.instr r.stands (subst (IsFit t code k) (sym r.meets.0) tt) (λ c l. absurd (none-some c (sym (ap (goes l.0 l.1 r.place) r.meets.0) ∙ l.2))))
 
       by_anchor : (x : ℕ) (y : Reached) → IsSafe t code k x → reach code.instrs a (Arrives x) ≡ Ok y → IsSafe t code k a
       by_anchor x y s e = jumps_safe a x y.step.passed (anchor_is code.instrs a x y e).0 s
@@ -180,7 +175,7 @@ module _ (t : Tables) (code : ECode) (k : ℕ) where
       ((o1 x : ℕ) → n ≡ Some o1 → target_of p (xs ++ (waits_for o p n ++ Does I.Return ∷ [])) ss ≡ Some x → IsStart t code k p x) → Owes (xs ++ (waits_for o p n ++ Does I.Return ∷ [])) ss
   block_owes xs o p None ss q l h =
       let few : length (drop (length xs) ss) ≡ 1 = omega (arith, l, length-append xs (Does I.Return ∷ []), length-drop (length xs) ss) in
-      owes_front xs (Does I.Return) [] ss q l (owes_end o p None (drop (length xs) ss) few (λ o1 x e g. absurd (none_some o1 e)))
+      owes_front xs (Does I.Return) [] ss q l (owes_end o p None (drop (length xs) ss) few (λ o1 x e g. absurd (none-some o1 e)))
   block_owes xs o p (Some o1) ss q l h =
       let ys : List Want = Waits (o1 - o) p ∷ Does I.Return ∷ [] in
       let few : length (drop (length xs) ss) ≡ 2 = omega (arith, l, length-append xs (Waits (o1 - o) p ∷ Does I.Return ∷ []), length-drop (length xs) ss) in
@@ -211,8 +206,8 @@ module _ (t : Tables) (code : ECode) (k : ℕ) where
 
   -- a block of a phase
   pub block_safe : (m p o a : ℕ) → IsBlockPhase p → ModeReads t code m → m < length t.modes → mode_module t m ≡ k → block_at t code m p o ≡ Some a → IsSafe t code k a
-  block_safe m p o a phase r known owner at = elim (bool_cases (holds o (phase_offsets t m p))) [
-    | inr gone ↦ absurd (none_some a (sym (no_block t code m p o gone) ∙ at))
+  block_safe m p o a phase r known owner at = elim (cases_Bool (holds o (phase_offsets t m p))) [
+    | inr gone ↦ absurd (none-some a (sym (no_block t code m p o gone) ∙ at))
     | inl there ↦ (
         let b = spelled_stands t code m p o phase r there in
         let e : read code.instrs b.address (block_chain t m p o) ≡ Ok b.reads.0 = b.reads.1 in
@@ -220,7 +215,7 @@ module _ (t : Tables) (code : ECode) (k : ℕ) where
         (block_owes (all_do (calls t m p o)) o p (next_offset t m p (suc o)) b.reads.0 (all_quiet p (all_do (calls t m p o)) (waits_for o p (next_offset t m p (suc o)) ++ Does I.Return ∷ []) (calls_quiet t m p o) (block_wants t k m p o phase))
         (length_read code.instrs (block_chain t m p o) b.address b.reads.0 e)
         (λ o1 x n to. record { mode = m; known = known; owner = owner; phase = one_of phase; starts = inl (o1, no_turn phase, spelled_links t code m p o o1 b.address phase r there b.found n ∙ ap (λ z. target_of p (block_chain t m p o) (steps_of z)) e ∙ to) })) in
-        subst (IsSafe t code k) (some_same b.address a (sym b.found ∙ at)) safe_at)
+        subst (IsSafe t code k) (same_Some b.address a (sym b.found ∙ at)) safe_at)
   ]
     where
       one_of : IsBlockPhase p → (p ≡ 1) ⊎ ((p ≡ 2) ⊎ (p ≡ 3))
@@ -349,7 +344,7 @@ module _ (t : Tables) (code : ECode) (k : ℕ) where
       of_switch : (i : ℕ) (w : Switch) → slice_get t.switches i ≡ Some w → eqb w.mode m ≡ true → IsSafe t code k (led_to (block_begun code m) code.enter m w.target)
       of_switch i w e same =
           let mode : w.mode ≡ m = eqb-true w.mode m same in
-          led (eqb w.target m) w.target (mode_known t k w.target (subst (λ z. IsModeThat t (λ owner. owner ≡ z) w.target) (ap (mode_module t) mode ∙ owner) (all_at (IsSwitchInRange t) t.switches r.switches i w e).target))
+          led (eqb w.target m) w.target (mode_known t k w.target (subst (λ z. IsModeThat t (λ owner. owner ≡ z) w.target) (ap (mode_module t) mode ∙ owner) (each_at (IsSwitchInRange t) t.switches r.switches i w e).target))
 
       tests : TestsSafe (tests_of t (block_begun code m) code.enter m ++ Arrives (block_begun code m) ∷ [])
       tests = tests_safe m 0 t.switches (omega arith) (begin_safe m (reads m known) known owner) of_switch
@@ -371,5 +366,5 @@ module _ (t : Tables) (code : ECode) (k : ℕ) where
       by_start (inr (inl e)) phase = subst (IsSafe t code k) (sym e) (turn_safe s.mode r reads s.known s.owner)
       by_start (inr (inr e)) phase = subst (IsSafe t code k) (sym e) (enter_safe s.mode r (reads s.mode s.known) s.known s.owner)
       by_start (inl o) (inl one) = block_safe s.mode p o.0 a (inl one) (reads s.mode s.known) s.known s.owner o.2
-      by_start (inl o) (inr (inl two)) = absurd (true_false (eqb p 2) (eq-eqb p 2 two) o.1)
+      by_start (inl o) (inr (inl two)) = absurd (true_not_false (eqb p 2) (eq-eqb p 2 two) o.1)
       by_start (inl o) (inr (inr three)) = block_safe s.mode p o.0 a (inr three) (reads s.mode s.known) s.known s.owner o.2

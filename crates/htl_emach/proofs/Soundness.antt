@@ -1,6 +1,6 @@
 -- Tables that keep the form rules, and E code that spells them, are what the machine runs.
 use Rattle.std.proofs.Common.{◌≡◌, ◌≢◌, ℕ, zero, suc, ◌*◌, ◌<◌, ◌≤◌, max, Bool, true, false, cond, ◌&&◌, ◌||◌, eqb, List, [], ◌∷◌, ◌++◌, length, slice_get, Option, Some, None, option_map, ℤ, refl, sym, ap, ◌∙◌, subst, arith, ◌⊎◌, inl, inr}
-use Rattle.std.proofs.lemmas.Bool.{eqb-true, eq-eqb}
+use Rattle.std.proofs.lemmas.Bool.{eqb-true, eq-eqb, and_parts, cases_eq, or_cases, cases_lt, or_right}
 use Rattle.htl_model.specs.declared.parts.Inv.{Inv}
 use Rattle.htl_model.specs.declared.parts.Mode.{Mode}
 use Rattle.htl_model.specs.declared.parts.End.{End}
@@ -24,21 +24,13 @@ use Rattle.htl_emach.specs.Calendars.{Standing, done_in, standing_after}
 use Rattle.htl_emach.specs.Following.{Midway, Onward}
 use Rattle.htl_emach.proofs.Instants.{call_onward, IsPhase}
 use Rattle.htl_emach.specs.Shapes.{HasEnds}
-use Rattle.htl_emach.proofs.States.{SamePeriods, all_at}
-use Rattle.htl_emach.proofs.Switching.{Sound, positive, bool_cases}
+use Rattle.htl_emach.proofs.States.{SamePeriods}
+use Rattle.htl_emach.proofs.Switching.{Sound, positive}
+use Rattle.htl_base.proofs.Places.{each_at, item_at}
+use Rattle.htl_ecode.proofs.Fitting.{holds_append}
+use Rattle.htl_base.proofs.Numbers.{cases_le}
 
 -- ---- numbers that are equal, or not
-
-pub equal_or : (a b : ℕ) → (a ≡ b) ⊎ (a ≢ b)
-equal_or a b = elim (bool_cases (eqb a b)) [ inl e ↦ inl (eqb-true a b e) | inr e ↦ inr (λ same. no (sym (eq-eqb a b same) ∙ e)) ]
-  where
-    no : true ≡ false → ⊥
-    no e = cc
-
-pub item_at : {A : Type 0} (xs : List A) (k : ℕ) → k < length xs → (x : A) × (slice_get xs k ≡ Some x)
-item_at [] k h = absurd (omega (arith, h))
-item_at (x ∷ xs) zero h = (x, refl)
-item_at (x ∷ xs) (suc k) h = item_at xs k (omega (arith, h))
 
 -- ---- the period of a refinement
 
@@ -52,7 +44,7 @@ same_periods t last least kept = λ k q m parent inside owner.
     let owned : x.0.«module» ≡ k = sym is.1 ∙ owner in
     let asked : asked_period t x.0.«module» ≡ Some (mode_period t q) =
     ap (asked_period t) owned ∙ ap (λ (o : Option ℕ). elim o as (λ _. Option ℕ) [ Some p ↦ Some (mode_period t p) | None ↦ option_map (mode_period t) (first_mode t k) ]) parent in
-    elim (equal_or x.0.period (mode_period t q)) [
+    elim (cases_eq x.0.period (mode_period t q)) [
       | inl same ↦ is.0 ∙ same
       | inr other ↦
           absurd (kept ModulePeriod (record { mode = m; inv = None; part = Itself }) x.0.period (mode_period t q) (omega (arith, least)) (λ e. omega (arith, e)) (x.0, x.1, (refl, asked, other)))
@@ -64,7 +56,7 @@ pub has_ends : (t : Tables) (last : ℕ) → 5 ≤ last → AreInRange t → Kep
 has_ends t last least r kept =
     record {
       reads = λ i x at. reads_same i x at;
-      writes = λ i x at. elim (equal_or (length x.writes) (length (output_types t x.task))) [
+      writes = λ i x at. elim (cases_eq (length x.writes) (length (output_types t x.task))) [
         | inl same ↦ same
         | inr other ↦ absurd (broken i x at (length x.writes) (length (output_types t x.task)) (inr (reads_same i x at, refl, refl, other)))
       ];
@@ -72,42 +64,22 @@ has_ends t last least r kept =
   where
     broken : (i : ℕ) (x : Inv) → slice_get t.invs i ≡ Some x → (have need : ℕ) → CountsDiffer t x have need → ⊥
     broken i x at have need differ =
-        let inv = all_at (IsInvInRange t) t.invs r.invs i x at in
+        let inv = each_at (IsInvInRange t) t.invs r.invs i x at in
         let m = item_at t.modes x.mode inv.owner in
         kept Ends (record { mode = x.mode; inv = Some i; part = Itself }) have need (omega (arith, least)) (λ e. omega (arith, e)) (m.0, m.1, (x, at, refl, differ))
 
     reads_same : (i : ℕ) (x : Inv) → slice_get t.invs i ≡ Some x → length x.reads ≡ length (input_types t x.task)
-    reads_same i x at = elim (equal_or (length x.reads) (length (input_types t x.task))) [
+    reads_same i x at = elim (cases_eq (length x.reads) (length (input_types t x.task))) [
       | inl same ↦ same
       | inr other ↦ absurd (broken i x at (length x.reads) (length (input_types t x.task)) (inl (refl, refl, other)))
     ]
 
 -- ---- offsets
 
-or_cases : (a b : Bool) → (a || b) ≡ true → (a ≡ true) ⊎ (b ≡ true)
-or_cases true b e = inl refl
-or_cases false b e = inr e
-
-and_cases : (a b : Bool) → (a && b) ≡ true → (a ≡ true) × (b ≡ true)
-and_cases true true e = (refl, refl)
-and_cases true false e = absurd (let z : ⊥ = cc in z)
-and_cases false b e = absurd (let z : ⊥ = cc in z)
-
-holds_more : (o : ℕ) (xs ys : List ℕ) → holds o (xs ++ ys) ≡ true → (holds o xs ≡ true) ⊎ (holds o ys ≡ true)
-holds_more o [] ys e = inr e
-holds_more o (x ∷ xs) ys e = elim (or_cases (eqb x o) (holds o (xs ++ ys)) e) [
-  | inl h ↦ inl (ap (λ b. b || holds o xs) h)
-  | inr h ↦ elim (holds_more o xs ys h) [ inl g ↦ inl (both (eqb x o) (holds o xs) g) | inr g ↦ inr g ]
-]
-  where
-    both : (a b : Bool) → b ≡ true → (a || b) ≡ true
-    both true b e = refl
-    both false b e = e
-
 -- an offset of the invocations of a mode is one of an invocation
 holds_joined : (o : ℕ) (f : Inv → List ℕ) (xs : List Inv) → holds o (joined f xs) ≡ true → (i : ℕ) × (x : Inv) × (slice_get xs i ≡ Some x) × (holds o (f x) ≡ true)
 holds_joined o f [] e = absurd (let z : ⊥ = cc in z)
-holds_joined o f (x ∷ xs) e = elim (holds_more o (f x) (joined f xs) e) [
+holds_joined o f (x ∷ xs) e = elim (holds_append o (f x) (joined f xs) e) [
   | inl h ↦ (0, x, refl, h)
   | inr h ↦ (let r = holds_joined o f xs h in (suc r.0, r.1, r.2, r.3))
 ]
@@ -126,7 +98,7 @@ holds_cond o true xs e = (refl, e)
 holds_cond o false xs e = absurd (let z : ⊥ = cc in z)
 
 counts_mode : (t : Tables) (m : ℕ) (x : Inv) → counts t m x ≡ true → m ≡ x.mode
-counts_mode t m x e = sym (eqb-true x.mode m (and_cases (eqb x.mode m) (is_concrete t x) e).0)
+counts_mode t m x e = sym (eqb-true x.mode m (and_parts (eqb x.mode m) (is_concrete t x) e).0)
 
 pub writes_within : (t : Tables) (last : ℕ) → 4 ≤ last → KeptApart t last → (m o : ℕ) → m < length t.modes → holds o (phase_offsets t m 1) ≡ true → (0 < o) × (o ≤ mode_period t m)
 writes_within t last least kept m o inside there =
@@ -144,11 +116,8 @@ writes_within t last least kept m o inside there =
     by_zero zero h = absurd (h (inl refl))
     by_zero (suc a) h = omega arith
 
-    split : (a b : ℕ) → (a ≤ b) ⊎ (b < a)
-    split a b = grind arith
-
     by_most : (a b : ℕ) → ((0 ≡ a) ⊎ (b < a) → ⊥) → a ≤ b
-    by_most a b h = elim (split a b) [ inl g ↦ g | inr g ↦ absurd (h (inr g)) ]
+    by_most a b h = elim (cases_le a b) [ inl g ↦ g | inr g ↦ absurd (h (inr g)) ]
 
 pub reads_within : (t : Tables) (last : ℕ) → 4 ≤ last → AreInRange t → KeptApart t last → (m o : ℕ) → m < length t.modes → holds o (phase_offsets t m 3) ≡ true → o < mode_period t m
 reads_within t last least r kept m o inside there =
@@ -160,14 +129,11 @@ reads_within t last least r kept m o inside there =
       | inr of_end ↦ of_read v.0 v.1 v.2 mode o of_end
     ]
   where
-    split : (a b : ℕ) → (a < b) ⊎ (b ≤ a)
-    split a b = grind arith
-
     of_read : (i : ℕ) (x : Inv) → slice_get t.invs i ≡ Some x → m ≡ x.mode → (a : ℕ) → holds a (offsets t x.reads) ≡ true → a < mode_period t m
     of_read i x at mode a h =
         let e = holds_ends t a x.reads h in
         let y = item_at t.modes m inside in
-        elim (split a (mode_period t m)) [
+        elim (cases_lt a (mode_period t m)) [
           | inl less ↦ less
           | inr late ↦
               absurd (kept Offsets (record { mode = m; inv = Some i; part = Input e.0 }) a (mode_period t m) (omega (arith, least)) (λ e. omega (arith, e))
@@ -182,15 +148,11 @@ reads_within t last least r kept m o inside there =
         | inl z ↦ inl (e ∙ z)
         | inr z ↦ inr (ap (λ b. b || holds (greatest (max a y) ys) ys) (eq-eqb y (greatest (max a y) ys) (sym (e ∙ z))))
       ]
-      | inr h ↦ inr (both (eqb y (greatest (max a y) ys)) (holds (greatest (max a y) ys) ys) h)
+      | inr h ↦ inr (or_right (eqb y (greatest (max a y) ys)) (holds (greatest (max a y) ys) ys) h)
     ]
       where
         either_max : (a b : ℕ) → (max a b ≡ a) ⊎ (max a b ≡ b)
         either_max a b = grind arith
-
-        both : (a b : Bool) → b ≡ true → (a || b) ≡ true
-        both true b e = refl
-        both false b e = e
 
     of_release : (i : ℕ) (x : Inv) → slice_get t.invs i ≡ Some x → m ≡ x.mode → release t x < mode_period t m
     of_release i x at mode = elim (greatest_is 0 (offsets t x.reads)) [

@@ -1,6 +1,6 @@
 -- Where modules are, from one instant to the next.
 use Rattle.std.proofs.Common.{◌≡◌, ℕ, zero, suc, ◌+◌, ◌<◌, ◌≤◌, Bool, true, false, cond, ◌&&◌, eqb, List, [], ◌∷◌, length, slice_get, Option, Some, None, IfSome, All, ℤ, refl, sym, ap, ◌∙◌, subst, arith, ◌⊎◌, inl, inr}
-use Rattle.std.proofs.lemmas.Bool.{eqb-true, eq-eqb}
+use Rattle.std.proofs.lemmas.Bool.{eqb-true, eq-eqb, cases_Bool}
 use Rattle.std.proofs.lemmas.Option.{slice_get_within, get_or_from_slice_get}
 use Rattle.htl_model.specs.declared.event.Event.{Event}
 use Rattle.htl_model.specs.declared.parts.Module.{Module}
@@ -12,6 +12,8 @@ use Rattle.htl_model.specs.Tables.{Tables, mode_period, mode_module}
 use Rattle.htl_model.specs.Meaning.{state, before, stay_of, stays_to, next_stay, go_on_or_begin, runs, target, target_from, switch_holds}
 use Rattle.htl_model.proofs.Stays.{stay_at}
 use Rattle.htl_emach.specs.Pending.{old_stay, new_stay}
+use Rattle.htl_base.proofs.Places.{each_at}
+use Rattle.htl_base.proofs.Tests.{and_first, true_not_false}
 
 -- the values at the instant
 abbrev pub values_now : Tables → List Event → ℕ → List ℤ
@@ -71,19 +73,12 @@ pub record IsStay (t : Tables) (now k : ℕ) (y : Stay) : Type 0 where
   pub owner : mode_module t y.mode ≡ k
   pub start : y.start ≤ now
 
-pub all_at : {A : Type 0} (P : A → Type 0) (xs : List A) → All P xs → (k : ℕ) (x : A) → slice_get xs k ≡ Some x → P x
-all_at P xs all k x e = subst P (get_or_from_slice_get xs k x x e) (all k x (slice_get_within xs k x e))
-
 pub mode_known : (t : Tables) (k q : ℕ) → IsModeThat t (λ owner. owner ≡ k) q → (q < length t.modes) × (mode_module t q ≡ k)
 mode_known t k q p = (slice_get_within t.modes q p.0 p.1, ap (λ (o : Option Mode). elim o as (λ _. ℕ) [ Some m ↦ m.«module» | None ↦ 0 ]) p.1 ∙ p.2)
 
-and_first : (a b : Bool) → (a && b) ≡ true → a ≡ true
-and_first true b e = refl
-and_first false b e = e
-
 -- the target of a mode is of its module
 pub target_known : (t : Tables) (v : List ℤ) (m k : ℕ) → AreInRange t → m < length t.modes → mode_module t m ≡ k → (target t v m < length t.modes) × (mode_module t (target t v m) ≡ k)
-target_known t v m k r inside owner = from 0 t.switches (λ i w e. all_at (IsSwitchInRange t) t.switches r.switches i w e)
+target_known t v m k r inside owner = from 0 t.switches (λ i w e. each_at (IsSwitchInRange t) t.switches r.switches i w e)
   where
     by_test : (n : ℕ) (w : Switch) (ws : List Switch) → IsSwitchInRange t w → (target_from t v m (suc n) ws < length t.modes) × (mode_module t (target_from t v m (suc n) ws) ≡ k) → (b : Bool) → (eqb w.mode m && switch_holds t v n w) ≡ b →
         (cond b w.target (target_from t v m (suc n) ws) < length t.modes) × (mode_module t (cond b w.target (target_from t v m (suc n) ws)) ≡ k)
@@ -164,16 +159,12 @@ active_some t es now k x r at on = by_old (old_stay t es now k) (new_is t es now
     by_old None e = (record { mode = x.start; start = now }, e)
     by_old (Some z) e = by_end z (eqb now (z.start + mode_period t z.mode)) e
 
-bool_cases : (b : Bool) → (b ≡ true) ⊎ (b ≡ false)
-bool_cases true = inl refl
-bool_cases false = inr refl
-
 -- an active module's parent runs
 pub runs_some : (t : Tables) (es : List Event) (now k : ℕ) (x : Module) (y : Stay) → AreInRange t → slice_get t.modules k ≡ Some x → new_stay t es now k ≡ Some y → parent_runs t es now x ≡ true
-runs_some t es now k x y r at e = elim (bool_cases (parent_runs t es now x)) [ inl on ↦ on | inr off ↦ absurd (none_stay y (sym (new_is t es now k x r at ∙ ap (λ b. moves t (values_now t es now) now x b (old_stay t es now k)) off) ∙ e)) ]
+runs_some t es now k x y r at e = elim (cases_Bool (parent_runs t es now x)) [ inl on ↦ on | inr off ↦ absurd (none_stay y (sym (new_is t es now k x r at ∙ ap (λ b. moves t (values_now t es now) now x b (old_stay t es now k)) off) ∙ e)) ]
 
 pub runs_none : (t : Tables) (es : List Event) (now k : ℕ) (x : Module) → AreInRange t → slice_get t.modules k ≡ Some x → new_stay t es now k ≡ None → parent_runs t es now x ≡ false
-runs_none t es now k x r at e = elim (bool_cases (parent_runs t es now x)) [ inl on ↦ (let y = active_some t es now k x r at on in absurd (none_stay y.0 (sym e ∙ y.1))) | inr off ↦ off ]
+runs_none t es now k x r at e = elim (cases_Bool (parent_runs t es now x)) [ inl on ↦ (let y = active_some t es now k x r at on in absurd (none_stay y.0 (sym e ∙ y.1))) | inr off ↦ off ]
 
 -- the same before the instant, where what it refines ran
 pub ran_none : (t : Tables) (es : List Event) (now k : ℕ) (x : Module) (q : ℕ) → AreInRange t → slice_get t.modules k ≡ Some x → x.parent ≡ Some q → old_stay t es now k ≡ None → runs t (before t es now).stays q ≡ false
@@ -237,9 +228,6 @@ Aligned t es now = (k : ℕ) (x : Module) (q : ℕ) (y : Stay) → slice_get t.m
 pub parent_of_runs : (t : Tables) (es : List Event) (now : ℕ) (x : Module) (q : ℕ) → x.parent ≡ Some q → parent_runs t es now x ≡ runs t (state t es now).stays q
 parent_of_runs t es now x q e = ap (λ (o : Option ℕ). elim o as (λ _. Bool) [ None ↦ true | Some p ↦ runs t (state t es now).stays p ]) e
 
-pub true_false : (b : Bool) → b ≡ true → b ≡ false → ⊥
-true_false b e f = let z : true ≡ false = sym e ∙ f in cc
-
 pub option_cases : (o : Option Stay) → (o ≡ None) ⊎ ((y : Stay) × (o ≡ Some y))
 option_cases None = inl refl
 option_cases (Some y) = inr (y, refl)
@@ -271,7 +259,7 @@ aligned_new t es now r periods olds k x q y at e new =
         elim g.ended [
           | inl end ↦ ap (λ (s : Stay). s.start) (g.fresh end) ∙ sym fresh
           | inr kept ↦
-              absurd (true_false (runs t (before t es now).stays q) (stay_runs t (before t es now).stays q w.0 w.1 (sym (ap (λ (s : Stay). s.mode) kept.0) ∙ zmode)) (ran_none t es now k x q r at e none))
+              absurd (true_not_false (runs t (before t es now).stays q) (stay_runs t (before t es now).stays q w.0 w.1 (sym (ap (λ (s : Stay). s.mode) kept.0) ∙ zmode)) (ran_none t es now k x q r at e none))
         ]
     by_old z u up znew zmode (inr v) old =
         let a = olds k x q v.0 at e v.1 in
@@ -299,7 +287,7 @@ leaves_to t es now (suc n) r periods = λ k y less inside old new. let x = modul
     by_parent : ((k : ℕ) (y : Stay) → k < n → k < length t.modules → old_stay t es now k ≡ Some y → new_stay t es now k ≡ None → now ≡ y.start + mode_period t y.mode) → (k : ℕ) (y : Stay) (x : Module) → slice_get t.modules k ≡ Some x → k < suc n →
         old_stay t es now k ≡ Some y → new_stay t es now k ≡ None → (o : Option ℕ) → x.parent ≡ o → now ≡ y.start + mode_period t y.mode
     by_parent ih k y x at less old new None e =
-        absurd (true_false (parent_runs t es now x) (ap (λ (o : Option ℕ). elim o as (λ _. Bool) [ None ↦ true | Some p ↦ runs t (state t es now).stays p ]) e) (runs_none t es now k x r at new))
+        absurd (true_not_false (parent_runs t es now x) (ap (λ (o : Option ℕ). elim o as (λ _. Bool) [ None ↦ true | Some p ↦ runs t (state t es now).stays p ]) e) (runs_none t es now k x r at new))
     by_parent ih k y x at less old new (Some q) e =
         let off : runs t (state t es now).stays q ≡ false = sym (parent_of_runs t es now x q e) ∙ runs_none t es now k x r at new in
         let a = aligned t es now r periods k x q y at e old in
@@ -314,7 +302,7 @@ leaves_to t es now (suc n) r periods = λ k y less inside old new. let x = modul
               let g = goes_on t es now (mode_module t q) u.0 a.0 z.0 r u.1 a.1 z.1 in
               elim g.ended [
                 | inl over ↦ over ∙ end
-                | inr still ↦ absurd (true_false (runs t (state t es now).stays q) (stay_runs t (state t es now).stays q z.0 z.1 (ap (λ (s : Stay). s.mode) still.0 ∙ a.2)) off)
+                | inr still ↦ absurd (true_not_false (runs t (state t es now).stays q) (stay_runs t (state t es now).stays q z.0 z.1 (ap (λ (s : Stay). s.mode) still.0 ∙ a.2)) off)
               ]
         ]
 

@@ -1,8 +1,8 @@
 -- One module in the switch phase: it stays as it is, goes on, enters a mode or leaves.
 use Rattle.std.proofs.Common.{◌≡◌, ℕ, suc, ◌+◌, ◌<◌, ◌≤◌, Bool, true, false, cond, eqb, ltb, List, [], length, slice_get, Option, Some, None, refl, sym, ap, ◌∙◌, subst, arith, ◌⊎◌, inl, inr}
-use Rattle.std.proofs.lemmas.Bool.{eqb-true, eq-eqb}
+use Rattle.std.proofs.lemmas.Bool.{eqb-true, eq-eqb, cases_Bool}
 use Rattle.std.proofs.lemmas.Bool.Decides.{nat_tests}
-use Rattle.std.proofs.lemmas.Option.{slice_get_within}
+use Rattle.std.proofs.lemmas.Option.{slice_get_within, none-some, same_Some}
 use Rattle.htl_model.specs.declared.event.Event.{Event}
 use Rattle.htl_model.specs.declared.parts.Module.{Module}
 use Rattle.htl_model.specs.declared.state.Stay.{Stay}
@@ -25,8 +25,11 @@ use Rattle.htl_emach.proofs.CopyPhases.{not_due, due_here, step_between}
 use Rattle.htl_emach.proofs.Rounds.{Passes, begun_calendar, entered_calendar, forked, with_mode, enter_passes}
 use Rattle.htl_emach.proofs.Deciding.{Decides, stay_passes, gone_passes, moved_calendar}
 use Rattle.htl_emach.proofs.Forks.{begun_sized, begun_other, begun_here, forked_sized, forked_at, called, mode_sized, mode_here, mode_other}
-use Rattle.htl_emach.proofs.States.{values_now, parent_runs, lower_parent, IsStay, old_stays, new_stays, goes_on, begins_now, runs_some, runs_none, ran_some, stay_runs, leaves, active_some, module_at, parent_at, parent_of_runs, option_cases, true_false, some_stay, all_at, mode_known}
-use Rattle.htl_emach.proofs.Switching.{Sound, bool_cases, positive, fresh_entry, over_entry, called_by, CallsNone, before_same, parent_stay, calls_none_gone, calls_none_kept}
+use Rattle.htl_emach.proofs.States.{values_now, parent_runs, lower_parent, IsStay, old_stays, new_stays, goes_on, begins_now, runs_some, runs_none, ran_some, stay_runs, leaves, active_some, module_at, parent_at, parent_of_runs, option_cases, some_stay, mode_known}
+use Rattle.htl_emach.proofs.Switching.{Sound, positive, fresh_entry, over_entry, called_by, CallsNone, before_same, parent_stay, calls_none_gone, calls_none_kept}
+use Rattle.htl_base.proofs.Places.{each_at}
+use Rattle.htl_base.proofs.Tests.{true_not_false}
+use Rattle.htl_base.proofs.Numbers.{cases_below}
 
 -- ---- a path of the phase that runs
 
@@ -56,13 +59,10 @@ child_is m None e = absurd (let z : ⊥ = cc in z)
 child_is m (Some q) e = ap (λ z. Some z) (eqb-true q m e)
 
 no_child : (t : Tables) (m k j : ℕ) (x : Module) → AreInRange t → slice_get t.modules j ≡ Some x → mode_module t m ≡ k → j ≤ k → is_child m x ≡ false
-no_child t m k j x r at owner low = elim (bool_cases (is_child m x)) [
+no_child t m k j x r at owner low = elim (cases_Bool (is_child m x)) [
   | inl yes_child ↦ (let h = lower_parent t j x m r at (child_is m x.parent yes_child) in absurd (omega (arith, h, owner, low)))
   | inr is ↦ is
 ]
-
-upto : (k n : ℕ) → k < suc n → (k < n) ⊎ (k ≡ n)
-upto k n h = grind arith
 
 -- the calendar after module k entered mode m, before its round begins
 abbrev before_round : Tables → ECode → ℕ → ℕ → ℕ → Calendar → Calendar
@@ -90,7 +90,7 @@ before_round_here t code now k m c x mode r s at owner base =
 child_called : (t : Tables) (code : ECode) (es : List Event) (now k m j : ℕ) (x : Module) → AreInRange t → slice_get t.modules j ≡ Some x → x.parent ≡ Some m → mode_module t m ≡ k → runs t (before t es now).stays m ≡ false →
     new_stay t es now k ≡ Some (record { mode = m; start = now }) → called t code now j ≡ turning t code now (suc k) j (old_stay t es now j) (new_stay t es now j)
 child_called t code es now k m j x r at parent owner off new =
-    let gone : old_stay t es now j ≡ None = elim (option_cases (old_stay t es now j)) [ inl none ↦ none | inr w ↦ absurd (true_false (runs t (before t es now).stays m) (ran_some t es now j x m w.0 r at parent w.1) off) ] in
+    let gone : old_stay t es now j ≡ None = elim (option_cases (old_stay t es now j)) [ inl none ↦ none | inr w ↦ absurd (true_not_false (runs t (before t es now).stays m) (ran_some t es now j x m w.0 r at parent w.1) off) ] in
     let on : runs t (state t es now).stays m ≡ true = stay_runs t (state t es now).stays m (record { mode = m; start = now }) (ap (new_stay t es now) owner ∙ new) refl in
     let y = active_some t es now j x r at (parent_of_runs t es now x m parent ∙ on) in
     let is : y.0 ≡ record { mode = x.start; start = now } = begins_now t es now j x y.0 r at gone y.1 in
@@ -110,7 +110,7 @@ calls_none_entered t es now k m j x r at not_one new = λ q e same old. elim (op
       let is : record { mode = m; start = now } ≡ w.0 = some_stay (record { mode = m; start = now }) w.0 (sym new ∙ ap (new_stay t es now) (sym same) ∙ w.1) in
       let mode : q ≡ m = sym w.2 ∙ sym (ap (λ (s : Stay). s.mode) is) in
       let child : is_child m x ≡ true = ap (parent_is m) (sym (parent_at t j x at) ∙ e) ∙ eq-eqb q m mode in
-      absurd (true_false (is_child m x) child not_one))
+      absurd (true_not_false (is_child m x) child not_one))
 ]
 
 pub enters : (t : Tables) (code : ECode) (es : List Event) (now k m : ℕ) (c : Calendar) (mode : Option ℕ) → Sound t code → k < length t.modules → m < length t.modes → mode_module t m ≡ k → runs t (before t es now).stays m ≡ false →
@@ -121,7 +121,7 @@ enters t code es now k m c mode h inside known owner off new b base =
     let s3 : IsSized t (before_round t code now k m c) = forked_sized t code now (children t m) (with_mode k (Some m) (with_trigger 2 k None c)) (mode_sized t k (Some m) (with_trigger 2 k None c) (trigger_set_sized t 2 k None c b.sized)) in
     record {
       sized = begun_sized t code now k m (before_round t code now k m c) s3;
-      below = λ j less. elim (upto j k less) [
+      below = λ j less. elim (cases_below j k less) [
         | inl lower ↦ lower_stays j lower ∙ b.below j lower
         | inr same ↦ subst (λ z. entry_at (begun_calendar t code now k m (before_round t code now k m c)) z ≡ switched t code now (new_stay t es now z)) (sym same)
             (begun_here t code now k m (before_round t code now k m c) (Some m) None s3 inside (before_round_here t code now k m c x.0 mode h.ranges b.sized x.1 owner base)
@@ -156,12 +156,6 @@ enters t code es now k m c mode h inside known owner off new b base =
         by_child x at false is = before_same t code es now k j (calls_none_entered t es now k m j x h.ranges at is new)
 
 -- ---- the four cases
-
-some_same : (a b : ℕ) → Some a ≡ Some b → a ≡ b
-some_same a b e = cc
-
-none_some : (a : ℕ) → None ≡ Some a → ⊥
-none_some a e = cc
 
 -- what the laws speak of, by where the module was and where it is
 module _ (t : Tables) (code : ECode) (es : List Event) (now k : ℕ) (h : Sound t code) (inside : k < length t.modules) (x : Module) (at : slice_get t.modules k ≡ Some x) where
@@ -210,7 +204,7 @@ module _ (t : Tables) (code : ECode) (es : List Event) (now k : ℕ) (h : Sound 
           λ c b. step_between t code es now 2 c c k b inside b.sized (b.above k (omega arith) inside ∙ written_by None None old new ∙ entry (is_called t k k) ∙ sym (ap (switched t code now) new)) (λ j n. refl)
               (λ j more within. before_same t code es now k j (calls_none_gone t es now k j h.ranges within new)),
         );
-        busy = λ a e. absurd (none_some a (sym due ∙ e));
+        busy = λ a e. absurd (none-some a (sym due ∙ e));
       }
     where
       by_test : (b : Bool) → target_at now (cond b (entering code now None) None) ≡ None
@@ -233,13 +227,13 @@ module _ (t : Tables) (code : ECode) (es : List Event) (now k : ℕ) (h : Sound 
       let off : runs t (before t es now).stays y.mode ≡ false = not_running (old_stay t es now k) refl old known.owner in
       record {
         passed = not_again;
-        idle = λ e. absurd (none_some (entered code y.mode) (sym e ∙ due));
+        idle = λ e. absurd (none-some (entered code y.mode) (sym e ∙ due));
         busy = λ a e. (
           enter_path t code y.mode,
           blocks_by None (Some y) old new,
           λ c b.
               passes_runs t code es now k a (enter_path t code y.mode) (entered_calendar t code now k y.mode) c inside
-              (subst (λ z. Passes t code now k (goes_at t es now) z (enter_path t code y.mode) (entered_calendar t code now k y.mode)) (some_same (entered code y.mode) a (sym due ∙ e))
+              (subst (λ z. Passes t code now k (goes_at t es now) z (enter_path t code y.mode) (entered_calendar t code now k y.mode)) (same_Some (entered code y.mode) a (sym due ∙ e))
               (enter_passes t code now k y.mode (holds_in t (values_now t es now)) (runs t (state t es now).stays) (h.reads y.mode known.mode)))
               (enters t code es now k y.mode c None h inside known.mode known.owner off (new ∙ ap (λ z. Some z) same) b
               (taken_entry t code es now k c inside b ∙ ap (λ (e : Entry). record e { switch = None }) (written_by None (Some y) old new))),
@@ -258,7 +252,7 @@ module _ (t : Tables) (code : ECode) (es : List Event) (now k : ℕ) (h : Sound 
   decides z s =
       record {
         mine = h.reads z.mode s.mode;
-        others = λ i w e same. (let r = all_at (IsSwitchInRange t) t.switches h.ranges.switches i w e in h.reads w.target (mode_known t (mode_module t w.mode) w.target r.target).0);
+        others = λ i w e same. (let r = each_at (IsSwitchInRange t) t.switches h.ranges.switches i w e in h.reads w.target (mode_known t (mode_module t w.mode) w.target r.target).0);
         owner = s.owner;
         lower = λ q e. lower_parent t k x q h.ranges at (sym (parent_at t k x at) ∙ e);
       }
@@ -275,13 +269,13 @@ module _ (t : Tables) (code : ECode) (es : List Event) (now k : ℕ) (h : Sound 
       let s = old_stays t es now k z h.ranges inside old in
       record {
         passed = not_again;
-        idle = λ e. absurd (none_some (round_end t code z.mode) (sym e ∙ due));
+        idle = λ e. absurd (none-some (round_end t code z.mode) (sym e ∙ due));
         busy = λ a e. (
           decide_path t code (values_now t es now) false z.mode,
           blocks_by (Some z) None old new,
           λ c b.
               passes_runs t code es now k a (decide_path t code (values_now t es now) false z.mode) (with_mode k None) c inside
-              (subst (λ y. Passes t code now k (goes_at t es now) y (decide_path t code (values_now t es now) false z.mode) (with_mode k None)) (some_same (round_end t code z.mode) a (sym due ∙ e)) (gone z s x.parent refl (runs_none t es now k x h.ranges at new)))
+              (subst (λ y. Passes t code now k (goes_at t es now) y (decide_path t code (values_now t es now) false z.mode) (with_mode k None)) (same_Some (round_end t code z.mode) a (sym due ∙ e)) (gone z s x.parent refl (runs_none t es now k x h.ranges at new)))
               (step_between t code es now 2 c (with_mode k None (with_trigger 2 k None c)) k b inside (mode_sized t k None (with_trigger 2 k None c) (trigger_set_sized t 2 k None c b.sized))
               (mode_here t k None (with_trigger 2 k None c) (trigger_set_sized t 2 k None c b.sized) inside
               ∙ ap (λ (e : Entry). record e { mode = None }) (taken_entry t code es now k c inside b ∙ ap (λ (e : Entry). record e { switch = None }) (written_by (Some z) None old new) ∙ over_entry t code now k k z None h s.mode end)
@@ -292,7 +286,7 @@ module _ (t : Tables) (code : ECode) (es : List Event) (now k : ℕ) (h : Sound 
       }
     where
       gone : (z : Stay) → IsStay t now k z → (o : Option ℕ) → x.parent ≡ o → parent_runs t es now x ≡ false → Passes t code now k (goes_at t es now) (round_end t code z.mode) (decide_path t code (values_now t es now) false z.mode) (with_mode k None)
-      gone z s None e off = absurd (true_false (parent_runs t es now x) (ap (λ (o : Option ℕ). elim o as (λ _. Bool) [ None ↦ true | Some p ↦ runs t (state t es now).stays p ]) e) off)
+      gone z s None e off = absurd (true_not_false (parent_runs t es now x) (ap (λ (o : Option ℕ). elim o as (λ _. Bool) [ None ↦ true | Some p ↦ runs t (state t es now).stays p ]) e) off)
       gone z s (Some q) e off = gone_passes t code now k z.mode q (values_now t es now) (runs t (state t es now).stays) (decides z s) (parent_at t k x at ∙ e) (sym (parent_of_runs t es now x q e) ∙ off)
 
   -- its round goes on
@@ -306,7 +300,7 @@ module _ (t : Tables) (code : ECode) (es : List Event) (now k : ℕ) (h : Sound 
           λ c b. step_between t code es now 2 c c k b inside b.sized (b.above k (omega arith) inside ∙ written_by (Some z) (Some y) old new ∙ ap (λ w. switched t code now (Some w)) (sym same) ∙ sym (ap (switched t code now) new)) (λ j n. refl)
               (λ j more within. before_same t code es now k j (calls_none_kept t es now k j z y h.ranges within old new (ap (λ (s : Stay). s.mode) same))),
         );
-        busy = λ a e. absurd (none_some a (sym due ∙ e));
+        busy = λ a e. absurd (none-some a (sym due ∙ e));
       }
     where
       closed_test : (b : Bool) → eqb now (z.start + mode_period t z.mode) ≡ b → eqb now (z.start + mode_period t z.mode) ≡ false
@@ -320,13 +314,13 @@ module _ (t : Tables) (code : ECode) (es : List Event) (now k : ℕ) (h : Sound 
       let s = old_stays t es now k z h.ranges inside old in
       record {
         passed = not_again;
-        idle = λ e. absurd (none_some (round_end t code z.mode) (sym e ∙ due));
+        idle = λ e. absurd (none-some (round_end t code z.mode) (sym e ∙ due));
         busy = λ a e. (
           decide_path t code (values_now t es now) true z.mode,
           blocks_by (Some z) (Some y) old new ∙ ap (λ b. on k (elim b as (λ _. List ℕ) [ true ↦ decide_path t code (values_now t es now) true z.mode | false ↦ [] ])) (eq-eqb now (z.start + mode_period t z.mode) end),
           λ c b.
               passes_runs t code es now k a (decide_path t code (values_now t es now) true z.mode) (moved_calendar t code now k z.mode (target t (values_now t es now) z.mode)) c inside
-              (subst (λ w. Passes t code now k (goes_at t es now) w (decide_path t code (values_now t es now) true z.mode) (moved_calendar t code now k z.mode (target t (values_now t es now) z.mode))) (some_same (round_end t code z.mode) a (sym due ∙ e))
+              (subst (λ w. Passes t code now k (goes_at t es now) w (decide_path t code (values_now t es now) true z.mode) (moved_calendar t code now k z.mode (target t (values_now t es now) z.mode))) (same_Some (round_end t code z.mode) a (sym due ∙ e))
               (stay_passes t code now k z.mode (values_now t es now) (runs t (state t es now).stays) (decides z s) parent_on))
               (by_mode (target t (values_now t es now) z.mode) (new ∙ ap (λ w. Some w) is) s c b (base c b s) (eqb (target t (values_now t es now) z.mode) z.mode) refl),
         );

@@ -1,6 +1,6 @@
 -- What holds of each module in the switch phase.
 use Rattle.std.proofs.Common.{◌≡◌, ℕ, zero, suc, ◌+◌, ◌-◌, ◌<◌, ◌≤◌, Bool, true, false, cond, eqb, ltb, List, [], ◌∷◌, length, slice_get, Option, Some, None, refl, sym, ap, ◌∙◌, arith, ◌⊎◌, inl, inr}
-use Rattle.std.proofs.lemmas.Bool.{eqb-true, eq-eqb}
+use Rattle.std.proofs.lemmas.Bool.{eqb-true, eq-eqb, cases_Bool, lt-ltb, cases_eq}
 use Rattle.std.proofs.lemmas.Bool.Decides.{nat_tests}
 use Rattle.htl_model.specs.declared.event.Event.{Event}
 use Rattle.htl_model.specs.declared.parts.Mode.{Mode}
@@ -16,7 +16,9 @@ use Rattle.htl_ecode.proofs.Spelled.{ModeReads}
 use Rattle.htl_emach.specs.declared.trigger.Trigger.{Trigger}
 use Rattle.htl_emach.specs.Pending.{trigger_at, next_block, awaited, ending, is_called, entering, turning, Entry, entry_before, pending_entry, switched, old_stay, new_stay}
 use Rattle.htl_emach.proofs.CopyPhases.{off_offset}
-use Rattle.htl_emach.proofs.States.{SamePeriods, runs_some, ran_none, runs_stay, stay_runs, module_at, parent_at, parent_of_runs, option_cases, true_false, some_stay, none_stay, all_at}
+use Rattle.htl_emach.proofs.States.{SamePeriods, runs_some, ran_none, runs_stay, stay_runs, module_at, parent_at, parent_of_runs, option_cases, some_stay, none_stay}
+use Rattle.htl_base.proofs.Places.{each_at}
+use Rattle.htl_base.proofs.Tests.{cond_same, true_not_false}
 
 -- tables and code that the machine runs
 pub record Sound (t : Tables) (code : ECode) : Type 0 where
@@ -25,10 +27,6 @@ pub record Sound (t : Tables) (code : ECode) : Type 0 where
   pub periods : SamePeriods t
   pub writes_within : (m o : ℕ) → m < length t.modes → holds o (phase_offsets t m 1) ≡ true → (0 < o) × (o ≤ mode_period t m)
   pub reads_within : (m o : ℕ) → m < length t.modes → holds o (phase_offsets t m 3) ≡ true → o < mode_period t m
-
-pub bool_cases : (b : Bool) → (b ≡ true) ⊎ (b ≡ false)
-bool_cases true = inl refl
-bool_cases false = inr refl
 
 -- ---- at a round's end nothing is awaited; at its start all is
 
@@ -54,7 +52,7 @@ no_first_write t code m s h inside =
     ap (λ (n : Option ℕ). elim n as (λ _. Option Trigger) [ Some q ↦ trigger_at (s + q) (block_at t code m 1 q) | None ↦ None ]) (off_offset 0 (phase_offsets t m 1) none)
   where
     none : holds 0 (phase_offsets t m 1) ≡ false
-    none = elim (bool_cases (holds 0 (phase_offsets t m 1))) [ inl there ↦ (let w = h.writes_within m 0 inside there in absurd (omega (arith, w.0))) | inr gone ↦ gone ]
+    none = elim (cases_Bool (holds 0 (phase_offsets t m 1))) [ inl there ↦ (let w = h.writes_within m 0 inside there in absurd (omega (arith, w.0))) | inr gone ↦ gone ]
 
 pub positive : (t : Tables) (m : ℕ) → AreInRange t → m < length t.modes → 1 ≤ mode_period t m
 positive t m r h = by_item (slice_get t.modes m) refl
@@ -65,7 +63,7 @@ positive t m r h = by_item (slice_get t.modes m) refl
     past (x ∷ xs) (suc i) h e = past xs i (omega (arith, h)) e
 
     by_item : (o : Option Mode) → slice_get t.modes m ≡ o → 1 ≤ elim o [ Some x ↦ x.period | None ↦ 0 ]
-    by_item (Some x) e = (all_at (IsModeInRange t) t.modes r.modes m x e).period.some
+    by_item (Some x) e = (each_at (IsModeInRange t) t.modes r.modes m x e).period.some
     by_item None e = absurd (past t.modes m h e)
 
 -- the entry of a module whose round begins at the instant
@@ -90,15 +88,8 @@ over_entry t code now k j z new h inside end =
 
 -- ---- which modules are called
 
-cond_same : {A : Type 0} (b : Bool) (x : A) → cond b x x ≡ x
-cond_same true x = refl
-cond_same false x = refl
-
-less_test : (a b : ℕ) → a < b → ltb a b ≡ true
-less_test a b h = grind (arith, nat_tests)
-
 pub called_by : (t : Tables) (k j q : ℕ) → parent_of t j ≡ Some q → mode_module t q < k → is_called t k j ≡ true
-called_by t k j q e h = ap (λ (o : Option ℕ). elim o as (λ _. Bool) [ None ↦ true | Some p ↦ ltb (mode_module t p) k ]) e ∙ less_test (mode_module t q) k h
+called_by t k j q e h = ap (λ (o : Option ℕ). elim o as (λ _. Bool) [ None ↦ true | Some p ↦ ltb (mode_module t p) k ]) e ∙ lt-ltb (mode_module t q) k h
 
 -- the block of module k calls no module that it doesn't enter
 abbrev pub CallsNone : Tables → List Event → ℕ → ℕ → ℕ → Type 0
@@ -111,9 +102,6 @@ turning_same t code es now k j h = by_old (old_stay t es now j) refl (parent_of 
     apart : (a b : ℕ) → (a ≡ b → ⊥) → ltb a b ≡ ltb a (suc b)
     apart a b n = grind (arith, nat_tests)
 
-    eqs : (a b : ℕ) → (a ≡ b) ⊎ (a ≡ b → ⊥)
-    eqs a b = elim (bool_cases (eqb a b)) [ inl e ↦ inl (eqb-true a b e) | inr e ↦ inr (λ same. true_false (eqb a b) (eq-eqb a b same) e) ]
-
     by_old : (o : Option Stay) → old_stay t es now j ≡ o → (p : Option ℕ) → parent_of t j ≡ p → turning t code now k j o (new_stay t es now j) ≡ turning t code now (suc k) j o (new_stay t es now j)
     by_old (Some z) is p e = refl
     by_old None is None e =
@@ -121,7 +109,7 @@ turning_same t code es now k j h = by_old (old_stay t es now j) refl (parent_of 
         ∙ sym (ap (λ (o : Option ℕ). cond (elim o as (λ _. Bool) [ None ↦ true | Some q ↦ ltb (mode_module t q) (suc k) ]) (entering code now (new_stay t es now j)) None) e)
     by_old None is (Some q) e =
         ap (λ (o : Option ℕ). cond (elim o as (λ _. Bool) [ None ↦ true | Some q ↦ ltb (mode_module t q) k ]) (entering code now (new_stay t es now j)) None) e
-        ∙ elim (eqs (mode_module t q) k) [
+        ∙ elim (cases_eq (mode_module t q) k) [
           | inl same ↦ both (h q e same is) (ltb (mode_module t q) k) (ltb (mode_module t q) (suc k))
           | inr other ↦ ap (λ b. cond b (entering code now (new_stay t es now j)) None) (apart (mode_module t q) k other)
         ]
@@ -161,5 +149,5 @@ calls_none_kept t es now k j z y r inside old new mode = λ q e same gone. elim 
       let is : y ≡ w.0 = some_stay y w.0 (sym new ∙ ap (new_stay t es now) (sym same) ∙ w.1) in
       let zq : z.mode ≡ q = sym mode ∙ ap (λ (s : Stay). s.mode) is ∙ w.2 in
       let at : stay_of (before t es now).stays (mode_module t q) ≡ Some z = ap (stay_of (before t es now).stays) same ∙ old in
-      absurd (true_false (runs t (before t es now).stays q) (stay_runs t (before t es now).stays q z at zq) (ran_none t es now j x.0 q r x.1 parent gone)))
+      absurd (true_not_false (runs t (before t es now).stays q) (stay_runs t (before t es now).stays q z at zq) (ran_none t es now j x.0 q r x.1 parent gone)))
 ]

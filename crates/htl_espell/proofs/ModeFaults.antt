@@ -11,6 +11,7 @@ use Rattle.htl_ecode.specs.Spelling.{Spells}
 use Rattle.htl_ecode.proofs.SpellingLaws.{spelled_departs_not, departs_not_spells}
 use Rattle.htl_espell.specs.Checks.{phase_departure, enter_read, begin_read, decide_read}
 use Rattle.htl_espell.proofs.Whole.{enter_fault_is, begin_fault_is, begin_targets, decide_fault_is}
+use Rattle.htl_base.proofs.Numbers.{cases_at_most}
 
 either_first : (a b : Option EFault) (e : EFault) → Some e ≡ a → Some e ≡ either a b
 either_first a b e h = ap (λ z. either z b) h
@@ -91,11 +92,8 @@ modes_more t code m h g = ap (departure_before t code) (add-one m) ∙ sym (eith
 -- a departure below n stays the first
 stays_first : (t : Tables) (code : ECode) (e : EFault) (m n : ℕ) → m ≤ n → Some e ≡ departure_before t code m → Some e ≡ departure_before t code n
 stays_first t code e m zero h g = (let same : m ≡ zero = omega arith in g ∙ ap (departure_before t code) same)
-stays_first t code e m (suc n) h g = by_order (order m n h) (λ q. stays_first t code e m n q g)
+stays_first t code e m (suc n) h g = by_order (cases_at_most m n h) (λ q. stays_first t code e m n q g)
   where
-    order : (m n : ℕ) → m ≤ suc n → (m ≤ n) ⊎ (m ≡ suc n)
-    order m n h = grind arith
-
     by_order : (m ≤ n) ⊎ (m ≡ suc n) → (m ≤ n → Some e ≡ departure_before t code n) → Some e ≡ departure_before t code (suc n)
     by_order (inl q) ih = either_first (departure_before t code n) (mode_fault t code n) e (ih q)
     by_order (inr q) ih = g ∙ ap (departure_before t code) q

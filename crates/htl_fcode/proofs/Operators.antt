@@ -38,7 +38,7 @@ AreTyped-both_bool (Some IntTy) r u h = cc
 AreTyped-both_bool (Some BoolTy) None u h = cc
 AreTyped-both_bool (Some BoolTy) (Some y) u h = record { left = record { type = BoolTy; is = refl }; right = record { type = y; is = refl } }
 
-AreTyped-same_type : (l r : Option Ty) (u : Ty) → same_type l r ≡ Some u → AreTyped l r
+pub AreTyped-same_type : (l r : Option Ty) (u : Ty) → same_type l r ≡ Some u → AreTyped l r
 AreTyped-same_type None r u h = cc
 AreTyped-same_type (Some IntTy) None u h = cc
 AreTyped-same_type (Some BoolTy) None u h = cc
@@ -74,9 +74,6 @@ pub IsTypedChoice-type_choose : (c a b : Option Ty) (t : Ty) → type_choose c a
 IsTypedChoice-type_choose None a b t h = cc
 IsTypedChoice-type_choose (Some IntTy) a b t h = cc
 IsTypedChoice-type_choose (Some BoolTy) a b t h = record { condition = refl; choices = h }
-
-pub AreTyped-choices : (a b : Option Ty) (t : Ty) → same_type a b ≡ Some t → AreTyped a b
-AreTyped-choices a b t h = AreTyped-same_type a b t h
 
 -- ---- the value of a typed expression is of its type
 

@@ -1,6 +1,6 @@
 -- The parse of code keeps a stack of expressions; the stack of types holds their types.
 use Rattle.std.proofs.Common.{◌≡◌, ℕ, ◌+◌, ◌≤◌, ◌<◌, zero, suc, Bool, true, false, ◌&&◌, cond, option_map, ltb, leb, List, [], ◌∷◌, length, get_or, slice_get, map, Option, Some, None, ℤ, pos, refl, sym, ap, ◌∙◌, subst, arith}
-use Rattle.std.proofs.lemmas.Bool.{lt-ltb}
+use Rattle.std.proofs.lemmas.Bool.{lt-ltb, and_parts}
 use Rattle.std.proofs.lemmas.Bool.Decides.{nat_tests}
 use Rattle.std.proofs.lemmas.List.{length-map}
 use Rattle.std.proofs.lemmas.Option.{slice_get-get_or, slice_get_within}
@@ -15,7 +15,7 @@ use Rattle.htl_fcode.specs.declared.operation.Operation.{Operation}
 use Rattle.htl_fcode.specs.declared.operation.Operation.TheVariants as O
 use Rattle.htl_fcode.specs.Arguments.{AreArguments}
 use Rattle.htl_fcode.specs.Stacks.{operation_of, put, put_some, in_place, values_after, types_after}
-use Rattle.htl_fcode.proofs.Operators.{IsTyped-type_one, AreTyped-type_two, IsTypedChoice-type_choose, AreTyped-choices}
+use Rattle.htl_fcode.proofs.Operators.{IsTyped-type_one, AreTyped-type_two, IsTypedChoice-type_choose, AreTyped-same_type}
 
 -- the expressions after an operation
 abbrev pub parsed : Operation → List Term → Option (List Term)
@@ -41,12 +41,8 @@ pub record BoolsFit (i : FInstr) (is : List FInstr) : Type 0 where
   pub first : bool_fits (operation_of i) ≡ true
   pub rest : bools_fit is ≡ true
 
-both_true : (a b : Bool) → (a && b) ≡ true → (a ≡ true) × (b ≡ true)
-both_true true b h = (refl, h)
-both_true false b h = cc
-
 pub BoolsFit-split : (i : FInstr) (is : List FInstr) → bools_fit (i ∷ is) ≡ true → BoolsFit i is
-BoolsFit-split (I.Bool x) is h = let b = both_true (leb x 1) (bools_fit is) h in record { first = b.0; rest = b.1 }
+BoolsFit-split (I.Bool x) is h = let b = and_parts (leb x 1) (bools_fit is) h in record { first = b.0; rest = b.1 }
 BoolsFit-split _ is h = record { first = refl; rest = h }
 
 pub BoolsFit-join : (i : FInstr) (is : List FInstr) → bool_fits (operation_of i) ≡ true → bools_fit is ≡ true → bools_fit (i ∷ is) ≡ true
@@ -132,7 +128,7 @@ before_choose args (b ∷ a ∷ []) us h = absurd h
 before_choose args (b ∷ a ∷ c ∷ es) [] h = absurd h
 before_choose args (b ∷ a ∷ c ∷ es) (u ∷ us) h =
     let w = IsTypedChoice-type_choose (type_of args c) (type_of args a) (type_of args b) u h.0 in
-    let y = AreTyped-choices (type_of args a) (type_of args b) u w.choices in
+    let y = AreTyped-same_type (type_of args a) (type_of args b) u w.choices in
     record {
       types = y.right.type ∷ y.left.type ∷ BoolTy ∷ us;
       stands = (y.right.is, omega (arith, h.1), (y.left.is, omega (arith, h.1), (w.condition, omega (arith, h.1), h.2)));

@@ -3,7 +3,7 @@ use Rattle.std.proofs.Common.{◌≡◌, ◌≤◌, ◌<◌, ℕ, Bool, true, fa
 use Rattle.std.specs.Prelude.{slice_get}
 use Rattle.std.specs.List.{list_any}
 use Rattle.std.specs.Cmp.Derive.{both_true}
-use Rattle.std.proofs.lemmas.Bool.{false_from_ne_true}
+use Rattle.std.proofs.lemmas.Bool.{false_from_ne_true, and_parts, not-true}
 use Rattle.std.proofs.lemmas.Bool.Decides.{nat_tests}
 use Rattle.std.proofs.lemmas.List.Folds.{Any-from_list_any, list_any_at}
 use Rattle.std.proofs.lemmas.Option.{slice_get_within, get_or_from_slice_get, slice_get-get_or}
@@ -13,41 +13,26 @@ use Rattle.htl_model.specs.Tables.{Tables, is_concrete}
 use Rattle.htl_model.specs.Ranges.{AreInRange, IsInvInRange, IsEndInRange}
 use Rattle.htl_model.specs.EndRules.{IsAbstractlyWritten}
 use Rattle.htl_model.specs.PortWriters.{is_port}
-use Rattle.htl_form.proofs.Places.{all_at}
 use Rattle.htl_form.specs.AbstractWriters.{writes_abstractly, is_abstractly_written}
+use Rattle.htl_base.proofs.Places.{all_at, some_place}
+use Rattle.std.proofs.lemmas.Map.Keys.{any_passes_from_place}
 
--- a test that some element passes, and the element
-pub some_place : {X : Type 0} (p : X → Bool) (xs : List X) → list_any p xs ≡ true → (k : ℕ) × (x : X) × (slice_get xs k ≡ Some x) × (p x ≡ true)
-some_place p xs h = let a = Any-from_list_any p xs h in (a.0, a.1, slice_get-get_or xs a.0 a.1 a.2 ∙ ap (λ x. Some x) a.3, a.4)
-
-pub place_some : {X : Type 0} (p : X → Bool) (xs : List X) (k : ℕ) (x : X) → slice_get xs k ≡ Some x → p x ≡ true → list_any p xs ≡ true
-place_some p xs k x e h = list_any_at p xs k x (slice_get_within xs k x e) (ap p (get_or_from_slice_get xs k x x e) ∙ h)
-
-goes : (p : ℕ) (e : End) → is_port p e ≡ true → e ≡ E.Port p
+pub goes : (p : ℕ) (e : End) → is_port p e ≡ true → e ≡ E.Port p
 goes p (E.Comm c n) h = cc
 goes p (E.Port q) h = let same : q ≡ p = grind (arith, nat_tests) in ap E.Port same
-
-both : (a b : Bool) → (a && b) ≡ true → (a ≡ true) × (b ≡ true)
-both true true h = (refl, refl)
-both true false h = cc
-both false b h = cc
-
-off : (b : Bool) → not b ≡ true → b ≡ false
-off true h = cc
-off false h = refl
 
 pub written : (t : Tables) (p : ℕ) → is_abstractly_written t p ≡ true → IsAbstractlyWritten t p
 written t p h =
     let w = some_place (writes_abstractly t p) t.invs h in
-    let parts = both (not (is_concrete t w.1)) (list_any (is_port p) w.1.writes) w.3 in
+    let parts = and_parts (not (is_concrete t w.1)) (list_any (is_port p) w.1.writes) w.3 in
     let o = some_place (is_port p) w.1.writes parts.1 in
-    record { number = w.0; writer = w.1; at = w.2; abstract = off (is_concrete t w.1) parts.0; place = o.0; writes = o.2 ∙ ap (λ e. Some e) (goes p o.1 o.3) }
+    record { number = w.0; writer = w.1; at = w.2; abstract = not-true (is_concrete t w.1) parts.0; place = o.0; writes = o.2 ∙ ap (λ e. Some e) (goes p o.1 o.3) }
 
 pub written_test : (t : Tables) (p : ℕ) → IsAbstractlyWritten t p → is_abstractly_written t p ≡ true
 written_test t p w =
     let same : eqb p p ≡ true = grind (arith, nat_tests) in
-    place_some (writes_abstractly t p) t.invs w.number w.writer w.at
-    (both_true (ap not w.abstract) (place_some (is_port p) w.writer.writes w.place (E.Port p) w.writes same))
+    any_passes_from_place (writes_abstractly t p) t.invs w.number w.writer w.at
+    (both_true (ap not w.abstract) (any_passes_from_place (is_port p) w.writer.writes w.place (E.Port p) w.writes same))
 
 -- tables in range have at most 4,096 ports
 pub beyond : (t : Tables) (p : ℕ) → AreInRange t → 4096 ≤ p → is_abstractly_written t p ≡ false

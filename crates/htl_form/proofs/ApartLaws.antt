@@ -17,14 +17,18 @@ use Rattle.htl_model.specs.Ranges.{AreInRange, IsInvInRange, IsEndInRange}
 use Rattle.htl_model.specs.SecondWriters.{StandTogether, AreSameWrite, WritesBefore}
 use Rattle.htl_model.specs.Tables.{Tables, is_concrete}
 use Rattle.htl_form.proofs.PathLaws.{true_together}
-use Rattle.htl_form.proofs.Places.{all_at, filled_at}
-use Rattle.htl_model.proofs.TestLaws.{either, on_left, on_right, not_both, equal, last}
+use Rattle.htl_form.proofs.Places.{filled_at}
 use Rattle.htl_form.proofs.WriterLaws.{writes_before}
 use Rattle.htl_form.specs.Apart.{key, instance_of, AreNear, end_keys, keys_in, inv_keys, keys_from, is_comm, takes, is_taken, is_taken_end, IsApart, AreApart}
 use Rattle.htl_model.specs.First.{or_else, first_from}
 use Rattle.htl_form.specs.Owners.{AreNoted}
 use Rattle.htl_form.specs.Rows.{IsRangeOf}
 use Rattle.htl_form.specs.WriterFaults.{stand_together, rivals, outputs_before, writer_before}
+use Rattle.htl_base.proofs.Places.{all_at}
+use Rattle.std.proofs.lemmas.Bool.{eq-eqb, or_cases, or_left, or_right}
+use Rattle.htl_base.proofs.Tests.{eqb_flips, true_not_false, eqb_less}
+use Rattle.htl_base.proofs.Numbers.{cases_below}
+use Rattle.htl_model.proofs.FirstLaws.{nothing_from}
 
 -- ---- two parts of a list without repetitions
 
@@ -43,36 +47,30 @@ distinct_back (x ∷ xs) ys h = distinct_back xs ys (IsDistinct-tail eqb x (xs +
 
 none_passes : (x : ℕ) (ys : List ℕ) → AllByRecursion (λ y. eqb x y ≡ false) ys → list_any (eqb x) ys ≡ true → ⊥
 none_passes x [] h e = cc
-none_passes x (y ∷ ys) h e = elim (either (eqb x y) _ e) [ inl here ↦ not_both (eqb x y) here h.0 | inr later ↦ none_passes x ys h.1 later ]
+none_passes x (y ∷ ys) h e = elim (or_cases (eqb x y) _ e) [ inl here ↦ true_not_false (eqb x y) here h.0 | inr later ↦ none_passes x ys h.1 later ]
 
 -- no number is in both
 pub clash : (xs ys : List ℕ) (q : ℕ) → IsDistinct eqb (xs ++ ys) → list_any (eqb q) xs ≡ true → list_any (eqb q) ys ≡ true → ⊥
 clash [] ys q h a b = cc
 clash (x ∷ xs) ys q h a b =
-    elim (either (eqb q x) _ a) [
+    elim (or_cases (eqb q x) _ a) [
       | inl here ↦
           let is : q ≡ x = grind (arith, nat_tests) in
           let far : list_any (eqb x) ys ≡ true = subst (λ z. list_any (eqb z) ys ≡ true) is b in
-          none_passes x (xs ++ ys) (IsDistinct-head eqb x (xs ++ ys) h) (list_any-append (eqb x) xs ys ∙ on_right (list_any (eqb x) xs) (list_any (eqb x) ys) far)
+          none_passes x (xs ++ ys) (IsDistinct-head eqb x (xs ++ ys) h) (list_any-append (eqb x) xs ys ∙ or_right (list_any (eqb x) xs) (list_any (eqb x) ys) far)
       | inr later ↦ clash xs ys q (IsDistinct-tail eqb x (xs ++ ys) h) later b
     ]
-
-flips : (x y : ℕ) → eqb x y ≡ eqb y x
-flips x y = nat_eq_equiv.symm x y
 
 -- numbers that rise once they are sorted are without repetitions
 pub distinct_once_sorted : (old new : List ℕ) → IsPermutation old new → IsStrictlyIncreasing new → IsDistinct eqb old
 distinct_once_sorted old new moved rising =
-    IsDistinct-IsPermutation eqb flips new old (IsPermutation-sym old new moved)
-    (IsDistinct-from_apart eqb new (λ i j d less within. apart (get_or new i d) (get_or new j d) (below_from_sorted new i j d (sorted_from_strictly_increasing new rising) less within)))
-  where
-    apart : (x y : ℕ) → x < y → eqb x y ≡ false
-    apart x y h = grind (arith, nat_tests)
+    IsDistinct-IsPermutation eqb eqb_flips new old (IsPermutation-sym old new moved)
+    (IsDistinct-from_apart eqb new (λ i j d less within. eqb_less (get_or new i d) (get_or new j d) (below_from_sorted new i j d (sorted_from_strictly_increasing new rising) less within)))
 
 -- and the other way round
 pub rising_once_sorted : (old new : List ℕ) → IsPermutation old new → IsSorted nat_cmp new → IsDistinct eqb old → IsStrictlyIncreasing new
 rising_once_sorted old new moved sorted once =
-    IsStrictlyIncreasing-from_distinct new (IsNonDecreasingBy-from_sort (λ (x : ℕ). x) new sorted) (IsDistinct-IsPermutation eqb flips old new moved once)
+    IsStrictlyIncreasing-from_distinct new (IsNonDecreasingBy-from_sort (λ (x : ℕ). x) new sorted) (IsDistinct-IsPermutation eqb eqb_flips old new moved once)
 
 -- ---- one mode
 
@@ -85,7 +83,7 @@ near t k x range at = λ j d within. by (get_or x.writes j d) ((all_at (IsInvInR
     by (E.Port p) h = omega arith
 
 key_here : (c n : ℕ) → list_any (eqb (key c n)) (end_keys (E.Comm c n)) ≡ true
-key_here c n = on_left (eqb (key c n) (key c n)) false (equal (key c n) (key c n) refl)
+key_here c n = or_left (eqb (key c n) (key c n)) false (eq-eqb (key c n) (key c n) refl)
 
 -- an instance that is written has its key among the keys
 pub key_in : (ends : List End) (place c n : ℕ) → slice_get ends place ≡ Some (E.Comm c n) → list_any (eqb (key c n)) (keys_in ends) ≡ true
@@ -93,9 +91,9 @@ key_in [] place c n h = cc
 key_in (e ∷ ends) zero c n h =
     let is : e ≡ E.Comm c n = cc in
     list_any-append (eqb (key c n)) (end_keys e) (keys_in ends)
-    ∙ on_left (list_any (eqb (key c n)) (end_keys e)) _ (ap (λ x. list_any (eqb (key c n)) (end_keys x)) is ∙ key_here c n)
+    ∙ or_left (list_any (eqb (key c n)) (end_keys e)) _ (ap (λ x. list_any (eqb (key c n)) (end_keys x)) is ∙ key_here c n)
 key_in (e ∷ ends) (suc place) c n h =
-    list_any-append (eqb (key c n)) (end_keys e) (keys_in ends) ∙ on_right (list_any (eqb (key c n)) (end_keys e)) _ (key_in ends place c n h)
+    list_any-append (eqb (key c n)) (end_keys e) (keys_in ends) ∙ or_right (list_any (eqb (key c n)) (end_keys e)) _ (key_in ends place c n h)
 
 -- no output repeats an earlier one of its invocation
 pub own_apart : (ends : List End) (place j c n : ℕ) → IsDistinct eqb (keys_in ends) → place < j → slice_get ends place ≡ Some (E.Comm c n) → slice_get ends j ≡ Some (E.Comm c n) → ⊥
@@ -114,16 +112,16 @@ keys_has : (t : Tables) (base n a q : ℕ) → a < n → list_any (eqb q) (inv_k
 keys_has t base zero a q less h = absurd (omega arith)
 keys_has t base (suc n) a q less h =
     list_any-append (eqb q) (keys_from t base n) (inv_keys t (slice_get t.invs (base + n)))
-    ∙ elim (last a n less) [
-      | inl below ↦ on_left (list_any (eqb q) (keys_from t base n)) _ (keys_has t base n a q below h)
-      | inr is ↦ on_right (list_any (eqb q) (keys_from t base n)) _ (subst (λ z. list_any (eqb q) (inv_keys t (slice_get t.invs (base + z))) ≡ true) is h)
+    ∙ elim (cases_below a n less) [
+      | inl below ↦ or_left (list_any (eqb q) (keys_from t base n)) _ (keys_has t base n a q below h)
+      | inr is ↦ or_right (list_any (eqb q) (keys_from t base n)) _ (subst (λ z. list_any (eqb q) (inv_keys t (slice_get t.invs (base + z))) ≡ true) is h)
     ]
 
 -- the keys of one invocation among them are without repetitions
 one_distinct : (t : Tables) (base n b : ℕ) → IsDistinct eqb (keys_from t base n) → b < n → IsDistinct eqb (inv_keys t (slice_get t.invs (base + b)))
 one_distinct t base zero b d less = absurd (omega arith)
 one_distinct t base (suc n) b d less =
-    elim (last b n less) [
+    elim (cases_below b n less) [
       | inl below ↦ one_distinct t base n b (distinct_front (keys_from t base n) _ d) below
       | inr is ↦ subst (λ z. IsDistinct eqb (inv_keys t (slice_get t.invs (base + z)))) (sym is) (distinct_back (keys_from t base n) _ d)
     ]
@@ -133,7 +131,7 @@ two_apart : (t : Tables) (base n a b q : ℕ) → IsDistinct eqb (keys_from t ba
     → list_any (eqb q) (inv_keys t (slice_get t.invs (base + b))) ≡ true → ⊥
 two_apart t base zero a b q d less before p r = absurd (omega arith)
 two_apart t base (suc n) a b q d less before p r =
-    elim (last b n less) [
+    elim (cases_below b n less) [
       | inl below ↦ two_apart t base n a b q (distinct_front (keys_from t base n) _ d) below before p r
       | inr is ↦
           clash (keys_from t base n) _ q d (keys_has t base n a q (omega arith) p)
@@ -145,34 +143,27 @@ two_apart t base (suc n) a b q d less before p r =
 taken_below : (t : Tables) (m base c l : ℕ) → l < base → takes t m c (slice_get t.invs l) ≡ true → is_taken t m base c ≡ true
 taken_below t m zero c l less h = absurd (omega arith)
 taken_below t m (suc base) c l less h =
-    elim (last l base less) [
-      | inl below ↦ on_left (is_taken t m base c) _ (taken_below t m base c l below h)
-      | inr is ↦ on_right (is_taken t m base c) _ (subst (λ z. takes t m c (slice_get t.invs z) ≡ true) is h)
+    elim (cases_below l base less) [
+      | inl below ↦ or_left (is_taken t m base c) _ (taken_below t m base c l below h)
+      | inr is ↦ or_right (is_taken t m base c) _ (subst (λ z. takes t m c (slice_get t.invs z) ≡ true) is h)
     ]
 
 takes_true : (t : Tables) (m c l place o : ℕ) (x : Inv) → slice_get t.invs l ≡ Some x → is_concrete t x ≡ true → stand_together t x.mode m ≡ true
     → slice_get x.writes place ≡ Some (E.Comm c o) → takes t m c (slice_get t.invs l) ≡ true
 takes_true t m c l place o x at p q h =
     ap (takes t m c) at ∙ join (is_concrete t x) (stand_together t x.mode m) (list_any (is_comm c) x.writes) p q
-    (any_passes_from_place (is_comm c) x.writes place (E.Comm c o) h (equal c c refl))
+    (any_passes_from_place (is_comm c) x.writes place (E.Comm c o) h (eq-eqb c c refl))
   where
     join : (a b d : Bool) → a ≡ true → b ≡ true → d ≡ true → (a && (b && d)) ≡ true
     join a b d p q r = grind (arith, nat_tests)
 
 -- ---- an invocation that is apart
 
-none_first : {A B : Type 0} (f : ℕ → A → Option B) (k : ℕ) (xs : List A) → ((p : ℕ) (x : A) → slice_get xs p ≡ Some x → f (k + p) x ≡ None) → first_from f k xs ≡ None
-none_first f k [] h = refl
-none_first f k (x ∷ xs) h =
-    let at : k + 0 ≡ k = omega arith in
-    ap (λ o. or_else o (first_from f (suc k) xs)) (subst (λ z. f z x ≡ None) at (h 0 x refl))
-    ∙ none_first f (suc k) xs (λ p y e. (let step : k + suc p ≡ suc k + p = omega arith in subst (λ z. f z y ≡ None) step (h (suc p) y e)))
-
 -- invocation base + q of mode m repeats no instance of its mode, and writes no communicator that is taken
 pub apart_is : (t : Tables) (m base n upto q : ℕ) (taken : List Bool) → AreInRange t → IsRangeOf t m base n → q < n → q < upto → IsDistinct eqb (keys_from t base upto)
     → AreNoted t m base n taken → (i : Inv) → slice_get t.invs (base + q) ≡ Some i → list_any (is_taken_end taken) i.writes ≡ false → IsApart t (base + q)
 apart_is t m base n upto q taken r w is_q upto_q d noted i at free = λ y j c o at_y out conc.
-    none_first (writer_before t (base + q) y j c o) 0 t.invs
+    nothing_from (writer_before t (base + q) y j c o) 0 t.invs
     (λ l x at_x. (let start : l ≡ 0 + l = omega arith in subst (λ z. writer_before t (base + q) y j c o z x ≡ None) start (each y j c o at_y out conc l x at_x (rivals t y c o x (outputs_before (base + q) j l x)) refl)))
   where
     same_mode : (y : Inv) → slice_get t.invs (base + q) ≡ Some y → y.mode ≡ m
@@ -208,10 +199,10 @@ apart_is t m base n upto q taken r w is_q upto_q d noted i at free = λ y j c o 
         let few = r.few_comms in
         let within = all_at (IsEndInRange t y.mode) y.writes j (E.Comm c o) (all_at (IsInvInRange t) t.invs (base + q) y r.invs at_y).writes out in
         let taken_c : get_or taken c false ≡ true =
-        noted q c y is_q (omega (arith, within.0)) at_y conc (any_passes_from_place (is_comm c) y.writes j (E.Comm c o) out (equal c c refl))
+        noted q c y is_q (omega (arith, within.0)) at_y conc (any_passes_from_place (is_comm c) y.writes j (E.Comm c o) out (eq-eqb c c refl))
         (taken_below t m base c l (before l x at_x less apart) (takes_true t m c l place p x at_x conc_x (true_together t x.mode m stand) wrote)) in
         let hit : list_any (is_taken_end taken) y.writes ≡ true = any_passes_from_place (is_taken_end taken) y.writes j (E.Comm c o) out taken_c in
-        not_both (list_any (is_taken_end taken) i.writes) (subst (λ (z : Inv). list_any (is_taken_end taken) z.writes ≡ true) is hit) free
+        true_not_false (list_any (is_taken_end taken) i.writes) (subst (λ (z : Inv). list_any (is_taken_end taken) z.writes ≡ true) is hit) free
       where
         before : (l : ℕ) (x : Inv) → slice_get t.invs l ≡ Some x → l < base + q → x.mode ≢ m → l < base
         before l x at_x less apart =
@@ -242,4 +233,4 @@ apart_is t m base n upto q taken r w is_q upto_q d noted i at free = λ y j c o 
 
 -- where nothing is marked, each marked invocation is apart
 pub none_marked : (t : Tables) (n : ℕ) → AreApart t (replicate n false)
-none_marked t n = λ k marked. absurd (not_both (get_or (replicate n false) k false) marked (filled_at false n k))
+none_marked t n = λ k marked. absurd (true_not_false (get_or (replicate n false) k false) marked (filled_at false n k))

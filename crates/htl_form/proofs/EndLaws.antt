@@ -1,8 +1,8 @@
--- The tests of the rules on ends, windows and worst cases find exactly what the words say.
+-- The tests of the rules not-false ends, windows and worst cases find exactly what the words say.
 use Rattle.std.proofs.Common.{◌≡◌, ◌≢◌, ℕ, ◌*◌, ◌<◌, ◌⊎◌, Bool, true, false, not, ◌&&◌, eqb, ltb, List, length, Option, Some, None, refl, sym, ◌∙◌, ap, arith, inl, inr}
 use Rattle.std.specs.Prelude.{slice_get, option_map}
 use Rattle.std.specs.Cmp.Derive.{both_true}
-use Rattle.std.proofs.lemmas.Bool.{cases_Bool}
+use Rattle.std.proofs.lemmas.Bool.{cases_Bool, not-false}
 use Rattle.std.proofs.lemmas.Bool.Decides.{nat_tests}
 use Rattle.htl_base.specs.declared.Ty.{Ty}
 use Rattle.htl_model.specs.declared.parts.Inv.{Inv}
@@ -17,7 +17,7 @@ use Rattle.htl_form.specs.EndFaults.{read_offset_fault, write_offset_fault, unle
 use Rattle.htl_form.specs.WindowFaults.{window_fault, worst_case_fault}
 use Rattle.htl_form.proofs.AbstractLaws.{written, written_test}
 use Rattle.htl_form.proofs.Finding.{Finds, finds_nothing, finds_unless}
-use Rattle.htl_form.proofs.PeriodLaws.{finds_equal}
+use Rattle.htl_form.proofs.PeriodLaws.{finds_equal, inner}
 
 pub read_offset_is : (t : Tables) (i : Inv) (e : End) → Finds (read_offset_fault t i e) (ReadLate t i e)
 read_offset_is t i (E.Comm c n) =
@@ -72,9 +72,6 @@ count_is t i =
     (finds_equal x y) (finds_equal z w) (λ h n p. inl p) (λ h n e q. inr (agree x y e, q.0, q.1, q.2))
     (λ h n r. elim r [ inl p ↦ inl p | inr q ↦ inr (agrees x y q.0, (q.1, q.2, q.3)) ])
 
-inner : (x h : ℕ) → Some x ≡ Some h → h ≡ x
-inner x h e = cc
-
 pub finds_same : (o q : Option ℕ) → Finds (unless_same o q) (λ h n. (o ≡ Some h) × (q ≡ Some n) × (h ≢ n))
 finds_same (Some x) (Some y) =
     let f = finds_equal x y in
@@ -98,10 +95,6 @@ worst_case_is t i =
     finds_unless (not (ltb (mode_period t i.mode) (task_worst t i.task))) (task_worst t i.task) (mode_period t i.mode) (WorstLong t i)
     (λ off. (refl, refl, grind (arith, nat_tests))) (λ h m p. (grind (arith, nat_tests), p.0, p.1))
 
-on : (b : Bool) → not b ≡ false → b ≡ true
-on true e = refl
-on false e = cc
-
 both : (a b : Bool) → not (a && b) ≡ false → (a ≡ true) × (b ≡ true)
 both true true h = (refl, refl)
 both true false h = cc
@@ -115,5 +108,5 @@ abstract_read_is t i j (E.Port p) =
     (λ h m q. (ap not (both_true q.2 (written_test t p q.3)), q.0, q.1))
 
 pub sensor_is : (t : Tables) (j : ℕ) (e : End) → Finds (sensor_fault t j e) (SensorWritten t j e)
-sensor_is t j (E.Comm c n) = finds_unless (not (is_sensor t c)) j 0 (SensorWritten t j (E.Comm c n)) (λ off. (refl, refl, on (is_sensor t c) off)) (λ h m q. (ap not q.2, q.0, q.1))
+sensor_is t j (E.Comm c n) = finds_unless (not (is_sensor t c)) j 0 (SensorWritten t j (E.Comm c n)) (λ off. (refl, refl, not-false (is_sensor t c) off)) (λ h m q. (ap not q.2, q.0, q.1))
 sensor_is t j (E.Port p) = finds_nothing

@@ -17,11 +17,9 @@ use Rattle.htl_form.specs.declared.rule.Rule.{Rule}
 use Rattle.htl_form.proofs.Finding.{Finds}
 use Rattle.htl_form.proofs.Judging.{Judges, judges}
 use Rattle.htl_form.proofs.RuleOrder.{place_of}
+use Rattle.htl_base.proofs.Numbers.{cases_less_same}
 
 -- ---- of two places one is before the other, or they are one
-
-three : (a b : ℕ) → (a < b) ⊎ (a ≡ b) ⊎ (b < a)
-three a b = grind arith
 
 part_order : (p q : Part) → PartBefore p q ⊎ (p ≡ q) ⊎ PartBefore q p
 part_order Itself Itself = inr (inl refl)
@@ -29,17 +27,17 @@ part_order Itself (Input j) = inl tt
 part_order Itself (Output j) = inl tt
 part_order Itself (Test l j) = inl tt
 part_order (Input i) Itself = inr (inr tt)
-part_order (Input i) (Input j) = elim (three i j) [ inl less ↦ inl less | inr (inl same) ↦ inr (inl (ap Input same)) | inr (inr more) ↦ inr (inr more) ]
+part_order (Input i) (Input j) = elim (cases_less_same i j) [ inl less ↦ inl less | inr (inl same) ↦ inr (inl (ap Input same)) | inr (inr more) ↦ inr (inr more) ]
 part_order (Input i) (Output j) = inl tt
 part_order (Input i) (Test l j) = inl tt
 part_order (Output i) Itself = inr (inr tt)
 part_order (Output i) (Input j) = inr (inr tt)
-part_order (Output i) (Output j) = elim (three i j) [ inl less ↦ inl less | inr (inl same) ↦ inr (inl (ap Output same)) | inr (inr more) ↦ inr (inr more) ]
+part_order (Output i) (Output j) = elim (cases_less_same i j) [ inl less ↦ inl less | inr (inl same) ↦ inr (inl (ap Output same)) | inr (inr more) ↦ inr (inr more) ]
 part_order (Output i) (Test l j) = inl tt
 part_order (Test k i) Itself = inr (inr tt)
 part_order (Test k i) (Input j) = inr (inr tt)
 part_order (Test k i) (Output j) = inr (inr tt)
-part_order (Test k i) (Test l j) = by (three k l) (three i j)
+part_order (Test k i) (Test l j) = by (cases_less_same k l) (cases_less_same i j)
   where
     by : (k < l) ⊎ (k ≡ l) ⊎ (l < k) → (i < j) ⊎ (i ≡ j) ⊎ (j < i) → PartBefore (Test k i) (Test l j) ⊎ (Test k i ≡ Test l j) ⊎ PartBefore (Test l j) (Test k i)
     by (inl less) place = inl (inl less)
@@ -52,7 +50,7 @@ inv_order : (k l : Option ℕ) (p q : Part) → InvBefore k p l q ⊎ ((k ≡ l)
 inv_order None None p q = elim (part_order p q) [ inl less ↦ inl less | inr (inl same) ↦ inr (inl (refl, same)) | inr (inr more) ↦ inr (inr more) ]
 inv_order None (Some l) p q = inr (inr tt)
 inv_order (Some k) None p q = inl tt
-inv_order (Some k) (Some l) p q = by (three k l) (part_order p q)
+inv_order (Some k) (Some l) p q = by (cases_less_same k l) (part_order p q)
   where
     by : (k < l) ⊎ (k ≡ l) ⊎ (l < k) → PartBefore p q ⊎ (p ≡ q) ⊎ PartBefore q p
         → InvBefore (Some k) p (Some l) q ⊎ ((◌≡◌ {A = Option ℕ} (Some k) (Some l)) × (p ≡ q)) ⊎ InvBefore (Some l) q (Some k) p
@@ -69,7 +67,7 @@ pub record SameSite (a b : Site) : Type 0 where
   pub part : a.part ≡ b.part
 
 site_order : (a b : Site) → SiteBefore a b ⊎ SameSite a b ⊎ SiteBefore b a
-site_order a b = by (three a.mode b.mode) (inv_order a.inv b.inv a.part b.part)
+site_order a b = by (cases_less_same a.mode b.mode) (inv_order a.inv b.inv a.part b.part)
   where
     by : (a.mode < b.mode) ⊎ (a.mode ≡ b.mode) ⊎ (b.mode < a.mode)
         → InvBefore a.inv a.part b.inv b.part ⊎ ((a.inv ≡ b.inv) × (a.part ≡ b.part)) ⊎ InvBefore b.inv b.part a.inv a.part → SiteBefore a b ⊎ SameSite a b ⊎ SiteBefore b a
@@ -81,7 +79,7 @@ site_order a b = by (three a.mode b.mode) (inv_order a.inv b.inv a.part b.part)
 
 -- two rules and places: one comes before the other, or they are the same
 pub order : (r q : FormRule) (a b : Site) → ComesBefore r a q b ⊎ ((number_of r ≡ number_of q) × SameSite a b) ⊎ ComesBefore q b r a
-order r q a b = by (three (number_of r) (number_of q)) (site_order a b)
+order r q a b = by (cases_less_same (number_of r) (number_of q)) (site_order a b)
   where
     by : (number_of r < number_of q) ⊎ (number_of r ≡ number_of q) ⊎ (number_of q < number_of r) → SiteBefore a b ⊎ SameSite a b ⊎ SiteBefore b a
         → ComesBefore r a q b ⊎ ((number_of r ≡ number_of q) × SameSite a b) ⊎ ComesBefore q b r a

@@ -14,7 +14,7 @@ use Rattle.htl_form.specs.WriterFaults.{stand_together}
 use Rattle.htl_form.specs.declared.owners.Owner.{Owner}
 use Rattle.htl_form.specs.declared.owners.Owner.TheVariants as owner
 use Rattle.htl_form.proofs.PathLaws.{rivals_apart}
-use Rattle.htl_model.proofs.TestLaws.{either, neither, both, same_number}
+use Rattle.std.proofs.lemmas.Bool.{and_parts, eqb-true, or_cases, or_parts}
 
 -- an invocation that takes a communicator from mode m
 record Taker (t : Tables) (m base c : ℕ) : Type 0 where
@@ -30,15 +30,15 @@ record Taker (t : Tables) (m base c : ℕ) : Type 0 where
 taker : (t : Tables) (m base c : ℕ) → is_taken t m base c ≡ true → Taker t m base c
 taker t m zero c h = cc
 taker t m (suc l) c h =
-    elim (either (is_taken t m l c) _ h) [
+    elim (or_cases (is_taken t m l c) _ h) [
       | inl before ↦ (let r = taker t m l c before in record { l = r.l; x = r.x; below = omega (arith, r.below); at = r.at; concrete = r.concrete; together = r.together; writes = r.writes })
       | inr here ↦ by (slice_get t.invs l) refl here
     ]
   where
     by : (o : Option Inv) → slice_get t.invs l ≡ o → takes t m c o ≡ true → Taker t m (suc l) c
     by (Some x) at h =
-        let p = both (is_concrete t x) _ h in
-        let q = both (stand_together t x.mode m) _ p.1 in
+        let p = and_parts (is_concrete t x) _ h in
+        let q = and_parts (stand_together t x.mode m) _ p.1 in
         record { l = l; x = x; below = omega arith; at = at; concrete = p.0; together = q.0; writes = q.1 }
     by None at h = cc
 
@@ -54,9 +54,9 @@ not_shared : (owners : List Owner) (u c : ℕ) (ends : List End) → list_any (i
 not_shared owners u c [] named free = cc
 not_shared owners u c (E.Port p ∷ ends) named free = not_shared owners u c ends named free
 not_shared owners u c (E.Comm d n ∷ ends) named free =
-    let none = neither (has_other (get_or owners d owner.Nobody) u) _ free in
-    elim (either (eqb d c) _ named) [
-      | inl here ↦ subst (λ z. has_other (get_or owners z owner.Nobody) u ≡ false) (same_number d c here) none.0
+    let none = or_parts (has_other (get_or owners d owner.Nobody) u) _ free in
+    elim (or_cases (eqb d c) _ named) [
+      | inl here ↦ subst (λ z. has_other (get_or owners z owner.Nobody) u ≡ false) (eqb-true d c here) none.0
       | inr later ↦ not_shared owners u c ends later none.1
     ]
 

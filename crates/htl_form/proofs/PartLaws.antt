@@ -14,25 +14,21 @@ use Rattle.htl_model.specs.Search.{Tests, at_inv, at_read, at_switch, at_mode}
 use Rattle.htl_model.proofs.FirstLaws.{or_else_some, or_else_none, none_at, found_at, IsFirstAt}
 use Rattle.htl_form.proofs.Finding.{Finds}
 use Rattle.htl_form.proofs.Judging.{Judges}
-
-pub none_some : {A : Type 0} (y : A) → ◌≡◌ {A = Option A} None (Some y) → ⊥
-none_some y e = cc
+use Rattle.std.proofs.lemmas.Bool.{eqb-true}
+use Rattle.std.proofs.lemmas.Option.{none-some}
 
 pub eqb_is : (m : ℕ) → eqb m m ≡ true
 eqb_is m = grind (arith, nat_tests)
 
-pub eqb_same : (x m : ℕ) → eqb x m ≡ true → x ≡ m
-eqb_same x m e = grind (arith, nat_tests)
-
 -- a choice that gives something is taken
 pub taken : {A : Type 0} (b : Bool) (o : Option A) (y : A) → cond b o None ≡ Some y → (b ≡ true) × (o ≡ Some y)
 taken true o y e = (refl, e)
-taken false o y e = absurd (none_some y e)
+taken false o y e = absurd (none-some y e)
 
 -- ---- nothing found, nothing broken
 
 not_found : (o : Found) (P : ℕ → ℕ → Type 0) → Finds o P → o ≡ None → (h n : ℕ) → P h n → ⊥
-not_found o P f none h n p = none_some (h, n) (sym none ∙ f.finds h n p)
+not_found o P f none h n p = none-some (h, n) (sym none ∙ f.finds h n p)
 
 inputs_none : (t : Tables) (f : Tests) (b : Breach) → Judges t f b → (k : ℕ) (i : Inv) → slice_get t.invs k ≡ Some i → first_from (f.input k i) 0 i.reads ≡ None
     → (j h n : ℕ) → PartBreaks b k i (Input j) h n → ⊥
@@ -171,7 +167,7 @@ mode_first t f b judge m x at h n e =
           let r = found_at (at_read f m) g.item.reads (h, n) here.1 in
           record {
             part = Test g.place r.place;
-            breaks = (g.item, g.at, eqb_same g.item.mode m here.0, r.item, r.at, (judge.test m r.item).says h n r.gives);
+            breaks = (g.item, g.at, eqb-true g.item.mode m here.0, r.item, r.at, (judge.test m r.item).says h n r.gives);
             least = before_test t f b judge m x at (h, n) two.0 g r;
           }
     ]

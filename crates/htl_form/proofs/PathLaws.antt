@@ -7,24 +7,25 @@ use Rattle.htl_model.specs.declared.parts.Module.{Module}
 use Rattle.htl_model.specs.Ranges.{AreInRange, parent_of, is_within}
 use Rattle.htl_model.specs.SecondWriters.{parent_mode, OnPath, itself, above, StandTogether}
 use Rattle.htl_model.specs.Tables.{Tables, mode_module}
-use Rattle.htl_model.proofs.TestLaws.{either, on_left, on_right, same_number, other_number}
 use Rattle.htl_form.specs.WriterFaults.{path, are_rivals, has_rival, stand_together}
+use Rattle.std.proofs.lemmas.Bool.{eqb-true, or_cases, or_left, or_right}
+use Rattle.htl_base.proofs.Tests.{eqb_apart}
 
 -- ---- the modes of a path
 
 -- a mode of the path that passes a test makes the list pass it
 path_passes : (t : Tables) (test : ℕ → Bool) (n m x : ℕ) → OnPath t m x → is_within n t (parent_mode t m) ≡ true → test x ≡ true → list_any test (path (suc n) t m) ≡ true
-path_passes t test n m x (itself _) within h = on_left (test m) _ h
+path_passes t test n m x (itself _) within h = or_left (test m) _ h
 path_passes t test zero m x (above _ p _ up q) within h = absurd (let no : false ≡ true = sym (ap (is_within 0 t) up) ∙ within in cc)
 path_passes t test (suc n) m x (above _ p _ up q) within h =
     let later : list_any test (path (suc n) t p) ≡ true = path_passes t test n p x q (sym (ap (is_within (suc n) t) up) ∙ within) h in
-    on_right (test m) _ (ap (λ (o : Option ℕ). list_any test (elim o [ Some y ↦ path (suc n) t y | None ↦ [] ])) up ∙ later)
+    or_right (test m) _ (ap (λ (o : Option ℕ). list_any test (elim o [ Some y ↦ path (suc n) t y | None ↦ [] ])) up ∙ later)
 
 -- and a list that passes it has such a mode
 passes_path : (t : Tables) (test : ℕ → Bool) (n m : ℕ) → list_any test (path n t m) ≡ true → (x : ℕ) × OnPath t m x × (test x ≡ true)
 passes_path t test zero m h = cc
 passes_path t test (suc n) m h =
-    elim (either (test m) _ h) [
+    elim (or_cases (test m) _ h) [
       | inl here ↦ (m, itself m, here)
       | inr later ↦ by (parent_mode t m) refl (λ p e. passes_path t test n p e) later
     ]
@@ -66,10 +67,10 @@ unfolding stand_together
 together_true t a b r h = λ x y on_a on_b same. by x y on_a on_b same (eqb x y) refl
   where
     by : (x y : ℕ) → OnPath t a x → OnPath t b y → mode_module t x ≡ mode_module t y → (c : Bool) → eqb x y ≡ c → x ≡ y
-    by x y on_a on_b same true e = same_number x y e
+    by x y on_a on_b same true e = eqb-true x y e
     by x y on_a on_b same false e =
         absurd (off _ h (path_passes t (has_rival t (path 8 t b)) 7 a x on_a (module_within t r (mode_module t a))
-        (path_passes t (are_rivals t x) 7 b y on_b (module_within t r (mode_module t b)) (rivals_true t x y same (other_number x y e)))))
+        (path_passes t (are_rivals t x) 7 b y on_b (module_within t r (mode_module t b)) (rivals_true t x y same (eqb_apart x y e)))))
 
 pub true_together : (t : Tables) (a b : ℕ) → StandTogether t a b → stand_together t a b ≡ true
 unfolding stand_together
@@ -87,4 +88,4 @@ true_together t a b h = by (list_any (has_rival t (path 8 t b)) (path 8 t a)) re
 pub rivals_apart : (t : Tables) (a b : ℕ) → mode_module t a ≡ mode_module t b → a ≢ b → stand_together t a b ≡ true → ⊥
 unfolding stand_together
 rivals_apart t a b same apart h =
-    off _ h (on_left (has_rival t (path 8 t b) a) _ (on_left (are_rivals t a b) _ (rivals_true t a b same apart)))
+    off _ h (or_left (has_rival t (path 8 t b) a) _ (or_left (are_rivals t a b) _ (rivals_true t a b same apart)))

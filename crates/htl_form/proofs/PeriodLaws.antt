@@ -10,19 +10,17 @@ use Rattle.htl_model.specs.PeriodRules.{asked_period, PeriodDiffers, NotDivided,
 use Rattle.htl_model.specs.Found.{unless}
 use Rattle.htl_form.specs.PeriodFaults.{unless_asked, module_period_fault, divides, divides_fault, end_divides_fault}
 use Rattle.htl_form.proofs.Finding.{Finds, finds_nothing, finds_unless}
+use Rattle.htl_base.proofs.Tests.{eqb_apart}
 
 -- two numbers that differ
 pub finds_equal : (x y : ℕ) → Finds (unless (eqb x y) x y) (λ h n. (h ≡ x) × (n ≡ y) × (h ≢ n))
 finds_equal x y =
-    finds_unless (eqb x y) x y (λ h n. (h ≡ x) × (n ≡ y) × (h ≢ n)) (λ off. (refl, refl, differ x y off)) (λ h m p. (same x y h m p.0 p.1 p.2, p.0, p.1))
+    finds_unless (eqb x y) x y (λ h n. (h ≡ x) × (n ≡ y) × (h ≢ n)) (λ off. (refl, refl, eqb_apart x y off)) (λ h m p. (same x y h m p.0 p.1 p.2, p.0, p.1))
   where
-    differ : (x y : ℕ) → eqb x y ≡ false → x ≢ y
-    differ x y e = grind (arith, nat_tests)
-
     same : (x y h m : ℕ) → h ≡ x → m ≡ y → h ≢ m → eqb x y ≡ false
     same x y h m a b c = grind (arith, nat_tests)
 
-inner : (x h : ℕ) → Some x ≡ Some h → h ≡ x
+pub inner : (x h : ℕ) → Some x ≡ Some h → h ≡ x
 inner x h e = cc
 
 pub finds_asked : (x : ℕ) (o : Option ℕ) → Finds (unless_asked x o) (λ h n. (h ≡ x) × (o ≡ Some n) × (h ≢ n))

@@ -15,16 +15,15 @@ use Rattle.htl_model.specs.Ranges.{AreInRange, IsInvInRange, IsEndInRange}
 use Rattle.htl_model.specs.Tables.{Tables}
 use Rattle.htl_form.proofs.Finding.{Finds, finds_nothing, finds_unless}
 use Rattle.htl_model.proofs.FirstLaws.{IsFirstAt, found_at, none_at}
-use Rattle.htl_form.proofs.Places.{taken_at, take_at, all_at}
 use Rattle.htl_model.specs.First.{or_else, first_from}
 use Rattle.htl_model.specs.Found.{Found, unless}
 use Rattle.htl_form.specs.PortFaults.{port_writer, first_port_writer, is_below, unwritten_fault, rewritten_fault, writers_before}
+use Rattle.htl_base.proofs.Places.{all_at, from_take, into_take}
+use Rattle.htl_form.proofs.AbstractLaws.{goes}
+use Rattle.std.proofs.lemmas.Bool.{cases_lt}
+use Rattle.htl_base.proofs.Tests.{eqb_some}
 
 -- ---- where a port is written
-
-is_port_is : (p : ℕ) (e : End) → is_port p e ≡ true → e ≡ E.Port p
-is_port_is p (E.Comm c n) h = cc
-is_port_is p (E.Port q) h = let is : q ≡ p = grind (arith, nat_tests) in ap (λ (x : ℕ). E.Port x) is
 
 pub is_port_same : (p : ℕ) → is_port p (E.Port p) ≡ true
 is_port_same p = grind (arith, nat_tests)
@@ -50,7 +49,7 @@ at_uses p [] h = absurd (omega arith)
 at_uses p (e ∷ ends) h = by (λ some. at_uses p ends some) (is_port p e) refl
   where
     by : (0 < port_uses p ends → (place : ℕ) × (slice_get ends place ≡ Some (E.Port p))) → (b : Bool) → is_port p e ≡ b → (place : ℕ) × (slice_get (e ∷ ends) place ≡ Some (E.Port p))
-    by later true is = (0, ap (λ (x : End). Some x) (is_port_is p e is))
+    by later true is = (0, ap (λ (x : End). Some x) (goes p e is))
     by later false is =
         let none : ◌≡◌ {A = ℕ} (cond (is_port p e) 1 0) 0 = ap (λ (b : Bool). cond b 1 0) is in
         let r = later (omega (arith, uses_cons p e ends, none)) in
@@ -103,13 +102,10 @@ pub room_left : (t : Tables) (invs : List Inv) (counts : List ℕ) (k : ℕ) (i 
 room_left t invs counts k i r same below is count p =
     let at : slice_get t.invs k ≡ Some i = ap (λ xs. slice_get xs k) (sym same) ∙ slice_get_read invs (length invs) k i refl below is in
     let few : length i.writes ≤ 256 = (all_at (IsInvInRange t) t.invs k i r.invs at).few_writes in
-    elim (order p (length counts)) [
+    elim (cases_lt p (length counts)) [
       | inl within ↦ omega (arith, count p within ∙ ap (λ xs. writers_in p (take k xs)) same, writers_few t p k r)
       | inr past ↦ omega (arith, get_or_past counts p 0 past)
     ]
-  where
-    order : (p n : ℕ) → (p < n) ⊎ (n ≤ p)
-    order p n = grind arith
 
 -- ---- the outputs before an output
 
@@ -119,11 +115,11 @@ before_at t p k i j at h =
     elim (order (writers_in p (take k t.invs)) (port_uses p (take j i.writes)) h) [
       | inl below ↦
           let r = at_writers p (take k t.invs) below in
-          let in_list = taken_at t.invs k r.0 r.2 r.3 in
+          let in_list = from_take t.invs k r.0 r.2 r.3 in
           (r.0, r.1, inl in_list.0, (r.2, in_list.1, r.4))
       | inr own ↦
           let r = at_uses p (take j i.writes) own in
-          let in_list = taken_at i.writes j r.0 (E.Port p) r.1 in
+          let in_list = from_take i.writes j r.0 (E.Port p) r.1 in
           (k, r.0, inr (refl, in_list.0), (i, at, in_list.1))
     ]
   where
@@ -132,12 +128,12 @@ before_at t p k i j at h =
 
 pub at_before : (t : Tables) (p k : ℕ) (i : Inv) (j l place : ℕ) → slice_get t.invs k ≡ Some i → OutputBefore l place k j → WritesPort t p l place → 0 < writers_before t p k i j
 at_before t p k i j l place at (inl less) w =
-    omega (arith, writers_at p (take k t.invs) l place w.0 (take_at t.invs k l w.0 less w.1) w.2)
+    omega (arith, writers_at p (take k t.invs) l place w.0 (into_take t.invs k l w.0 less w.1) w.2)
 at_before t p k i j l place at (inr same) w =
     let item : Some w.0 ≡ Some i = sym w.1 ∙ ap (slice_get t.invs) same.0 ∙ at in
     let is : w.0 ≡ i = cc in
     let here = subst (λ (y : Inv). slice_get y.writes place ≡ Some (E.Port p)) is w.2 in
-    omega (arith, uses_at p (take j i.writes) place (take_at i.writes j place (E.Port p) same.1 here))
+    omega (arith, uses_at p (take j i.writes) place (into_take i.writes j place (E.Port p) same.1 here))
 
 -- an output is not before itself, so fewer are before it than there are
 pub fewer_before : (t : Tables) (p k : ℕ) (i : Inv) (j : ℕ) → slice_get t.invs k ≡ Some i → slice_get i.writes j ≡ Some (E.Port p) → writers_before t p k i j < port_writers t p
@@ -206,7 +202,7 @@ first_below t p k = by (first_port_writer t p) refl
     by None e =
         no_count (writers_in p (take k t.invs)) (λ some.
         let w = at_writers p (take k t.invs) some in
-        let in_list = taken_at t.invs k w.0 w.2 w.3 in
+        let in_list = from_take t.invs k w.0 w.2 w.3 in
         not_given _ w.0 (at_writes p w.2 w.1 w.4) (none_at (port_writer p) t.invs e w.0 w.2 in_list.1))
     by (Some l) e = where_first (ltb l k) refl
       where
@@ -226,11 +222,11 @@ first_below t p k = by (first_port_writer t p) refl
         where_first true below =
             let place = writes_at p g.item here.0 in
             let low : g.place < k = omega (arith, less below, here.1) in
-            some_count (writers_in p (take k t.invs)) (writers_at p (take k t.invs) g.place place.0 g.item (take_at t.invs k g.place g.item low g.at) place.1)
+            some_count (writers_in p (take k t.invs)) (writers_at p (take k t.invs) g.place place.0 g.item (into_take t.invs k g.place g.item low g.at) place.1)
         where_first false past =
             no_count (writers_in p (take k t.invs)) (λ some.
             let w = at_writers p (take k t.invs) some in
-            let in_list = taken_at t.invs k w.0 w.2 w.3 in
+            let in_list = from_take t.invs k w.0 w.2 w.3 in
             let before : w.0 < g.place = omega (arith, at_least past, here.1, in_list.0) in
             not_given _ w.0 (at_writes p w.2 w.1 w.4) (g.before w.0 w.2 before in_list.1))
 
@@ -332,10 +328,7 @@ rewritten_is t k i j (E.Comm c n) r at out = finds_nothing
 rewritten_is t k i j (E.Port p) r at out =
     finds_unless (eqb (writers_before t p k i j) 0) (port_writers t p) 1 (Rewritten t k i j (E.Port p))
     (λ off. let w = before_at t p k i j at (some (writers_before t p k i j) off) in (refl, refl, w.0, w.1, w.2, w.3))
-    (λ h m q. (none (writers_before t p k i j) (at_before t p k i j q.2 q.3 at q.4 q.5), q.0, q.1))
+    (λ h m q. (eqb_some (writers_before t p k i j) (at_before t p k i j q.2 q.3 at q.4 q.5), q.0, q.1))
   where
     some : (x : ℕ) → eqb x 0 ≡ false → 0 < x
     some x e = grind (arith, nat_tests)
-
-    none : (x : ℕ) → 0 < x → eqb x 0 ≡ false
-    none x e = grind (arith, nat_tests)

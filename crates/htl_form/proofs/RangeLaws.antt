@@ -8,18 +8,16 @@ use Rattle.htl_model.specs.declared.parts.Inv.{Inv}
 use Rattle.htl_model.specs.Ranges.{AreInRange}
 use Rattle.htl_model.specs.Starts.{IsStartOf}
 use Rattle.htl_model.specs.Tables.{Tables}
-use Rattle.htl_form.proofs.Places.{item_at}
-use Rattle.htl_model.proofs.TestLaws.{equal}
 use Rattle.htl_form.specs.Cycles.{precedes_itself}
 use Rattle.htl_form.specs.Rows.{IsRangeOf, AreMarked}
+use Rattle.std.proofs.lemmas.Bool.{eq-eqb, cases_lt}
+use Rattle.htl_base.proofs.Places.{item_at}
+use Rattle.htl_base.proofs.Numbers.{cases_le}
 
 -- the starts don't fall
 pub starts_rise : (t : Tables) (m b e : ℕ) → IsStartOf t m b → IsStartOf t (m + 1) e → b ≤ e
-starts_rise t m b e s f = elim (order b e) [ inl h ↦ h | inr h ↦ absurd (no h) ]
+starts_rise t m b e s f = elim (cases_le b e) [ inl h ↦ h | inr h ↦ absurd (no h) ]
   where
-    order : (b e : ℕ) → (b ≤ e) ⊎ (e < b)
-    order b e = grind arith
-
     no : e < b → ⊥
     no h =
         let long = s.within in
@@ -47,7 +45,7 @@ range_is t m b e r s f =
     λ q i less at. (let low = s.above (b + q) i (omega arith) at in let high = f.below (b + q) i (omega arith) at in omega arith) in
     let long = f.within in
     let some : e - b ≤ count_by (λ i. eqb i.mode m) (take (b + (e - b)) t.invs) =
-    row_counts (λ i. eqb i.mode m) t.invs b (e - b) (omega arith) (λ q i less at. equal i.mode m (inside q i less at)) in
+    row_counts (λ i. eqb i.mode m) t.invs b (e - b) (omega arith) (λ q i less at. eq-eqb i.mode m (inside q i less at)) in
     let part : count_by (λ i. eqb i.mode m) (take (b + (e - b)) t.invs) ≤ count_by (λ i. eqb i.mode m) t.invs =
     sum_by-take-le (λ (i : Inv). cond (eqb i.mode m) 1 0) t.invs (b + (e - b)) in
     let few = r.few_in_mode m in
@@ -56,13 +54,10 @@ range_is t m b e r s f =
       few = omega arith;
       inside = inside;
       outside = λ k i at is. (
-        elim (order k b) [ inl less ↦ absurd (omega (arith, s.below k i less at)) | inr h ↦ h ],
-        elim (order k e) [ inl less ↦ omega arith | inr h ↦ absurd (omega (arith, f.above k i h at)) ],
+        elim (cases_lt k b) [ inl less ↦ absurd (omega (arith, s.below k i less at)) | inr h ↦ h ],
+        elim (cases_lt k e) [ inl less ↦ omega arith | inr h ↦ absurd (omega (arith, f.above k i h at)) ],
       );
     }
-  where
-    order : (k b : ℕ) → (k < b) ⊎ (b ≤ k)
-    order k b = grind arith
 
 -- one mode more whose invocations are marked
 pub marked_more : (t : Tables) (m base n : ℕ) (old new : List Bool) → IsRangeOf t m base n → AreMarked t base n old new

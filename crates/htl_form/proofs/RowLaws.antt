@@ -20,16 +20,15 @@ use Rattle.htl_model.specs.PortTable.{writes_to, is_from}
 use Rattle.htl_model.specs.Ranges.{AreInRange}
 use Rattle.htl_model.specs.Tables.{Tables}
 use Rattle.htl_form.proofs.CycleLaws.{leads_same, precedes_true, true_precedes}
-use Rattle.htl_model.proofs.TestLaws.{and_true, agree, below}
+use Rattle.htl_model.proofs.TestLaws.{and_true}
 use Rattle.htl_form.specs.Cycles.{precedes_itself}
 use Rattle.htl_form.specs.Rows.{IsRangeOf, widened, through_one, through_all, AreWriters, follows, AreSteps}
+use Rattle.htl_base.proofs.Tests.{same_truth}
+use Rattle.std.proofs.lemmas.Bool.{lt-ltb as below}
+use Rattle.htl_base.proofs.Places.{get_or_mapped}
+use Rattle.htl_base.proofs.Numbers.{cases_below_next}
 
 -- ---- rows of bits
-
-get_map : (g : ℕ → ℕ) (xs : List ℕ) (q : ℕ) → q < length xs → get_or (map g xs) q 0 ≡ g (get_or xs q 0)
-get_map g [] q h = absurd (omega arith)
-get_map g (x ∷ xs) zero h = refl
-get_map g (x ∷ xs) (suc q) h = get_map g xs q (omega arith)
 
 widened_bit : (other k row b : ℕ) → has_bit (widened other k row) b ≡ (has_bit row b || (has_bit row k && has_bit other b))
 widened_bit other k row b = by (has_bit row k)
@@ -44,7 +43,7 @@ widened_bit other k row b = by (has_bit row k)
 
 one_cell : (rows : List ℕ) (k a b : ℕ) → a < length rows → cell (through_one rows k) a b ≡ (cell rows a b || (cell rows a k && cell rows k b))
 one_cell rows k a b h =
-    ap (λ r. has_bit r b) (get_map (widened (get_or rows k 0) k) rows a h) ∙ widened_bit (get_or rows k 0) k (get_or rows a 0) b
+    ap (λ r. has_bit r b) (get_or_mapped (widened (get_or rows k 0) k) rows a h) ∙ widened_bit (get_or rows k 0) k (get_or rows a 0) b
 
 -- a row stands where it shares nothing with the number that has bit k alone
 pub widened_apart : (other bit k row : ℕ) → bit ≡ 2 ^ k → bit_and row bit ≡ 0 → row ≡ widened other k row
@@ -109,15 +108,12 @@ at_step f (x ∷ xs) (suc i) h = at_step f xs i (omega arith)
 pub one_row : (f : ℕ → ℕ → Bool) (rows : List ℕ) (b row n : ℕ) → b < length rows → ((x a : ℕ) → x < b → a < n → cell rows x a ≡ f x a)
     → ((a : ℕ) → a < n → has_bit row a ≡ f b a) → (x a : ℕ) → x < b + 1 → a < n → cell (set rows b row) x a ≡ f x a
 one_row f rows b row n within before here x a below is_a =
-    elim (order x b below) [
+    elim (cases_below_next x b below) [
       | inl less ↦
           let apart : x ≢ b = omega arith in
           ap (λ r. has_bit r a) (get_or-set_other rows b x row 0 apart) ∙ before x a less is_a
       | inr same ↦ subst (λ y. cell (set rows b row) y a ≡ f y a) (sym same) (ap (λ r. has_bit r a) (get_or-set_same rows b row 0 within) ∙ here a is_a)
     ]
-  where
-    order : (x b : ℕ) → x < b + 1 → (x < b) ⊎ (x ≡ b)
-    order x b h = grind arith
 
 -- ---- from the writers of each port to the steps
 
@@ -192,7 +188,7 @@ pub diagonal : (t : Tables) (m base n q : ℕ) (rows : List ℕ) → IsRangeOf t
     → cell (through_all n rows) q q ≡ precedes_itself t (base + q)
 diagonal t m base n q rows w long steps below =
     cell_below rows n q q long (omega arith) ∙ leads_same (cell rows) (follows t base n) n steps n q q (omega arith) below below
-    ∙ agree (leads_below (follows t base n) n q q) (precedes_itself t (base + q))
+    ∙ same_truth (leads_below (follows t base n) n q q) (precedes_itself t (base + q))
     (λ h. true_precedes t (base + q) (way_out t base n q q (leads_from (follows t base n) n q q h)))
     (λ h. leads_within (follows t base n) n (λ a b e. (unfold_follows t base n a b e).1) q q (back (way_in t m base n w (base + q) (base + q) (precedes_true t (base + q) h) q below refl)))
   where

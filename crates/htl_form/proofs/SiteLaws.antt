@@ -12,7 +12,9 @@ use Rattle.htl_model.specs.Found.{Found}
 use Rattle.htl_model.specs.Search.{Tests, at_inv, at_mode, told, inv_in_mode, in_mode}
 use Rattle.htl_model.proofs.FirstLaws.{or_else_some, or_else_none, none_at, found_at, IsFirstAt}
 use Rattle.htl_form.proofs.Judging.{Judges}
-use Rattle.htl_form.proofs.PartLaws.{none_some, eqb_is, eqb_same, taken, inv_none, inv_first, IsFirstPart, mode_none, mode_first, IsFirstOfMode}
+use Rattle.htl_form.proofs.PartLaws.{eqb_is, taken, inv_none, inv_first, IsFirstPart, mode_none, mode_first, IsFirstOfMode}
+use Rattle.std.proofs.lemmas.Bool.{eqb-true}
+use Rattle.std.proofs.lemmas.Option.{none-some}
 
 -- ---- a fault told with its site
 
@@ -28,7 +30,7 @@ pub record IsTold (n u m : ℕ) (k : Option ℕ) (o : Found) (f : FormFault) : T
   pub found : o ≡ Some (f.have, f.need)
 
 told_some : (n u m : ℕ) (k : Option ℕ) (o : Found) (f : FormFault) → told n u m k o ≡ Some f → IsTold n u m k o f
-told_some n u m k None f e = absurd (none_some f e)
+told_some n u m k None f e = absurd (none-some f e)
 told_some n u m k (Some p) f e =
     let same : ◌≡◌ {A = FormFault} (record { rule = n; «module» = u; mode = m; inv = k; have = p.0; need = p.1 }) f = cc in
     subst (λ g. IsTold n u m k (Some p) g) same (record { rule = refl; «module» = refl; mode = refl; inv = refl; found = refl })
@@ -92,7 +94,7 @@ first_inv t f b judge n m x fault g =
       «module» = tale.«module»;
       mode = tale.mode;
       part = first.part;
-      breaks = subst (λ o. BreaksAt t b m x o first.part fault.have fault.need) (sym tale.inv) (g.item, g.at, eqb_same g.item.mode m both.0, first.breaks);
+      breaks = subst (λ o. BreaksAt t b m x o first.part fault.have fault.need) (sym tale.inv) (g.item, g.at, eqb-true g.item.mode m both.0, first.breaks);
       least = subst (λ o. (k : Option ℕ) (q : Part) (a c : ℕ) → InvBefore k q o first.part → BreaksAt t b m x k q a c → ⊥) (sym tale.inv)
           (least_inv t f b judge n m x fault g fault.have fault.need first);
     }

@@ -16,19 +16,20 @@ use Rattle.htl_form.proofs.PortLaws.{given, not_given}
 use Rattle.htl_form.proofs.Finding.{Finds, finds_nothing}
 use Rattle.htl_model.proofs.FirstLaws.{found_at, none_at}
 use Rattle.htl_form.proofs.PathLaws.{together_true, true_together}
-use Rattle.htl_form.proofs.Places.{taken_at, take_at}
-use Rattle.htl_model.proofs.TestLaws.{either, on_left, on_right, equal, same_number, other_number}
 use Rattle.htl_form.specs.WriterFaults.{stand_together, hits, outputs_before, rivals, writer_before, first_writer, told_writer, writer_fault}
+use Rattle.std.proofs.lemmas.Bool.{eq-eqb, eqb-true, or_cases, or_left, or_right}
+use Rattle.htl_base.proofs.Tests.{eqb_apart}
+use Rattle.htl_base.proofs.Places.{from_take, into_take}
 
 -- ---- an end that hits
 
 hits_is : (same : Bool) (c n : ℕ) (e : End) → hits same c n e ≡ true → (o : ℕ) × (e ≡ E.Comm c o) × (same ≡ true → o ≡ n)
 hits_is same c n (E.Comm d o) h =
     let is : d ≡ c = grind (arith, nat_tests) in
-    (o, ap (λ (x : ℕ). E.Comm x o) is, λ on. equal same d o c n h on)
+    (o, ap (λ (x : ℕ). E.Comm x o) is, λ on. eq-eqb same d o c n h on)
   where
-    equal : (same : Bool) (d o c n : ℕ) → (eqb d c && (not same || eqb o n)) ≡ true → same ≡ true → o ≡ n
-    equal same d o c n h on = grind (arith, nat_tests)
+    eq-eqb : (same : Bool) (d o c n : ℕ) → (eqb d c && (not same || eqb o n)) ≡ true → same ≡ true → o ≡ n
+    eq-eqb same d o c n h on = grind (arith, nat_tests)
 hits_is same c n (E.Port p) h = cc
 
 hits_made : (same : Bool) (c n o : ℕ) → (same ≡ true → o ≡ n) → hits same c n (E.Comm c o) ≡ true
@@ -38,7 +39,7 @@ hits_made false c n o h = grind (arith, nat_tests)
 hit_at : (same : Bool) (c n : ℕ) (ends : List End) → list_any (hits same c n) ends ≡ true → (place o : ℕ) × (slice_get ends place ≡ Some (E.Comm c o)) × (same ≡ true → o ≡ n)
 hit_at same c n [] h = cc
 hit_at same c n (e ∷ ends) h =
-    elim (either (hits same c n e) _ h) [
+    elim (or_cases (hits same c n e) _ h) [
       | inl here ↦ let x = hits_is same c n e here in (0, x.0, ap (λ (y : End). Some y) x.1, x.2)
       | inr later ↦ let r = hit_at same c n ends later in (suc r.0, r.1, r.2, r.3)
     ]
@@ -48,10 +49,10 @@ hit_at same c n (e ∷ ends) h =
 pub before_at : (k j l : ℕ) (x : Inv) (place : ℕ) (e : End) → slice_get (outputs_before k j l x) place ≡ Some e → OutputBefore l place k j × (slice_get x.writes place ≡ Some e)
 before_at k j l x place e h = by (ltb l k) (eqb l k) refl refl h
   where
-    by : (less equal : Bool) → ltb l k ≡ less → eqb l k ≡ equal → slice_get (cond less x.writes (cond equal (take j x.writes) [])) place ≡ Some e
+    by : (less eq-eqb : Bool) → ltb l k ≡ less → eqb l k ≡ eq-eqb → slice_get (cond less x.writes (cond eq-eqb (take j x.writes) [])) place ≡ Some e
         → OutputBefore l place k j × (slice_get x.writes place ≡ Some e)
-    by true equal a b h = (inl (grind (arith, nat_tests)), h)
-    by false true a b h = let r = taken_at x.writes j place e h in let is : l ≡ k = grind (arith, nat_tests) in (inr (is, r.0), r.1)
+    by true eq-eqb a b h = (inl (grind (arith, nat_tests)), h)
+    by false true a b h = let r = from_take x.writes j place e h in let is : l ≡ k = grind (arith, nat_tests) in (inr (is, r.0), r.1)
     by false false a b h = cc
 
 pub at_before : (k j l : ℕ) (x : Inv) (place : ℕ) (e : End) → OutputBefore l place k j → slice_get x.writes place ≡ Some e → slice_get (outputs_before k j l x) place ≡ Some e
@@ -61,14 +62,14 @@ at_before k j l x place e (inl less) h =
 at_before k j l x place e (inr same) h =
     let is = same.0 in
     let test : ltb l k ≡ false = grind (arith, nat_tests) in
-    let equal : eqb l k ≡ true = grind (arith, nat_tests) in
-    ap (λ b. slice_get (cond b x.writes (cond (eqb l k) (take j x.writes) [])) place) test ∙ ap (λ b. slice_get (cond b (take j x.writes) []) place) equal ∙ take_at x.writes j place e same.1 h
+    let eq-eqb : eqb l k ≡ true = grind (arith, nat_tests) in
+    ap (λ b. slice_get (cond b x.writes (cond (eqb l k) (take j x.writes) [])) place) test ∙ ap (λ b. slice_get (cond b (take j x.writes) []) place) eq-eqb ∙ into_take x.writes j place e same.1 h
 
 -- ---- an invocation that writes the same before
 
 same_write : (t : Tables) (m o q n : ℕ) → AreInRange t → (b : Bool) → eqb m q ≡ b → (b || stand_together t m q) ≡ true → (b ≡ true → o ≡ n) → AreSameWrite t m o q n
-same_write t m o q n r true e h same = inl (same_number m q e, same refl)
-same_write t m o q n r false e h same = inr (other_number m q e, together_true t m q r h)
+same_write t m o q n r true e h same = inl (eqb-true m q e, same refl)
+same_write t m o q n r false e h same = inr (eqb_apart m q e, together_true t m q r h)
 
 pub writes_before : (t : Tables) (k : ℕ) (i : Inv) (j c n l : ℕ) (x : Inv) → AreInRange t → slice_get t.invs l ≡ Some x → rivals t i c n x (outputs_before k j l x) ≡ true → WritesBefore t k i j c n l
 writes_before t k i j c n l x r at h =
@@ -96,12 +97,12 @@ before_writes t k i j c n l x at w =
     join a b d p q r = grind (arith, nat_tests)
 
     both : (m o q n : ℕ) → AreSameWrite t m o q n → (eqb m q || stand_together t m q) ≡ true
-    both m o q n (inl e) = on_left (eqb m q) (stand_together t m q) (equal m q e.0)
-    both m o q n (inr e) = on_right (eqb m q) (stand_together t m q) (true_together t m q e.1)
+    both m o q n (inl e) = or_left (eqb m q) (stand_together t m q) (eq-eqb m q e.0)
+    both m o q n (inr e) = or_right (eqb m q) (stand_together t m q) (true_together t m q e.1)
 
     same : (m o q n : ℕ) → AreSameWrite t m o q n → eqb m q ≡ true → o ≡ n
     same m o q n (inl e) h = e.1
-    same m o q n (inr e) h = absurd (e.0 (same_number m q h))
+    same m o q n (inr e) h = absurd (e.0 (eqb-true m q h))
 
 told_is : (c : ℕ) (o : Option ℕ) (h m : ℕ) → told_writer c o ≡ Some (h, m) → (o ≡ Some h) × (m ≡ c)
 told_is c (Some l) h m e =

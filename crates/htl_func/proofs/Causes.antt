@@ -4,7 +4,7 @@ use Rattle.htl_base.specs.declared.Ty.{Ty}
 use Rattle.htl_base.specs.declared.Ty.TheVariants.{Int as IntTy, Bool as BoolTy}
 use Rattle.htl_model.specs.declared.function.Code.{Code}
 use Rattle.htl_model.specs.Functions.{Term, Number, Truth, Arg, Unary, Binary, Choose, type_of, type_one, held}
-use Rattle.htl_fcode.proofs.Operators.{IsTyped-type_one, AreTyped-type_two, IsTypedChoice-type_choose, AreTyped-choices}
+use Rattle.htl_fcode.proofs.Operators.{IsTyped-type_one, AreTyped-type_two, IsTypedChoice-type_choose, AreTyped-same_type}
 use Rattle.htl_func.specs.declared.compiler.FnFault.{FnFault}
 use Rattle.htl_func.specs.declared.compiler.FnFault.TheVariants.{IllTyped, Deep, Memory}
 use Rattle.htl_func.specs.Expressions.{first_ill, ill_typed, or_else, at_fault, unless_type}
@@ -24,7 +24,7 @@ first_ill-typed args (Binary token op l r) t h =
     rw (first_ill-typed args l y.left.type y.left.is, first_ill-typed args r y.right.type y.right.is) (ap (at_fault token) h)
 first_ill-typed args (Choose token c a b) t h =
     let w = IsTypedChoice-type_choose (type_of args c) (type_of args a) (type_of args b) t h in
-    let y = AreTyped-choices (type_of args a) (type_of args b) t w.choices in
+    let y = AreTyped-same_type (type_of args a) (type_of args b) t w.choices in
     rw (first_ill-typed args c BoolTy w.condition, first_ill-typed args a y.left.type y.left.is, first_ill-typed args b y.right.type y.right.is)
     (ap (at_fault token) h)
 

@@ -31,7 +31,7 @@ not_both : (bytes : List ℕ) (r : Read Lists) (o : Object) (m : Malformed) → 
 not_both bytes (Ok x) o m p q = cc
 not_both bytes (Err bad) o m p q = cc
 
-one_bad_field : (b : Option Malformed) (m n : Malformed) → b ≡ Some m → b ≡ Some n → m ≡ n
+pub one_bad_field : (b : Option Malformed) (m n : Malformed) → b ≡ Some m → b ≡ Some n → m ≡ n
 one_bad_field b m n p q = let both : ◌≡◌ {A = Option Malformed} (Some m) (Some n) = sym p ∙ q in cc
 
 -- bytes with a bad field are refused for it alone

@@ -24,6 +24,7 @@ use Rattle.htl_walk.specs.PathMisses.{IsPathMiss}
 use Rattle.htl_walk.specs.Walk.{first_point, worst_cases}
 use Rattle.htl_walk.specs.declared.miss.Miss.{Miss}
 use Rattle.htl_walk.specs.declared.schedule.SInstr.{SInstr}
+use Rattle.htl_base.proofs.Numbers.{cases_less_same}
 
 departs : (d : Option EFault) (e : EFault) → d ≡ None → d ≡ Some e → ⊥
 departs None e p q = cc
@@ -31,7 +32,7 @@ departs (Some x) e p q = cc
 
 -- ---- tables that break a rule are not formed, and so on
 
-not_formed : (t : Tables) (f : FormFault) → Formed t → IsFirstBroken t f → ⊥
+pub not_formed : (t : Tables) (f : FormFault) → Formed t → IsFirstBroken t f → ⊥
 not_formed t f formed b = formed b.law (site_of f b.part) f.have f.need b.broken
 
 not_spelled : (o : Object) (e : EFault) → IsSpelled o → departure o.tables o.ecode ≡ Some e → ⊥
@@ -52,11 +53,8 @@ no_frame_fault o f range b two =
 
 -- ---- one first fault
 
-either : (a b : ℕ) → (a < b) ⊎ (a ≡ b) ⊎ (b < a)
-either a b = grind arith
-
-one_unfit : (t : Tables) (k n : ℕ) → IsFirstUnfit t k → IsFirstUnfit t n → k ≡ n
-one_unfit t k n p q = elim (either k n) [
+pub one_unfit : (t : Tables) (k n : ℕ) → IsFirstUnfit t k → IsFirstUnfit t n → k ≡ n
+one_unfit t k n p q = elim (cases_less_same k n) [
   | inl less ↦ absurd (p.here (q.first k (omega arith) less))
   | inr (inl same) ↦ same
   | inr (inr more) ↦ absurd (q.here (p.first n (omega arith) more))
@@ -66,7 +64,7 @@ one_departure : (d : Option EFault) (e f : EFault) → d ≡ Some e → d ≡ So
 one_departure d e f p q = let both : ◌≡◌ {A = Option EFault} (Some e) (Some f) = sym p ∙ q in cc
 
 one_schedule : (t : Tables) (lists : List (List SInstr)) (j k : ℕ) (m n : Miss) → IsFirstFailing t lists j m → IsFirstFailing t lists k n → ◌≡◌ {A = ObjectFault} (fault.Schedule j m) (fault.Schedule k n)
-one_schedule t lists j k m n p q = by (either j k)
+one_schedule t lists j k m n p q = by (cases_less_same j k)
   where
     by : (j < k) ⊎ (j ≡ k) ⊎ (k < j) → ◌≡◌ {A = ObjectFault} (fault.Schedule j m) (fault.Schedule k n)
     by (inl less) = absurd (p.refused (q.before j less))

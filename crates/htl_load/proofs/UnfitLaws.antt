@@ -3,10 +3,11 @@ use Rattle.std.proofs.Common.{◌≡◌, ◌<◌, ℕ, ◌+◌, List, length, ge
 use Rattle.htl_model.specs.declared.parts.Task.{Task}
 use Rattle.htl_model.specs.Tables.{Tables, function_count, count_at}
 use Rattle.htl_load.specs.Unfit.{FitBetween}
-use Rattle.htl_object.proofs.FunctionPlaces.{either, outputs_count}
+use Rattle.htl_object.proofs.FunctionPlaces.{outputs_count}
+use Rattle.std.proofs.lemmas.Bool.{cases_lt}
 
 pub fit_on : (t : Tables) (from mid to : ℕ) → FitBetween t from mid → FitBetween t mid to → FitBetween t from to
-fit_on t from mid to h g = λ k a b. elim (either k mid) [ inl less ↦ h k a less | inr more ↦ g k more b ]
+fit_on t from mid to h g = λ k a b. elim (cases_lt k mid) [ inl less ↦ h k a less | inr more ↦ g k more b ]
 
 pub fit_to : (t : Tables) (from a b : ℕ) → a ≡ b → FitBetween t from a → FitBetween t from b
 fit_to t from a b e h = subst (FitBetween t from) e h

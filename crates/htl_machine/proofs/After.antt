@@ -1,7 +1,7 @@
 -- An instant once its parts are done: what the calls said carries the machine to the next.
 use Rattle.std.proofs.Common.{◌≡◌, ℕ, zero, suc, ◌-◌, cond, ◌&&◌, leb, get_or, ◌⊎◌, ◌≤◌, ◌<◌, ◌^◌, Bool, true, false, eqb, List, [], ◌∷◌, ◌++◌, length, Option, Some, None, ℤ, refl, sym, ap, ap₂, ◌∙◌, subst, arith, inl, inr}
 use Rattle.std.specs.List.{All}
-use Rattle.std.proofs.lemmas.Bool.{eqb-true}
+use Rattle.std.proofs.lemmas.Bool.{eqb-true, cases_lt}
 use Rattle.std.proofs.lemmas.List.{get_or-map, get_or_past, length-map}
 use Rattle.std.proofs.lemmas.Option.{slice_get_past}
 use Rattle.htl_model.specs.declared.event.Event.{Event}
@@ -58,13 +58,13 @@ use Rattle.htl_machine.proofs.Following.{instant_values}
 use Rattle.htl_machine.proofs.Meeting.{next_is, switch_values}
 use Rattle.htl_machine.proofs.LoadedLists.{loaded_code}
 use Rattle.htl_machine.proofs.Showing.{sensors_are}
-use Rattle.htl_walk.proofs.Work.{all_at}
 use Rattle.htl_machine.proofs.LoadedRecords.{loaded_lines}
 use Rattle.htl_machine.proofs.Ready.{node_known}
 use Rattle.htl_machine.proofs.NextStands.{IsScheduleOf, owed_before, owed_are, beginning, going, going_s_machine, going_on, list_over, begun_s_machine, begun_goes}
 use Rattle.htl_machine.proofs.ToBegin.{is_to_begin}
 use Rattle.htl_object.proofs.NodeCounts.{nodes_few}
 use Rattle.htl_machine.proofs.Wholly.{modes_read, counted, whole_instant}
+use Rattle.htl_base.proofs.Places.{each_at}
 
 -- ---- lengths that are kept
 
@@ -81,12 +81,9 @@ never_took t i u at (V.Took j n ∷ es) none h = ap (λ x. last_took i u at x es
     by true false e = refl
     by true true e = absurd (omega (arith, h.0.0, h.0.1, ap (inv_worst t) (eqb-true i j e), none))
 
-order : (a n : ℕ) → (a < n) ⊎ (n ≤ a)
-order a n = grind arith
-
 -- each schedule is short
 short_at : (ss : List Schedule) → All IsShort ss → (k : ℕ) → length (get_or (instrs_of ss) k []) ≤ 4294967295
-short_at ss all k = elim (order k (length ss)) [
+short_at ss all k = elim (cases_lt k (length ss)) [
   | inl less ↦ (let x : Schedule = record { instrs = [] } in
       subst (λ (is : List SInstr). length is ≤ 4294967295) (sym (get_or-map (λ (s : Schedule). s.instrs) ss k x [] less)) (all k x less))
   | inr past ↦ subst (λ (is : List SInstr). length is ≤ 4294967295) (sym (get_or_past (instrs_of ss) k [] (let same : length (instrs_of ss) ≡ length ss = length-map ss (λ (s : Schedule). s.instrs) in omega (arith, past, same)))) (omega arith)
@@ -116,7 +113,7 @@ module _ (m : Seen) (es : List Event) (now : ℕ) (accepted : IsAccepted m.objec
 
     sensed_is : w3 ≡ with_sensors t (sense t es) now a.w2
     sensed_is =
-        sensors_are t es now m.run_state.shows a.w2 w3 (λ c x at. let s : 0 < x.period = omega (arith, (all_at IsCommInRange t.comms loaded.range.comms c x at).period.some) in s)
+        sensors_are t es now m.run_state.shows a.w2 w3 (λ c x at. let s : 0 < x.period = omega (arith, (each_at IsCommInRange t.comms loaded.range.comms c x at).period.some) in s)
         (λ c less. u.kept.shows c now less (omega (arith, u.kept.reading, read))) (subst (λ z. AreShown t m.run_state.shows z now a.w2 w3) same a.sensors)
 
     -- the values that the switches ask for
@@ -233,7 +230,7 @@ module _ (m : Seen) (es : List Event) (now : ℕ) (accepted : IsAccepted m.objec
       u.before.records.s_machine (schedule_own steps idle by none) r.stands rec
 
   takes_are : (i v : ℕ) → now ≤ v → get_or m.run_state.takes i 0 ≡ took t es i v
-  takes_are i v later = elim (order i (length t.invs)) [
+  takes_are i v later = elim (cases_lt i (length t.invs)) [
     | inl less ↦ sym (u.kept.takes i v less (omega (arith, u.kept.reading, read, later)))
     | inr past ↦ (let none : inv_worst t i ≡ 0 = ap (λ (o : Option Inv). elim o as (λ _. ℕ) [ Some x ↦ task_worst t x.task | None ↦ 0 ]) (slice_get_past t.invs i past) in
         get_or_past m.run_state.takes i 0 (omega (arith, past, u.kept.count)) ∙ sym (ap (λ x. last_took i v 0 x es) none ∙ never_took t i v 0 es none u.kept.within))

@@ -25,6 +25,7 @@ use Rattle.htl_machine.specs.Doing.{path_lines}
 use Rattle.htl_machine.specs.Texts.{e_line}
 use Rattle.htl_refine.proofs.Standing.{standing_at}
 use Rattle.htl_machine.proofs.Printing.{joined-append}
+use Rattle.std.proofs.lemmas.Bool.{cases_lt}
 
 -- ---- modes
 
@@ -34,14 +35,11 @@ none_past modes k h = ap (λ (o : Option (Option ℕ)). elim o [ Some x ↦ x | 
 -- where the modules of the tables have the modes of an instant, so have all numbers
 modes_stand : (t : Tables) (es : List Event) (now : ℕ) (c : Calendar) → AreInRange t → length c.modes ≤ length t.modules
     → ((k : ℕ) → k < length t.modules → list_at c.modes k ≡ mode_in_state (state t es now) k) → (k : ℕ) → list_at c.modes k ≡ mode_in_state (state t es now) k
-modes_stand t es now c range sized below k = elim (order k (length t.modules)) [
+modes_stand t es now c range sized below k = elim (cases_lt k (length t.modules)) [
   | inl h ↦ below k h
   | inr h ↦ none_past c.modes k (omega (arith, h, sized)) ∙ sym (nowhere (stay_of (state t es now).stays k) refl h)
 ]
   where
-    order : (a n : ℕ) → (a < n) ⊎ (n ≤ a)
-    order a n = grind arith
-
     nowhere : (o : Option Stay) → stay_of (state t es now).stays k ≡ o → length t.modules ≤ k → mode_in_state (state t es now) k ≡ None
     nowhere None e h = ap mode_of e
     nowhere (Some y) e h = absurd (omega (arith, h, (standing_at t range es now).known k y e))

@@ -1,6 +1,6 @@
 -- What the blocks of an instant ask for.
 use Rattle.std.proofs.Common.{◌≡◌, ℕ, zero, suc, ◌+◌, ◌-◌, ◌*◌, ◌≤◌, ◌<◌, Bool, true, false, cond, ◌&&◌, eqb, List, [], ◌∷◌, ◌++◌, length, slice_get, map, Option, Some, None, refl, sym, ap, ◌∙◌, subst, arith, ◌⊎◌, inl, inr}
-use Rattle.std.proofs.lemmas.Bool.{eqb-true, eq-eqb}
+use Rattle.std.proofs.lemmas.Bool.{eqb-true, eq-eqb, and_parts, and_from}
 use Rattle.htl_model.specs.declared.parts.Inv.{Inv}
 use Rattle.htl_model.specs.declared.parts.End.{End}
 use Rattle.htl_model.specs.declared.parts.End.TheVariants as E
@@ -15,8 +15,8 @@ use Rattle.htl_ecode.specs.Chains.{Want, Does, all_do, waits_for, release_of, re
 use Rattle.htl_machine.specs.Worlds.{wanted_writes, wanted_reads, all_writes, all_reads}
 use Rattle.htl_machine.specs.Values.{EndIsMet, IsDue, IsRead}
 use Rattle.htl_refine.proofs.Standing.{IsStanding}
-use Rattle.htl_walk.proofs.Finishes.{some_same}
-use Rattle.htl_machine.proofs.Plain.{split, both}
+use Rattle.std.proofs.lemmas.Option.{same_Some}
+use Rattle.htl_base.proofs.Numbers.{cases_below}
 
 abbrev pub In : {A : Type 0} → A → List A → Type 0
 In a [] = ⊥
@@ -81,7 +81,7 @@ asks_up_to j f (suc n) h = by_part (asks_split j (up_to f n) (f n) h) (asks_up_t
 
 pub up_to_asks : (j : EInstr) (f : ℕ → List Want) (n u : ℕ) → u < n → AsksFor j (f u) → AsksFor j (up_to f n)
 up_to_asks j f zero u h a = absurd (omega arith)
-up_to_asks j f (suc n) u h a = by_part (split u n h) (λ g. up_to_asks j f n u g a)
+up_to_asks j f (suc n) u h a = by_part (cases_below u n h) (λ g. up_to_asks j f n u g a)
   where
     by_part : (u < n) ⊎ (u ≡ n) → (u < n → AsksFor j (up_to f n)) → AsksFor j (up_to f n ++ f n)
     by_part (inl g) ih = asks_left j (up_to f n) (f n) (ih g)
@@ -94,7 +94,7 @@ numbered_in (x ∷ xs) q n (inr h) = let r = numbered_in xs (suc q) n h in (suc 
 
 pub in_numbered : {A : Type 0} (xs : List A) (q d : ℕ) (x : A) → slice_get xs d ≡ Some x → In (q + d, x) (numbered q xs)
 in_numbered [] q d x e = absurd (let z : ⊥ = cc in z)
-in_numbered {A} (y ∷ xs) q zero x e = inl (same (q + 0) q x y (omega arith) (sym (some_same _ _ e)))
+in_numbered {A} (y ∷ xs) q zero x e = inl (same (q + 0) q x y (omega arith) (sym (same_Some _ _ e)))
   where
     same : (a b : ℕ) (c d : A) → a ≡ b → c ≡ d → ◌≡◌ {A = ℕ × A} (a, c) (b, d)
     same a b c d e f = cc
@@ -120,7 +120,7 @@ offset_in t o q k (e ∷ ends) h = by_test (meets t o e) refl h (offset_in t o (
 in_offset : (t : Tables) (o q d : ℕ) (ends : List End) (e : End) → slice_get ends d ≡ Some e → meets t o e ≡ true → In (q + d) (places_at t o q ends)
 in_offset t o q d [] e at m = absurd (let z : ⊥ = cc in z)
 in_offset t o q zero (f ∷ ends) e at m =
-    let yes : meets t o f ≡ true = ap (meets t o) (some_same _ _ at) ∙ m in
+    let yes : meets t o f ≡ true = ap (meets t o) (same_Some _ _ at) ∙ m in
     subst (λ b. In (q + 0) (cond b (q ∷ places_at t o (suc q) ends) (places_at t o (suc q) ends))) (sym yes) (inl (let g : q + 0 ≡ q = omega arith in g))
 in_offset t o q (suc d) (f ∷ ends) e at m =
     let ih : In (q + suc d) (places_at t o (suc q) ends) = subst (λ z. In z (places_at t o (suc q) ends)) (let g : suc q + d ≡ q + suc d = omega arith in g) (in_offset t o (suc q) d ends e at m) in
@@ -172,7 +172,7 @@ module _ (make : ℕ → ℕ → EInstr) (ends : Inv → List End) (apart : (a b
           let e = apart n.0 r.0 i k r.2 in
           let d = offset_in t o 0 r.0 (ends n.1) r.1 in
           let c = meets_is t o d.2 d.4 in
-          let b = both (eqb n.1.mode m) (is_concrete t n.1) is in
+          let b = and_parts (eqb n.1.mode m) (is_concrete t n.1) is in
           record {
             inv = n.1;
             comm = c.0;
@@ -192,16 +192,13 @@ module _ (make : ℕ → ℕ → EInstr) (ends : Inv → List End) (apart : (a b
 
   calls : (m o i k : ℕ) → IsCalled ends t m o i k → AsksFor (make i k) (all_do (joined (calls_of make ends t m o) (numbered 0 t.invs)))
   calls m o i k c =
-      let yes : counts t m c.inv ≡ true = both_true (eqb c.inv.mode m) (is_concrete t c.inv) (eq-eqb c.inv.mode m c.mode) c.concrete in
+      let yes : counts t m c.inv ≡ true = and_from (eqb c.inv.mode m) (is_concrete t c.inv) (eq-eqb c.inv.mode m c.mode) c.concrete in
       let meet : meets t o (E.Comm c.comm c.instance) ≡ true = eq-eqb (c.instance * comm_period t c.comm) o c.at in
       let place : In k (places_at t o 0 (ends c.inv)) =
       subst (λ z. In z (places_at t o 0 (ends c.inv))) (let z : 0 + k ≡ k = omega arith in z) (in_offset t o 0 k (ends c.inv) (E.Comm c.comm c.instance) c.end meet) in
       joined_asks (make i k) (calls_of make ends t m o) (numbered 0 t.invs) (i, c.inv)
       (subst (λ z. In (z, c.inv) (numbered 0 t.invs)) (let z : 0 + i ≡ i = omega arith in z) (in_numbered t.invs 0 i c.inv c.known))
       (subst (λ b. AsksFor (make i k) (all_do (cond b (map (make i) (places_at t o 0 (ends c.inv))) []))) (sym yes) (map_asks (make i) (places_at t o 0 (ends c.inv)) k place))
-    where
-      both_true : (a b : Bool) → a ≡ true → b ≡ true → (a && b) ≡ true
-      both_true a b e f = grind arith
 
 -- ---- what else the chains ask for
 

@@ -12,7 +12,7 @@ use Rattle.htl_walk.specs.declared.schedule.SInstr.{SInstr}
 use Rattle.htl_walk.specs.declared.schedule.SInstr.TheVariants.{Dispatch, Idle, End}
 use Rattle.htl_walk.specs.declared.schedule.Schedule.{Schedule}
 use Rattle.htl_walk.specs.Walk.{Point, Left, job_at, time_after, work_after, next_point, left_by, walk_from, finishes_by}
-use Rattle.htl_walk.proofs.Steps.{left_same}
+use Rattle.htl_walk.proofs.Steps.{left_same, time_passes}
 use Rattle.htl_smach.specs.Rounds.{Round, Stands, round_begun}
 use Rattle.htl_ecode.specs.declared.ecode.ECode.{ECode}
 use Rattle.htl_emach.specs.Calendars.{Calendar}
@@ -43,9 +43,10 @@ use Rattle.htl_machine.specs.Starting.{instrs_of}
 use Rattle.htl_machine.specs.Texts.{record_text, some_records}
 use Rattle.htl_machine.proofs.Closings.{reads_second}
 use Rattle.htl_machine.proofs.Modes.{modes_are}
-use Rattle.htl_walk.proofs.Finishes.{some_same}
 use Rattle.htl_refine.proofs.RecordOrder.{not_some}
 use Rattle.htl_machine.proofs.Turning.{before_count}
+use Rattle.htl_walk.proofs.Clean.{passes}
+use Rattle.std.proofs.lemmas.Option.{same_Some}
 
 -- ---- the list
 
@@ -99,31 +100,22 @@ has_begun_so t code ss es at takes last r c range between h list is idle steps s
 
 -- ---- its first records
 
--- a job takes until behind the beginning of the list that finishes it
-runs_on : (now w r until : ℕ) → 0 < w → work_after now w r until ≡ 0 → now < time_after now w r until
-runs_on now zero r until h e = absurd (omega (arith, h))
-runs_on now (suc w) r until h e = omega (arith, e)
-
-stays_behind : (now w r until : ℕ) → now ≤ time_after now w r until
-stays_behind now zero r until = omega arith
-stays_behind now (suc w) r until = omega arith
-
 finishes_late : (jobs : List Job) (is : List SInstr) (x : Point) (k q : ℕ) (l : Left) → slice_get (walk_from jobs is x) k ≡ Some l → l.position ≡ Some q → l.finished ≡ true → x.time < l.at
 finishes_late jobs [] x k q l at pos fin = not_some l at
 finishes_late jobs (Dispatch p until ∷ is) x zero q l at pos fin =
     let y = next_point jobs (Dispatch p until) x in
-    let e : left_by jobs (Dispatch p until) x y ≡ l = some_same _ _ at in
+    let e : left_by jobs (Dispatch p until) x y ≡ l = same_Some _ _ at in
     let late : x.time < y.time = by (get_or x.left p 0) (get_or y.left p 0) (left_same x.left p x.time (job_at jobs p).release until) (ap (λ (z : Left). z.finished) e ∙ fin) in
     omega (arith, late, ap (λ (z : Left). z.at) e)
   where
     by : (w v : ℕ) → v ≡ work_after x.time w (job_at jobs p).release until → finishes_by w v ≡ true → x.time < time_after x.time w (job_at jobs p).release until
     by zero v e f = absurd (let z : ⊥ = cc in z)
-    by (suc w) zero e f = runs_on x.time (suc w) (job_at jobs p).release until (omega arith) (sym e)
+    by (suc w) zero e f = passes x.time (suc w) (job_at jobs p).release until (omega arith) (sym e)
     by (suc w) (suc v) e f = absurd (let z : ⊥ = cc in z)
-finishes_late jobs (Idle until ∷ is) x zero q l at pos fin = let e = some_same _ _ at in not_some q (ap (λ (z : Left). z.position) e ∙ pos)
-finishes_late jobs (End ∷ is) x zero q l at pos fin = let e = some_same _ _ at in not_some q (ap (λ (z : Left). z.position) e ∙ pos)
+finishes_late jobs (Idle until ∷ is) x zero q l at pos fin = let e = same_Some _ _ at in not_some q (ap (λ (z : Left). z.position) e ∙ pos)
+finishes_late jobs (End ∷ is) x zero q l at pos fin = let e = same_Some _ _ at in not_some q (ap (λ (z : Left). z.position) e ∙ pos)
 finishes_late jobs (Dispatch p until ∷ is) x (suc k) q l at pos fin =
-    omega (arith, stays_behind x.time (get_or x.left p 0) (job_at jobs p).release until, finishes_late jobs is (next_point jobs (Dispatch p until) x) k q l at pos fin)
+    omega (arith, time_passes x.time (get_or x.left p 0) (job_at jobs p).release until, finishes_late jobs is (next_point jobs (Dispatch p until) x) k q l at pos fin)
 finishes_late jobs (Idle until ∷ is) x (suc k) q l at pos fin = omega (arith, finishes_late jobs is (next_point jobs (Idle until) x) k q l at pos fin)
 finishes_late jobs (End ∷ is) x (suc k) q l at pos fin = finishes_late jobs is x k q l at pos fin
 

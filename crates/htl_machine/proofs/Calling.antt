@@ -2,7 +2,7 @@
 use Rattle.std.proofs.Common.{◌≡◌, ℕ, zero, suc, ◌≤◌, ◌<◌, false, cond, ◌&&◌, eqb, leb, true, List, [], ◌∷◌, ◌++◌, length, map, get_or, slice_get, IfSome, Option, Some, None, ℤ, pos, refl, sym, ap, ap₂, ◌∙◌, subst, arith}
 use Rattle.std.proofs.lemmas.Bool.Decides.{nat_tests}
 use Rattle.std.proofs.lemmas.List.{length-map, length-set}
-use Rattle.std.proofs.lemmas.Option.{slice_get_within}
+use Rattle.std.proofs.lemmas.Option.{slice_get_within, same_Some}
 use Rattle.htl_model.specs.declared.event.Event.{Event}
 use Rattle.htl_model.specs.declared.event.Event.TheVariants as V
 use Rattle.htl_model.specs.declared.parts.Comm.{Comm}
@@ -43,7 +43,6 @@ use Rattle.htl_machine.proofs.Accepted.{accepted_is_loaded}
 use Rattle.htl_machine.proofs.Counting.{totals_start}
 use Rattle.htl_machine.proofs.Events.{Alike, sense_at, sense_took, sense_sense}
 use Rattle.htl_refine.proofs.RecordOrder.{not_some}
-use Rattle.htl_walk.proofs.Finishes.{some_same}
 use Rattle.htl_machine.proofs.JobWindows.{position_some}
 use Rattle.htl_machine.proofs.Taking.{new_follows}
 use Rattle.htl_machine.proofs.LoadedRecords.{loaded_jobs, loaded_s, loaded_e}
@@ -185,7 +184,7 @@ position_worst m es i n p accepted length f found =
         let h = position_some 0 m.run_state.s_machine.jobs i p found in
         let at : slice_get u.plan.jobs h.0 ≡ Some h.2 = ap (λ (js : List Job). slice_get js h.0) (sym same) ∙ h.3 in
         let st = of h.0 h.2 at h.4 in
-        let inv_is : st.0 ≡ length.inv = some_same _ _ (sym st.1 ∙ ap (λ z. slice_get t.invs z) h.5 ∙ length.known) in
+        let inv_is : st.0 ≡ length.inv = same_Some _ _ (sym st.1 ∙ ap (λ z. slice_get t.invs z) h.5 ∙ length.known) in
         let here : job_at m.run_state.s_machine.jobs p ≡ h.2 =
         ap (λ z. job_at m.run_state.s_machine.jobs z) (let z : p ≡ h.0 = omega (arith, h.1) in z) ∙ ap (λ (o : Option Job). elim o [ Some j ↦ j | None ↦ absent_job ]) h.3 in
         let worst : (job_at m.run_state.s_machine.jobs p).worst ≡ task_worst t length.inv.task = ap (λ (z : Job). z.worst) here ∙ st.3 ∙ ap (λ (z : Inv). task_worst t z.task) inv_is in

@@ -1,6 +1,6 @@
 -- A whole instant of all modules: the world follows on.
 use Rattle.std.proofs.Common.{◌≡◌, ℕ, suc, ◌+◌, ◌*◌, ◌≤◌, ◌<◌, Bool, true, false, List, [], length, get_or, slice_get, Option, Some, None, pos, sym, ap, ◌∙◌, subst, arith, ◌⊎◌, inl, inr}
-use Rattle.std.proofs.lemmas.Option.{slice_get_within}
+use Rattle.std.proofs.lemmas.Option.{slice_get_within, same_Some}
 use Rattle.htl_model.specs.declared.event.Event.{Event}
 use Rattle.htl_model.specs.declared.parts.Inv.{Inv}
 use Rattle.htl_model.specs.declared.parts.End.TheVariants as E
@@ -15,7 +15,6 @@ use Rattle.htl_emach.specs.Contents.{Content, buffer, comm_of}
 use Rattle.htl_machine.specs.Worlds.{effects, all_writes, all_reads, with_sensors, world_after}
 use Rattle.htl_emach.specs.Contents as contents
 use Rattle.htl_machine.specs.Values.{InvStands, AreDistinct, out_val, ValuesFollow, HasPlaces, Ready, AreCarried}
-use Rattle.htl_walk.proofs.Finishes.{some_same}
 use Rattle.htl_refine.proofs.Standing.{standing_at, stood}
 use Rattle.htl_machine.proofs.Standing.{standing_before}
 use Rattle.htl_machine.proofs.Asked.{AsksFor, read_of, read_asks, no_write_read, no_read_write}
@@ -80,10 +79,10 @@ module _ (t : Tables) (range : AreInRange t) (kept : KeptApart t 12) (es : List 
   read_instant i k c n s x st at a =
       let r = read_of t (state t es now).stays now now (standing_at t range es now) (omega arith) i k a in
       let d = r.1 in
-      let item : d.inv ≡ x = some_same _ _ (sym d.stands.known ∙ st.known) in
+      let item : d.inv ≡ x = same_Some _ _ (sym d.stands.known ∙ st.known) in
       let one : ◌≡◌ {A = Stay} (record { mode = d.inv.mode; start = d.start }) (record { mode = x.mode; start = s }) =
-      some_same _ _ (sym d.stands.in_round ∙ ap (λ (z : Inv). stay_of (state t es now).stays (mode_module t z.mode)) item ∙ st.in_round) in
-      let end : E.Comm r.0 d.instance ≡ E.Comm c n = some_same _ _ (sym d.end ∙ ap (λ (z : Inv). slice_get z.reads k) item ∙ at) in
+      same_Some _ _ (sym d.stands.in_round ∙ ap (λ (z : Inv). stay_of (state t es now).stays (mode_module t z.mode)) item ∙ st.in_round) in
+      let end : E.Comm r.0 d.instance ≡ E.Comm c n = same_Some _ _ (sym d.end ∙ ap (λ (z : Inv). slice_get z.reads k) item ∙ at) in
       let comm : r.0 ≡ c = cc in
       let place : d.instance ≡ n = cc in
       ap (λ z. z + n * comm_period t c) (sym (ap (λ (z : Stay). z.start) one)) ∙ ap (λ z. d.start + z * comm_period t c) (sym place) ∙ ap (λ z. d.start + d.instance * comm_period t z) (sym comm) ∙ d.at

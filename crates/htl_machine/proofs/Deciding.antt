@@ -19,7 +19,7 @@ use Rattle.htl_refine.specs.FrameRuns.{frame_at}
 use Rattle.htl_refine.specs.Records.{rounds_before}
 use Rattle.htl_machine.specs.Lines.{record_lines, list_lines, old_lines, new_lines, lines, text_before}
 use Rattle.htl_machine.proofs.Events.{Alike, state_same, before_same}
-use Rattle.htl_machine.proofs.InstantRecords.{up_to_none}
+use Rattle.htl_refine.proofs.RecordLists.{up_to_none}
 
 -- no record has a line then
 no_lines : (t : Tables) (jobs : List Job) (r : RunningList) (ls : List (ℕ × Left)) → joined (record_lines t Values jobs r) ls ≡ []

@@ -1,6 +1,6 @@
 -- No communicator is written twice at once, where the rule on concrete writers is kept.
 use Rattle.std.proofs.Common.{◌≡◌, ◌≢◌, ℕ, zero, suc, ◌*◌, ◌/◌, ◌<◌, true, false, eqb, List, [], ◌∷◌, length, slice_get, Option, Some, None, refl, sym, ap, ◌∙◌, arith, ◌⊎◌, inl, inr}
-use Rattle.std.proofs.lemmas.Bool.{eqb-true, eq-eqb}
+use Rattle.std.proofs.lemmas.Bool.{eqb-true, eq-eqb, cases_eq}
 use Rattle.std.proofs.Math.Nat.{mul-div_cancel}
 use Rattle.htl_model.specs.declared.parts.Comm.{Comm}
 use Rattle.htl_model.specs.declared.parts.End.TheVariants as E
@@ -14,16 +14,11 @@ use Rattle.htl_model.specs.FrameRules.{KeptApart}
 use Rattle.htl_model.specs.Meaning.{stay_of, runs}
 use Rattle.htl_machine.specs.Values.{IsDue, AreDistinct}
 use Rattle.htl_refine.proofs.Standing.{IsStanding}
-use Rattle.htl_walk.proofs.Finishes.{some_same}
-use Rattle.htl_walk.proofs.Work.{all_at}
-use Rattle.htl_machine.proofs.Plain.{apart}
+use Rattle.htl_base.proofs.Places.{each_at, item_at}
+use Rattle.std.proofs.lemmas.Option.{same_Some}
+use Rattle.htl_base.proofs.Numbers.{times_same, cases_less_more}
 
-pub there : {A : Type 0} (xs : List A) (k : ℕ) → k < length xs → (x : A) × (slice_get xs k ≡ Some x)
-there [] k h = absurd (omega arith)
-there (x ∷ xs) zero h = (x, refl)
-there (x ∷ xs) (suc k) h = there xs k (omega arith)
-
--- where a number with a property is no least one, there is none
+-- where a number with a property is no least one, item_at is none
 pub no_least : (P : ℕ → Type 0) → ((l : ℕ) → P l → ((m : ℕ) → m < l → P m → ⊥) → ⊥) → (l : ℕ) → P l → ⊥
 no_least P f l p = by_bound (suc l) l (omega arith) p
   where
@@ -54,18 +49,12 @@ together : (t : Tables) (stays : List (Option Stay)) (n a b : ℕ) → IsStandin
 together t stays n a b st ra rb x y px py same =
     let rx = runs_is t stays x (path_runs t stays n a x st px ra) in
     let ry = runs_is t stays y (path_runs t stays n b y st py rb) in
-    let one : rx.0 ≡ ry.0 = some_same _ _ (sym rx.1 ∙ ap (stay_of stays) same ∙ ry.1) in
+    let one : rx.0 ≡ ry.0 = same_Some _ _ (sym rx.1 ∙ ap (stay_of stays) same ∙ ry.1) in
     sym rx.2 ∙ ap (λ (z : Stay). z.mode) one ∙ ry.2
 
-times_same : (a b p : ℕ) → 0 < p → a * p ≡ b * p → a ≡ b
-times_same a b p h e = sym (mul-div_cancel a h) ∙ ap (λ z. z / p) e ∙ mul-div_cancel b h
-
 outputs_apart : (i k j l : ℕ) → OutputBefore i k j l ⊎ (OutputBefore j l i k ⊎ ((i ≡ j) × (k ≡ l)))
-outputs_apart i k j l = by_inv (order i j) (order k l)
+outputs_apart i k j l = by_inv (cases_less_more i j) (cases_less_more k l)
   where
-    order : (a b : ℕ) → (a < b) ⊎ ((b < a) ⊎ (a ≡ b))
-    order a b = grind arith
-
     by_inv : (i < j) ⊎ ((j < i) ⊎ (i ≡ j)) → (k < l) ⊎ ((l < k) ⊎ (k ≡ l)) → OutputBefore i k j l ⊎ (OutputBefore j l i k ⊎ ((i ≡ j) × (k ≡ l)))
     by_inv (inl a) b = inl (inl a)
     by_inv (inr (inl a)) b = inr (inl (inl a))
@@ -76,27 +65,27 @@ outputs_apart i k j l = by_inv (order i j) (order k l)
 module _ (t : Tables) (range : AreInRange t) (kept : KeptApart t 12) (stays : List (Option Stay)) (n now : ℕ) (standing : IsStanding t stays n) where
   -- the instance is the same where the mode is
   same_write : (i k j l c : ℕ) (a : IsDue t stays now i k c) (b : IsDue t stays now j l c) → AreSameWrite t a.inv.mode a.instance b.inv.mode b.instance
-  same_write i k j l c a b = by_mode (apart a.inv.mode b.inv.mode)
+  same_write i k j l c a b = by_mode (cases_eq a.inv.mode b.inv.mode)
     where
       by_mode : (a.inv.mode ≡ b.inv.mode) ⊎ (a.inv.mode ≢ b.inv.mode) → AreSameWrite t a.inv.mode a.instance b.inv.mode b.instance
       by_mode (inr d) =
           inr (d, together t stays n a.inv.mode b.inv.mode standing (stay_runs t stays a.inv.mode a.start a.stands.in_round) (stay_runs t stays b.inv.mode b.start b.stands.in_round))
       by_mode (inl e) =
           let one : ◌≡◌ {A = Stay} (record { mode = a.inv.mode; start = a.start }) (record { mode = b.inv.mode; start = b.start }) =
-          some_same _ _ (sym a.stands.in_round ∙ ap (λ m. stay_of stays (mode_module t m)) e ∙ b.stands.in_round) in
+          same_Some _ _ (sym a.stands.in_round ∙ ap (λ m. stay_of stays (mode_module t m)) e ∙ b.stands.in_round) in
           let start : a.start ≡ b.start = ap (λ (z : Stay). z.start) one in
-          let inv = all_at (IsInvInRange t) t.invs range.invs i a.inv a.stands.known in
-          let end : IsEndInRange t a.inv.mode (E.Comm c a.instance) = all_at (IsEndInRange t a.inv.mode) a.inv.writes inv.writes k (E.Comm c a.instance) a.end in
-          let comm = there t.comms c end.0 in
-          let span = (all_at IsCommInRange t.comms range.comms c comm.0 comm.1).period in
+          let inv = each_at (IsInvInRange t) t.invs range.invs i a.inv a.stands.known in
+          let end : IsEndInRange t a.inv.mode (E.Comm c a.instance) = each_at (IsEndInRange t a.inv.mode) a.inv.writes inv.writes k (E.Comm c a.instance) a.end in
+          let comm = item_at t.comms c end.0 in
+          let span = (each_at IsCommInRange t.comms range.comms c comm.0 comm.1).period in
           let period : comm_period t c ≡ comm.0.period = ap (λ (o : Option Comm). elim o [ Some x ↦ x.period | None ↦ 0 ]) comm.1 in
           inl (e, times_same a.instance b.instance (comm_period t c) (omega (arith, span.some, period)) (omega (arith, a.at, b.at, start)))
 
   -- the earlier of two writes of one communicator breaks the rule
   not_twice : (i k j l c : ℕ) → IsDue t stays now i k c → IsDue t stays now j l c → OutputBefore i k j l → ⊥
   not_twice i k j l c a b earlier =
-      let inv = all_at (IsInvInRange t) t.invs range.invs j b.inv b.stands.known in
-      let mode = there t.modes b.inv.mode inv.owner in
+      let inv = each_at (IsInvInRange t) t.invs range.invs j b.inv b.stands.known in
+      let mode = item_at t.modes b.inv.mode inv.owner in
       no_least (WritesBefore t j b.inv l c b.instance)
       (λ h w least.
       kept ConcreteWriters (record { mode = b.inv.mode; inv = Some j; part = Output l }) h c (omega arith) (λ e. omega (arith, e))

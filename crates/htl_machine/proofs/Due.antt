@@ -1,6 +1,6 @@
 -- The write that the meaning finds is one that is due, and where it finds none, none is.
 use Rattle.std.proofs.Common.{◌≡◌, ℕ, zero, suc, ◌+◌, ◌*◌, Bool, true, false, cond, ◌&&◌, eqb, List, [], ◌∷◌, slice_get, Option, Some, None, refl, sym, ap, ◌∙◌, arith}
-use Rattle.std.proofs.lemmas.Bool.{eqb-true, eq-eqb}
+use Rattle.std.proofs.lemmas.Bool.{eqb-true, eq-eqb, and_parts}
 use Rattle.htl_model.specs.declared.parts.Inv.{Inv}
 use Rattle.htl_model.specs.declared.parts.End.{End}
 use Rattle.htl_model.specs.declared.parts.End.TheVariants as E
@@ -9,9 +9,8 @@ use Rattle.htl_model.specs.declared.state.Write.{Write}
 use Rattle.htl_model.specs.Tables.{Tables, comm_period, mode_module, is_concrete}
 use Rattle.htl_model.specs.Meaning.{stay_of, end_to, in_round, round_start, write_in, with_start, write_from}
 use Rattle.htl_machine.specs.Values.{InvStands, IsDue}
-use Rattle.htl_walk.proofs.Finishes.{some_same}
 use Rattle.htl_refine.proofs.RecordOrder.{not_some}
-use Rattle.htl_machine.proofs.Plain.{both}
+use Rattle.std.proofs.lemmas.Option.{same_Some}
 
 found_end : (t : Tables) (c s now q o : ℕ) (ends : List End) → end_to t c s now q ends ≡ Some o
     → (d : ℕ) × (o ≡ q + d) × (n : ℕ) × (slice_get ends d ≡ Some (E.Comm c n)) × (s + n * comm_period t c ≡ now)
@@ -23,15 +22,15 @@ found_end t c s now q o (E.Comm d n ∷ ends) e = by_test (eqb c d && eqb (s + n
         → (end_to t c s now (suc q) ends ≡ Some o → (d : ℕ) × (o ≡ suc q + d) × (n : ℕ) × (slice_get ends d ≡ Some (E.Comm c n)) × (s + n * comm_period t c ≡ now))
         → (e : ℕ) × (o ≡ q + e) × (m : ℕ) × (slice_get (E.Comm d n ∷ ends) e ≡ Some (E.Comm c m)) × (s + m * comm_period t c ≡ now)
     by_test true is g ih =
-        let h = both (eqb c d) (eqb (s + n * comm_period t d) now) is in
+        let h = and_parts (eqb c d) (eqb (s + n * comm_period t d) now) is in
         let same : c ≡ d = eqb-true c d h.0 in
-        let place : q ≡ o = some_same _ _ g in
+        let place : q ≡ o = same_Some _ _ g in
         (0, omega (arith, place), n, ap (λ z. Some (E.Comm z n)) (sym same), ap (λ z. s + n * comm_period t z) same ∙ eqb-true (s + n * comm_period t d) now h.1)
     by_test false is g ih = let r = ih g in (suc r.0, omega (arith, r.1), r.2, r.3, r.4)
 
 no_end : (t : Tables) (c s now q : ℕ) (ends : List End) → end_to t c s now q ends ≡ None → (d n : ℕ) → slice_get ends d ≡ Some (E.Comm c n) → s + n * comm_period t c ≡ now → ⊥
 no_end t c s now q [] e d n at h = not_some (E.Comm c n) at
-no_end t c s now q (E.Port p ∷ ends) e zero n at h = let z : E.Port p ≡ E.Comm c n = some_same _ _ at in cc
+no_end t c s now q (E.Port p ∷ ends) e zero n at h = let z : E.Port p ≡ E.Comm c n = same_Some _ _ at in cc
 no_end t c s now q (E.Port p ∷ ends) e (suc d) n at h = no_end t c s now (suc q) ends e d n at h
 no_end t c s now q (E.Comm a m ∷ ends) e d n at h = by_test (eqb c a && eqb (s + m * comm_period t a) now) refl e d at (λ g j f. no_end t c s now (suc q) ends g j n f h)
   where
@@ -41,7 +40,7 @@ no_end t c s now q (E.Comm a m ∷ ends) e d n at h = by_test (eqb c a && eqb (s
     by_test true is g d at ih = not_some q (sym g)
     by_test false is g (suc d) at ih = ih g d at
     by_test false is g zero at ih =
-        let z : E.Comm a m ≡ E.Comm c n = some_same _ _ at in
+        let z : E.Comm a m ≡ E.Comm c n = same_Some _ _ at in
         let first : a ≡ c = cc in
         let second : m ≡ n = cc in
         let yes : (eqb c a && eqb (s + m * comm_period t a) now) ≡ true =
@@ -65,7 +64,7 @@ round_stands t stays i s x at e = by_test (is_concrete t x) refl e
             record {
               known = at;
               concrete = con;
-              in_round = is ∙ ap (λ z. Some (record { mode = z; start = y.start })) (eqb-true y.mode x.mode m) ∙ ap (λ z. Some (record { mode = x.mode; start = z })) (some_same _ _ g);
+              in_round = is ∙ ap (λ z. Some (record { mode = z; start = y.start })) (eqb-true y.mode x.mode m) ∙ ap (λ z. Some (record { mode = x.mode; start = z })) (same_Some _ _ g);
             }
         by_mode false m g = not_some s g
 
@@ -91,7 +90,7 @@ found_in t stays c now k x w at e = by_round (round_start t stays x) refl e
         by_end None f h = not_some w h
         by_end (Some o) f h =
             let r = found_end t c s now 0 o x.writes f in
-            let y : ◌≡◌ {A = Write} (record { inv = k; start = s; output = o }) w = some_same _ _ h in
+            let y : ◌≡◌ {A = Write} (record { inv = k; start = s; output = o }) w = same_Some _ _ h in
             let inv : k ≡ w.inv = ap (λ (z : Write). z.inv) y in
             let out : o ≡ w.output = ap (λ (z : Write). z.output) y in
             let begin : s ≡ w.start = ap (λ (z : Write). z.start) y in
@@ -134,7 +133,7 @@ no_write t stays c now q (y ∷ xs) e j s k n x at r en h = by_item (write_in t 
     by_item (Some v) is g j at ih = not_some v (sym g)
     by_item None is g (suc j) at ih = ih g j at
     by_item None is g zero at ih =
-        let same : y ≡ x = some_same _ _ at in
+        let same : y ≡ x = same_Some _ _ at in
         let none : write_in t c now q x.writes (Some s) ≡ None = ap (write_in t c now q x.writes) (sym r) ∙ ap (λ (z : Inv). write_in t c now q z.writes (round_start t stays z)) (sym same) ∙ is in
         no_end t c s now 0 x.writes (none_in (end_to t c s now 0 x.writes) none) k n en h
 

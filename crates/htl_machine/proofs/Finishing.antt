@@ -2,7 +2,7 @@
 use Rattle.std.proofs.Common.{◌≡◌, ◌≢◌, ℕ, zero, suc, ◌+◌, ◌<◌, Bool, true, false, ◌||◌, eqb, List, [], ◌∷◌, ◌++◌, length, get_or, slice_get, set, map, Option, Some, None, ℤ, pos, refl, sym, ap, ap₂, ◌∙◌, subst, arith, ◌⊎◌, inl, inr}
 use Rattle.std.proofs.lemmas.Bool.{eqb-true, eqb-false}
 use Rattle.std.proofs.lemmas.List.{get_or-set_same, get_or-set_other, length-set}
-use Rattle.std.proofs.lemmas.Option.{slice_get_within}
+use Rattle.std.proofs.lemmas.Option.{slice_get_within, same_Some}
 use Rattle.htl_base.specs.declared.Ty.{Ty}
 use Rattle.htl_model.specs.declared.event.Event.{Event}
 use Rattle.htl_model.specs.declared.parts.Inv.{Inv}
@@ -18,9 +18,10 @@ use Rattle.htl_emach.specs.Contents.{Content, buffer, argument, arguments, made,
 use Rattle.htl_emach.proofs.Completing.{concrete_task}
 use Rattle.htl_emach.proofs.Soundness.{has_ends}
 use Rattle.htl_machine.specs.Values.{InvStands, HasReadInputs, Orders, and_also, HasPlaces, ValuesFollow, out_val}
-use Rattle.htl_walk.proofs.Finishes.{some_same}
 use Rattle.htl_machine.proofs.Outs.{writer_is, writer_stands, out_stable, below, below_less, below_more}
-use Rattle.htl_machine.proofs.Plain.{length-list_to}
+use Rattle.htl_model.proofs.Listed.{length-list_to}
+use Rattle.htl_base.proofs.Numbers.{cases_below}
+use Rattle.htl_base.proofs.Tests.{or_second}
 
 -- ---- lists made place by place
 
@@ -35,13 +36,10 @@ get_end [] y (suc k) h = absurd (omega arith)
 get_end (x ∷ xs) y zero h = absurd (omega arith)
 get_end (x ∷ xs) y (suc k) h = get_end xs y k (omega arith)
 
-split : (k n : ℕ) → k < suc n → (k < n) ⊎ (k ≡ n)
-split k n h = grind arith
-
 pub list_to_at : (f : ℕ → ℤ) (n k : ℕ) → k < n → get_or (list_to f n) k (pos 0) ≡ f k
 list_to_at f zero k h = absurd (omega arith)
 list_to_at f (suc n) k h =
-    elim (split k n h) [
+    elim (cases_below k n h) [
       | inl q ↦ get_front (list_to f n) (f n ∷ []) k (omega (arith, length-list_to f n)) ∙ list_to_at f n k q
       | inr q ↦ get_end (list_to f n) (f n) k (q ∙ sym (length-list_to f n)) ∙ ap f (sym q)
     ]
@@ -104,9 +102,9 @@ module _ (t : Tables) (range : AreInRange t) (kept : KeptApart t 12) (es : List 
       ap (λ bs. buffer bs j k) put ∙ ap (λ row. get_or row k (pos 0)) (get_or-set_other w.outputs i j (made t x.task (arguments t w i x)) [] other) ∙ follows.outputs j y u k sj was h
   outputs_are shape j y u k sj fin h true is =
       let same : j ≡ i = eqb-true j i is in
-      let item : y ≡ x = some_same _ _ (sym sj.known ∙ ap (slice_get t.invs) same ∙ st.known) in
+      let item : y ≡ x = same_Some _ _ (sym sj.known ∙ ap (slice_get t.invs) same ∙ st.known) in
       let one : ◌≡◌ {A = Stay} (record { mode = y.mode; start = u }) (record { mode = x.mode; start = s }) =
-      some_same _ _ (sym sj.in_round ∙ ap (λ (z : Inv). stay_of (before t es now).stays (mode_module t z.mode)) item ∙ st.in_round) in
+      same_Some _ _ (sym sj.in_round ∙ ap (λ (z : Inv). stay_of (before t es now).stays (mode_module t z.mode)) item ∙ st.in_round) in
       let start : u ≡ s = ap (λ (z : Stay). z.start) one in
       ap (λ bs. buffer bs j k) put
       ∙ ap (λ z. buffer (set w.outputs i (made t x.task (arguments t w i x))) z k) same
@@ -119,13 +117,9 @@ module _ (t : Tables) (range : AreInRange t) (kept : KeptApart t 12) (es : List 
   finish_follows shape =
       record {
         values = follows.values;
-        inputs = λ j y u k c n sj fin at h. follows.inputs j y u k c n sj (not_before (eqb j i) (finished j) fin) at h;
+        inputs = λ j y u k c n sj fin at h. follows.inputs j y u k c n sj (or_second (eqb j i) (finished j) fin) at h;
         outputs = λ j y u k sj fin h. outputs_are shape j y u k sj fin h (eqb j i) refl;
       }
-    where
-      not_before : (a b : Bool) → (a || b) ≡ false → b ≡ false
-      not_before true b e = absurd (let z : ⊥ = cc in z)
-      not_before false b e = e
 
 -- the shape stays
 pub completed_shape : (t : Tables) (i : ℕ) (w : Content) → HasPlaces t w → HasPlaces t (completed t i w)

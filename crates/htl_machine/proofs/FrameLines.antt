@@ -2,7 +2,7 @@
 use Rattle.std.proofs.Common.{◌≡◌, ◌≢◌, ◌≤◌, ◌<◌, ◌⊎◌, inl, inr, ℕ, zero, suc, ◌+◌, ◌-◌, ◌*◌, ◌/◌, ◌%◌, Bool, true, false, cond, ◌&&◌, eqb, ltb, leb, List, [], ◌∷◌, ◌++◌, map, slice_get, Option, Some, None, option_map, refl, sym, ap, ap₂, ◌∙◌, arith, append-nil}
 use Rattle.std.specs.List.{filter}
 use Rattle.std.proofs.Math.Nat.{div-add-mod, mod-lt, mul-le-mul_right}
-use Rattle.std.proofs.lemmas.Bool.{eqb-true, ltb-true, ltb-false, leb-true}
+use Rattle.std.proofs.lemmas.Bool.{eqb-true, ltb-true, ltb-false, leb-true, and_parts}
 use Rattle.htl_model.specs.declared.event.Event.{Event}
 use Rattle.htl_model.specs.Frames.{node}
 use Rattle.htl_model.specs.Lists.{joined, numbered, up_to}
@@ -20,17 +20,14 @@ use Rattle.htl_machine.specs.JobLines.{RunLine, closed_slice_line, job_lines_of,
 use Rattle.htl_machine.specs.JobLines.RunLine.{SliceLine, DoneLine}
 use Rattle.htl_machine.specs.Texts.{inv_at}
 use Rattle.htl_machine.proofs.JobLines.{none_first, begins_silent, joined-up_to}
-use Rattle.htl_machine.proofs.LineBytes.{both_true}
 use Rattle.htl_machine.proofs.Printing.{joined-append}
 use Rattle.htl_machine.proofs.RecordTimes.{nothing, joined_none, at_now, before_now, in_order}
-use Rattle.htl_machine.proofs.InstantRecords.{up_to_none}
 use Rattle.htl_machine.proofs.ListRecords.{silent_at}
 use Rattle.htl_machine.proofs.WorkingRecords.{DoesWork}
+use Rattle.htl_base.proofs.Numbers.{cases_less_same}
+use Rattle.htl_refine.proofs.RecordLists.{up_to_none}
 
 -- ---- numbers of frames
-
-three : (k n : ℕ) → (k < n) ⊎ ((k ≡ n) ⊎ (n < k))
-three k n = grind arith
 
 -- where frame n isn't one of those that began before, the instant is no later than its start
 not_begun : (h n now : ℕ) → 0 < h → rounds_before h now ≤ n → now ≤ n * h
@@ -44,7 +41,7 @@ not_begun h n now some few =
 
 -- frames that have an instant in common are one
 frames_apart : (h k n at : ℕ) → k ≢ n → k * h < at → at ≤ k * h + h → n * h < at → at ≤ n * h + h → ⊥
-frames_apart h k n at other a b c d = elim (three k n) [
+frames_apart h k n at other a b c d = elim (cases_less_same k n) [
   | inl less ↦ let next : suc k * h ≤ n * h = mul-le-mul_right h less in let is : suc k * h ≡ k * h + h = grind arith in omega (arith, next, is, b, c)
   | inr (inl same) ↦ other same
   | inr (inr more) ↦ let next : suc n * h ≤ k * h = mul-le-mul_right h more in let is : suc n * h ≡ n * h + h = grind arith in omega (arith, next, is, a, d)
@@ -52,7 +49,7 @@ frames_apart h k n at other a b c d = elim (three k n) [
 
 up_to_one : {X : Type 0} (g : ℕ → List X) (n m : ℕ) → ((k : ℕ) → k ≢ n → g k ≡ []) → (m ≤ n → g n ≡ []) → up_to g m ≡ g n
 up_to_one g n zero other late = sym (late (omega arith))
-up_to_one {X} g n (suc m) other late = elim (three m n) [
+up_to_one {X} g n (suc m) other late = elim (cases_less_same m n) [
   | inl less ↦ up_to_none g (suc m) (λ k few. other k (λ same. omega (arith, same, few, less))) ∙ sym (late (omega (arith, less)))
   | inr (inl same) ↦ ap₂ (λ (xs ys : List X). xs ++ ys) (up_to_none g m (λ k few. other k (λ e. omega (arith, e, few, same)))) (ap g same)
   | inr (inr more) ↦ ap₂ (λ (xs ys : List X). xs ++ ys) (up_to_one g n m other (λ few. absurd (omega (arith, few, more)))) (other m (λ e. omega (arith, e, more))) ∙ append-nil (g n)
@@ -155,7 +152,7 @@ module _ {X : Type 0} (h : RunLine → List X) where
         where
           by : (b : Bool) → (ltb s at && leb at e) ≡ b → b ≡ false
           by false is = refl
-          by true is = let both = both_true (ltb s at) (leb at e) is in absurd (not (ltb-true s at both.0) (leb-true at e both.1))
+          by true is = let both = and_parts (ltb s at) (leb at e) is in absurd (not (ltb-true s at both.0) (leb-true at e both.1))
 
       module _ (long n : ℕ) (some : 0 < long) (first : n * long ≤ s) (last : e ≤ n * long + long)
           (working : (k i : ℕ) (l : Left) → slice_get (walk_of (frame (k * long))) i ≡ Some l → DoesWork l → (0 < l.at) × (l.at ≤ long) × ((u : ℕ × ℕ) → l.slice ≡ Some u → u.1 ≡ l.at)) where

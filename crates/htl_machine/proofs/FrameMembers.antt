@@ -10,31 +10,30 @@ use Rattle.htl_refine.specs.FramePlaces.{place}
 use Rattle.htl_refine.specs.FrameRuns.{running_places}
 use Rattle.htl_refine.proofs.Inherit.{map_at}
 use Rattle.htl_refine.proofs.ListsFollow.{begins_by}
-use Rattle.htl_refine.proofs.Members.{front_at, back_at, in_flat}
-use Rattle.htl_walk.proofs.Finishes.{some_same}
+use Rattle.htl_refine.proofs.Members.{in_flat}
 use Rattle.htl_refine.proofs.RecordOrder.{not_some}
+use Rattle.htl_base.proofs.Places.{get_front, into_back}
+use Rattle.std.proofs.lemmas.Option.{same_Some}
+use Rattle.htl_base.proofs.Numbers.{cases_below}
 
 -- ---- starts
 
-below_start : (ps : List ℕ) (h a : ℕ) → a < h → begins ps a ≡ true → (j : ℕ) × (slice_get (starts_below ps h) j ≡ Some a)
+pub below_start : (ps : List ℕ) (h a : ℕ) → a < h → begins ps a ≡ true → (j : ℕ) × (slice_get (starts_below ps h) j ≡ Some a)
 below_start ps zero a l e = absurd (omega arith)
-below_start ps (suc h) a l e = by (either a h l) (λ less. below_start ps h a less e)
+below_start ps (suc h) a l e = by (cases_below a h l) (λ less. below_start ps h a less e)
   where
-    either : (a h : ℕ) → a < suc h → (a < h) ⊎ (a ≡ h)
-    either a h l = grind arith
-
     by : (a < h) ⊎ (a ≡ h) → (a < h → (j : ℕ) × (slice_get (starts_below ps h) j ≡ Some a)) → (j : ℕ) × (slice_get (starts_below ps h ++ cond (begins ps h) (h ∷ []) []) j ≡ Some a)
-    by (inl less) ih = let r = ih less in (r.0, front_at (starts_below ps h) (cond (begins ps h) (h ∷ []) []) r.0 a r.1)
+    by (inl less) ih = let r = ih less in (r.0, get_front (starts_below ps h) (cond (begins ps h) (h ∷ []) []) r.0 a r.1)
     by (inr same) ih =
         let test : begins ps h ≡ true = ap (begins ps) (sym same) ∙ e in
-        (length (starts_below ps h) + 0, back_at (starts_below ps h) (cond (begins ps h) (h ∷ []) []) 0 a (ap (λ b. slice_get (cond b (h ∷ []) []) 0) test ∙ ap (λ z. Some z) (sym same)))
+        (length (starts_below ps h) + 0, into_back (starts_below ps h) (cond (begins ps h) (h ∷ []) []) 0 a (ap (λ b. slice_get (cond b (h ∷ []) []) 0) test ∙ ap (λ z. Some z) (sym same)))
 
 -- ---- rounds
 
 in_rounds : (t : Tables) (a : ℕ) (us : List ℕ) (j u : ℕ) → slice_get us j ≡ Some u → a % unit_period t u ≡ 0 → (q : ℕ) × (slice_get (rounds_of t a us) q ≡ Some (record { at = a; unit = u }))
 in_rounds t a [] j u e g = not_some u e
 in_rounds t a (v ∷ us) zero u e g =
-    let same : v ≡ u = some_same v u e in
+    let same : v ≡ u = same_Some v u e in
     let test : eqb (a % unit_period t v) 0 ≡ true = eq-eqb (a % unit_period t v) 0 (ap (λ z. a % unit_period t z) same ∙ g) in
     (0, ap (λ b. slice_get (cond b (record { at = a; unit = v } ∷ rounds_of t a us) (rounds_of t a us)) 0) test ∙ ap (λ z. let r : Round = record { at = a; unit = z } in Some r) same)
 in_rounds t a (v ∷ us) (suc j) u e g = by (eqb (a % unit_period t v) 0) (in_rounds t a us j u e g)
@@ -57,12 +56,12 @@ pub in_run : (t : Tables) (modes : ℕ → List (Option ℕ)) (rs : List Round) 
     → (p : ℕ) × (slice_get (running_places t modes rs) p ≡ Some (place k r.at))
 in_run t modes [] q j k r e g = not_some r e
 in_run t modes (s ∷ rs) zero j k r e g =
-    let same : s ≡ r = some_same s r e in (
+    let same : s ≡ r = same_Some s r e in (
       j,
-      front_at (places_of s.at (running_invs t (modes s.at) s.unit)) (running_places t modes rs) j (place k r.at)
+      get_front (places_of s.at (running_invs t (modes s.at) s.unit)) (running_places t modes rs) j (place k r.at)
           (subst (λ (z : Round). slice_get (places_of z.at (running_invs t (modes z.at) z.unit)) j ≡ Some (place k r.at)) (sym same) (map_at (λ z. place z r.at) (running_invs t (modes r.at) r.unit) j k g)),
     )
 in_run t modes (s ∷ rs) (suc q) j k r e g =
     let m = in_run t modes rs q j k r e g in
     let here = places_of s.at (running_invs t (modes s.at) s.unit) in
-    (length here + m.0, back_at here (running_places t modes rs) m.0 (place k r.at) m.1)
+    (length here + m.0, into_back here (running_places t modes rs) m.0 (place k r.at) m.1)

@@ -1,7 +1,7 @@
 -- At each instant of a frame what stands at the positions so far is who stands.
 use Rattle.std.proofs.Common.{◌≡◌, ◌<◌, ◌≤◌, ◌⊎◌, ℕ, zero, suc, ◌+◌, ◌-◌, ◌*◌, ◌/◌, ◌%◌, true, List, [], ◌∷◌, length, map, take, slice_get, Option, Some, None, option_map, refl, sym, ◌∙◌, ap, subst, arith, inl, inr}
 use Rattle.std.proofs.Math.Nat.{div-add-mod, mod-lt, mul-div_cancel_left, mul-mod_right, add-mul-mod_self_left}
-use Rattle.std.proofs.lemmas.Option.{slice_get_within, get_or_from_slice_get}
+use Rattle.std.proofs.lemmas.Option.{slice_get_within, get_or_from_slice_get, same_Some}
 use Rattle.htl_model.specs.declared.event.Event.{Event}
 use Rattle.htl_model.specs.declared.parts.Inv.{Inv}
 use Rattle.htl_model.specs.declared.parts.Mode.{Mode}
@@ -14,7 +14,6 @@ use Rattle.htl_model.specs.Selected.{entry, Runs, IsEntry, IsSelection}
 use Rattle.htl_model.specs.SecondWriters.{parent_mode}
 use Rattle.htl_model.specs.Selections.{is_root, root_modules, inv_of_mode, invs_of}
 use Rattle.htl_model.specs.Tables.{Tables, mode_module, mode_period, window_end, is_concrete}
-use Rattle.htl_model.proofs.TestLaws.{equal, same_number}
 use Rattle.htl_refine.specs.ConcreteJobs.{running_invs}
 use Rattle.htl_refine.specs.Records.{modes_at}
 use Rattle.htl_refine.proofs.Exact.{chosen_exact_apart}
@@ -31,9 +30,7 @@ use Rattle.htl_refine.specs.DerivedPaths.{derived_place}
 use Rattle.htl_refine.specs.FrameRuns.{frame_modes, frame_places}
 use Rattle.htl_refine.specs.FramePlaces.{place, standing_places, AreOrdered}
 use Rattle.htl_machine.specs.Values.{InvStands}
-use Rattle.htl_walk.proofs.Finishes.{some_same}
 use Rattle.htl_refine.proofs.RecordOrder.{not_some}
-use Rattle.htl_walk.proofs.Work.{all_at}
 use Rattle.htl_refine.proofs.Standing.{standing_at}
 use Rattle.htl_refine.proofs.OwnPeriods.{some_time}
 use Rattle.htl_refine.proofs.OwnRounds.{own_starts, since, until}
@@ -43,6 +40,9 @@ use Rattle.htl_machine.proofs.Tops.{IsTop, climb, down}
 use Rattle.htl_walk.proofs.PathReady.{window_within}
 use Rattle.htl_refine.proofs.RoundOrder.{of_rounds, round_of, run_of}
 use Rattle.htl_machine.proofs.FrameMembers.{round_in, in_run}
+use Rattle.htl_base.proofs.Places.{each_at}
+use Rattle.std.proofs.lemmas.Bool.{eq-eqb, eqb-true}
+use Rattle.htl_base.proofs.Numbers.{times_grow}
 
 -- ---- modes and stays
 
@@ -60,9 +60,6 @@ entry_is t es s u = go (state t es s).stays u
 multiple : (p e : ℕ) → 0 < p → p * (p * e / p) ≡ p * e
 multiple p e some = ap (λ z. p * z) (mul-div_cancel_left e some)
 
-pub grow : (p a b : ℕ) → a ≤ b → p * a ≤ p * b
-grow p a b h = grind arith
-
 pub last_multiple : (p e n : ℕ) → 0 < p → p * e ≤ n → p * e ≤ p * (n / p)
 last_multiple p e n some h = by (order e (n / p))
   where
@@ -70,19 +67,19 @@ last_multiple p e n some h = by (order e (n / p))
     order a b = grind arith
 
     by : (e ≤ n / p) ⊎ (suc (n / p) ≤ e) → p * e ≤ p * (n / p)
-    by (inl l) = grow p e (n / p) l
+    by (inl l) = times_grow p e (n / p) l
     by (inr l) =
         let whole : p * (n / p) + n % p ≡ n = div-add-mod n p in
         let rest : n % p < p = mod-lt n some in
-        let more : p * suc (n / p) ≤ p * e = grow p (suc (n / p)) e l in
+        let more : p * suc (n / p) ≤ p * e = times_grow p (suc (n / p)) e l in
         let one : p * suc (n / p) ≡ p * (n / p) + p = grind arith in
         absurd (omega (arith, whole, rest, more, one, h))
 
 -- a round that begins before a multiple of its period ends by it
 fits : (p a b : ℕ) → p * a < p * b → p * a + p ≤ p * b
 fits p a b less = elim (order a b) [
-  | inl h ↦ let more : p * suc a ≤ p * b = grow p (suc a) b h in let one : p * suc a ≡ p * a + p = grind arith in omega (arith, more, one)
-  | inr h ↦ let more : p * b ≤ p * a = grow p b a h in absurd (omega (arith, more, less))
+  | inl h ↦ let more : p * suc a ≤ p * b = times_grow p (suc a) b h in let one : p * suc a ≡ p * a + p = grind arith in omega (arith, more, one)
+  | inr h ↦ let more : p * b ≤ p * a = times_grow p b a h in absurd (omega (arith, more, less))
 ]
   where
     order : (a b : ℕ) → (suc a ≤ b) ⊎ (b ≤ a)
@@ -154,7 +151,7 @@ module _ (t : Tables) (es : List Event) (n f m : ℕ) (range : AreInRange t) (ke
       let unit : mode_module t run.0 ≡ rr.unit = ap (λ (o : Option Mode). elim o [ Some z ↦ z.«module» | None ↦ 0 ]) mode_at.1 ∙ mode_at.2 in
       let kx = of_places (inv_of_mode run.0) 0 t.invs r.3 k run.2 in
       let inv_at : slice_get t.invs k ≡ Some kx.1 = ap (slice_get t.invs) (let z : k ≡ kx.0 = omega (arith, kx.2) in z) ∙ kx.3 in
-      let mode : kx.1.mode ≡ run.0 = same_number kx.1.mode run.0 kx.4 in
+      let mode : kx.1.mode ≡ run.0 = eqb-true kx.1.mode run.0 kx.4 in
       let runs : Runs t ms kx.1.mode = ap (λ z. entry ms (mode_module t z)) mode ∙ ap (entry ms) unit ∙ run.1 ∙ ap (λ z. Some z) (sym mode) in
       let stands : StandsFor t ms k i = (chosen_exact_apart t ms range kept k i).0 stood in
       let d = down t range kept ms (selections (f + rr.at)) k i kx.1 inv_at runs stands in
@@ -248,8 +245,8 @@ module _ (t : Tables) (es : List Event) (n f m : ℕ) (range : AreInRange t) (ke
       by_climb : IsTop t range kept (modes_at t es s) (selections s) i (mode_period t x.mode) → (p a : ℕ) × (slice_get (take m (standing_places t es f)) p ≡ Some (place i a)) × (f + a ≡ s)
       by_climb top =
           let q = top.inv.mode in
-          let real : q < length t.modes = (all_at (IsInvInRange t) t.invs range.invs top.number top.inv top.at).owner in
-          let j = at_place (inv_of_mode q) t.invs top.number top.inv top.at (equal q q refl) in
+          let real : q < length t.modes = (each_at (IsInvInRange t) t.invs range.invs top.number top.inv top.at).owner in
+          let j = at_place (inv_of_mode q) t.invs top.number top.inv top.at (eq-eqb q q refl) in
           by_top i s q top.number late (own ∙ sym (ap (λ z. z * (n / z)) top.period)) real top.root top.runs j.0 j.1 ((chosen_exact_apart t (modes_at t es s) range kept top.number i).1 top.stands)
 
   stay_there : (s u q : ℕ) → entry (modes_at t es s) u ≡ Some q → (y : Stay) × (stay_of (state t es s).stays u ≡ Some y) × (y.mode ≡ q)
@@ -257,7 +254,7 @@ module _ (t : Tables) (es : List Event) (n f m : ℕ) (range : AreInRange t) (ke
     where
       by : (o : Option Stay) → stay_of (state t es s).stays u ≡ o → option_map (λ (y : Stay). y.mode) o ≡ Some q → (y : Stay) × (stay_of (state t es s).stays u ≡ Some y) × (y.mode ≡ q)
       by None g h = not_some q h
-      by (Some y) g h = (y, g, some_same y.mode q h)
+      by (Some y) g h = (y, g, same_Some y.mode q h)
 
   -- until a window has ended, whoever is at the place stands
   stands_on : (p i a : ℕ) (x : Inv) → slice_get (take m (standing_places t es f)) p ≡ Some (place i a) → slice_get t.invs i ≡ Some x → n < f + a + window_end t x → InvStands t (state t es n).stays i x (f + a)
@@ -265,7 +262,7 @@ module _ (t : Tables) (es : List Event) (n f m : ℕ) (range : AreInRange t) (ke
       let r = front_there m (standing_places t es f) p (place i a) e in
       let begun : a ≤ n - f = ordered.front p (place i a) r.0 r.1 in
       let w = at_place_is p i a r.0 in
-      let one : w.inv ≡ x = some_same _ _ (sym w.known ∙ known) in
+      let one : w.inv ≡ x = same_Some _ _ (sym w.known ∙ known) in
       let s = f + a in
       let mm = mode_module t x.mode in
       let runs : Runs t (modes_at t es s) x.mode = subst (λ (z : Inv). Runs t (modes_at t es s) z.mode) one w.runs in
@@ -291,7 +288,7 @@ module _ (t : Tables) (es : List Event) (n f m : ℕ) (range : AreInRange t) (ke
       let r = front_there m (standing_places t es f) p (place i a) e in
       let begun : a ≤ n - f = ordered.front p (place i a) r.0 r.1 in
       let w = at_place_is p i a r.0 in
-      let one : w.inv ≡ x = some_same _ _ (sym w.known ∙ st.known) in
+      let one : w.inv ≡ x = same_Some _ _ (sym w.known ∙ st.known) in
       let y : Stay = record { mode = x.mode; start = s } in
       let mm = mode_module t x.mode in
       let per = mode_period t x.mode in

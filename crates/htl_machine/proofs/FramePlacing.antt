@@ -1,7 +1,7 @@
 -- The jobs of who stands at the positions of a frame stand.
 use Rattle.std.proofs.Common.{◌≡◌, ℕ, zero, suc, ◌+◌, ◌≤◌, Bool, true, false, ◌&&◌, cond, eqb, List, [], ◌∷◌, slice_get, map, take, Option, Some, None, option_map, refl, sym, ap, ap₂, ◌∙◌, subst, arith, inl, inr}
-use Rattle.std.proofs.lemmas.Bool.{eq-eqb, cases_lt}
-use Rattle.std.proofs.lemmas.Option.{slice_get-map, get_or_from_slice_get}
+use Rattle.std.proofs.lemmas.Bool.{eq-eqb, cases_lt, and_from}
+use Rattle.std.proofs.lemmas.Option.{slice_get-map, get_or_from_slice_get, same_Some}
 use Rattle.htl_model.specs.declared.parts.Inv.{Inv}
 use Rattle.htl_model.specs.declared.parts.End.TheVariants as E
 use Rattle.htl_model.specs.declared.state.Stay.{Stay}
@@ -21,11 +21,12 @@ use Rattle.htl_machine.specs.JobsSoFar.{IsJob, AreJobsSoFar}
 use Rattle.htl_refine.specs.FramePlaces.{place}
 use Rattle.htl_refine.proofs.Fronts.{front_there, take_map}
 use Rattle.htl_machine.specs.FramePlacing.{IsFramePlacing, JobsOfPlacing}
-use Rattle.htl_walk.proofs.Finishes.{some_same}
 use Rattle.htl_refine.proofs.RecordOrder.{not_some}
 use Rattle.htl_machine.proofs.Outs.{writer_is}
-use Rattle.htl_machine.proofs.JobWindows.{job_is, position_some, position_none}
+use Rattle.htl_machine.proofs.JobWindows.{position_some, position_none}
 use Rattle.htl_machine.proofs.Placing.{fed}
+use Rattle.htl_walk.proofs.Work.{job_is}
+use Rattle.htl_base.proofs.Tests.{and_none}
 
 -- ---- the last position
 
@@ -35,7 +36,7 @@ position_latest q [] i d r j at here is e = not_some j at
 position_latest q (k ∷ js) i d r j at here is e = by_rest (position_from (suc q) js i) refl d at e (λ m f g. position_latest (suc q) js i m r j f here is g)
   where
     by_test : (b : Bool) → ◌≡◌ {A = Option ℕ} (cond b (Some q) None) (Some r) → q ≤ r
-    by_test true f = omega (arith, some_same _ _ f)
+    by_test true f = omega (arith, same_Some _ _ f)
     by_test false f = not_some r f
 
     by_rest : (o : Option ℕ) → position_from (suc q) js i ≡ o → (d : ℕ) → slice_get (k ∷ js) d ≡ Some j → later_or o (cond (k.present && eqb k.inv i) (Some q) None) ≡ Some r
@@ -45,7 +46,7 @@ position_latest q (k ∷ js) i d r j at here is e = by_rest (position_from (suc 
     by_rest (Some s) f (suc m) at e ih = omega (arith, ih m at (f ∙ e))
     by_rest (Some s) f zero at e ih =
         let w = position_some (suc q) js i s f in
-        omega (arith, w.1, some_same _ _ e)
+        omega (arith, w.1, same_Some _ _ e)
 
 -- ---- jobs
 
@@ -90,7 +91,7 @@ module _ (t : Tables) (stays : List (Option Stay)) (frame n m : ℕ) (all : List
       by_place : (o : Option Place) → slice_get places p ≡ o → option_map (placed_job t all) o ≡ Some j
           → (i a : ℕ) × (y : Inv) × (slice_get places p ≡ Some (place i a)) × (slice_get t.invs i ≡ Some y) × (j.inv ≡ i) × (j.release ≡ a + release t y) × (j.end ≡ a + window_end t y)
       by_place None is e = not_some j e
-      by_place (Some x) is e = by_inv x is x.inv refl (some_same _ _ e)
+      by_place (Some x) is e = by_inv x is x.inv refl (same_Some _ _ e)
 
   the_job : (i a s : ℕ) (x : Inv) (p : ℕ) → slice_get t.invs i ≡ Some x → slice_get places p ≡ Some (place i a) → frame + a ≡ s → IsJob t jobs frame p i x s
   the_job i a s x p known at e =
@@ -139,8 +140,8 @@ module _ (t : Tables) (stays : List (Option Stay)) (frame n m : ℕ) (all : List
       let pq = placed_at q jq.job jq.at jq.present in
       let ip : pp.0 ≡ i = sym pp.5 ∙ jp.inv in
       let iq : pq.0 ≡ w = sym pq.5 ∙ jq.inv in
-      let xp : pp.2 ≡ x = some_same _ _ (sym pp.4 ∙ ap (slice_get t.invs) ip ∙ known) in
-      let xq : pq.2 ≡ y = some_same _ _ (sym pq.4 ∙ ap (slice_get t.invs) iq ∙ known_w) in
+      let xp : pp.2 ≡ x = same_Some _ _ (sym pp.4 ∙ ap (slice_get t.invs) ip ∙ known) in
+      let xq : pq.2 ≡ y = same_Some _ _ (sym pq.4 ∙ ap (slice_get t.invs) iq ∙ known_w) in
       let sp : frame + pp.1 ≡ s = omega (arith, jp.release, pp.6, ap (release t) xp) in
       let sq : frame + pq.1 ≡ s = omega (arith, jq.release, pq.6, ap (release t) xq) in
       let same : pq.1 ≡ pp.1 = omega (arith, sp, sq) in
@@ -150,16 +151,9 @@ module _ (t : Tables) (stays : List (Option Stay)) (frame n m : ℕ) (all : List
       let test : Place → Bool = λ z. eqb z.at pp.1 && is_fed_by t i z.inv in
       ap (λ (j : Job). precedes q j) (job_is jobs p (placed_job t all (place i pp.1)) (job_placed p (place i pp.1) at_p) ∙ job_made i pp.1 x known)
       ∙ mask_bit (map test all) q
-      ∙ get_mapped test all no_place q (none_there (eqb 0 pp.1))
+      ∙ get_mapped test all no_place q (and_none (eqb 0 pp.1))
       ∙ ap test (get_or_from_slice_get all q (place w pp.1) no_place (front_there m all q (place w pp.1) at_q).0)
-      ∙ all_true (eqb pp.1 pp.1) (feeds t w i) (eq-eqb pp.1 pp.1 refl) (fed t i w k b o x known e d)
-    where
-      all_true : (a b : Bool) → a ≡ true → b ≡ true → (a && b) ≡ true
-      all_true a b e f = grind arith
-
-      none_there : (b : Bool) → (b && false) ≡ false
-      none_there true = refl
-      none_there false = refl
+      ∙ and_from (eqb pp.1 pp.1) (feeds t w i) (eq-eqb pp.1 pp.1 refl) (fed t i w k b o x known e d)
 
   jobs_so : AreJobsSoFar t stays frame n jobs
   jobs_so =
@@ -176,7 +170,7 @@ module _ (t : Tables) (stays : List (Option Stay)) (frame n m : ℕ) (all : List
             let b = placed_at q jq.job jq.at jq.present in
             let ia : a.0 ≡ i = sym a.5 ∙ jp.inv in
             let ib : b.0 ≡ i = sym b.5 ∙ jq.inv in
-            let one : a.2 ≡ b.2 = some_same _ _ (sym a.4 ∙ ap (slice_get t.invs) (ia ∙ sym ib) ∙ b.4) in
+            let one : a.2 ≡ b.2 = same_Some _ _ (sym a.4 ∙ ap (slice_get t.invs) (ia ∙ sym ib) ∙ b.4) in
             let same : b.1 ≡ a.1 = omega (arith, jp.release, jq.release, a.6, b.6, ap (release t) one) in
             placing.once p q i a.1 (a.3 ∙ ap (λ z. Some (place z a.1)) ia) (b.3 ∙ ap₂ (λ z c. Some (place z c)) ib same);
         preds = preds_are;

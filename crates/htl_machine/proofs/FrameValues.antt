@@ -1,7 +1,7 @@
 -- The value half over a whole instant of a run by frames, records included.
 use Rattle.std.proofs.Common.{◌≡◌, ℕ, zero, suc, ◌+◌, ◌-◌, ◌≤◌, ◌<◌, ◌⊎◌, Bool, true, false, cond, ◌&&◌, ◌||◌, ltb, List, [], ◌∷◌, slice_get, Option, Some, None, refl, sym, ap, ◌∙◌, subst, arith, inl, inr}
 use mathlib.Core.Path.{fun_ext}
-use Rattle.std.proofs.lemmas.Bool.{ltb-true, lt-ltb}
+use Rattle.std.proofs.lemmas.Bool.{ltb-true, lt-ltb, and_right, cases_lt}
 use Rattle.htl_model.specs.declared.event.Event.{Event}
 use Rattle.htl_model.specs.declared.parts.Inv.{Inv}
 use Rattle.htl_model.specs.Tables.{Tables}
@@ -12,7 +12,6 @@ use Rattle.htl_walk.specs.declared.job.Job.{Job}
 use Rattle.htl_walk.specs.Walk.{Left, job_at, is_position}
 use Rattle.htl_emach.specs.Contents.{Content, completed}
 use Rattle.htl_refine.specs.RecordCounts.{Rises, count_left_before, done_by}
-use Rattle.htl_refine.proofs.FinishingRecords.{done_more}
 use Rattle.htl_refine.proofs.RecordOrder.{counted, not_some}
 use Rattle.htl_machine.specs.FramesGoOn.{Now, present_finished, finished_at, AreFrames, frame_records, next_by_frames}
 use Rattle.htl_machine.specs.Completing.{complete_at, complete_by, run_records}
@@ -20,12 +19,13 @@ use Rattle.htl_machine.specs.Turns.{finished_in}
 use Rattle.htl_machine.specs.Values.{InvStands, ValuesFollow, HasPlaces, HasReadInputs, Ready, and_also}
 use Rattle.htl_machine.specs.Worlds.{effects, all_writes, with_sensors}
 use Rattle.htl_machine.proofs.Carrying.{follows_on, after_shape, holds_values}
-use Rattle.htl_machine.proofs.JobWindows.{job_is}
 use Rattle.htl_machine.proofs.SMachineInstants.{record_there, count_within}
 use Rattle.htl_machine.proofs.Finishing.{finish_follows, completed_shape}
 use Rattle.htl_machine.proofs.FramesGoOn.{finished_carried}
 use Rattle.htl_machine.proofs.Owing.{is_ready, reads_to, completes}
 use Rattle.htl_machine.proofs.Turning.{before_count}
+use Rattle.htl_refine.proofs.FinishingRecords.{finish_more}
+use Rattle.htl_walk.proofs.Work.{job_is}
 
 -- a later offset has more records before it
 pub count_grows : (d e : ℕ) (ls : List Left) → d ≤ e → count_left_before d ls ≤ count_left_before e ls
@@ -39,10 +39,7 @@ count_grows d e (l ∷ ls) h = by_test (ltb l.at d) (ltb l.at e) refl refl (coun
 
 -- the records that aren't left before an offset are left then or later
 from_count : (e : ℕ) (ls : List Left) (k : ℕ) (l : Left) → Rises 0 ls → count_left_before e ls ≤ k → slice_get ls k ≡ Some l → e ≤ l.at
-from_count e ls k l rises few at = elim (either l.at e) [ inl b ↦ absurd (omega (arith, few, counted 0 e ls k l rises at b)) | inr b ↦ b ]
-  where
-    either : (a b : ℕ) → (a < b) ⊎ (b ≤ a)
-    either a b = grind arith
+from_count e ls k l rises few at = elim (cases_lt l.at e) [ inl b ↦ absurd (omega (arith, few, counted 0 e ls k l rises at b)) | inr b ↦ b ]
 
 module _ (t : Tables) (range : AreInRange t) (kept : KeptApart t 12) (es : List Event) (now : ℕ → Now) (frames : AreFrames t es now) where
   module _ (n : ℕ) where
@@ -65,19 +62,15 @@ module _ (t : Tables) (range : AreInRange t) (kept : KeptApart t 12) (es : List 
       where
         -- a record that finishes nothing
         same : ((p : ℕ) → (is_position l.position p && l.finished) ≡ false) → finished_by (suc k) ≡ finished_by k
-        same h = fun_ext (λ i. ap (λ (d : ℕ → Bool). finished_in jobs d i) (fun_ext (λ p. done_more ls k p l at ∙ ap (λ b. done_by ls k p || b) (h p) ∙ or_false (done_by ls k p))))
+        same h = fun_ext (λ i. ap (λ (d : ℕ → Bool). finished_in jobs d i) (fun_ext (λ p. finish_more ls k p l at ∙ ap (λ b. done_by ls k p || b) (h p) ∙ or_false (done_by ls k p))))
           where
             or_false : (b : Bool) → (b || false) ≡ b
             or_false true = refl
             or_false false = refl
 
-        and_false : (b c : Bool) → c ≡ false → (b && c) ≡ false
-        and_false true c e = e
-        and_false false c e = refl
-
         by_finish : (b : Bool) → l.finished ≡ b → (o : Option ℕ) → l.position ≡ o
             → ValuesFollow t es (suc n) (finished_by (suc k)) (cond b (complete_at t jobs o w) w) × HasPlaces t (cond b (complete_at t jobs o w) w)
-        by_finish false e o pos = (subst (λ z. ValuesFollow t es (suc n) z w) (sym (same (λ p. and_false (is_position l.position p) l.finished e))) f, shape)
+        by_finish false e o pos = (subst (λ z. ValuesFollow t es (suc n) z w) (sym (same (λ p. and_right (is_position l.position p) l.finished e))) f, shape)
         by_finish true e None pos =
             (subst (λ z. ValuesFollow t es (suc n) z w) (sym (same (λ p. ap (λ z. is_position z p && l.finished) pos))) f, shape)
         by_finish true e (Some p) pos =

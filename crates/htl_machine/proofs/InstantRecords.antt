@@ -11,6 +11,7 @@ use Rattle.htl_smach.specs.Rounds as rounds
 use Rattle.htl_smach.specs.Rounds.{told, told_from}
 use Rattle.htl_refine.specs.Records.{shifted, rounds_before}
 use Rattle.htl_refine.specs.RecordCounts.{count_left_before, Rises}
+use Rattle.htl_refine.proofs.RecordLists.{up_to_none}
 
 -- ---- a record, as the S machine tells it
 
@@ -75,10 +76,6 @@ piece start now d k a (l ∷ ls) is rises =
         ∙ ap₂ (λ n c. take (n - c) (drop c (told_from start (suc k) ls))) (behind (suc d) late) (behind d (omega (arith, late)))
 
 -- ---- the rounds before an instant
-
-pub up_to_none : {A : Type 0} (f : ℕ → List A) (m : ℕ) → ((k : ℕ) → k < m → f k ≡ []) → up_to f m ≡ []
-up_to_none f zero h = refl
-up_to_none f (suc m) h = ap₂ (λ xs ys. xs ++ ys) (up_to_none f m (λ k less. h k (omega arith))) (h m (omega arith))
 
 -- where only the last gives something
 pub up_to_last : {A : Type 0} (f : ℕ → List A) (m : ℕ) → ((k : ℕ) → k < m → f k ≡ []) → up_to f (suc m) ≡ f m

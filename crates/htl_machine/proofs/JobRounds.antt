@@ -1,7 +1,7 @@
 -- The round of a job of a frame: its window lies in it, and its invocation has no other job there.
 use Rattle.std.proofs.Common.{◌≡◌, ◌≤◌, ◌<◌, ◌⊎◌, inl, inr, ℕ, suc, ◌+◌, ◌-◌, ◌*◌, ◌/◌, true, List, slice_get, Option, Some, None, sym, ap, ap₂, ◌∙◌, arith}
 use Rattle.std.proofs.Math.Nat.{mul_comm, mul-div_cancel_left, mul-le-mul_left}
-use Rattle.std.proofs.lemmas.Option.{get_or_from_slice_get}
+use Rattle.std.proofs.lemmas.Option.{get_or_from_slice_get, same_Some}
 use Rattle.htl_model.specs.declared.event.Event.{Event}
 use Rattle.htl_model.specs.declared.frame.Place.{Place}
 use Rattle.htl_model.specs.declared.parts.Inv.{Inv}
@@ -19,7 +19,6 @@ use Rattle.htl_refine.proofs.PathDerived.{placed_present}
 use Rattle.htl_refine.proofs.PlaceOrder.{places_ordered}
 use Rattle.htl_machine.specs.JobTimes.{job_round, inv_period}
 use Rattle.htl_machine.proofs.FramePlaced.{at_place_is}
-use Rattle.htl_walk.proofs.Finishes.{some_same}
 use Rattle.htl_walk.proofs.PathReady.{window_within}
 
 -- rounds of one period that have an instant in common are one
@@ -77,7 +76,7 @@ module _ (t : Tables) (es : List Event) (k : ℕ) (range : AreInRange t) (kept :
       let w = at_place_is t es frame frame begun range kept at_frame (omega arith) (omega (arith, ticks)) ordered q j.inv y.0.at there in
       let known : slice_get t.invs j.inv ≡ Some c.1 = ap (slice_get t.invs) (sym inv) ∙ c.3 in
       let period : inv_period t j.inv ≡ mode_period t c.1.mode = ap (λ (o : Option Inv). elim o [ Some z ↦ mode_period t z.mode | None ↦ 0 ]) known in
-      let one : w.inv ≡ c.1 = some_same _ _ (sym w.known ∙ known) in
+      let one : w.inv ≡ c.1 = same_Some _ _ (sym w.known ∙ known) in
       record {
         at = y.0.at;
         place_is = there;

@@ -1,7 +1,7 @@
 -- The job lines of a run show each job whose window ended: one d line in time, and j lines in its window for all its ticks.
 use Rattle.std.proofs.Common.{◌≡◌, ◌≤◌, ◌<◌, inl, inr, ℕ, suc, ◌+◌, ◌*◌, Bool, true, false, ◌&&◌, eqb, ltb, leb, List, [], ◌∷◌, length, map, slice_get, get_or, Option, Some, None, refl, sym, ap, ap₂, ◌∙◌, subst, arith}
 use Rattle.std.specs.List.{flat_map}
-use Rattle.std.proofs.lemmas.Bool.{eqb-true, eqb-false, eq-eqb, lt-ltb, ltb-true, le-leb, leb-true}
+use Rattle.std.proofs.lemmas.Bool.{eqb-true, eqb-false, eq-eqb, lt-ltb, ltb-true, le-leb, leb-true, and_parts}
 use Rattle.htl_model.specs.declared.event.Event.{Event}
 use Rattle.htl_model.specs.Frames.{hyper, frame_of, starts, starts_below, root_periods, rounds_at, unit_period, multiple_of}
 use Rattle.htl_model.specs.Lists.{joined, up_to}
@@ -24,13 +24,12 @@ use Rattle.htl_machine.specs.JobLines.RunLine.{SliceLine, DoneLine}
 use Rattle.htl_machine.specs.JobTimes.{is_in, done_time, slice_time, job_round, inv_period, IsToldInTime, AllToldInTime}
 use Rattle.htl_machine.proofs.FrameLines.{owed, of_run}
 use Rattle.htl_machine.proofs.JobRounds.{IsPlaced, is_placed, only_job}
-use Rattle.htl_machine.proofs.LineBytes.{both_true}
 use Rattle.htl_machine.proofs.LoadedLists.{run_of}
 use Rattle.htl_machine.proofs.OneRecord.{Count, slice_claim, done_claim, out_of}
 use Rattle.htl_machine.proofs.PositionRecords.{shift, position_slice, position_done, all_slices, shifted_within, shifted_spent, within_at, done_once}
 use Rattle.htl_machine.proofs.RecordTimes.{joined_each, before_now}
-use Rattle.htl_walk.proofs.Finishes.{some_same}
 use Rattle.htl_machine.proofs.WorkingRecords.{DoesWork, works_in}
+use Rattle.std.proofs.lemmas.Option.{same_Some}
 
 module _ (t : Tables) (lists : List (List SInstr)) (es : List Event) (run : IsFeasibleRun t lists es) where
   abbrev frame : ℕ → Frame
@@ -80,7 +79,7 @@ module _ (t : Tables) (lists : List (List SInstr)) (es : List Event) (run : IsFe
       by q j of v ends (inl u) = let last = within_at j.release j.end q (walk_of (frame k)) i l u.0 v.within at of u.1 in omega (arith, last, ends u.0 u.1)
       by q j of v ends (inr done) =
           let same = v.once i l.at (l, at, of, done, refl) in
-          let one : l ≡ v.done.0 = some_same _ _ (sym at ∙ ap (slice_get (walk_of (frame k))) same ∙ v.done.1) in
+          let one : l ≡ v.done.0 = same_Some _ _ (sym at ∙ ap (slice_get (walk_of (frame k))) same ∙ v.done.1) in
           omega (arith, ap (λ (x : Left). x.at) one, v.done.4, v.in_time)
 
   module _ (k end q : ℕ) (j : Job) (at : slice_get (frame k).jobs q ≡ Some j) (here : j.present ≡ true) (late : k * frame_of t + j.end ≤ end) where
@@ -110,14 +109,14 @@ module _ (t : Tables) (lists : List (List SInstr)) (es : List Event) (run : IsFe
             other false c e g differ = refl
             other true false e g differ = refl
             other true true e g differ =
-                let both = both_true (ltb start (f + l.at)) (leb (f + l.at) stop) g in
+                let both = and_parts (ltb start (f + l.at)) (leb (f + l.at) stop) g in
                 absurd (eqb-false w.position q differ
                 (only_job t es k run.range run.kept run.ticks w.position q w.job j (is_placed t es k run.range run.kept run.ticks w.position w.job w.at w.present) own (eqb-true w.job.inv j.inv e) (f + l.at)
                 (omega (arith, w.released)) (omega (arith, w.late)) (ltb-true start (f + l.at) both.0) (leb-true (f + l.at) stop both.1)))
 
             one : (b : Bool) → eqb w.position q ≡ b → is_in j.inv start stop w.job.inv (f + l.at) ≡ b
             one true e =
-                let same : w.job ≡ j = some_same _ _ (sym w.at ∙ ap (slice_get (frame k).jobs) (eqb-true w.position q e) ∙ at) in
+                let same : w.job ≡ j = same_Some _ _ (sym w.at ∙ ap (slice_get (frame k).jobs) (eqb-true w.position q e) ∙ at) in
                 ap₂ (λ (a b : Bool). a && b) (eq-eqb w.job.inv j.inv (ap (λ (z : Job). z.inv) same))
                 (ap₂ (λ (a b : Bool). a && b)
                 (lt-ltb start (f + l.at) (omega (arith, own.starts, own.first, w.released, ap (λ (z : Job). z.release) same)))
@@ -128,7 +127,7 @@ module _ (t : Tables) (lists : List (List SInstr)) (es : List Event) (run : IsFe
     in_time : (i : ℕ) (l : Left) → slice_get walk i ≡ Some l → DoesWork l → l.position ≡ Some q → f + l.at < suc end
     in_time i l is does mine =
         let w = working k i l is does in
-        let same : w.job ≡ j = some_same _ _ (sym w.at ∙ ap (slice_get (frame k).jobs) (some_same _ _ (sym w.of ∙ mine)) ∙ at) in
+        let same : w.job ≡ j = same_Some _ _ (sym w.at ∙ ap (slice_get (frame k).jobs) (same_Some _ _ (sym w.of ∙ mine)) ∙ at) in
         omega (arith, late, w.late, ap (λ (z : Job). z.end) same)
 
     lines : {X : Type 0} (h : RunLine → List X) → ((from to inv : ℕ) → (ltb start to && leb to stop) ≡ false → h (SliceLine from to inv) ≡ []) → ((at inv : ℕ) → (ltb start at && leb at stop) ≡ false → h (DoneLine at inv) ≡ [])

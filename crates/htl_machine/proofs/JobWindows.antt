@@ -1,6 +1,6 @@
 -- Windows and offsets, and the last position of an invocation.
 use Rattle.std.proofs.Common.{◌≡◌, ℕ, zero, suc, ◌+◌, ◌*◌, ◌≤◌, ◌<◌, max, Bool, true, false, cond, ◌&&◌, eqb, List, [], ◌∷◌, length, slice_get, Option, Some, None, refl, sym, ap, ◌∙◌, arith, get_or, map}
-use Rattle.std.proofs.lemmas.Bool.{eqb-true, eq-eqb}
+use Rattle.std.proofs.lemmas.Bool.{eqb-true, eq-eqb, and_from, and_parts}
 use Rattle.htl_model.specs.declared.parts.End.{End}
 use Rattle.htl_model.specs.declared.parts.End.TheVariants as E
 use Rattle.htl_model.specs.declared.state.Stay.{Stay}
@@ -9,13 +9,13 @@ use Rattle.htl_walk.specs.declared.job.Job.{Job}
 use Rattle.htl_walk.specs.Walk.{job_at}
 use Rattle.htl_machine.specs.JobsSoFar.{AreJobsSoFar}
 use Rattle.htl_machine.specs.Turns.{later_or, position_from, last_position_done, finished_in}
-use Rattle.htl_walk.proofs.Finishes.{some_same}
 use Rattle.htl_refine.proofs.RecordOrder.{not_some}
+use Rattle.std.proofs.lemmas.Option.{same_Some}
 
 -- what a function gives of an item
 pub get_map : {A : Type 0} (f : Job → A) (js : List Job) (p : ℕ) (j : Job) (d : A) → slice_get js p ≡ Some j → get_or (map f js) p d ≡ f j
 get_map f [] p j d e = not_some j e
-get_map f (k ∷ js) zero j d e = ap f (some_same _ _ e)
+get_map f (k ∷ js) zero j d e = ap f (same_Some _ _ e)
 get_map f (k ∷ js) (suc p) j d e = get_map f js p j d e
 
 -- ---- windows and offsets
@@ -27,10 +27,10 @@ greatest_is a (x ∷ xs) = omega (arith, greatest_is (max a x) xs)
 -- no read is later than the release
 pub reads_before_release : (t : Tables) (a : ℕ) (ends : List End) (k c n : ℕ) → slice_get ends k ≡ Some (E.Comm c n) → n * comm_period t c ≤ greatest a (offsets t ends)
 reads_before_release t a [] k c n e = not_some (E.Comm c n) e
-reads_before_release t a (E.Port p ∷ ends) zero c n e = let z : E.Port p ≡ E.Comm c n = some_same _ _ e in cc
+reads_before_release t a (E.Port p ∷ ends) zero c n e = let z : E.Port p ≡ E.Comm c n = same_Some _ _ e in cc
 reads_before_release t a (E.Port p ∷ ends) (suc k) c n e = reads_before_release t a ends k c n e
 reads_before_release t a (E.Comm d m ∷ ends) zero c n e =
-    let z : E.Comm d m ≡ E.Comm c n = some_same _ _ e in
+    let z : E.Comm d m ≡ E.Comm c n = same_Some _ _ e in
     let f : d ≡ c = cc in
     let g : m ≡ n = cc in
     let at : n * comm_period t c ≡ m * comm_period t d = sym (ap (λ q. q * comm_period t d) g ∙ ap (λ q. n * comm_period t q) f) in
@@ -47,10 +47,10 @@ least_more d y z zs = omega arith
 -- the window ends no later than any write
 pub end_before_writes : (t : Tables) (d : ℕ) (ends : List End) (k c n : ℕ) → slice_get ends k ≡ Some (E.Comm c n) → least_or d (offsets t ends) ≤ n * comm_period t c
 end_before_writes t d [] k c n e = not_some (E.Comm c n) e
-end_before_writes t d (E.Port p ∷ ends) zero c n e = let z : E.Port p ≡ E.Comm c n = some_same _ _ e in cc
+end_before_writes t d (E.Port p ∷ ends) zero c n e = let z : E.Port p ≡ E.Comm c n = same_Some _ _ e in cc
 end_before_writes t d (E.Port p ∷ ends) (suc k) c n e = end_before_writes t d ends k c n e
 end_before_writes t d (E.Comm b m ∷ ends) zero c n e =
-    let z : E.Comm b m ≡ E.Comm c n = some_same _ _ e in
+    let z : E.Comm b m ≡ E.Comm c n = same_Some _ _ e in
     let f : b ≡ c = cc in
     let g : m ≡ n = cc in
     let at : n * comm_period t c ≡ m * comm_period t b = sym (ap (λ q. q * comm_period t b) g ∙ ap (λ q. n * comm_period t q) f) in
@@ -59,7 +59,7 @@ end_before_writes t d (E.Comm b m ∷ ends) (suc k) c n e = by_rest (offsets t e
   where
     some_rest : (ends : List End) (k c n : ℕ) → slice_get ends k ≡ Some (E.Comm c n) → 0 < length (offsets t ends)
     some_rest [] k c n e = not_some (E.Comm c n) e
-    some_rest (E.Port p ∷ ends) zero c n e = let z : E.Port p ≡ E.Comm c n = some_same _ _ e in cc
+    some_rest (E.Port p ∷ ends) zero c n e = let z : E.Port p ≡ E.Comm c n = same_Some _ _ e in cc
     some_rest (E.Port p ∷ ends) (suc k) c n e = some_rest ends k c n e
     some_rest (E.Comm b m ∷ ends) k c n e = omega arith
 
@@ -69,22 +69,13 @@ end_before_writes t d (E.Comm b m ∷ ends) (suc k) c n e = by_rest (offsets t e
 
 -- ---- by invocation and by position
 
-pub job_is : (js : List Job) (p : ℕ) (j : Job) → slice_get js p ≡ Some j → job_at js p ≡ j
-job_is [] p j e = not_some j e
-job_is (k ∷ ks) zero j e = some_same _ _ e
-job_is (k ∷ ks) (suc p) j e = job_is ks p j e
-
 pub position_some : (q : ℕ) (js : List Job) (i p : ℕ) → position_from q js i ≡ Some p → (d : ℕ) × (p ≡ q + d) × (j : Job) × (slice_get js d ≡ Some j) × (j.present ≡ true) × (j.inv ≡ i)
 position_some q [] i p e = not_some p e
 position_some q (j ∷ js) i p e = by_rest (position_from (suc q) js i) refl e (λ g. position_some (suc q) js i p g)
   where
-    both : (a b : Bool) → (a && b) ≡ true → (a ≡ true) × (b ≡ true)
-    both true b e = (refl, e)
-    both false b e = absurd (let z : ⊥ = cc in z)
-
     by_test : (b : Bool) → (j.present && eqb j.inv i) ≡ b → ◌≡◌ {A = Option ℕ} (cond b (Some q) None) (Some p)
         → (d : ℕ) × (p ≡ q + d) × (k : Job) × (slice_get (j ∷ js) d ≡ Some k) × (k.present ≡ true) × (k.inv ≡ i)
-    by_test true is g = let b = both j.present (eqb j.inv i) is in let same : q ≡ p = some_same _ _ g in (0, omega (arith, same), j, refl, b.0, eqb-true j.inv i b.1)
+    by_test true is g = let b = and_parts j.present (eqb j.inv i) is in let same : q ≡ p = same_Some _ _ g in (0, omega (arith, same), j, refl, b.0, eqb-true j.inv i b.1)
     by_test false is g = not_some p g
 
     by_rest : (o : Option ℕ) → position_from (suc q) js i ≡ o → later_or o (cond (j.present && eqb j.inv i) (Some q) None) ≡ Some p
@@ -97,14 +88,11 @@ pub position_none : (q : ℕ) (js : List Job) (i d : ℕ) (j : Job) → position
 position_none q [] i d j e at here is = not_some j at
 position_none q (k ∷ js) i d j e at here is = by_rest (position_from (suc q) js i) refl e d at (λ g m f. position_none (suc q) js i m j g f here is)
   where
-    all_true : (a b : Bool) → a ≡ true → b ≡ true → (a && b) ≡ true
-    all_true a b e f = grind arith
-
     by_test : (b : Bool) → (k.present && eqb k.inv i) ≡ b → ◌≡◌ {A = Option ℕ} (cond b (Some q) None) None → slice_get (k ∷ js) 0 ≡ Some j → ⊥
     by_test true b g at = not_some q (sym g)
     by_test false b g at =
-        let same : k ≡ j = some_same _ _ at in
-        let z : true ≡ false = sym (all_true k.present (eqb k.inv i) (ap (λ (z : Job). z.present) same ∙ here) (eq-eqb k.inv i (ap (λ (z : Job). z.inv) same ∙ is))) ∙ b in cc
+        let same : k ≡ j = same_Some _ _ at in
+        let z : true ≡ false = sym (and_from k.present (eqb k.inv i) (ap (λ (z : Job). z.present) same ∙ here) (eq-eqb k.inv i (ap (λ (z : Job). z.inv) same ∙ is))) ∙ b in cc
 
     by_rest : (o : Option ℕ) → position_from (suc q) js i ≡ o → later_or o (cond (k.present && eqb k.inv i) (Some q) None) ≡ None → (d : ℕ) → slice_get (k ∷ js) d ≡ Some j
         → (position_from (suc q) js i ≡ None → (m : ℕ) → slice_get js m ≡ Some j → ⊥) → ⊥

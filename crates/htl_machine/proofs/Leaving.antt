@@ -8,10 +8,10 @@ use Rattle.htl_smach.specs.declared.left.Left.{Left}
 use Rattle.htl_smach.specs.declared.state.PosState.TheVariants.{Pending}
 use Rattle.htl_smach.specs.Rounds.{Round, Stands, state_of, next_left, moved, walk_records, left_until}
 use Rattle.std.proofs.lemmas.Option.{slice_get_within}
-use Rattle.htl_machine.proofs.Distinct.{there}
 use Rattle.htl_smach.proofs.RoundRecords.{pending_is, is_pending, next_point_is, length-told}
 use Rattle.htl_smach.proofs.Answering.{answer_is}
 use Rattle.htl_refine.proofs.RecordOrder.{not_some}
+use Rattle.htl_base.proofs.Places.{item_at}
 
 -- ---- one record more
 
@@ -36,5 +36,5 @@ is_running r code at l e = by_test r.running refl e
 -- an instruction stands where one was left
 pub instr_there : (r : Round) (code : List SInstr) (at : ℕ) (l : Left) → next_left r code at ≡ Some l → (i : SInstr) × (slice_get code r.place ≡ Some i)
 instr_there r code at l e =
-    there code r.place
+    item_at code r.place
     (omega (arith, slice_get_within (walk_records r code) r.place l (answer_is r code at l e), length-told r.start 0 r.jobs code r.first))

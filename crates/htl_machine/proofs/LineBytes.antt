@@ -2,7 +2,7 @@
 use Rattle.std.proofs.Common.{◌≡◌, ◌<◌, ℕ, zero, suc, ◌+◌, ◌/◌, ◌%◌, ℤ, pos, negsuc, Bool, true, false, cond, not, ◌&&◌, eqb, List, [], ◌∷◌, ◌++◌, map, All, slice_get, Option, Some, None, refl, sym, ap, ap₂, ◌∙◌, subst, arith, codes}
 use Rattle.std.specs.Fmt.{decimal, signed_decimal, digits, digits_onto, digit_glyph}
 use Rattle.std.specs.List.{filter, list_all}
-use Rattle.std.proofs.lemmas.Bool.{eqb-true}
+use Rattle.std.proofs.lemmas.Bool.{eqb-true, and_parts}
 use Rattle.std.proofs.lemmas.List.Folds.{list_all-append}
 use Rattle.std.proofs.lemmas.Option.{slice_get_within, get_or_from_slice_get}
 use Rattle.std.specs.Prelude.{nat_lt, ◌==◌, if◌then◌else◌}
@@ -25,6 +25,7 @@ use Rattle.htl_console.specs.Names.{task_name, full_mode, full_inv, inv_name, mo
 use Rattle.htl_console.specs.Instrs.{phase_word, instr_text, step_text}
 use Rattle.htl_machine.specs.JobLines.{RunLine, printed, is_job_line, onto_first, text_lines, begins_as_job, HasNames}
 use Rattle.htl_machine.specs.JobLines.RunLine.{InstrLine, ChangeLine, StepLine, TotalsLine, SliceLine, DoneLine}
+use Rattle.htl_base.proofs.Places.{all_at}
 
 -- ---- texts without a line feed
 
@@ -41,12 +42,6 @@ plain e = record { all = e }
 joins : (a b : List ℕ) → IsPlain a → IsPlain b → IsPlain (a ++ b)
 joins a b p q = record { all = list_all-append not_feed a b ∙ ap₂ (λ (x y : Bool). x && y) p.all q.all }
 
-pub both_true : (a b : Bool) → (a && b) ≡ true → (a ≡ true) × (b ≡ true)
-both_true true true e = (refl, refl)
-both_true true false e = cc
-both_true false true e = cc
-both_true false false e = cc
-
 -- where the test fails at a line feed
 passes : (p : ℕ → Bool) → p 10 ≡ false → (b : ℕ) → p b ≡ true → not_feed b ≡ true
 passes p fails b passed = by (eqb b 10) refl
@@ -58,7 +53,7 @@ passes p fails b passed = by (eqb b 10) refl
 all_pass : (p : ℕ → Bool) → p 10 ≡ false → (bs : List ℕ) → list_all p bs ≡ true → IsPlain bs
 all_pass p fails [] h = plain refl
 all_pass p fails (b ∷ bs) h =
-    let parts = both_true (p b) (list_all p bs) h in
+    let parts = and_parts (p b) (list_all p bs) h in
     record { all = ap₂ (λ (x y : Bool). x && y) (passes p fails b parts.0) (all_pass p fails bs parts.1).all }
 
 -- ---- numbers
@@ -101,39 +96,36 @@ value_plain (negsuc n) = record { all = (number_plain (suc n)).all }
 
 name_plain : (bs : List ℕ) → is_name bs ≡ true → IsPlain bs
 name_plain bs h =
-    let front = both_true _ _ (both_true _ _ h).0 in
-    all_pass is_word_byte refl bs (both_true _ _ front.1).1
-
-at_place : {A : Type 0} (P : A → Type 0) (xs : List A) (k : ℕ) (x : A) → All P xs → slice_get xs k ≡ Some x → P x
-at_place P xs k x all at = subst P (get_or_from_slice_get xs k x x at) (all k x (slice_get_within xs k x at))
+    let front = and_parts _ _ (and_parts _ _ h).0 in
+    all_pass is_word_byte refl bs (and_parts _ _ front.1).1
 
 module _ (t : Tables) (names : HasNames t) where
   comm_plain : (c : ℕ) → IsPlain (comm_name t c)
   comm_plain c = by (slice_get t.comms c) refl
     where
       by : (o : Option Comm) → slice_get t.comms c ≡ o → IsPlain (elim o as (λ _. List ℕ) [ Some x ↦ x.name | None ↦ [] ])
-      by (Some x) e = name_plain x.name (at_place (λ (y : Comm). is_name y.name ≡ true) t.comms c x names.comms e)
+      by (Some x) e = name_plain x.name (all_at (λ (y : Comm). is_name y.name ≡ true) t.comms c x names.comms e)
       by None e = plain refl
 
   mode_plain : (m : ℕ) → IsPlain (mode_name t m)
   mode_plain m = by (slice_get t.modes m) refl
     where
       by : (o : Option Mode) → slice_get t.modes m ≡ o → IsPlain (elim o as (λ _. List ℕ) [ Some x ↦ x.name | None ↦ [] ])
-      by (Some x) e = name_plain x.name (at_place (λ (y : Mode). is_name y.name ≡ true) t.modes m x names.modes e)
+      by (Some x) e = name_plain x.name (all_at (λ (y : Mode). is_name y.name ≡ true) t.modes m x names.modes e)
       by None e = plain refl
 
   module_plain : (k : ℕ) → IsPlain (module_name t k)
   module_plain k = by (slice_get t.modules k) refl
     where
       by : (o : Option Module) → slice_get t.modules k ≡ o → IsPlain (elim o as (λ _. List ℕ) [ Some x ↦ x.name | None ↦ [] ])
-      by (Some x) e = name_plain x.name (at_place (λ (y : Module). is_name y.name ≡ true) t.modules k x names.modules e)
+      by (Some x) e = name_plain x.name (all_at (λ (y : Module). is_name y.name ≡ true) t.modules k x names.modules e)
       by None e = plain refl
 
   task_plain : (k : ℕ) → IsPlain (task_name t k)
   task_plain k = by (slice_get t.tasks k) refl
     where
       by : (o : Option Task) → slice_get t.tasks k ≡ o → IsPlain (elim o as (λ _. List ℕ) [ Some x ↦ x.name | None ↦ [] ])
-      by (Some x) e = name_plain x.name (at_place (λ (y : Task). is_name y.name ≡ true) t.tasks k x names.tasks e)
+      by (Some x) e = name_plain x.name (all_at (λ (y : Task). is_name y.name ≡ true) t.tasks k x names.tasks e)
       by None e = plain refl
 
   full_mode_plain : (m : ℕ) → IsPlain (full_mode t m)
@@ -157,7 +149,7 @@ module _ (t : Tables) (names : HasNames t) where
   module_text_plain k = by (slice_get t.modules k) refl
     where
       by : (o : Option Module) → slice_get t.modules k ≡ o → IsPlain (elim o as (λ _. List ℕ) [ Some x ↦ x.name | None ↦ decimal k ])
-      by (Some x) e = name_plain x.name (at_place (λ (y : Module). is_name y.name ≡ true) t.modules k x names.modules e)
+      by (Some x) e = name_plain x.name (all_at (λ (y : Module). is_name y.name ≡ true) t.modules k x names.modules e)
       by None e = number_plain k
 
   shown_mode_plain : (m : Option ℕ) → IsPlain (shown_mode t m)
@@ -234,12 +226,12 @@ module _ (t : Tables) (names : HasNames t) where
   -- behind a text without a line feed
   cut : (front rest : List ℕ) → IsPlain front → text_lines ((front ++ (10 ∷ [])) ++ rest) ≡ (front ++ (10 ∷ [])) ∷ text_lines rest
   cut [] rest h = refl
-  cut (b ∷ bs) rest h = by (eqb b 10) refl (cut bs rest (record { all = (both_true (not_feed b) (list_all not_feed bs) h.all).1 }))
+  cut (b ∷ bs) rest h = by (eqb b 10) refl (cut bs rest (record { all = (and_parts (not_feed b) (list_all not_feed bs) h.all).1 }))
     where
       by : (c : Bool) → eqb b 10 ≡ c → text_lines ((bs ++ (10 ∷ [])) ++ rest) ≡ (bs ++ (10 ∷ [])) ∷ text_lines rest
           → cond c ((b ∷ []) ∷ text_lines ((bs ++ (10 ∷ [])) ++ rest)) (onto_first b (text_lines ((bs ++ (10 ∷ [])) ++ rest))) ≡ (b ∷ (bs ++ (10 ∷ []))) ∷ text_lines rest
       by false e next = ap (onto_first b) next
-      by true e next = absurd (let z : ⊥ = (let plain : not (eqb b 10) ≡ true = (both_true (not_feed b) (list_all not_feed bs) h.all).0 in let other : not (eqb b 10) ≡ false = ap not e in cc) in z)
+      by true e next = absurd (let z : ⊥ = (let plain : not (eqb b 10) ≡ true = (and_parts (not_feed b) (list_all not_feed bs) h.all).0 in let other : not (eqb b 10) ≡ false = ap not e in cc) in z)
 
   pub lines_found : (ls : List RunLine) → text_lines (joined (printed t) ls) ≡ map (printed t) ls
   lines_found [] = refl

@@ -1,6 +1,6 @@
 -- The S machine as a list begins behind a frame's start.
 use Rattle.std.proofs.Common.{◌≡◌, ◌≢◌, ℕ, zero, suc, ◌+◌, ◌-◌, ◌%◌, ◌≤◌, ◌<◌, Bool, true, false, cond, List, [], ◌∷◌, ◌++◌, length, get_or, map, slice_get, take, drop, Some, refl, sym, ap, ap₂, ◌∙◌, subst, arith, inl, inr, length-append}
-use Rattle.std.proofs.lemmas.Bool.{ne_eqb}
+use Rattle.std.proofs.lemmas.Bool.{ne_eqb, cases_eq}
 use Rattle.std.proofs.lemmas.List.{length-map}
 use Rattle.htl_model.specs.declared.event.Event.{Event}
 use Rattle.htl_model.specs.Frames.{frame_of, starts, known_by}
@@ -19,7 +19,7 @@ use Rattle.htl_refine.specs.ListPlans.{leg_at, list_plan}
 use Rattle.htl_refine.specs.Records.{modes_at, took}
 use Rattle.htl_refine.specs.ServedFrames.{IsFeasibleRun}
 use Rattle.htl_refine.proofs.Fronts.{take_map}
-use Rattle.htl_refine.proofs.ListsFollow.{lists_follow, leg_from}
+use Rattle.htl_refine.proofs.ListsFollow.{lists_follow, leg_from, leg_knows}
 use Rattle.htl_refine.proofs.NewJobs.{next_jobs}
 use Rattle.htl_refine.proofs.ServedFrames.{have_lengths, within_worst}
 use Rattle.htl_machine.specs.FramePlacing.{frame_start}
@@ -31,10 +31,8 @@ use Rattle.htl_machine.specs.RunLists.{turn_of, list_turn}
 use Rattle.htl_machine.specs.Starting.{kept_lengths}
 use Rattle.htl_machine.proofs.JobWindows.{get_map}
 use Rattle.htl_machine.proofs.ListBegun.{first_can, first_s_machine}
-use Rattle.htl_machine.proofs.ListStarts.{leg_knows}
 use Rattle.htl_machine.proofs.NextSMachines.{s_machines_go_on, even}
 use Rattle.htl_machine.proofs.NextLists.{offset, later_next, same_frame}
-use Rattle.htl_machine.proofs.Plain.{apart}
 use Rattle.htl_machine.proofs.RunLists.{past, stands, from_is, length-jobs}
 
 -- lengths that agree where a job is present are the same work
@@ -190,7 +188,7 @@ module _ (t : Tables) (lists : List (List SInstr)) (es : List Event) (run : IsFe
       (subst (λ d. SMachineAt (list_plan p (suc j)) f 0 d (added r (suc n) js (kept_lengths takes js))) leg_is s_machine))
 
 pub lists_are_begun : ListsAreBegun
-lists_are_begun t lists es run at takes r here takes_are ends = elim (apart (at % frame_of t) 0) [
+lists_are_begun t lists es run at takes r here takes_are ends = elim (cases_eq (at % frame_of t) 0) [
   | inl e ↦ (
     record { first = λ z. first_can t lists es run at here e takes takes_are; more = λ z. absurd (omega (arith, e, z)) },
     first_s_machine t lists es run at here e takes takes_are r,

@@ -28,9 +28,9 @@ use Rattle.htl_machine.specs.ListTurns.{Turn, IsListed}
 use Rattle.htl_machine.specs.RunLists.{list_turn}
 use Rattle.htl_machine.specs.Starting.{kept_lengths}
 use Rattle.htl_machine.proofs.SMachineInstants.{none_released}
-use Rattle.htl_machine.proofs.ListStarts.{leg_knows}
 use Rattle.htl_machine.proofs.NextLists.{offset, first_next}
 use Rattle.htl_machine.proofs.RunLists.{past, serving, stands, there, from_is, are_listed}
+use Rattle.htl_refine.proofs.ListsFollow.{leg_knows}
 
 kept_by : (takes : List ℕ) (f : ℕ → ℕ → ℕ) (now : ℕ) → ((i u : ℕ) → now ≤ u → get_or takes i 0 ≡ f i u) → (jobs : List Job) → kept_lengths takes jobs ≡ map (λ (j : Job). f j.inv (now + j.release)) jobs
 kept_by takes f now h [] = refl

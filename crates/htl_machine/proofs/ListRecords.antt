@@ -22,7 +22,6 @@ use Rattle.htl_refine.specs.RecordLists.{list_at}
 use Rattle.htl_refine.specs.Records.{shifted, rounds_before}
 use Rattle.htl_refine.specs.ServedFrames.{IsFeasibleRun}
 use Rattle.htl_refine.proofs.Fronts.{job_front}
-use Rattle.htl_refine.proofs.ListsFollow.{rises_up}
 use Rattle.htl_refine.proofs.RecordLists.{old_joined, new_joined, none_joined, no_frames}
 use Rattle.htl_refine.proofs.RecordOrder.{walk_rises, not_some}
 use Rattle.htl_console.specs.declared.shown.Shown.{Shown}
@@ -35,8 +34,9 @@ use Rattle.htl_machine.specs.RunLists.{list_turn}
 use Rattle.htl_machine.specs.Texts.{inv_at, slice_lines, record_text, some_records, old_turn, turn_old_records, turn_new_records, records_text}
 use Rattle.htl_machine.proofs.ListStarts.{ends_next}
 use Rattle.htl_machine.proofs.RunLists.{rise, past, stands, from_is, length-jobs, are_listed}
-use Rattle.htl_walk.proofs.Finishes.{some_same}
 use Rattle.htl_machine.proofs.InstantRecords.{as_told, left_then, none_before, piece}
+use Rattle.htl_walk.proofs.NodeWalks.{starts_order}
+use Rattle.std.proofs.lemmas.Option.{same_Some}
 
 -- ---- nothing runs at the point at which a list begins
 
@@ -45,13 +45,13 @@ pub silent_at : (jobs : List Job) (is : List SInstr) (x : Point) (a k : ℕ) (l 
 silent_at jobs [] x a k l low at first = not_some l at
 silent_at jobs (i ∷ is) x a (suc k) l low at first = let later = time_rises jobs i x in silent_at jobs is (next_point jobs i x) a k l (omega (arith, low, later)) at first
 silent_at jobs (Idle until ∷ is) x a zero l low at first =
-    let is : left_by jobs (Idle until) x (next_point jobs (Idle until) x) ≡ l = some_same _ _ at in
+    let is : left_by jobs (Idle until) x (next_point jobs (Idle until) x) ≡ l = same_Some _ _ at in
     (ap (λ (m : walks.Left). m.slice) (sym is), ap (λ (m : walks.Left). m.finished) (sym is))
 silent_at jobs (End ∷ is) x a zero l low at first =
-    let is : left_by jobs End x (next_point jobs End x) ≡ l = some_same _ _ at in
+    let is : left_by jobs End x (next_point jobs End x) ≡ l = same_Some _ _ at in
     (ap (λ (m : walks.Left). m.slice) (sym is), ap (λ (m : walks.Left). m.finished) (sym is))
 silent_at jobs (Dispatch q until ∷ is) x a zero l low at first =
-    let is : left_by jobs (Dispatch q until) x (next_point jobs (Dispatch q until) x) ≡ l = some_same _ _ at in
+    let is : left_by jobs (Dispatch q until) x (next_point jobs (Dispatch q until) x) ≡ l = same_Some _ _ at in
     let time : time_after x.time (get_or x.left q 0) (job_at jobs q).release until ≡ a = ap (λ (m : walks.Left). m.at) is ∙ first in
     let both = by (get_or x.left q 0) (time_after x.time (get_or x.left q 0) (job_at jobs q).release until) time in (
       ap (λ (m : walks.Left). m.slice) (sym is) ∙ both.0,
@@ -86,13 +86,13 @@ rises_zero a (l ∷ ls) r = (omega arith, r.1)
 -- a record dispatches a position that has begun
 position_below : (jobs : List Job) (count to : ℕ) (is : List SInstr) (x : Point) → InForm count to is → (k : ℕ) (l : walks.Left) (q : ℕ) → slice_get (walk_from jobs is x) k ≡ Some l → l.position ≡ Some q → q < count
 position_below jobs count to [] x f k l q at pos = not_some l at
-position_below jobs count to (End ∷ []) x f zero l q at pos = not_some q (ap (λ (m : walks.Left). m.position) (some_same _ _ at) ∙ pos)
+position_below jobs count to (End ∷ []) x f zero l q at pos = not_some q (ap (λ (m : walks.Left). m.position) (same_Some _ _ at) ∙ pos)
 position_below jobs count to (End ∷ []) x f (suc k) l q at pos = not_some l at
 position_below jobs count to (End ∷ i ∷ is) x f k l q at pos = absurd f.0
 position_below jobs count to (Dispatch p until ∷ is) x f zero l q at pos =
-    let same : p ≡ q = some_same _ _ (ap (λ (m : walks.Left). m.position) (some_same _ _ at) ∙ pos) in omega (arith, same, f.0.0)
+    let same : p ≡ q = same_Some _ _ (ap (λ (m : walks.Left). m.position) (same_Some _ _ at) ∙ pos) in omega (arith, same, f.0.0)
 position_below jobs count to (Dispatch p until ∷ is) x f (suc k) l q at pos = position_below jobs count to is (next_point jobs (Dispatch p until) x) f.1 k l q at pos
-position_below jobs count to (Idle until ∷ is) x f zero l q at pos = not_some q (ap (λ (m : walks.Left). m.position) (some_same _ _ at) ∙ pos)
+position_below jobs count to (Idle until ∷ is) x f zero l q at pos = not_some q (ap (λ (m : walks.Left). m.position) (same_Some _ _ at) ∙ pos)
 position_below jobs count to (Idle until ∷ is) x f (suc k) l q at pos = position_below jobs count to is (next_point jobs (Idle until) x) f.1 k l q at pos
 
 -- whether one piece of text is made of a record that is left at an instant
@@ -171,11 +171,11 @@ module _ (t : Tables) (lists : List (List SInstr)) (es : List Event) (run : IsFe
       let s = stands t lists es run now in
       let down = past t lists es run now in
       elim (order i (turn now).list) [
-        | inl low ↦ (let up = rises_up (root_periods t) (frame_of t) (starts t) i (turn now).list (rise t lists es run) low s.there in
+        | inl low ↦ (let up = starts_order (root_periods t) (frame_of t) (starts t) i (turn now).list (rise t lists es run) low s.there in
             away (omega (arith, from_is t lists es run now, up, at, s.begun, down)))
         | inr high ↦ (
             let next = ends_next (frame_of t) (frame_places t (frame_modes t es (frame_start t now))) (starts t) (turn now).list (omega (arith, high, less)) in
-            let up = rises_up (root_periods t) (frame_of t) (starts t) (suc (turn now).list) i (rise t lists es run) high less in
+            let up = starts_order (root_periods t) (frame_of t) (starts t) (suc (turn now).list) i (rise t lists es run) high less in
             absurd (omega (arith, next, up, at, s.before, down)))
       ])
     where

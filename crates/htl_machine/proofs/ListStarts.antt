@@ -1,6 +1,6 @@
 -- The starts of a frame: which list stands at an offset, and when the next begins.
 use Rattle.std.proofs.Common.{◌≡◌, ℕ, zero, suc, ◌+◌, ◌≤◌, ◌<◌, ◌⊎◌, Bool, true, false, cond, leb, List, [], ◌∷◌, length, get_or, slice_get, Some, refl, ap, ap₂, arith, inl, inr}
-use Rattle.std.proofs.lemmas.Bool.{leb-true, le-leb, lt-leb}
+use Rattle.std.proofs.lemmas.Bool.{leb-true, le-leb, lt-leb, leb-false}
 use Rattle.std.proofs.lemmas.Bool.Decides.{nat_tests}
 use Rattle.htl_model.specs.declared.frame.Place.{Place}
 use Rattle.htl_model.specs.Frames.{begins, known_by}
@@ -9,9 +9,6 @@ use Rattle.htl_walk.specs.PathJobs.{next_of, legs_of}
 use Rattle.htl_walk.proofs.Starts.{Rises}
 use Rattle.htl_refine.specs.ListPlans.{no_leg}
 use Rattle.htl_machine.specs.RunLists.{begun_of}
-
-not_least : (a b : ℕ) → leb a b ≡ false → b < a
-not_least a b e = grind (arith, nat_tests)
 
 -- list j stands at an offset: it has begun, the next hasn't, and between both no round begins
 pub record StandsAt (ps : List ℕ) (h : ℕ) (places : List Place) (from : List ℕ) (d j : ℕ) : Type 0 where
@@ -26,7 +23,7 @@ none_yet h d (b ∷ later) e less = by (leb b d) refl e
   where
     by : (c : Bool) → leb b d ≡ c → cond c (suc (begun_of d later)) 0 ≡ 0 → d < b
     by true f g = absurd (omega (arith, g))
-    by false f g = not_least b d f
+    by false f g = leb-false b d f
 
 pub stands_at : (ps : List ℕ) (h d : ℕ) (places : List Place) (from : List ℕ) → Rises ps h from → d < h → (j : ℕ) → begun_of d from ≡ suc j → StandsAt ps h places from d j
 stands_at ps h d places [] r less j e = absurd (omega (arith, e))
@@ -63,10 +60,10 @@ begun_next ps h d (a ∷ later) r = by (leb a d) (leb a (suc d)) refl refl (begu
         ⊎ ((cond c (suc (begun_of (suc d) later)) 0 ≡ suc (cond b (suc (begun_of d later)) 0)) × (cond b (suc (begun_of d later)) 0 < suc (length later)) × (get_or (a ∷ later) (cond b (suc (begun_of d later)) 0) 0 ≡ suc d))
     by true true e f (inl same) = inl (ap suc same)
     by true true e f (inr next) = inr (ap suc next.0, omega (arith, next.1), next.2)
-    by true false e f ih = absurd (omega (arith, leb-true a d e, not_least a (suc d) f))
+    by true false e f ih = absurd (omega (arith, leb-true a d e, leb-false a (suc d) f))
     by false false e f ih = inl refl
     by false true e f ih =
-        let at : a ≡ suc d = omega (arith, not_least a d e, leb-true a (suc d) f) in
+        let at : a ≡ suc d = omega (arith, leb-false a d e, leb-true a (suc d) f) in
         inr (ap suc (none_after h (suc d) a later r.1 (omega (arith, at))), omega arith, at)
 
 -- a list ends where the next begins, or where the frame does
@@ -86,12 +83,6 @@ ends_within ps h places (a ∷ []) zero r l = omega arith
 ends_within ps h places (a ∷ []) (suc j) r l = absurd (omega (arith, l))
 ends_within ps h places (a ∷ b ∷ later) zero r l = let below = head_below ps h b later r.3 in omega (arith, below)
 ends_within ps h places (a ∷ b ∷ later) (suc j) r l = ends_within ps h places (b ∷ later) j r.3 (omega (arith, l))
-
--- what a list knows
-pub leg_knows : (h : ℕ) (xs : List Place) (from : List ℕ) (j : ℕ) → j < length from → (get_or (legs_of h xs from) j no_leg).known ≡ known_by (get_or from j 0) xs
-leg_knows h xs [] j l = absurd (omega arith)
-leg_knows h xs (a ∷ later) zero l = refl
-leg_knows h xs (a ∷ later) (suc j) l = leg_knows h xs later j (omega (arith, l))
 
 -- two offsets between which no place begins
 pub known_same : (a d : ℕ) (xs : List Place) → ((p : ℕ) (x : Place) → slice_get xs p ≡ Some x → leb x.at a ≡ leb x.at d) → known_by a xs ≡ known_by d xs

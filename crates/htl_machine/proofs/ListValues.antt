@@ -11,7 +11,6 @@ use Rattle.htl_walk.specs.declared.job.Job.{Job}
 use Rattle.htl_walk.specs.Walk.{Left, finish}
 use Rattle.htl_emach.specs.Contents.{Content}
 use Rattle.htl_refine.specs.RecordCounts.{count_left_before, done_by}
-use Rattle.htl_refine.proofs.RecordOrder.{get_in, get_past}
 use Rattle.htl_machine.specs.Completing.{complete_by, run_records}
 use Rattle.htl_machine.specs.FramesGoOn.{Now, finished_at}
 use Rattle.htl_machine.specs.FramesGoOn as frames
@@ -25,6 +24,7 @@ use Rattle.htl_machine.proofs.SMachineInstants.{count_within}
 use Rattle.htl_machine.proofs.FramesGoOn.{finished_carried}
 use Rattle.htl_machine.proofs.FrameValues.{all_ready, count_grows, records_follow}
 use Rattle.htl_machine.proofs.FrameValues as by_frames
+use Rattle.htl_base.proofs.Places.{get_back, within_front}
 
 -- ---- records of one list among those of its frame
 
@@ -56,7 +56,7 @@ run_behind : (t : Tables) (jobs : List Job) (xs ys zs : List Left) (m k : ℕ) (
 run_behind t jobs xs ys zs zero k w h = refl
 run_behind t jobs xs ys zs (suc m) k w h =
     let all = (xs ++ ys) ++ zs in
-    let here : slice_get ((xs ++ ys) ++ zs) (length xs + k) ≡ slice_get ys k = get_in (xs ++ ys) zs (length xs + k) (omega (arith, h, length-append xs ys)) ∙ get_past xs ys k in
+    let here : slice_get ((xs ++ ys) ++ zs) (length xs + k) ≡ slice_get ys k = within_front (xs ++ ys) zs (length xs + k) (omega (arith, h, length-append xs ys)) ∙ get_back xs ys k in
     ap (λ o. run_records t jobs all m (suc (length xs + k)) (complete_by t jobs o w)) here
     ∙ ap (λ z. run_records t jobs all m z (complete_by t jobs (slice_get ys k) w)) (let e : suc (length xs + k) ≡ length xs + suc k = omega arith in e)
     ∙ run_behind t jobs xs ys zs m (suc k) (complete_by t jobs (slice_get ys k) w) (omega (arith, h))

@@ -3,14 +3,14 @@ use Rattle.std.proofs.Common.{◌≡◌, ◌≢◌, ℕ, ◌+◌, ◌-◌, ◌*�
 use Rattle.std.specs.Int.{bit_at}
 use Rattle.std.proofs.lemmas.Bool.Decides.{nat_tests}
 use Rattle.std.proofs.Math.Bool.{or-false, or-true}
-use Rattle.std.proofs.lemmas.Bool.{cases_lt}
+use Rattle.std.proofs.lemmas.Bool.{cases_lt, cases_eq}
 use Rattle.std.proofs.lemmas.Nat.{shr-shr}
 use Rattle.std.proofs.lemmas.Nat.Bits.{bit_at-zero}
 use Rattle.htl_model.specs.Bits.{has_bit}
 use Rattle.htl_model.proofs.BitLaws.{has_no_bit}
 use Rattle.htl_machine.specs.declared.marks.Marks.{Marks}
 use Rattle.htl_machine.specs.Marks.{is_marked, row_of}
-use Rattle.htl_machine.proofs.Plain.{apart}
+use Rattle.htl_base.proofs.Tests.{eqb_apart}
 
 -- ---- one row
 
@@ -64,7 +64,7 @@ found_row m row bit found less =
 pub first_row : (m : Marks) (from row bit : ℕ) → from / 128 ≤ row → ((r : ℕ) → from / 128 ≤ r → r < row → row_of m r ≡ 0)
     → (row ≡ from / 128 → bit ≡ from % 128) → (row ≢ from / 128 → bit ≡ 0) → (from ≤ row * 128 + bit) × ((k : ℕ) → from ≤ k → k < row * 128 + bit → is_marked m k ≡ false)
 unfolding is_marked
-first_row m from row bit up none here later = elim (apart row (from / 128)) [
+first_row m from row bit up none here later = elim (cases_eq row (from / 128)) [
   | inl e ↦ let b = here e in (omega (arith, e, b), λ k low less. absurd (omega (arith, e, b, low, less)))
   | inr d ↦
       let b = later d in (
@@ -86,9 +86,6 @@ put_row old new number value b long room is used bits k = by (eqb k number) refl
     row : ℕ
     row = number / 128
 
-    other : (a c : ℕ) → eqb a c ≡ false → a ≢ c
-    other a c e = grind (arith, nat_tests)
-
     unequal : (a c : ℕ) → a ≢ c → eqb a c ≡ false
     unequal a c e = grind (arith, nat_tests)
 
@@ -99,7 +96,7 @@ put_row old new number value b long room is used bits k = by (eqb k number) refl
         ap (λ c. cond c (get_or new.rows (number / 128) 0) 0) (used (number / 128) ∙ ap (λ c. has_bit old.used (number / 128) || c) self ∙ or-true (has_bit old.used (number / 128)))
         ∙ ap (λ (xs : List ℕ). get_or xs (number / 128) 0) is ∙ get_or-set_same old.rows (number / 128) value 0 (omega (arith, long))
 
-    -- every other
+    -- every eqb_apart
     same : (r : ℕ) → r ≢ number / 128 → row_of new r ≡ row_of old r
     same r d =
         ap (λ c. cond c (get_or new.rows r 0) 0) (used r ∙ ap (λ c. has_bit old.used r || c) (unequal r (number / 128) d) ∙ or-false (has_bit old.used r))
@@ -111,9 +108,9 @@ put_row old new number value b long room is used bits k = by (eqb k number) refl
         let self : eqb (number % 128) (number % 128) ≡ true = grind (arith, nat_tests) in
         ap (λ n. has_bit (row_of new (n / 128)) (n % 128)) equal ∙ ap (λ n. has_bit n (number % 128)) own
         ∙ bits (number % 128) ∙ ap (λ t. cond t b (has_bit (row_of old (number / 128)) (number % 128))) self
-    by false e = elim (apart (k / 128) (number / 128)) [
+    by false e = elim (cases_eq (k / 128) (number / 128)) [
       | inl l ↦
-          let place : k % 128 ≢ number % 128 = λ p. other k number e (omega (arith, p, l)) in
+          let place : k % 128 ≢ number % 128 = λ p. eqb_apart k number e (omega (arith, p, l)) in
           ap (λ n. has_bit (row_of new n) (k % 128)) l ∙ ap (λ n. has_bit n (k % 128)) own
           ∙ bits (k % 128) ∙ ap (λ t. cond t b (has_bit (row_of old (number / 128)) (k % 128))) (unequal (k % 128) (number % 128) place)
           ∙ ap (λ n. has_bit (row_of old n) (k % 128)) (sym l)

@@ -26,13 +26,9 @@ use Rattle.htl_machine.specs.Marks.{is_marked}
 use Rattle.htl_machine.specs.Noting.{MarksChanges, KeepsNoted, is_written, decides}
 use Rattle.htl_machine.specs.Running.{replay}
 use Rattle.htl_machine.specs.declared.noted.Noted.{Noted}
-
-unmarked : (a b : Bool) → (a || b) ≡ false → (a ≡ false) × (b ≡ false)
-unmarked true b e = cc
-unmarked false b e = (refl, e)
-
-not_here : (a b : ℕ) → eqb a b ≡ false → a ≢ b
-not_here a b e = grind (arith, nat_tests)
+use Rattle.htl_emach.proofs.Inside.{trigger_set_modes}
+use Rattle.htl_base.proofs.Tests.{eqb_apart}
+use Rattle.std.proofs.lemmas.Bool.{or_parts}
 
 -- ---- values
 
@@ -60,7 +56,7 @@ value_stays t (I.CallWrite a b) w c e = by (comm_of (slice_get (writes_at t a) b
     by : (o : Option ℕ) → elim o as (λ _. Bool) [ Some x ↦ eqb c x | None ↦ false ] ≡ false
         → get_or (elim o as (λ _. List ℤ) [ Some x ↦ set w.values x (get_or (get_or w.outputs a []) b (pos 0)) | None ↦ w.values ]) c (pos 0) ≡ get_or w.values c (pos 0)
     by None e = refl
-    by (Some x) e = get_or-set_other w.values x c (get_or (get_or w.outputs a []) b (pos 0)) (pos 0) (not_here c x e)
+    by (Some x) e = get_or-set_other w.values x c (get_or (get_or w.outputs a []) b (pos 0)) (pos 0) (eqb_apart c x e)
 value_stays t (I.CallRead a b) w c e = refl
 value_stays t (I.Release a) w c e = refl
 value_stays t (I.Future a b d) w c e = refl
@@ -74,20 +70,12 @@ value_stays t I.Return w c e = refl
 
 -- ---- modes
 
-modes_with : (phase k : ℕ) (x : Option Trigger) (c : Calendar) → (with_trigger phase k x c).modes ≡ c.modes
-modes_with phase k x c = by (eqb phase 1) (eqb phase 2)
-  where
-    by : (a b : Bool) → (let d : Calendar = cond a (record c { writes = set c.writes k x }) (cond b (record c { switches = set c.switches k x }) (record c { reads = set c.reads k x })) in d.modes ≡ c.modes)
-    by true b = refl
-    by false true = refl
-    by false false = refl
-
 modes_taken : (phase at : ℕ) (m : Standing) → (taken phase at m).modes ≡ m.calendar.modes
 modes_taken phase at m = by m.running
   where
     by_due : (f : Option (ℕ × ℕ)) → (taken_by phase f m.calendar).modes ≡ m.calendar.modes
     by_due None = refl
-    by_due (Some p) = modes_with phase p.0 None m.calendar
+    by_due (Some p) = trigger_set_modes phase p.0 None m.calendar
 
     by : (o : Option Block) → (let d : Calendar = elim o as (λ _. Calendar) [ Some b ↦ m.calendar | None ↦ taken_by phase (first_due at 0 (triggers_of phase m.calendar)) m.calendar ] in d.modes ≡ m.calendar.modes)
     by (Some b) = refl
@@ -97,13 +85,13 @@ modes_length : (t : Tables) (code : ECode) (at k : ℕ) (i : EInstr) (c : Calend
 modes_length t code at k (I.CallWrite a b) c = refl
 modes_length t code at k (I.CallRead a b) c = refl
 modes_length t code at k (I.Release a) c = refl
-modes_length t code at k (I.Future d p x) c = ap length (modes_with p k (Some (record { at = at + d; target = x })) c)
+modes_length t code at k (I.Future d p x) c = ap length (trigger_set_modes p k (Some (record { at = at + d; target = x })) c)
 modes_length t code at k (I.JumpIf a b) c = refl
 modes_length t code at k (I.Jump a) c = refl
 modes_length t code at k (I.IfMode a b) c = refl
 modes_length t code at k (I.Enter a) c = length-set c.modes k (Some a)
 modes_length t code at k I.Leave c = length-set c.modes k None
-modes_length t code at k (I.Fork a) c = ap length (modes_with 2 a (Some (record { at = at; target = entry_of t code a })) c)
+modes_length t code at k (I.Fork a) c = ap length (trigger_set_modes 2 a (Some (record { at = at; target = entry_of t code a })) c)
 modes_length t code at k I.Return c = refl
 
 -- a module that decides nothing keeps its mode
@@ -111,13 +99,13 @@ mode_stays : (t : Tables) (code : ECode) (at k : ℕ) (i : EInstr) (c : Calendar
 mode_stays t code at k (I.CallWrite a b) c j e = refl
 mode_stays t code at k (I.CallRead a b) c j e = refl
 mode_stays t code at k (I.Release a) c j e = refl
-mode_stays t code at k (I.Future d p x) c j e = ap (λ xs. list_at xs j) (modes_with p k (Some (record { at = at + d; target = x })) c)
+mode_stays t code at k (I.Future d p x) c j e = ap (λ xs. list_at xs j) (trigger_set_modes p k (Some (record { at = at + d; target = x })) c)
 mode_stays t code at k (I.JumpIf a b) c j e = refl
 mode_stays t code at k (I.Jump a) c j e = refl
 mode_stays t code at k (I.IfMode a b) c j e = refl
-mode_stays t code at k (I.Enter a) c j e = list_other c.modes k j (Some a) (not_here j k e)
-mode_stays t code at k I.Leave c j e = list_other c.modes k j None (not_here j k e)
-mode_stays t code at k (I.Fork a) c j e = ap (λ xs. list_at xs j) (modes_with 2 a (Some (record { at = at; target = entry_of t code a })) c)
+mode_stays t code at k (I.Enter a) c j e = list_other c.modes k j (Some a) (eqb_apart j k e)
+mode_stays t code at k I.Leave c j e = list_other c.modes k j None (eqb_apart j k e)
+mode_stays t code at k (I.Fork a) c j e = ap (λ xs. list_at xs j) (trigger_set_modes 2 a (Some (record { at = at; target = entry_of t code a })) c)
 mode_stays t code at k I.Return c j e = refl
 
 -- ---- one instruction
@@ -131,11 +119,11 @@ noted_on n next t code values phase at m after w v d h goes is written decided k
     (record {
       comms = ap length kept.values ∙ h.comms ∙ sym (values_length t d.instr w);
       values_are = λ c e.
-          let u = unmarked (is_marked n.written c) (is_written t d.instr c) (sym (written c) ∙ e) in
+          let u = or_parts (is_marked n.written c) (is_written t d.instr c) (sym (written c) ∙ e) in
           ap (λ xs. get_or xs c (pos 0)) kept.values ∙ h.values_are c u.0 ∙ sym (value_stays t d.instr w c u.1);
       modules = ap length kept.modes ∙ h.modules ∙ sym (modes_length t code at d.«module» d.instr (taken phase at m) ∙ ap length (modes_taken phase at m));
       modes_are = λ k e.
-          let u = unmarked (is_marked n.decided k) (decides d.instr && eqb k d.«module») (sym (decided k) ∙ e) in
+          let u = or_parts (is_marked n.decided k) (decides d.instr && eqb k d.«module») (sym (decided k) ∙ e) in
           ap (λ xs. list_at xs k) kept.modes ∙ h.modes_are k u.0 ∙ sym (mode_stays t code at d.«module» d.instr (taken phase at m) k u.1 ∙ ap (λ xs. list_at xs k) (modes_taken phase at m));
     }))
 

@@ -13,18 +13,14 @@ use Rattle.htl_emach.specs.Pending.{Between}
 use Rattle.htl_refine.specs.Records.{modes_at}
 use Rattle.htl_refine.proofs.StateLaws.{states_are_selections}
 use Rattle.htl_machine.proofs.Agreeing.{modes_switched}
-
-list_get : (xs : List (Option ℕ)) (k : ℕ) → get_or xs k None ≡ list_at xs k
-list_get [] k = refl
-list_get (x ∷ xs) zero = refl
-list_get (x ∷ xs) (suc k) = list_get xs k
+use Rattle.htl_machine.proofs.Settling.{list_is}
 
 -- one place more is noted
 pub one_noted : (xs ys zs : List (Option ℕ)) (k : ℕ) (o : Option ℕ) → k < length ys → length xs ≡ length ys → take k xs ≡ take k ys → o ≡ list_at ys k → zs ≡ set xs k o
     → (take (k + 1) zs ≡ take (k + 1) ys) × (length zs ≡ length ys)
 one_noted xs ys zs k o less same front is noted = (
   ap (take (k + 1)) noted ∙ take_more_set xs k o (omega (arith, less, same))
-      ∙ ap₂ (λ (ps : List (Option ℕ)) (p : Option ℕ). ps ++ p ∷ []) front (is ∙ sym (list_get ys k))
+      ∙ ap₂ (λ (ps : List (Option ℕ)) (p : Option ℕ). ps ++ p ∷ []) front (is ∙ sym (list_is ys k))
       ∙ sym (take_more ys k None less),
   ap length noted ∙ length-set xs k o ∙ same,
 )
@@ -45,7 +41,7 @@ one_same xs ys k a b before first second same i less = elim (cases_lt i k) [
 
 -- all are
 pub all_same : (xs ys : List (Option ℕ)) → length xs ≡ length ys → ((i : ℕ) → i < length xs → list_at xs i ≡ list_at ys i) → xs ≡ ys
-all_same xs ys same each = ext_get_or None xs ys same (λ k h. list_get xs k ∙ each k h ∙ sym (list_get ys k))
+all_same xs ys same each = ext_get_or None xs ys same (λ k h. list_is xs k ∙ each k h ∙ sym (list_is ys k))
 
 mode_there : (ys : List (Option Stay)) (k : ℕ) → mode_of (stay_of ys k) ≡ get_or (map (λ (o : Option Stay). option_map (λ y. y.mode) o) ys) k None
 mode_there [] k = refl
@@ -57,4 +53,4 @@ mode_there (y ∷ ys) (suc k) = mode_there ys k
 pub modes_are : (t : Tables) (code : ECode) (es : List Event) (now : ℕ) (c : Calendar) → AreInRange t → Between t code es now 2 c (length t.modules) → c.modes ≡ modes_at t es now
 modes_are t code es now c range b =
     ext_get_or None c.modes (modes_at t es now) (b.sized.modes ∙ sym (states_are_selections t range es now).same)
-    (λ k h. list_get c.modes k ∙ modes_switched t code es now c range b k ∙ mode_there (state t es now).stays k)
+    (λ k h. list_is c.modes k ∙ modes_switched t code es now c range b k ∙ mode_there (state t es now).stays k)

@@ -10,7 +10,7 @@ use Rattle.htl_machine.specs.Worlds.{want_effect, effects}
 use Rattle.htl_emach.specs.Contents as contents
 use Rattle.htl_machine.specs.Values.{HasPlaces}
 use Rattle.htl_machine.proofs.Asked.{AsksFor}
-use Rattle.htl_machine.proofs.Plain.{apart}
+use Rattle.std.proofs.lemmas.Bool.{cases_eq}
 
 data Kind (x : Want) : Type 1 where
   writes : (a b : ℕ) → x ≡ Does (I.CallWrite a b) → Kind x
@@ -102,7 +102,7 @@ write_front t c x xs a b w is room (inl r) = by_end (comm_of (slice_get (content
 
     by_end : (o : Option ℕ) → comm_of (slice_get (contents.writes_at t a) b) ≡ o → Written t c (x ∷ xs) w
     by_end None e = inl (none_now None e (λ f. let z : ⊥ = cc in z), here ∙ ap (λ v. get_or v c (pos 0)) (put None e))
-    by_end (Some d) e = by_comm (apart d c)
+    by_end (Some d) e = by_comm (cases_eq d c)
       where
         by_comm : (d ≡ c) ⊎ (d ≢ c) → Written t c (x ∷ xs) w
         by_comm (inl g) =
@@ -151,7 +151,7 @@ HasRoom i k w = (i < length w.inputs) × (k < length (get_or w.inputs i []))
 
 -- rows keep their lengths
 pub put_row : (bs : List (List ℤ)) (a b i : ℕ) (v : ℤ) → i < length bs → length (get_or (put_in bs a b v) i []) ≡ length (get_or bs i [])
-put_row bs a b i v h = by_row (apart a i)
+put_row bs a b i v h = by_row (cases_eq a i)
   where
     by_row : (a ≡ i) ⊎ (a ≢ i) → length (get_or (put_in bs a b v) i []) ≡ length (get_or bs i [])
     by_row (inl e) =
@@ -163,7 +163,7 @@ pub put_same : (bs : List (List ℤ)) (i k : ℕ) (v : ℤ) → i < length bs �
 put_same bs i k v h g = ap (λ row. get_or row k (pos 0)) (get_or-set_same bs i (set (get_or bs i []) k v) [] h) ∙ get_or-set_same (get_or bs i []) k v (pos 0) g
 
 pub put_other : (bs : List (List ℤ)) (a b i k : ℕ) (v : ℤ) → i < length bs → (a ≡ i → b ≡ k → ⊥) → buffer (put_in bs a b v) i k ≡ buffer bs i k
-put_other bs a b i k v h n = by_row (apart a i)
+put_other bs a b i k v h n = by_row (cases_eq a i)
   where
     by_row : (a ≡ i) ⊎ (a ≢ i) → buffer (put_in bs a b v) i k ≡ buffer bs i k
     by_row (inl e) =
@@ -227,7 +227,7 @@ are_filled t i k c (x ∷ xs) w e n h = by_kind (kind_of x) (λ v g. are_filled 
     by_kind : Kind x → IH → Filled t i k c (x ∷ xs) w
     by_kind (writes a b f) ih = absurd (n a b (inl f))
     by_kind (idles f g m) ih = front w (f t w) refl refl (λ q. m i k q) (ih w h)
-    by_kind (reads a b f) ih = by_place (apart a i) (apart b k)
+    by_kind (reads a b f) ih = by_place (cases_eq a i) (cases_eq b k)
       where
         elsewhere : (a ≡ i → b ≡ k → ⊥) → Filled t i k c (x ∷ xs) w
         elsewhere other =

@@ -2,7 +2,7 @@
 use Rattle.std.proofs.Common.{◌≡◌, ◌≢◌, ℕ, zero, suc, ◌+◌, ◌-◌, ◌*◌, ◌/◌, ◌%◌, ◌≤◌, ◌<◌, ◌⊎◌, Bool, true, false, cond, ◌&&◌, ◌||◌, not, eqb, leb, pred, List, [], ◌∷◌, length, get_or, map, slice_get, drop, Option, Some, None, refl, sym, ap, ap₂, ◌∙◌, arith, inl, inr}
 use Rattle.std.specs.List.{list_any}
 use Rattle.std.proofs.Math.Nat.{div-add-mod, add-mul-mod_self_left, mul_assoc}
-use Rattle.std.proofs.lemmas.Bool.{eqb-true, eq-eqb, ne_eqb}
+use Rattle.std.proofs.lemmas.Bool.{eqb-true, eq-eqb, ne_eqb, cases_eq}
 use Rattle.std.proofs.lemmas.Option.{get_or_from_slice_get, slice_get-get_or, slice_get_within}
 use Rattle.htl_model.specs.declared.event.Event.{Event}
 use Rattle.htl_model.specs.declared.parts.Mode.{Mode}
@@ -14,8 +14,7 @@ use Rattle.htl_model.specs.Ranges.{AreInRange, IsModeInRange}
 use Rattle.htl_model.specs.Selections.{is_root, root_modules, modes_of, mode_of_module}
 use Rattle.htl_model.specs.Tables.{Tables, mode_period}
 use Rattle.htl_model.proofs.FrameRules.{frame_divided}
-use Rattle.htl_model.proofs.SelectionLaws.{modes_some}
-use Rattle.htl_form.proofs.Places.{all_at}
+use Rattle.htl_model.proofs.SelectionLaws.{modes_some, place_passes_0}
 use Rattle.htl_object.proofs.Limits.{place_passes}
 use Rattle.htl_walk.specs.declared.schedule.SInstr.{SInstr}
 use Rattle.htl_walk.proofs.PathReady.{IsRootAt, as_unit}
@@ -34,27 +33,21 @@ use Rattle.htl_machine.specs.RunLists.{begun_of, list_number, list_turn}
 use Rattle.htl_machine.specs.Timing.{first_period, opens, some_round_begins}
 use Rattle.htl_machine.proofs.ListStarts.{begun_next, none_after}
 use Rattle.htl_machine.proofs.Periodic.{divides}
-use Rattle.htl_machine.proofs.Plain.{apart}
 use Rattle.htl_machine.proofs.RunLists.{rise, past, stands, from_is, number, number_is}
 use Rattle.htl_machine.proofs.Periods.{begins_or_not}
+use Rattle.htl_base.proofs.Places.{all_at}
 
 -- ---- where a round of a root module begins
-
-passes : {A : Type 0} (test : A → Bool) (j p : ℕ) (xs : List A) → slice_get (places_from test 0 xs) j ≡ Some p → (x : A) × (slice_get xs p ≡ Some x) × (test x ≡ true)
-passes test j p xs e =
-    let h = place_passes test 0 j p xs e in
-    let same : h.0 ≡ p = omega (arith, h.1) in
-    (h.2, ap (slice_get xs) (sym same) ∙ h.3, h.4)
 
 -- a root module has the period of its first mode
 first_is : (t : Tables) (j u : ℕ) → AreInRange t → KeptApart t 12 → slice_get (root_modules t) j ≡ Some u → (first_period t u ≡ unit_period t u) × (0 < unit_period t u)
 first_is t j u range kept at =
-    let x = passes is_root j u t.modules at in
+    let x = place_passes_0 is_root j u t.modules at in
     let root : IsRootAt t u = record { owner = x.0; at = x.1; root = x.2 } in
     let m = get_or (modes_of t u) 0 0 in
     let some : 0 < length (modes_of t u) = modes_some t u range (slice_get_within t.modules u x.0 x.1) in
     let first : slice_get (modes_of t u) 0 ≡ Some m = slice_get-get_or (modes_of t u) 0 0 some in
-    let y = passes (mode_of_module u) 0 m t.modes first in
+    let y = place_passes_0 (mode_of_module u) 0 m t.modes first in
     let unit : mode_period t m ≡ unit_period t u = as_unit t u m y.0 range kept root y.1 (eqb-true y.0.«module» u y.2) in
     let is : mode_period t m ≡ y.0.period = ap (λ (o : Option Mode). elim o as (λ _. ℕ) [ Some z ↦ z.period | None ↦ 0 ]) y.1 in
     (unit, omega (arith, unit, is, (all_at (IsModeInRange t) t.modes m y.0 range.modes y.1).period.some))
@@ -141,7 +134,7 @@ module _ (t : Tables) (lists : List (List SInstr)) (es : List Event) (run : IsFe
       let s = stands t lists es run now in
       let down = past t lists es run now in
       begins_at t now run.range first_rules ∙ ap (frames.begins (root_periods t)) offset
-      ∙ elim (apart (get_or (starts t) (turn now).list 0) (now - frame_start t now)) [
+      ∙ elim (cases_eq (get_or (starts t) (turn now).list 0) (now - frame_start t now)) [
         | inl same ↦
             sym (ap (frames.begins (root_periods t)) same) ∙ begins_start (root_periods t) (frame_of t) (starts t) (turn now).list (rise t lists es run) s.there
             ∙ sym (eq-eqb ((turn now).frame + (turn now).from) now (omega (arith, same, from_is t lists es run now, down)))
@@ -237,7 +230,7 @@ lists_begin t lists es run at = (begins_there t lists es run at, λ here. next a
     next : (at : ℕ) → (list_turn t lists es at).frame + (list_turn t lists es at).from ≡ at → NextListStands t lists es at
     next zero here =
         let h = first_next t lists es run 0 here (let e : 0 % frame_of t ≡ 0 = omega arith in e) (list_turn t lists es 0).list (list_turn t lists es 0).node in record { list = h.0; node = h.1 }
-    next (suc n) here = elim (apart (suc n % frame_of t) 0) [
+    next (suc n) here = elim (cases_eq (suc n % frame_of t) 0) [
       | inl e ↦ (let h = first_next t lists es run (suc n) here e (list_turn t lists es n).list (list_turn t lists es n).node in record { list = h.0; node = h.1 })
       | inr d ↦ (let h = later_next t lists es run (suc n) n refl d here in record { list = h.0; node = h.1 })
     ]

@@ -9,16 +9,6 @@ use Rattle.htl_walk.specs.Paths.{Leg, list_point, AreInForm, path_point}
 use Rattle.htl_walk.proofs.GoingOn.{untouched}
 use Rattle.htl_refine.specs.ListPlans.{no_leg}
 
-pub front_more : {A : Type 0} (n m : ℕ) (xs : List A) → n ≤ m → take n xs ++ drop n (take m xs) ≡ take m xs
-front_more zero m xs h = refl
-front_more (suc n) zero xs h = absurd (omega arith)
-front_more (suc n) (suc m) [] h = refl
-front_more (suc n) (suc m) (x ∷ xs) h = ap (λ ys. x ∷ ys) (front_more n m xs (omega arith))
-
-pub take_all : {A : Type 0} (xs : List A) → take (length xs) xs ≡ xs
-take_all [] = refl
-take_all (x ∷ xs) = ap (λ ys. x ∷ ys) (take_all xs)
-
 drop_none : (n : ℕ) → ◌≡◌ {A = List ℕ} (drop n []) []
 drop_none zero = refl
 drop_none (suc n) = refl
@@ -33,12 +23,6 @@ pub get_behind : (n : ℕ) (xs : List ℕ) (p : ℕ) → get_or (drop n xs) p 0 
 get_behind zero xs p = let z : p ≡ 0 + p = omega arith in ap (λ k. get_or xs k 0) z
 get_behind (suc n) [] p = refl
 get_behind (suc n) (x ∷ xs) p = get_behind n xs p ∙ (let z : suc (n + p) ≡ suc n + p = omega arith in ap (λ k. get_or (x ∷ xs) k 0) z)
-
-pub same_length : (jobs : List Job) (s : List SInstr) (x : Point) → length (last_point jobs s x).left ≡ length x.left
-same_length jobs [] x = refl
-same_length jobs (Dispatch p h ∷ is) x = same_length jobs is (next_point jobs (Dispatch p h) x) ∙ simp length-set refl
-same_length jobs (Idle h ∷ is) x = same_length jobs is (next_point jobs (Idle h) x)
-same_length jobs (End ∷ is) x = same_length jobs is x
 
 -- with the work that the list before it left
 pub point_next : (jobs : List Job) (ss : List (List SInstr)) (gs : List Leg) (j : ℕ) (x : Point) → AreInForm ss gs → suc j < length gs

@@ -6,7 +6,7 @@ use Rattle.htl_walk.specs.declared.job.Job.{Job}
 use Rattle.htl_walk.specs.Walk.{Point, job_at, last_point, first_point, work}
 use Rattle.htl_walk.specs.Paths.{list_point, AgreeAt}
 use Rattle.htl_walk.specs.Refinement.{HaveLengths, AreWithinWorst}
-use Rattle.htl_walk.proofs.GoingOn.{onward_lists}
+use Rattle.htl_walk.proofs.GoingOn.{onward_lists, same_length}
 use Rattle.htl_walk.proofs.Work.{job_there}
 use Rattle.htl_smach.specs.Adding.{CanBegin, IsEven}
 use Rattle.htl_smach.specs.declared.state.PosState.TheVariants.{Pending}
@@ -16,12 +16,16 @@ use Rattle.htl_smach.proofs.RoundRecords.{pending_is}
 use Rattle.htl_refine.specs.FrameRuns.{Frame}
 use Rattle.htl_refine.specs.ListLaws.{IsFollowed}
 use Rattle.htl_refine.specs.ListPlans.{leg_at, front_of, list_start, list_plan}
-use Rattle.htl_refine.proofs.FrontPlans.{same_lists, point_long, length-work}
-use Rattle.htl_refine.proofs.Fronts.{take_work, get_front}
+use Rattle.htl_refine.proofs.FrontPlans.{point_long}
+use Rattle.htl_refine.proofs.Fronts.{take_work}
 use Rattle.htl_refine.proofs.ListWalks.{front_agrees, point_agrees, form_at}
 use Rattle.htl_machine.specs.Follows.{released_before, SMachineAt}
 use Rattle.htl_machine.specs.NextSMachines.{more_jobs, more_lengths, SMachinesGoOn}
-use Rattle.htl_machine.proofs.NextPoints.{front_more, take_all, drop_work, get_behind, same_length, point_next, point_untouched}
+use Rattle.htl_machine.proofs.NextPoints.{drop_work, get_behind, point_next, point_untouched}
+use Rattle.htl_machine.proofs.Releasing.{flag_at}
+use Rattle.htl_base.proofs.Places.{front_more, get_taken, take_all}
+use Rattle.htl_walk.proofs.CodeWalk.{work_length}
+use Rattle.std.proofs.lemmas.Grind.{same_number_lists}
 
 -- ---- releases
 
@@ -49,11 +53,6 @@ get_later (suc n) (suc m) [] p k e = absurd (let z : ⊥ = cc in z)
 get_later (suc n) (suc m) (j ∷ js) p k e =
     let r : slice_get js (n + p) ≡ Some k = get_later n m js p k e in
     (let z : suc n + p ≡ suc (n + p) = omega arith in ap (slice_get (j ∷ js)) z) ∙ r
-
-flag_at : (d : ℕ) (js : List Job) (p : ℕ) (j : Job) → slice_get js p ≡ Some j → get_or (released_before d js) p false ≡ (j.present && ltb j.release d)
-flag_at d [] p j e = absurd (let z : ⊥ = cc in z)
-flag_at d (k ∷ js) zero j e = let same : k ≡ j = cc in ap (λ (z : Job). z.present && ltb z.release d) same
-flag_at d (k ∷ js) (suc p) j e = flag_at d js p j e
 
 later_below : (n m : ℕ) (js : List Job) (p : ℕ) (k : Job) → slice_get (drop n (take m js)) p ≡ Some k → n + p < m
 later_below zero zero js p k e = absurd (let z : ⊥ = cc in z)
@@ -85,7 +84,7 @@ module _ (f : Frame) (j s : ℕ) (r : Round) (g : IsFollowed f j) (at : SMachine
       let y = list_start f j in
       let w = work f.jobs f.lengths in
       let few : length (take n f.jobs) ≡ n = omega (arith, length-take n f.jobs, g.more, g.within) in
-      let long : length y.left ≡ length f.jobs = point_long f.jobs f.lists f.legs j (first_point f.jobs f.lengths) ∙ length-work f.jobs f.lengths in
+      let long : length y.left ≡ length f.jobs = point_long f.jobs f.lists f.legs j (first_point f.jobs f.lengths) ∙ work_length f.jobs f.lengths in
       (onward_lists (take n f.jobs) (more_jobs f j) f.jobs (more_lengths f j) (get_or f.lists j []) n (leg_at f j).to (leg_at f (suc j)).from (front_of n y) y
       (subst (λ k. (p : ℕ) → p < k → job_at (take n f.jobs) p ≡ job_at f.jobs p) (sym few) (front_agrees n f.jobs))
       (subst (λ k. AgreeAt k (front_of n y) y) (sym few) (point_agrees n y))
@@ -95,7 +94,7 @@ module _ (f : Frame) (j s : ℕ) (r : Round) (g : IsFollowed f j) (at : SMachine
       (λ p h.
       ap (λ k. get_or y.left (k + p) 0) few
       ∙ point_untouched f.jobs f.lists f.legs j (first_point f.jobs f.lengths) (n + p) g.forms (omega (arith, g.there)) (λ i l. omega (arith, g.before i l))
-      ∙ sym (ap (λ ws. get_or ws p 0) (drop_work n (take m f.jobs) (take m f.lengths) ∙ ap (drop n) (take_work m f.jobs f.lengths)) ∙ get_behind n (take m w) p ∙ get_front m w (n + p) (omega (arith, h, length-drop n (take m f.jobs), length-take m f.jobs))))).next
+      ∙ sym (ap (λ ws. get_or ws p 0) (drop_work n (take m f.jobs) (take m f.lengths) ∙ ap (drop n) (take_work m f.jobs f.lengths)) ∙ get_behind n (take m w) p ∙ get_taken m w (n + p) (omega (arith, h, length-drop n (take m f.jobs), length-take m f.jobs))))).next
 
   first_is : (at' : ℕ) → at' ≡ s + (leg_at f (suc j)).from
       → record { time = at' - r.start; left = r.point.left ++ work (more_jobs f j) (more_lengths f j) } ≡ front_of (leg_at f (suc j)).known (list_start f (suc j))
@@ -107,14 +106,14 @@ module _ (f : Frame) (j s : ℕ) (r : Round) (g : IsFollowed f j) (at : SMachine
       let u = last_point (take n f.jobs) (get_or f.lists j []) (front_of n y) in
       let v = last_point f.jobs (get_or f.lists j []) y in
       let few : length (take n f.jobs) ≡ n = omega (arith, length-take n f.jobs, g.more, g.within) in
-      let long : length y.left ≡ length f.jobs = point_long f.jobs f.lists f.legs j (first_point f.jobs f.lengths) ∙ length-work f.jobs f.lengths in
+      let long : length y.left ≡ length f.jobs = point_long f.jobs f.lists f.legs j (first_point f.jobs f.lengths) ∙ work_length f.jobs f.lengths in
       let long_v : length v.left ≡ length f.jobs = same_length f.jobs (get_or f.lists j []) y ∙ long in
       let long_u : length u.left ≡ n = same_length (take n f.jobs) (get_or f.lists j []) (front_of n y) ∙ (let z : length (take n y.left) ≡ n = omega (arith, length-take n y.left, long, g.more, g.within) in z) in
       let new : length (more_jobs f j) ≡ m - n = omega (arith, length-drop n (take m f.jobs), length-take m f.jobs, g.within) in
-      let both : length (u.left ++ work (more_jobs f j) (more_lengths f j)) ≡ m = omega (arith, length-append u.left (work (more_jobs f j) (more_lengths f j)), length-work (more_jobs f j) (more_lengths f j), long_u, new, g.more) in
+      let both : length (u.left ++ work (more_jobs f j) (more_lengths f j)) ≡ m = omega (arith, length-append u.left (work (more_jobs f j) (more_lengths f j)), work_length (more_jobs f j) (more_lengths f j), long_u, new, g.more) in
       let lefts : u.left ++ work (more_jobs f j) (more_lengths f j) ≡ take m v.left =
-      same_lists (u.left ++ work (more_jobs f j) (more_lengths f j)) (take m v.left) (omega (arith, both, length-take m v.left, long_v, g.within))
-      (λ p h. alike.left p (omega (arith, h, both, few, new, g.more)) ∙ sym (get_front m v.left p (omega (arith, h, both)))) in
+      same_number_lists (u.left ++ work (more_jobs f j) (more_lengths f j)) (take m v.left) (omega (arith, both, length-take m v.left, long_v, g.within))
+      (λ p h. alike.left p (omega (arith, h, both, few, new, g.more)) ∙ sym (get_taken m v.left p (omega (arith, h, both)))) in
       let time : at' - r.start ≡ a = omega (arith, e, at.start) in
       let next : list_start f (suc j) ≡ list_point a v = point_next f.jobs f.lists f.legs j (first_point f.jobs f.lengths) g.forms g.there in
       let make : ℕ → List ℕ → Point = λ t ws. record { time = t; left = ws } in
@@ -151,7 +150,7 @@ module _ (f : Frame) (j s : ℕ) (r : Round) (g : IsFollowed f j) (at : SMachine
   length_at p k e =
       let n = (leg_at f j).known in
       let m = (leg_at f (suc j)).known in
-      get_behind n (take m f.lengths) p ∙ get_front m f.lengths (n + p) (later_below n m f.jobs p k e)
+      get_behind n (take m f.lengths) p ∙ get_taken m f.lengths (n + p) (later_below n m f.jobs p k e)
 
   pub can_begin : (at' : ℕ) → at' ≡ s + (leg_at f (suc j)).from → HaveLengths f.jobs f.lengths → AreWithinWorst f.jobs f.lengths → CanBegin r (at' - r.start) (more_jobs f j) (more_lengths f j)
   can_begin at' e least most =
@@ -172,7 +171,7 @@ module _ (f : Frame) (j s : ℕ) (r : Round) (g : IsFollowed f j) (at : SMachine
       let n = (leg_at f j).known in
       let y = list_start f j in
       let few : length (take n f.jobs) ≡ n = omega (arith, length-take n f.jobs, g.more, g.within) in
-      let long : length y.left ≡ length f.jobs = point_long f.jobs f.lists f.legs j (first_point f.jobs f.lengths) ∙ length-work f.jobs f.lengths in
+      let long : length y.left ≡ length f.jobs = point_long f.jobs f.lists f.legs j (first_point f.jobs f.lengths) ∙ work_length f.jobs f.lengths in
       let left : length r.point.left ≡ n =
       ap (λ (x : Point). length x.left) ended ∙ same_length (take n f.jobs) (get_or f.lists j []) (front_of n y) ∙ (let z : length (take n y.left) ≡ n = omega (arith, length-take n y.left, long, g.more, g.within) in z) in
       let jobs : length r.jobs ≡ n = ap (λ (js : List Job). length js) at.jobs ∙ few in

@@ -9,7 +9,7 @@ use Rattle.htl_model.specs.Tables.{Tables}
 use Rattle.htl_model.proofs.FrameLimits.{choices_some, choices_starts, rounds_have}
 use Rattle.htl_model.proofs.FrameSteps.{node_step}
 use Rattle.htl_refine.specs.FrameRuns.{nodes_below}
-use Rattle.htl_machine.proofs.Plain.{apart}
+use Rattle.std.proofs.lemmas.Bool.{cases_eq}
 
 -- the numbers of the first j starts are written
 pub record AreBelow (cs below : List ℕ) (j rest : ℕ) : Type 0 where
@@ -30,11 +30,11 @@ one_below cs below j rest less short h =
       behind = s.2;
       few = omega (arith, s.3, h.few);
       room = length-set below j n ∙ h.room;
-      all_below = λ i l. elim (apart i j) [
+      all_below = λ i l. elim (cases_eq i j) [
         | inl e ↦ get_or-set_at below j i n 0 e (omega (arith, less, short, h.room)) ∙ s.2 ∙ sym here ∙ ap (λ k. nodes_of (drop (suc k) cs)) (sym e)
         | inr d ↦ get_or-set_other below j i n 0 d ∙ h.all_below i (before i j l d)
       ];
-      small = λ i l. elim (apart i j) [
+      small = λ i l. elim (cases_eq i j) [
         | inl e ↦ omega (arith, get_or-set_at below j i n 0 e (omega (arith, less, short, h.room)), s.3, h.few)
         | inr d ↦ omega (arith, get_or-set_other below j i n 0 d, h.small i (before i j l d))
       ];

@@ -1,7 +1,7 @@
 -- Where a list begins, by the starts of a frame.
 use Rattle.std.proofs.Common.{◌≡◌, ◌≢◌, ◌<◌, ◌≤◌, ◌%◌, ℕ, zero, suc, Bool, true, false, cond, ◌||◌, eqb, List, [], ◌∷◌, length, take, refl, sym, ap, ap₂, ◌∙◌, arith, inl, inr}
 use Rattle.std.specs.List.{list_any}
-use Rattle.std.proofs.lemmas.Bool.{eq-eqb, ne_eqb}
+use Rattle.std.proofs.lemmas.Bool.{eq-eqb, ne_eqb, cases_eq}
 use Rattle.std.proofs.lemmas.List.Folds.{list_any-append}
 use Rattle.htl_model.specs.FrameRules.{KeptApart}
 use Rattle.htl_model.specs.Frames as frames
@@ -17,7 +17,6 @@ use Rattle.htl_machine.specs.Timing.{some_round_begins, opens}
 use Rattle.htl_machine.specs.declared.numbering.Numbering.{Numbering}
 use Rattle.htl_machine.proofs.Accepted.{accepted_is_loaded}
 use Rattle.htl_machine.proofs.NextLists.{begins_at}
-use Rattle.htl_machine.proofs.Plain.{apart}
 
 -- ---- among the starts below an end
 
@@ -40,7 +39,7 @@ none_below ps a (suc h) l =
 
 any_below : (ps : List ℕ) (a h : ℕ) → a < h → list_any (λ s. eqb s a) (starts_below ps h) ≡ frames.begins ps a
 any_below ps a zero l = absurd (omega (arith, l))
-any_below ps a (suc h) l = list_any-append (λ s. eqb s a) (starts_below ps h) (cond (frames.begins ps h) (h ∷ []) []) ∙ elim (apart h a) [
+any_below ps a (suc h) l = list_any-append (λ s. eqb s a) (starts_below ps h) (cond (frames.begins ps h) (h ∷ []) []) ∙ elim (cases_eq h a) [
   | inl e ↦ ap₂ (λ x y. x || y) (none_below ps a h (omega (arith, e))) (one (frames.begins ps h) h a true (eq-eqb h a e)) ∙ ap (frames.begins ps) e
   | inr d ↦ ap₂ (λ x y. x || y) (any_below ps a h (before h a l d)) (one (frames.begins ps h) h a false (ne_eqb h a d)) ∙ nothing (frames.begins ps a)
 ]

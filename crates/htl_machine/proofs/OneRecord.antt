@@ -11,8 +11,9 @@ use Rattle.htl_machine.specs.Texts.{inv_at}
 use Rattle.htl_machine.proofs.PositionRecords.{shift, shifted_slice}
 use Rattle.htl_machine.proofs.Printing.{joined-append}
 use Rattle.htl_machine.proofs.RecordTimes.{nothing}
-use Rattle.htl_walk.proofs.Finishes.{some_same}
 use Rattle.htl_refine.proofs.RecordOrder.{not_some}
+use Rattle.std.proofs.lemmas.Option.{same_Some}
+use Rattle.htl_base.proofs.Tests.{and_with_true}
 
 module _ (jobs : List Job) (f q n i start end : ℕ) where
   -- a record at this offset is of a position, and its lines count exactly where that is q
@@ -43,7 +44,7 @@ module _ (jobs : List Job) (f q n i start end : ℕ) where
   slice_claim at (Some p) (Some u) fin works early =
       let w = works u refl in
       let inv = (job_at jobs p).inv in
-      let same : w.1.0 ≡ p = some_same _ _ (sym w.1.1) in
+      let same : w.1.0 ≡ p = same_Some _ _ (sym w.1.1) in
       let test : is_in i start end inv (f + u.1) ≡ eqb p q =
       ap (λ (z : ℕ). is_in i start end inv (f + z)) w.0 ∙ ap (λ (z : ℕ). is_in i start end (job_at jobs z).inv (f + at)) (sym same) ∙ w.1.2 ∙ ap (λ (z : ℕ). eqb z q) same in
       ap (λ (xs : List (ℕ × ℕ)). cond (ltb (f + at) n) xs [])
@@ -69,18 +70,14 @@ module _ (jobs : List Job) (f q n i start end : ℕ) where
   done_claim at (Some p) sl true works early =
       let w = works refl in
       let inv = (job_at jobs p).inv in
-      let same : w.0 ≡ p = some_same _ _ (sym w.1) in
+      let same : w.0 ≡ p = same_Some _ _ (sym w.1) in
       let test : is_in i start end inv (f + at) ≡ eqb p q = ap (λ (z : ℕ). is_in i start end (job_at jobs z).inv (f + at)) (sym same) ∙ w.2 ∙ ap (λ (z : ℕ). eqb z q) same in
       let one : joined (done_time i start end) (lines_at at (Some p) sl true) ≡ cond (eqb p q) ((f + at) ∷ []) [] =
       joined-append (done_time i start end) (closed_slice_line inv (option_map (shift f) sl)) (DoneLine (f + at) inv ∷ [])
       ∙ ap₂ (λ (xs : List ℕ) (b : Bool). xs ++ (cond b ((f + at) ∷ []) [] ++ [])) (no_dones inv sl) test
       ∙ append-nil (cond (eqb p q) ((f + at) ∷ []) []) in
       ap (λ (xs : List ℕ). cond (ltb (f + at) n) xs []) one ∙ left_before at p ((f + at) ∷ []) (λ e. early (ap (λ (z : ℕ). Some z) e) refl)
-      ∙ ap (λ (b : Bool). cond b ((f + at) ∷ []) []) (sym (and_true (eqb p q)))
-    where
-      and_true : (b : Bool) → (b && true) ≡ b
-      and_true true = refl
-      and_true false = refl
+      ∙ ap (λ (b : Bool). cond b ((f + at) ∷ []) []) (sym (and_with_true (eqb p q)))
 
 -- a line of another time shows nothing
 pub out_of : {X : Type 0} (i inv : ℕ) (b : Bool) (xs : List X) → b ≡ false → cond (eqb inv i && b) xs [] ≡ []

@@ -2,7 +2,7 @@
 -- what the meaning says.
 use Rattle.std.proofs.Common.{◌≡◌, ℕ, zero, suc, ◌+◌, ◌*◌, ◌≤◌, ◌<◌, Bool, true, false, cond, eqb, ltb, List, [], ◌∷◌, length, slice_get, map, Option, Some, None, ℤ, pos, refl, sym, ap, ap₂, ◌∙◌, arith, ◌⊎◌, inl, inr}
 use Rattle.std.proofs.lemmas.Bool.{eqb-true, lt-ltb, le-ltb, ltb-true}
-use Rattle.std.proofs.lemmas.Option.{slice_get_within}
+use Rattle.std.proofs.lemmas.Option.{slice_get_within, same_Some}
 use Rattle.htl_model.specs.declared.event.Event.{Event}
 use Rattle.htl_model.specs.declared.parts.Inv.{Inv}
 use Rattle.htl_model.specs.declared.parts.End.{End}
@@ -15,15 +15,9 @@ use Rattle.htl_model.specs.FrameRules.{KeptApart}
 use Rattle.htl_model.specs.Meaning.{before, stay_of, val, out, out_by, input_value, port_output, writer_from}
 use Rattle.htl_model.proofs.Laws.{seen_before}
 use Rattle.htl_machine.specs.Values.{InvStands, HasReadInputs, Orders}
-use Rattle.htl_walk.proofs.Finishes.{some_same}
 use Rattle.htl_refine.proofs.RecordOrder.{not_some}
-use Rattle.htl_walk.proofs.Work.{all_at}
-use Rattle.htl_machine.proofs.Distinct.{there}
-use Rattle.htl_machine.proofs.Plain.{split}
-
-pub map_same : {A B : Type 0} (f g : A → B) (xs : List A) → ((k : ℕ) (x : A) → slice_get xs k ≡ Some x → f x ≡ g x) → map f xs ≡ map g xs
-map_same f g [] h = refl
-map_same f g (x ∷ xs) h = ap₂ (λ a b. a ∷ b) (h 0 x refl) (map_same f g xs (λ k y e. h (suc k) y e))
+use Rattle.htl_base.proofs.Places.{each_at, item_at, map_same}
+use Rattle.htl_base.proofs.Numbers.{cases_below}
 
 -- ---- who writes a port
 
@@ -35,7 +29,7 @@ port_is p q o (E.Port z ∷ ends) e = by_test (eqb p z) refl e (λ g. port_is p 
     by_test : (b : Bool) → eqb p z ≡ b → ◌≡◌ {A = Option ℕ} (cond b (Some q) (port_output p (suc q) ends)) (Some o)
         → (port_output p (suc q) ends ≡ Some o → (d : ℕ) × (o ≡ suc q + d) × (slice_get ends d ≡ Some (E.Port p)))
         → (d : ℕ) × (o ≡ q + d) × (slice_get (E.Port z ∷ ends) d ≡ Some (E.Port p))
-    by_test true is g ih = let same : q ≡ o = some_same _ _ g in (0, omega (arith, same), ap (λ y. Some (E.Port y)) (sym (eqb-true p z is)))
+    by_test true is g ih = let same : q ≡ o = same_Some _ _ g in (0, omega (arith, same), ap (λ y. Some (E.Port y)) (sym (eqb-true p z is)))
     by_test false is g ih = let r = ih g in (suc r.0, omega (arith, r.1), r.2)
 
 -- output o of invocation w of mode m writes the port
@@ -54,7 +48,7 @@ writer_in t m p q (x ∷ xs) w o at e =
         → (writer_from m p (suc q) xs ≡ Some (w, o) → IsWriter t m p w o) → IsWriter t m p w o
     by_place is None f g ih = ih g
     by_place is (Some z) f g ih =
-        let pair : ◌≡◌ {A = ℕ × ℕ} (q, z) (w, o) = some_same _ _ g in
+        let pair : ◌≡◌ {A = ℕ × ℕ} (q, z) (w, o) = same_Some _ _ g in
         let first : q ≡ w = ap (λ (a : ℕ × ℕ). a.0) pair in
         let second : z ≡ o = ap (λ (a : ℕ × ℕ). a.1) pair in
         let d = port_is p 0 z x.writes f in
@@ -100,7 +94,7 @@ below_grows r v u (suc n) h = omega (arith, below_grows r v u n h, bit_grows (r 
 pub below_more : (r : ℕ → ℕ) (v u n j : ℕ) → v ≤ r j → r j < u → j < n → below r v n < below r u n
 unfolding below bit
 below_more r v u zero j a b h = omega arith
-below_more r v u (suc n) j a b h = by_place (split j n h) (λ g. below_more r v u n j a b g)
+below_more r v u (suc n) j a b h = by_place (cases_below j n h) (λ g. below_more r v u n j a b g)
   where
     by_place : (j < n) ⊎ (j ≡ n) → (j < n → below r v n < below r u n) → below r v n + bit (ltb (r n) v) < below r u n + bit (ltb (r n) u)
     by_place (inl g) ih = omega (arith, ih g, bit_grows (r n) v u (omega arith))
@@ -129,8 +123,8 @@ module _ (t : Tables) (range : AreInRange t) (kept : KeptApart t 12) where
       by_test : (b : Bool) → is_concrete t d.inv ≡ b → b ≡ true
       by_test true is = refl
       by_test false is =
-          let inv = all_at (IsInvInRange t) t.invs range.invs i x at in
-          let mode = there t.modes x.mode inv.owner in
+          let inv = each_at (IsInvInRange t) t.invs range.invs i x at in
+          let mode = item_at t.modes x.mode inv.owner in
           absurd (kept AbstractPorts (record { mode = x.mode; inv = Some i; part = Input k }) k 0 (omega arith) (λ e. omega (arith, e))
           (mode.0, mode.1, (x, at, refl, (E.Port p, e, (refl, refl, con, record { number = w; writer = d.inv; at = d.known; abstract = is; place = o; writes = d.end })))))
 

@@ -1,34 +1,25 @@
 -- An invocation that reads a port is fed by the one that writes it.
 use Rattle.std.proofs.Common.{◌≡◌, ℕ, zero, suc, Bool, true, ◌&&◌, ◌||◌, eqb, List, [], ◌∷◌, slice_get, Option, Some, refl, ap, ◌∙◌, arith}
 use Rattle.std.specs.List.{list_any}
-use Rattle.std.proofs.lemmas.Bool.{eq-eqb}
+use Rattle.std.proofs.lemmas.Bool.{eq-eqb, and_from, or_left, or_right}
 use Rattle.htl_model.specs.declared.parts.Inv.{Inv}
 use Rattle.htl_model.specs.declared.parts.End.{End}
 use Rattle.htl_model.specs.declared.parts.End.TheVariants as E
 use Rattle.htl_model.specs.Tables.{Tables}
 use Rattle.htl_model.specs.PortOrder.{is_read_from, feeds_at, feeds}
 use Rattle.htl_model.specs.PortWriters.{is_port}
-use Rattle.htl_walk.proofs.Finishes.{some_same}
 use Rattle.htl_refine.proofs.RecordOrder.{not_some}
 use Rattle.htl_machine.proofs.Outs.{IsWriter}
+use Rattle.std.proofs.lemmas.Option.{same_Some}
 
 any_there : (f : End → Bool) (ends : List End) (k : ℕ) (e : End) → slice_get ends k ≡ Some e → f e ≡ true → list_any f ends ≡ true
 any_there f [] k e at h = not_some e at
-any_there f (d ∷ ends) zero e at h = left (f d) (list_any f ends) (ap f (some_same _ _ at) ∙ h)
-  where
-    left : (a b : Bool) → a ≡ true → (a || b) ≡ true
-    left a b e = grind arith
-any_there f (d ∷ ends) (suc k) e at h = right (f d) (list_any f ends) (any_there f ends k e at h)
-  where
-    right : (a b : Bool) → b ≡ true → (a || b) ≡ true
-    right a b e = grind arith
+any_there f (d ∷ ends) zero e at h = or_left (f d) (list_any f ends) (ap f (same_Some _ _ at) ∙ h)
+any_there f (d ∷ ends) (suc k) e at h = or_right (f d) (list_any f ends) (any_there f ends k e at h)
 
 -- an invocation that reads a port is fed by its writer
 pub fed : (t : Tables) (i w k a o : ℕ) (x : Inv) → slice_get t.invs i ≡ Some x → slice_get x.reads k ≡ Some (E.Port a) → (d : IsWriter t x.mode a w o) → feeds t w i ≡ true
 fed t i w k a o x known e d =
     ap (λ (z : Option Inv). feeds_at z (slice_get t.invs i)) d.known ∙ ap (feeds_at (Some d.inv)) known
-    ∙ all_true (eqb d.inv.mode x.mode) (list_any (is_read_from d.inv.writes) x.reads) (eq-eqb d.inv.mode x.mode d.mode)
+    ∙ and_from (eqb d.inv.mode x.mode) (list_any (is_read_from d.inv.writes) x.reads) (eq-eqb d.inv.mode x.mode d.mode)
     (any_there (is_read_from d.inv.writes) x.reads k (E.Port a) e (any_there (is_port a) d.inv.writes o (E.Port a) d.end (eq-eqb a a refl)))
-  where
-    all_true : (a b : Bool) → a ≡ true → b ≡ true → (a && b) ≡ true
-    all_true a b e f = grind arith

@@ -1,12 +1,11 @@
 -- What the records of a walk show of one position: its slices and its end, as instants of a run in which the walk begins at s.
 use Rattle.std.proofs.Common.{◌≡◌, ◌≤◌, ℕ, zero, suc, ◌+◌, Bool, true, false, cond, ◌&&◌, List, [], ◌∷◌, ◌++◌, map, slice_get, Option, Some, None, refl, ap, ap₂, ◌∙◌, subst, arith}
-use Rattle.std.proofs.lemmas.Bool.{eqb-true, eq-eqb}
+use Rattle.std.proofs.lemmas.Bool.{eqb-true, eq-eqb, and_parts}
 use Rattle.htl_model.specs.Lists.{joined}
 use Rattle.htl_walk.specs.Walk.{Left, slice_onto, slices, is_position, AllWithin}
 use Rattle.htl_refine.specs.ServedJobs.{spent, Finishes}
-use Rattle.htl_machine.proofs.LineBytes.{both_true}
-use Rattle.htl_walk.proofs.Finishes.{some_same}
 use Rattle.htl_refine.proofs.RecordOrder.{not_some}
+use Rattle.std.proofs.lemmas.Option.{same_Some}
 
 -- ---- its slices
 
@@ -45,7 +44,7 @@ shifted_spent s (u ∷ us) = let next = shifted_spent s us in omega (arith, next
 pub within_at : (a b q : ℕ) (ls : List Left) (k : ℕ) (l : Left) (u : ℕ × ℕ) → AllWithin a b (slices ls q) → slice_get ls k ≡ Some l → l.position ≡ Some q → l.slice ≡ Some u → u.1 ≤ b
 within_at a b q [] k l u all at is some = not_some l at
 within_at a b q (m ∷ ls) zero l u all at is some =
-    let same = some_same _ _ at in
+    let same = same_Some _ _ at in
     let first : cond (is_position m.position q) (slice_onto m.slice (slices ls q)) (slices ls q) ≡ u ∷ slices ls q =
     ap₂ (λ (o : Option ℕ) (v : Option (ℕ × ℕ)). cond (is_position o q) (slice_onto v (slices ls q)) (slices ls q)) (ap (λ (x : Left). x.position) same ∙ is) (ap (λ (x : Left). x.slice) same ∙ some)
     ∙ ap (λ (c : Bool). cond c (u ∷ slices ls q) (slices ls q)) (eq-eqb q q refl) in
@@ -69,12 +68,12 @@ never_done s q (l ∷ ls) none = by (is_position l.position q && l.finished) ref
   where
     by : (b : Bool) → (is_position l.position q && l.finished) ≡ b → joined (position_done s q) ls ≡ [] → cond b ((s + l.at) ∷ []) [] ++ joined (position_done s q) ls ≡ []
     by false e next = next
-    by true e next = let is = both_true (is_position l.position q) l.finished e in absurd (none 0 l.at (l, refl, position_is l.position q is.0, is.1, refl))
+    by true e next = let is = and_parts (is_position l.position q) l.finished e in absurd (none 0 l.at (l, refl, position_is l.position q is.0, is.1, refl))
 
 pub done_once : (s q : ℕ) (ls : List Left) (k f : ℕ) → Finishes ls q k f → ((m g : ℕ) → Finishes ls q m g → m ≡ k) → joined (position_done s q) ls ≡ (s + f) ∷ []
 done_once s q [] k f done once = not_some done.0 done.1
 done_once s q (l ∷ ls) zero f done once =
-    let same = some_same _ _ done.1 in
+    let same = same_Some _ _ done.1 in
     let here : (is_position l.position q && l.finished) ≡ true =
     ap₂ (λ (o : Option ℕ) (b : Bool). is_position o q && b) (ap (λ (x : Left). x.position) same ∙ done.2) (ap (λ (x : Left). x.finished) same ∙ done.3) ∙ ap (λ (b : Bool). b && true) (eq-eqb q q refl) in
     ap₂ (λ (b : Bool) (at : ℕ). cond b ((s + at) ∷ []) [] ++ joined (position_done s q) ls) here (ap (λ (x : Left). x.at) same ∙ done.4)
@@ -83,4 +82,4 @@ done_once s q (l ∷ ls) (suc k) f done once = by (is_position l.position q && l
   where
     by : (b : Bool) → (is_position l.position q && l.finished) ≡ b → joined (position_done s q) ls ≡ (s + f) ∷ [] → cond b ((s + l.at) ∷ []) [] ++ joined (position_done s q) ls ≡ (s + f) ∷ []
     by false e next = next
-    by true e next = let is = both_true (is_position l.position q) l.finished e in absurd (let z = once 0 l.at (l, refl, position_is l.position q is.0, is.1, refl) in omega (arith, z))
+    by true e next = let is = and_parts (is_position l.position q) l.finished e in absurd (let z = once 0 l.at (l, refl, position_is l.position q is.0, is.1, refl) in omega (arith, z))

@@ -1,6 +1,6 @@
 -- The lines of records: one by one, and all that are due.
 use Rattle.std.proofs.Common.{◌≡◌, ℕ, zero, suc, ◌+◌, ◌-◌, ◌≤◌, ◌<◌, Bool, true, false, cond, List, [], ◌∷◌, ◌++◌, length, take, drop, slice_get, Option, Some, None, option_map, Result, Ok, Err, refl, sym, ap, ap₂, ◌∙◌, subst, arith, append_assoc, append-nil, ◌⊎◌, inl, inr}
-use Rattle.std.proofs.lemmas.Option.{slice_get_past}
+use Rattle.std.proofs.lemmas.Option.{slice_get_past, same_Some}
 use Rattle.std.specs.Io.KnownBytes.{append_known}
 use Rattle.htl_edge.specs.Content.{Puts}
 use Rattle.htl_edge.proofs.Puts.{append_known-start, append_known-more, Puts-failed, Puts-second}
@@ -23,10 +23,11 @@ use Rattle.htl_machine.specs.Recording.{IsRecording}
 use Rattle.htl_machine.specs.Printing.{Prints, Counted, IsPrinting}
 use Rattle.htl_machine.specs.Texts.{inv_at, slice_lines, record_text, some_records}
 use Rattle.htl_machine.specs.RecordLines.{place_lines, job_lines, record_lines}
-use Rattle.htl_walk.proofs.Finishes.{some_same}
 use Rattle.htl_refine.proofs.RecordOrder.{not_some}
 use Rattle.htl_machine.proofs.Putting.{Puts-first}
 use Rattle.htl_machine.proofs.SMachineInstants.{next_some, next_none, told_get}
+use Rattle.htl_smach.proofs.RoundRecords.{take_more_get}
+use Rattle.htl_base.proofs.Numbers.{cases_up_to}
 
 -- ---- the lines of one record
 
@@ -80,13 +81,10 @@ joined-append f (x ∷ xs) ys = ap (λ z. f x ++ z) (joined-append f xs ys) ∙ 
 cut : {A : Type 0} (xs : List A) (n m : ℕ) (y : A) → slice_get xs n ≡ Some y → n < m → take m xs ≡ take n xs ++ (y ∷ take (m - suc n) (drop (suc n) xs))
 cut [] n m y e h = not_some y e
 cut (x ∷ xs) n zero y e h = absurd (omega (arith, h))
-cut (x ∷ xs) zero (suc m) y e h = ap₂ (λ a b. a ∷ take b xs) (some_same _ _ e) (let z : m ≡ suc m - suc zero = omega arith in z)
+cut (x ∷ xs) zero (suc m) y e h = ap₂ (λ a b. a ∷ take b xs) (same_Some _ _ e) (let z : m ≡ suc m - suc zero = omega arith in z)
 cut (x ∷ xs) (suc n) (suc m) y e h =
     ap (λ z. x ∷ z) (cut xs n m y e (omega (arith, h)))
     ∙ ap (λ z. x ∷ (take n xs ++ (y ∷ take z (drop (suc n) xs)))) (let z : m - suc n ≡ suc m - suc (suc n) = omega arith in z)
-
-one_more : {A : Type 0} (xs : List A) (n : ℕ) (y : A) → slice_get xs n ≡ Some y → take (suc n) xs ≡ take n xs ++ y ∷ []
-one_more xs n y e = cut xs n (suc n) y e (omega arith) ∙ ap (λ m. take n xs ++ (y ∷ take m (drop (suc n) xs))) (let z : suc n - suc n ≡ 0 = omega arith in z)
 
 get_drop : {A : Type 0} (xs : List A) (k n : ℕ) → slice_get (drop k xs) n ≡ slice_get xs (k + n)
 get_drop xs zero n = ap (slice_get xs) (let z : n ≡ 0 + n = omega arith in z)
@@ -106,9 +104,9 @@ record IsNext (p : Plan) (s k at : ℕ) (r : Round) (l : Left) : Type 0 where
 
 next_is : (p : Plan) (s k m d at : ℕ) (r : Round) (code : List SInstr) (l : Left) → p.schedule ≡ code → s ≤ at → k ≤ m → m ≤ due_by p s at → SMachineAt p s m d r → next_left r code at ≡ Some l → IsNext p s k at r l
 next_is p s k m d at r code l same past low few was e =
-    let less : m < due_by p s at = not_all (order m (due_by p s at) few) in
+    let less : m < due_by p s at = not_all (cases_up_to m (due_by p s at) few) in
     let x = next_some p s at d past m r was less in
-    let one : l ≡ told s m x.0 = some_same _ _ (sym e ∙ ap (λ c. next_left r c at) (sym same) ∙ x.2) in
+    let one : l ≡ told s m x.0 = same_Some _ _ (sym e ∙ ap (λ c. next_left r c at) (sym same) ∙ x.2) in
     record {
       less = omega (arith, less, was.place);
       past = omega (arith, low, was.place);
@@ -121,22 +119,16 @@ next_is p s k m d at r code l same past low few was e =
           ∙ ap (λ z. Some z) (sym one);
     }
   where
-    order : (a b : ℕ) → a ≤ b → (a < b) ⊎ (a ≡ b)
-    order a b h = grind arith
-
     not_all : (m < due_by p s at) ⊎ (m ≡ due_by p s at) → m < due_by p s at
     not_all (inl a) = a
     not_all (inr b) = not_some l (sym (next_none p s at d past m r was b) ∙ ap (λ c. next_left r c at) same ∙ e)
 
 -- none is left
 all_given : (p : Plan) (s m d at : ℕ) (r : Round) (code : List SInstr) → p.schedule ≡ code → s ≤ at → m ≤ due_by p s at → SMachineAt p s m d r → next_left r code at ≡ None → r.place ≡ due_by p s at
-all_given p s m d at r code same past few was e = elim (order m (due_by p s at) few) [
+all_given p s m d at r code same past few was e = elim (cases_up_to m (due_by p s at) few) [
   | inr b ↦ was.place ∙ b
   | inl a ↦ let x = next_some p s at d past m r was a in not_some (told s m x.0) (sym e ∙ ap (λ c. next_left r c at) (sym same) ∙ x.2)
 ]
-  where
-    order : (a b : ℕ) → a ≤ b → (a < b) ⊎ (a ≡ b)
-    order a b h = grind arith
 
 -- ---- the loop
 
@@ -168,7 +160,7 @@ printing_step t show sel r0 r n u0 u jobs code at l w0 w v f0 f g n0 m m' x h i 
   where
     more : (p : Plan) (s k : ℕ) → IsNext p s k at r l → n.place ≡ suc r.place → some_records p s k (r.place - k) ++ l ∷ [] ≡ some_records p s k (n.place - k)
     more p s k is place =
-        sym (one_more (drop k (told_from s 0 (list_walk p))) (r.place - k) l is.there)
+        sym (take_more_get (drop k (told_from s 0 (list_walk p))) (r.place - k) l is.there)
         ∙ ap (some_records p s k) (let z : suc (r.place - k) ≡ n.place - k = omega (arith, place, is.past) in z)
 
 pub printing_cut : {T S E F : Type 0} (t : Tables) (show : Shown) (sel : ℕ) (r0 r : Round) (u0 u : Content) (jobs : List Job) (code : List SInstr) (at : ℕ) (l : Left) (w0 w v : Option (List ℕ)) (f0 f g : ℕ) (n0 m : Tally) (x : E) (y : F)

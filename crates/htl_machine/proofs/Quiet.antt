@@ -55,7 +55,6 @@ use Rattle.htl_machine.proofs.Composing.{counts_after}
 use Rattle.htl_machine.proofs.Passing.{up_to_more}
 use Rattle.htl_machine.proofs.Ready.{ready}
 use Rattle.htl_machine.proofs.Recording.{recording_start, recording_end}
-use Rattle.htl_machine.proofs.InstantRecords.{up_to_none}
 use Rattle.htl_machine.proofs.LoadedRecords.{loaded_records}
 use Rattle.htl_machine.proofs.Wholly.{modes_read}
 use Rattle.htl_machine.specs.Quiet.{IsQuiet, AreQuiet, IsEmpty, PassOver}
@@ -63,25 +62,10 @@ use Rattle.htl_refine.proofs.BeginningsEnd.{beginnings_end}
 use Rattle.htl_machine.proofs.NextLists.{begins_whole}
 use Rattle.htl_refine.proofs.Standing.{standing_at}
 use Rattle.htl_machine.proofs.Idle.{IsIdle, idle, round_ends}
+use Rattle.htl_machine.proofs.Settling.{same_mode_self, same_self}
+use Rattle.htl_refine.proofs.RecordLists.{up_to_none}
 
 -- ---- where nothing changes there are no lines
-
-same_self : (x : ℤ) → same x x ≡ true
-same_self (pos a) = eqb_self a
-  where
-    eqb_self : (n : ℕ) → eqb n n ≡ true
-    eqb_self n = grind (arith, nat_tests)
-same_self (negsuc a) = eqb_self a
-  where
-    eqb_self : (n : ℕ) → eqb n n ≡ true
-    eqb_self n = grind (arith, nat_tests)
-
-same_mode_self : (o : Option ℕ) → same_mode o o ≡ true
-same_mode_self None = refl
-same_mode_self (Some n) = eqb_self n
-  where
-    eqb_self : (n : ℕ) → eqb n n ≡ true
-    eqb_self n = grind (arith, nat_tests)
 
 no_lines : (t : Tables) (es : List Event) (n : ℕ) → (state t es (suc n)).values ≡ (state t es n).values → ((k : ℕ) → k < length t.modules → mode_in_state (state t es (suc n)) k ≡ mode_in_state (state t es n) k)
     → value_lines t es (suc n) ≡ []

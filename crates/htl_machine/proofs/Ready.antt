@@ -2,7 +2,6 @@
 use Rattle.std.proofs.Common.{◌≡◌, ◌≤◌, ◌<◌, ℕ, zero, suc, ◌-◌, false, List, [], length, get_or, Option, Some, None, IfSome, refl, sym, ap, ◌∙◌, subst, arith}
 use Rattle.std.proofs.lemmas.Option.{get_or_from_slice_get}
 use Rattle.htl_emach.specs.Contents.{Content}
-use Rattle.htl_form.proofs.Places.{all_at, item_at}
 use Rattle.htl_object.specs.Accepted.{IsAccepted}
 use Rattle.htl_model.specs.declared.event.Event.{Event}
 use Rattle.htl_model.specs.Lists.{joined}
@@ -38,6 +37,7 @@ use Rattle.htl_machine.proofs.Premises.{no_list, stands_told, first_s_machine, f
 use Rattle.htl_machine.proofs.LoadedLists.{loaded_listed, loaded_of, loaded_turns, loaded_code, loaded_run}
 use Rattle.htl_machine.proofs.FrameValues.{count_grows}
 use Rattle.htl_refine.proofs.RecordOrder.{not_some}
+use Rattle.htl_base.proofs.Places.{all_at, item_at}
 
 -- ---- where there is no list
 

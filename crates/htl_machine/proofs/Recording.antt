@@ -1,6 +1,6 @@
 -- The loop that leaves the records of an instant and completes jobs.
 use Rattle.std.proofs.Common.{◌≡◌, ℕ, zero, suc, ◌+◌, ◌-◌, ◌≤◌, ◌<◌, Bool, true, cond, List, length, slice_get, Option, Some, None, IfSome, option_map, refl, sym, ap, ap₂, ◌∙◌, subst, arith, ◌⊎◌, inl, inr}
-use Rattle.std.proofs.lemmas.Option.{slice_get_within}
+use Rattle.std.proofs.lemmas.Option.{slice_get_within, same_Some}
 use Rattle.htl_model.specs.Tables.{Tables}
 use Rattle.htl_model.specs.Ranges.{AreInRange}
 use Rattle.htl_model.specs.FrameRules.{KeptApart}
@@ -20,11 +20,11 @@ use Rattle.htl_machine.specs.Completing.{complete_at, complete_by, run_records}
 use Rattle.htl_machine.specs.Follows.{SMachineAt}
 use Rattle.htl_machine.specs.Leaving.{due_by}
 use Rattle.htl_machine.specs.Recording.{AreOf, IsJobOf, Records, IsRecording}
-use Rattle.htl_walk.proofs.Finishes.{some_same}
 use Rattle.htl_refine.proofs.RecordOrder.{not_some}
 use Rattle.htl_refine.proofs.FinishingRecords.{last_is}
 use Rattle.htl_machine.proofs.SMachineInstants.{next_some, next_none, moves_on, told_get}
 use Rattle.htl_machine.proofs.Leaving.{is_running, instr_there, still_pending}
+use Rattle.htl_base.proofs.Numbers.{cases_up_to}
 
 -- one record more, at the end
 run_more : (t : Tables) (jobs : List Job) (ls : List walks.Left) (n k : ℕ) (w : Content) → run_records t jobs ls (suc n) k w ≡ complete_by t jobs (slice_get ls (k + n)) (run_records t jobs ls n k w)
@@ -45,7 +45,7 @@ answer_of r code at l e =
   where
     by_record : (o : Option walks.Left) → slice_get (walk_from r.jobs code r.first) r.place ≡ o → option_map (told r.start (0 + r.place)) o ≡ Some l → IsAnswer r code l
     by_record None f g = not_some l g
-    by_record (Some x) f g = record { record_of = x; at = f; is = sym (some_same _ _ g) ∙ ap (λ z. told r.start z x) (let h : 0 + r.place ≡ r.place = omega arith in h) }
+    by_record (Some x) f g = record { record_of = x; at = f; is = sym (same_Some _ _ g) ∙ ap (λ z. told r.start z x) (let h : 0 + r.place ≡ r.place = omega arith in h) }
 
 -- who is done stands at its position
 pub finished_job : (r : Round) (code : List SInstr) (at p : ℕ) (l : Left) → Stands r code → next_left r code at ≡ Some l → l.finished ≡ true → l.position ≡ Some p → (slice_get r.jobs p ≡ Some (job_at r.jobs p)) × ((job_at r.jobs p).present ≡ true)
@@ -113,7 +113,7 @@ recording_step t r0 r n w0 w v jobs code at l h e f st shaped is =
     worlds : (p : Plan) (s m k d : ℕ) → p.schedule ≡ code → s ≤ at → m < due_by p s at → SMachineAt p s m d r → k ≤ m → done_with t jobs l w ≡ complete_by t p.jobs (slice_get (list_walk p) m) w
     worlds p s m k d same past less was below =
         let x = next_some p s at d past m r was less in
-        let one : l ≡ told s m x.0 = some_same _ _ (sym e ∙ ap (λ c. next_left r c at) (sym same) ∙ x.2) in
+        let one : l ≡ told s m x.0 = same_Some _ _ (sym e ∙ ap (λ c. next_left r c at) (sym same) ∙ x.2) in
         let js : jobs ≡ p.jobs = sym h.are ∙ was.jobs in
         ap (λ (z : Left). done_with t jobs z w) one ∙ ap (λ z. done_with t z (told s m x.0) w) js ∙ sym (ap (λ o. complete_by t p.jobs o w) x.1)
 
@@ -124,16 +124,13 @@ pub recording_end : (t : Tables) (r0 r n : Round) (w0 w : Content) (jobs : List 
 recording_end t r0 r n w0 w jobs code at h e f =
     λ p s k d same past few was.
     let g = h.goes p s k d same past few was in
-    let all : g.0 ≡ due_by p s at = elim (order g.0 (due_by p s at) g.2) [
+    let all : g.0 ≡ due_by p s at = elim (cases_up_to g.0 (due_by p s at) g.2) [
       | inr b ↦ b
       | inl a ↦ let x = next_some p s at d past g.0 r g.3 a in not_some (told s g.0 x.0) (sym e ∙ ap (λ c. next_left r c at) (sym same) ∙ x.2)
     ] in (
       subst (λ z. SMachineAt p s (due_by p s at) d z) (sym f) (subst (λ m. SMachineAt p s m d r) all g.3),
       g.4 ∙ ap (λ z. run_records t p.jobs (list_walk p) (z - k) k w0) all,
     )
-  where
-    order : (a b : ℕ) → a ≤ b → (a < b) ⊎ (a ≡ b)
-    order a b h = grind arith
 
 -- ---- what `complete` asks for and gives
 

@@ -1,6 +1,6 @@
 -- The releases of an instant: exactly the invocations that stand and are released then, and the flags afterwards.
 use Rattle.std.proofs.Common.{◌≡◌, ◌≢◌, ℕ, zero, suc, ◌+◌, ◌-◌, ◌≤◌, ◌<◌, Bool, true, false, cond, ◌&&◌, eqb, ltb, List, [], ◌∷◌, ◌++◌, length, get_or, slice_get, Option, Some, None, refl, sym, ap, ap₂, ◌∙◌, subst, arith, ◌⊎◌, inl, inr}
-use Rattle.std.proofs.lemmas.Bool.{eqb-true, eq-eqb, lt-ltb, le-ltb}
+use Rattle.std.proofs.lemmas.Bool.{eqb-true, eq-eqb, lt-ltb, le-ltb, and_parts, cases_eq, and_from}
 use Rattle.std.proofs.lemmas.List.{get_or-set_same, get_or-set_other, length-set, length-map}
 use Rattle.htl_model.specs.declared.parts.Inv.{Inv}
 use Rattle.htl_model.specs.declared.state.Stay.{Stay}
@@ -19,11 +19,10 @@ use Rattle.htl_machine.specs.Turns.{position_from}
 use Rattle.htl_machine.specs.Follows.{released_before}
 use Rattle.htl_machine.specs.ReleaseFlags.{raise_at, raise_want, raise_all}
 use Rattle.htl_refine.proofs.Standing.{IsStanding}
-use Rattle.htl_walk.proofs.Finishes.{some_same}
 use Rattle.htl_refine.proofs.RecordOrder.{not_some}
 use Rattle.htl_machine.proofs.Asked.{In, AsksFor, asks_left, do_right, asks_joined, joined_asks, asks_up_to, up_to_asks, numbered_in, in_numbered, copied, not_called, among_reads}
 use Rattle.htl_machine.proofs.JobWindows.{position_some, last_open}
-use Rattle.htl_machine.proofs.Plain.{apart, both}
+use Rattle.std.proofs.lemmas.Option.{same_Some}
 
 -- ---- who is asked for
 
@@ -40,20 +39,17 @@ release_called t m o i h = elim (among_reads (I.Release i) t m o (λ e. let z : 
     item n g true e (inl a) =
         let same : n.0 ≡ i = cc in
         let d = numbered_in t.invs 0 n g in
-        let b = both (counts t m n.1) (eqb (release t n.1) o) e in
+        let b = and_parts (counts t m n.1) (eqb (release t n.1) o) e in
         (n.1, ap (slice_get t.invs) (let z : i ≡ d.0 = omega (arith, same, d.1) in z) ∙ d.2, b.0, eqb-true (release t n.1) o b.1)
 
 called_release : (t : Tables) (m o i : ℕ) (x : Inv) → slice_get t.invs i ≡ Some x → counts t m x ≡ true → release t x ≡ o → AsksFor (I.Release i) (block_chain t m 3 o)
 called_release t m o i x at c r =
-    let yes' : (counts t m x && eqb (release t x) o) ≡ true = all_true (counts t m x) (eqb (release t x) o) c (eq-eqb (release t x) o r) in
+    let yes' : (counts t m x && eqb (release t x) o) ≡ true = and_from (counts t m x) (eqb (release t x) o) c (eq-eqb (release t x) o r) in
     asks_left (I.Release i) (all_do (copied t m o ++ C.releases t m o)) (waits_for o 3 (next_offset t m 3 (suc o)) ++ Does I.Return ∷ [])
     (do_right (I.Release i) (copied t m o) (C.releases t m o)
     (joined_asks (I.Release i) (C.release_of t m o) (numbered 0 t.invs) (i, x)
     (subst (λ z. In (z, x) (numbered 0 t.invs)) (let z : 0 + i ≡ i = omega arith in z) (in_numbered t.invs 0 i x at))
     (subst (λ b. AsksFor (I.Release i) (all_do (cond b (I.Release i ∷ []) []))) (sym yes') (inl refl))))
-  where
-    all_true : (a b : Bool) → a ≡ true → b ≡ true → (a && b) ≡ true
-    all_true a b e f = grind arith
 
 module _ (t : Tables) (stays : List (Option Stay)) (n now : ℕ) (standing : IsStanding t stays n) (past : n ≤ now) where
   -- who is asked for stands and is released now
@@ -64,7 +60,7 @@ module _ (t : Tables) (stays : List (Option Stay)) (n now : ℕ) (standing : IsS
       by_stay u None is a = absurd a
       by_stay u (Some y) is a =
           let c = release_called t y.mode (now - y.start) i a in
-          let b = both (eqb c.0.mode y.mode) (is_concrete t c.0) c.2 in
+          let b = and_parts (eqb c.0.mode y.mode) (is_concrete t c.0) c.2 in
           let mode : c.0.mode ≡ y.mode = eqb-true c.0.mode y.mode b.0 in (
             c.0,
             y.start,
@@ -82,10 +78,7 @@ module _ (t : Tables) (stays : List (Option Stay)) (n now : ℕ) (standing : IsS
       let y : Stay = record { mode = x.mode; start = s } in
       up_to_asks (I.Release i) (λ u. wanted_reads t now (stay_of stays u)) (length t.modules) k (standing.known k y st.in_round)
       (subst (λ o. AsksFor (I.Release i) (wanted_reads t now o)) (sym st.in_round)
-      (called_release t x.mode (now - s) i x st.known (all_true (eqb x.mode x.mode) (is_concrete t x) (eq-eqb x.mode x.mode refl) st.concrete) (omega (arith, e))))
-    where
-      all_true : (a b : Bool) → a ≡ true → b ≡ true → (a && b) ≡ true
-      all_true a b e f = grind arith
+      (called_release t x.mode (now - s) i x st.known (and_from (eqb x.mode x.mode) (is_concrete t x) (eq-eqb x.mode x.mode refl) st.concrete) (omega (arith, e))))
 
 -- ---- the flags
 
@@ -144,7 +137,7 @@ are_flagged jobs (x ∷ xs) bs p h = by_kind (kind_of x) (are_flagged jobs xs (r
           where
             decide : (o : Option ℕ) → (o ≡ Some p) ⊎ (o ≢ Some p)
             decide None = inr (λ e. not_some p e)
-            decide (Some q) = elim (apart q p) [ inl g ↦ inl (ap (λ z. Some z) g) | inr n ↦ inr (λ e. n (some_same _ _ e)) ]
+            decide (Some q) = elim (cases_eq q p) [ inl g ↦ inl (ap (λ z. Some z) g) | inr n ↦ inr (λ e. n (same_Some _ _ e)) ]
 
             put : raise_want jobs x bs ≡ raise_at o bs
             put = ap (λ z. raise_want jobs z bs) f ∙ ap (λ z. raise_at z bs) e
@@ -175,7 +168,7 @@ same_bools (x ∷ xs) (y ∷ ys) e h = ap₂ (λ a b. a ∷ b) (h 0 (omega arith
 
 pub flag_at : (d : ℕ) (js : List Job) (p : ℕ) (j : Job) → slice_get js p ≡ Some j → get_or (released_before d js) p false ≡ (j.present && ltb j.release d)
 flag_at d [] p j e = not_some j e
-flag_at d (k ∷ js) zero j e = ap (λ (z : Job). z.present && ltb z.release d) (some_same _ _ e)
+flag_at d (k ∷ js) zero j e = ap (λ (z : Job). z.present && ltb z.release d) (same_Some _ _ e)
 flag_at d (k ∷ js) (suc p) j e = flag_at d js p j e
 
 job_there : (js : List Job) (p : ℕ) → p < length js → (j : Job) × (slice_get js p ≡ Some j)
@@ -214,10 +207,10 @@ module _ (t : Tables) (stays : List (Option Stay)) (n now start : ℕ) (jobs : L
       by_flag p j at (inr r) =
           let st = release_of t stays n now standing past r.0 r.1 in
           let w = position_some 0 jobs r.0 p r.2 in
-          let one : w.2 ≡ j = some_same _ _ (sym w.3 ∙ ap (slice_get jobs) (let z : w.0 ≡ p = omega (arith, w.1) in z) ∙ at) in
+          let one : w.2 ≡ j = same_Some _ _ (sym w.3 ∙ ap (slice_get jobs) (let z : w.0 ≡ p = omega (arith, w.1) in z) ∙ at) in
           let h = jobs_so_far.has r.0 st.0 st.1 st.2 in
-          let same : h.0 ≡ p = some_same _ _ (sym h.2 ∙ r.2) in
-          let job : h.1.job ≡ j = some_same _ _ (sym h.1.at ∙ ap (slice_get jobs) same ∙ at) in
+          let same : h.0 ≡ p = same_Some _ _ (sym h.2 ∙ r.2) in
+          let job : h.1.job ≡ j = same_Some _ _ (sym h.1.at ∙ ap (slice_get jobs) same ∙ at) in
           let when : j.release < suc now - start = omega (arith, st.3, h.1.release, ap (λ (z : Job). z.release) job) in
           r.3 ∙ sym (flag_at (suc now - start) jobs p j at ∙ ap₂ (λ a b. a && b) (ap (λ (z : Job). z.present) (sym one) ∙ w.4) (lt-ltb j.release (suc now - start) when))
       by_flag p j at (inl r) = r.1 ∙ flag_at (now - start) jobs p j at ∙ by_time j.present j.release not_now ∙ sym (flag_at (suc now - start) jobs p j at)
@@ -226,6 +219,6 @@ module _ (t : Tables) (stays : List (Option Stay)) (n now start : ℕ) (jobs : L
           not_now here e =
               let late : now < start + j.end = omega (arith, e, windows p j at here) in
               let st = jobs_so_far.stands p j at here late in
-              let job : st.3.job ≡ j = some_same _ _ (sym st.3.at ∙ at) in
+              let job : st.3.job ≡ j = same_Some _ _ (sym st.3.at ∙ at) in
               let asked = release_asks t stays n now standing past j.inv st.1 st.0 st.2 (omega (arith, e, st.3.release, ap (λ (z : Job). z.release) job)) in
               r.0 j.inv asked (last_open t stays start now jobs jobs_so_far p j at here late)

@@ -2,7 +2,6 @@
 use Rattle.std.proofs.Common.{◌≡◌, ℕ, ◌<◌, length, Option, Some, None, refl, sym, ◌∙◌, ap, arith}
 use Rattle.std.specs.Prelude.{slice_get}
 use Rattle.std.proofs.lemmas.Option.{slice_get_within}
-use Rattle.htl_form.proofs.Places.{item_at}
 use Rattle.htl_model.specs.declared.parts.Mode.{Mode}
 use Rattle.htl_model.specs.declared.parts.Module.{Module}
 use Rattle.htl_model.specs.FrameRules.{KeptApart}
@@ -11,10 +10,10 @@ use Rattle.htl_model.specs.Ranges.{AreInRange, IsModeInRange}
 use Rattle.htl_model.specs.SecondWriters.{parent_mode}
 use Rattle.htl_model.specs.Selections.{is_root, root_modules}
 use Rattle.htl_model.specs.Tables.{Tables, mode_module, mode_period}
-use Rattle.htl_walk.proofs.Work.{all_at}
 use Rattle.htl_refine.proofs.Members.{at_place}
 use Rattle.htl_refine.proofs.OwnPeriods.{same_period}
 use Rattle.htl_refine.proofs.Positions.{root_is}
+use Rattle.htl_base.proofs.Places.{each_at, item_at}
 
 module _ (t : Tables) (range : AreInRange t) (kept : KeptApart t 16) where
   first12 : KeptApart t 12
@@ -45,7 +44,7 @@ module _ (t : Tables) (range : AreInRange t) (kept : KeptApart t 16) where
 
       by : (x : Mode) → slice_get t.modes q ≡ Some x → HasRoot q
       by x at =
-          let owner : x.«module» < length t.modules = (all_at (IsModeInRange t) t.modes range.modes q x at).owner in
+          let owner : x.«module» < length t.modules = (each_at (IsModeInRange t) t.modes range.modes q x at).owner in
           let is : mode_module t q ≡ x.«module» = ap (λ (o : Option Mode). elim o [ Some z ↦ z.«module» | None ↦ 0 ]) at in
           let u = item_at t.modules (mode_module t q) (omega (arith, owner, is)) in
           by_module u.0 u.1

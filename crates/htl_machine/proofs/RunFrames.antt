@@ -15,7 +15,7 @@ use Rattle.htl_refine.specs.DerivedPaths.{derived_place}
 use Rattle.htl_refine.specs.ListPlans.{no_leg}
 use Rattle.htl_refine.specs.FrameRuns.{frame_modes, frame_places, frame_jobs, frame_at, walk_of}
 use Rattle.htl_refine.specs.ServedFrames.{IsServing}
-use Rattle.htl_refine.proofs.Fronts.{front_there, known_grow}
+use Rattle.htl_refine.proofs.Fronts.{front_there}
 use Rattle.htl_refine.proofs.ServedFrames.{frames_are_served}
 use Rattle.htl_refine.proofs.ServedSoFar.{front_served}
 use Rattle.htl_walk.proofs.Starts.{known_few}
@@ -25,10 +25,11 @@ use Rattle.htl_machine.proofs.FramesHaveJobs.{frame_jobs_so_far}
 use Rattle.htl_machine.proofs.FramePlaced.{there_front}
 use Rattle.htl_machine.proofs.FrameValues.{all_ready, values_carried}
 use Rattle.htl_machine.proofs.Periods.{begins_or_not}
+use Rattle.htl_walk.proofs.NodeWalks.{known_rises}
 
 leg_known : (h : ℕ) (xs : List Place) (later_starts : List ℕ) (i d : ℕ) → i < length (legs_of h xs later_starts) → (get_or (legs_of h xs later_starts) i no_leg).from ≤ d → (get_or (legs_of h xs later_starts) i no_leg).known ≤ known_by d xs
 leg_known h xs [] i d l e = absurd (omega arith)
-leg_known h xs (a ∷ later) zero d l e = known_grow a d xs e
+leg_known h xs (a ∷ later) zero d l e = known_rises a d xs e
 leg_known h xs (a ∷ later) (suc i) d l e = leg_known h xs later i d (omega arith) e
 
 module _ (t : Tables) (lists : List (List SInstr)) (es : List Event) (range : AreInRange t) (kept : KeptApart t 16) (some : 0 < frame_of t)
@@ -48,7 +49,7 @@ module _ (t : Tables) (lists : List (List SInstr)) (es : List Event) (range : Ar
   goes_on n f g p j same at =
       let js = frame_jobs t (frame_modes t es f) in
       let r = front_there (begun_by t es f n) js p j at in
-      let more : begun_by t es f n ≤ begun_by t es f (suc n) = known_grow (n - f) (suc n - f) (frame_places t (frame_modes t es f)) (omega arith) in
+      let more : begun_by t es f n ≤ begun_by t es f (suc n) = known_rises (n - f) (suc n - f) (frame_places t (frame_modes t es f)) (omega arith) in
       subst (λ z. slice_get (take (begun_by t es z (suc n)) (frame_jobs t (frame_modes t es z))) p ≡ Some j) (sym same) (there_front (begun_by t es f (suc n)) js p j r.0 (omega (arith, r.1, more)))
 
   pub run_frames_of : (n : ℕ) → (frame_start t (suc n) ≡ suc n) ⊎ ((frame_start t (suc n) ≡ frame_start t n) × ((now_of t lists es (suc n)).walk ≡ (now_of t lists es n).walk)

@@ -1,7 +1,7 @@
 -- A run whose lists are feasible goes on list by list, whatever the periods of its root modules.
 use Rattle.std.proofs.Common.{◌≡◌, ℕ, zero, suc, ◌+◌, ◌-◌, ◌*◌, ◌/◌, ◌%◌, ◌≤◌, ◌<◌, ◌⊎◌, true, false, leb, is_some, pred, List, [], ◌∷◌, ◌++◌, length, get_or, map, slice_get, take, Option, Some, None, refl, sym, ap, ap₂, ◌∙◌, subst, arith, length-append, inl, inr}
 use mathlib.Core.Path.{fun_ext}
-use Rattle.std.proofs.lemmas.Bool.{le-leb, lt-leb}
+use Rattle.std.proofs.lemmas.Bool.{le-leb, lt-leb, cases_eq}
 use Rattle.std.proofs.lemmas.List.{append_assoc, length-map, length-take}
 use Rattle.std.proofs.Math.Nat.{div-add-mod, mod-lt}
 use Rattle.htl_model.specs.declared.event.Event.{Event}
@@ -26,39 +26,39 @@ use Rattle.htl_refine.specs.FramePlaces.{place, standing_places}
 use Rattle.htl_refine.specs.ListPlans.{no_leg, leg_at, list_plan, list_walk, records_before}
 use Rattle.htl_refine.specs.RecordCounts.{count_left_before, done_by}
 use Rattle.htl_refine.specs.ServedFrames.{IsServing, IsFeasibleRun}
-use Rattle.htl_refine.proofs.Fronts.{front_there, job_front, get_front}
+use Rattle.htl_refine.proofs.Fronts.{front_there, job_front}
 use Rattle.htl_refine.proofs.Inherit.{mapped}
 use Rattle.htl_refine.proofs.ListCounts.{count_split, done_split}
-use Rattle.htl_refine.proofs.ListsFollow.{legs_many, leg_from}
+use Rattle.htl_refine.proofs.ListsFollow.{legs_many, leg_from, leg_knows}
 use Rattle.htl_refine.proofs.ListWalks.{form_at, list_walks}
 use Rattle.htl_refine.proofs.PathDerived.{placed_present}
 use Rattle.htl_refine.proofs.PathRead.{paths_read}
 use Rattle.htl_refine.proofs.PlaceOrder.{places_ordered}
 use Rattle.htl_refine.proofs.StateLaws.{states_are_selections}
 use Rattle.htl_refine.proofs.RoundOrder.{round_of, run_of}
-use Rattle.htl_refine.proofs.ServedFrames.{frames_are_served, have_lengths, within_worst}
-use Rattle.htl_refine.proofs.WorkDone.{work_done}
+use Rattle.htl_refine.proofs.ServedFrames.{frames_are_served, have_lengths, within_worst, paths_are}
+use Rattle.htl_refine.proofs.WorkDone.{work_done, length-walk}
 use Rattle.htl_machine.specs.FramePlacing.{frame_start, begun_by}
 use Rattle.htl_machine.specs.FramesGoOn.{Now, AreFrames}
 use Rattle.htl_machine.specs.ListTurns.{Turn, turn_walk, records_so_far, AreTurns, IsTurn, IsListed, AreListed}
 use Rattle.htl_machine.specs.RunFrames.{now_of}
 use Rattle.htl_machine.specs.RunLists.{turn_of, begun_of, list_number, list_turn, RunsGoByLists}
-use Rattle.htl_machine.proofs.SMachineInstants.{length-walk}
 use Rattle.htl_refine.proofs.ListsFollow.{begins_by}
 use Rattle.htl_machine.proofs.FramePlaced.{at_place_is}
-use Rattle.htl_machine.proofs.ListStarts.{StandsAt, stands_at, some_begun, begun_next, ends_next, ends_within, leg_knows, known_same}
+use Rattle.htl_machine.proofs.ListStarts.{StandsAt, stands_at, some_begun, begun_next, ends_next, ends_within, known_same}
 use Rattle.htl_machine.proofs.ListValues.{take_front}
-use Rattle.htl_machine.proofs.Plain.{apart, down}
 use Rattle.htl_machine.proofs.RunFrames.{feasible_runs}
 use Rattle.htl_refine.proofs.RecordOrder.{not_some}
-use Rattle.htl_walk.proofs.Finishes.{some_same}
 use Rattle.htl_refine.proofs.OwnRounds.{goes_on}
 use Rattle.htl_machine.proofs.Periods.{begins_or_not}
+use Rattle.htl_base.proofs.Numbers.{round_down}
+use Rattle.htl_base.proofs.Places.{get_taken}
+use Rattle.std.proofs.lemmas.Option.{same_Some}
 
 -- the records of list j among those of its frame
 split_at : (ws : List (List Left)) (j : ℕ) (x : List Left) → slice_get ws j ≡ Some x → (rest : List Left) × (end_to_end ws ≡ (end_to_end (take j ws) ++ x) ++ rest)
 split_at [] j x e = not_some x e
-split_at (w ∷ ws) zero x e = (end_to_end ws, ap (λ z. z ++ end_to_end ws) (some_same w x e))
+split_at (w ∷ ws) zero x e = (end_to_end ws, ap (λ z. z ++ end_to_end ws) (same_Some w x e))
 split_at (w ∷ ws) (suc j) x e =
     let r = split_at ws j x e in
     (r.0, ap (λ z. w ++ z) r.1 ∙ sym (append_assoc w (end_to_end (take j ws) ++ x) r.0) ∙ ap (λ z. z ++ r.0) (sym (append_assoc w (end_to_end (take j ws)) x)))
@@ -74,13 +74,6 @@ point_time jobs (s ∷ ss) (g ∷ gs) (suc j) x f l = point_time jobs ss gs j (l
 -- the frame's length, by the periods of its root modules
 abbrev frame_by : List ℕ → ℕ
 frame_by ps = elim (elim ps as (λ _. Option ℕ) [ [] ↦ None | p ∷ qs ↦ Some (multiple_of p qs) ]) as (λ _. ℕ) [ Some h ↦ h | None ↦ 0 ]
-
-paths_are : (t : Tables) → 0 < length (root_modules t) → paths t ≡ choices t (rounds t)
-paths_are t some = by (root_modules t) some (choices t (rounds t))
-  where
-    by : (us : List ℕ) → 0 < length us → (n : ℕ) → elim us as (λ _. ℕ) [ [] ↦ 0 | v ∷ vs ↦ n ] ≡ n
-    by [] h n = absurd (omega arith)
-    by (u ∷ us) h n = refl
 
 module _ (t : Tables) (lists : List (List SInstr)) (es : List Event) (run : IsFeasibleRun t lists es) where
   abbrev h : ℕ
@@ -114,7 +107,7 @@ module _ (t : Tables) (lists : List (List SInstr)) (es : List Event) (run : IsFe
   places n = frame_places t (frame_modes t es (frame_start t n))
 
   pub past : (n : ℕ) → frame_start t n ≤ n
-  past n = down (frame_of t) n
+  past n = round_down (frame_of t) n
 
   pub before_end : (n : ℕ) → n - frame_start t n < frame_of t
   before_end n =
@@ -201,7 +194,7 @@ module _ (t : Tables) (lists : List (List SInstr)) (es : List Event) (run : IsFe
       let inv : j.inv ≡ c.0 = sym (ap (λ (z : Job). z.inv) c.4) in
       let spot : slice_get ys p ≡ Some (place c.0 y.0.at) = y.1 ∙ ap (λ (o : Option ℕ). let z : Place = record { inv = o; at = y.0.at } in Some z) c.2 in
       let w = at_place_is t es n f m run.range run.kept refl (past n) (let less = before_end n in omega (arith, less, past n)) (places_ordered t es f (n - f) run.range run.kept) p c.0 y.0.at spot in
-      let one : w.inv ≡ c.1 = some_same _ _ (sym w.known ∙ c.3) in
+      let one : w.inv ≡ c.1 = same_Some _ _ (sym w.known ∙ c.3) in
       (c.1, ap (slice_get t.invs) inv ∙ c.3, ap (is_concrete t) (sym one) ∙ w.concrete, sym (ap (λ (z : Job). z.worst) c.4))
 
   -- ---- its records
@@ -245,14 +238,14 @@ module _ (t : Tables) (lists : List (List SInstr)) (es : List Event) (run : IsFe
       let m = (leg_at (frame n) (turn n).list).known in
       let f = front_there m (frame n).jobs p j at in
       let all = have_lengths t (frame_modes t es (frame_start t n)) es (frame_start t n) run.range run.within (places n) p j f.0 here in
-      omega (arith, all, get_front m (frame n).lengths p f.1)
+      omega (arith, all, get_taken m (frame n).lengths p f.1)
 
   most : (n : ℕ) → AreWithinWorst (turn n).plan.jobs (turn n).plan.lengths
   most n p j at here =
       let m = (leg_at (frame n) (turn n).list).known in
       let f = front_there m (frame n).jobs p j at in
       let all = within_worst t (frame_modes t es (frame_start t n)) es (frame_start t n) run.range run.within (places n) p j f.0 here in
-      omega (arith, all, get_front m (frame n).lengths p f.1)
+      omega (arith, all, get_taken m (frame n).lengths p f.1)
 
   worked : (n k p : ℕ) → p < length (turn n).plan.jobs → k ≤ length (turn n).plan.schedule → (job_at (turn n).plan.jobs p).present ≡ true
       → get_or (last_point (turn n).plan.jobs (take k (turn n).plan.schedule) (turn n).plan.first).left p 0 ≡ 0 → done_by (records_so_far (turn n)) (length (turn n).earlier + k) p ≡ true
@@ -290,7 +283,7 @@ module _ (t : Tables) (lists : List (List SInstr)) (es : List Event) (run : IsFe
   goes n = elim (begins_or_not (frame_of t) n run.ticks) [
     | inl e ↦ inr (
       (let s = stands (suc n) in omega (arith, e, from_is (suc n), s.begun)),
-      elim (apart (suc n) (frame_of t * (n / frame_of t) + frame_of t)) [
+      elim (cases_eq (suc n) (frame_of t * (n / frame_of t) + frame_of t)) [
         | inl over ↦ (let s = stands n in omega (arith, over, s.before, ends n, past n))
         | inr d ↦ absurd (omega (arith, e, goes_on (frame_of t) n run.ticks d, past n))
       ],

@@ -19,8 +19,7 @@ use Rattle.htl_refine.specs.ServedFrames.{IsFeasibleRun}
 use Rattle.htl_refine.proofs.AlongPath.{legs_within}
 use Rattle.htl_refine.proofs.FramesAgree.{frames_agree}
 use Rattle.htl_refine.proofs.FrontPlans.{leg_same, front_plan, front_walks}
-use Rattle.htl_refine.proofs.Fronts.{take_map, known_grow}
-use Rattle.htl_refine.proofs.ListsFollow.{rises_up}
+use Rattle.htl_refine.proofs.Fronts.{take_map}
 use Rattle.htl_refine.proofs.NodeRead.{nodes_read, nodes_agree}
 use Rattle.htl_refine.proofs.StateLaws.{states_are_selections}
 use Rattle.htl_machine.specs.FramePlacing.{frame_start}
@@ -28,6 +27,7 @@ use Rattle.htl_machine.specs.ListTurns.{Turn}
 use Rattle.htl_machine.specs.RunLists.{list_number, list_turn}
 use Rattle.htl_machine.proofs.Events.{Alike, state_same}
 use Rattle.htl_machine.proofs.RunLists.{rise, past, serving, stands, known_is, few}
+use Rattle.htl_walk.proofs.NodeWalks.{known_rises, starts_order}
 
 module _ (t : Tables) (lists : List (List SInstr)) (es fs : List Event) (now : ℕ) (run : IsFeasibleRun t lists es) (alike : Alike t es fs now) (n : ℕ) (early : n < now) where
   abbrev f : ℕ
@@ -49,7 +49,7 @@ module _ (t : Tables) (lists : List (List SInstr)) (es fs : List Event) (now : �
   starts_before : (i : ℕ) → i ≤ list_number (n - frame_start t n) (starts t) → get_or (starts t) i 0 ≤ n - frame_start t n
   starts_before i less =
       let s = stands t lists es run n in
-      let up = rises_up (root_periods t) (frame_of t) (starts t) i j (rise t lists es run) less s.there in
+      let up = starts_order (root_periods t) (frame_of t) (starts t) i j (rise t lists es run) less s.there in
       omega (arith, up, s.begun)
 
   frames_alike : AreAlike t es fs (frame_start t n) (n - frame_start t n) (suc (list_number (n - frame_start t n) (starts t)))
@@ -77,7 +77,7 @@ module _ (t : Tables) (lists : List (List SInstr)) (es fs : List Event) (now : �
     known_within =
         let xs = frame_places t (frame_modes t es f) in
         legs_within (frame_of t) (begun_by_offset t es f (n - frame_start t n)) (suc j) xs (starts t)
-        (λ i a less at. known_grow a (n - frame_start t n) xs (omega (arith, get_or_from_slice_get (starts t) i a 0 at, starts_before i (omega (arith, less)))))
+        (λ i a less at. known_rises a (n - frame_start t n) xs (omega (arith, get_or_from_slice_get (starts t) i a 0 at, starts_before i (omega (arith, less)))))
 
     pub list_same : list_turn t lists es n ≡ list_turn t lists fs n
     list_same =

@@ -11,13 +11,11 @@ use Rattle.htl_smach.specs.Rounds.{Round, told, told_from, walk_records, next_le
 use Rattle.htl_refine.specs.RecordCounts.{count_left_before}
 use Rattle.htl_refine.specs.ListPlans.{ListPlan as Plan, list_walk}
 use Rattle.htl_machine.specs.Follows.{released_before, SMachineStands, SMachineAt}
-use Rattle.htl_walk.proofs.Finishes.{some_same}
-use Rattle.htl_refine.proofs.RecordOrder.{not_some}
+use Rattle.htl_refine.proofs.RecordOrder.{not_some, times_within}
 use Rattle.htl_machine.proofs.Turning.{at_count, before_count}
-
-pub length-walk : (jobs : List Job) (is : List SInstr) (x : Point) → length (walk_from jobs is x) ≡ length is
-length-walk jobs [] x = refl
-length-walk jobs (i ∷ is) x = ap suc (length-walk jobs is (next_point jobs i x))
+use Rattle.htl_refine.proofs.ListCounts.{count_all}
+use Rattle.htl_refine.proofs.WorkDone.{length-walk}
+use Rattle.htl_base.proofs.Tests.{none_below}
 
 pub told_get : (start m : ℕ) (ls : List Left) (k : ℕ) → slice_get (told_from start m ls) k ≡ option_map (told start (m + k)) (slice_get ls k)
 told_get start m [] k = refl
@@ -121,26 +119,6 @@ s_machine_closes p s now r at =
 
 -- ---- a list is over at its end
 
-step_time : (now w r until period : ℕ) → now ≤ period → until ≤ period → time_after now w r until ≤ period
-step_time now zero r until period a b = a
-step_time now (suc w) r until period a b = omega arith
-
-pub times_within : (jobs : List Job) (count period : ℕ) (is : List SInstr) (x : Point) → InForm count period is → x.time ≤ period → (k : ℕ) (l : Left) → slice_get (walk_from jobs is x) k ≡ Some l → l.at ≤ period
-times_within jobs count period [] x f h k l e = not_some l e
-times_within jobs count period (End ∷ []) x f h zero l e = omega (arith, h, ap (λ (z : Left). z.at) (some_same _ _ e))
-times_within jobs count period (End ∷ []) x f h (suc k) l e = not_some l e
-times_within jobs count period (End ∷ j ∷ is) x f h k l e = absurd f.0
-times_within jobs count period (Dispatch q until ∷ is) x f h zero l e =
-    omega (arith, step_time x.time (get_or x.left q 0) (job_at jobs q).release until period h f.0.1, ap (λ (z : Left). z.at) (some_same _ _ e))
-times_within jobs count period (Dispatch q until ∷ is) x f h (suc k) l e =
-    times_within jobs count period is (next_point jobs (Dispatch q until) x) f.1 (step_time x.time (get_or x.left q 0) (job_at jobs q).release until period h f.0.1) k l e
-times_within jobs count period (Idle until ∷ is) x f h zero l e = omega (arith, h, f.0, ap (λ (z : Left). z.at) (some_same _ _ e))
-times_within jobs count period (Idle until ∷ is) x f h (suc k) l e = times_within jobs count period is (next_point jobs (Idle until) x) f.1 (omega (arith, h, f.0)) k l e
-
-count_all : (e : ℕ) (ls : List Left) → ((k : ℕ) (l : Left) → slice_get ls k ≡ Some l → l.at < e) → count_left_before e ls ≡ length ls
-count_all e [] h = refl
-count_all e (l ∷ ls) h = ap (λ b. cond b (suc (count_left_before e ls)) 0) (lt-ltb l.at e (h 0 l refl)) ∙ ap suc (count_all e ls (λ k m g. h (suc k) m g))
-
 -- then all its records are given
 pub all_given : (p : Plan) (s now count period : ℕ) → InForm count period p.schedule → p.first.time ≤ period → now ≡ s + period → count_left_before (suc now - s) (list_walk p) ≡ length p.schedule
 all_given p s now count period form early e =
@@ -157,9 +135,6 @@ pub none_released : (js : List Job) → replicate (length js) false ≡ released
 none_released [] = refl
 none_released (j ∷ js) = ap₂ (λ a b. a ∷ b) (by_present j.present) (none_released js)
   where
-    none : (n : ℕ) → ltb n 0 ≡ false
-    none n = le-ltb n 0 (omega arith)
-
     by_present : (b : Bool) → false ≡ (b && ltb j.release 0)
-    by_present true = sym (none j.release)
+    by_present true = sym (none_below j.release)
     by_present false = refl

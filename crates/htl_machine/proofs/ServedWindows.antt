@@ -5,7 +5,7 @@ use Rattle.htl_walk.specs.declared.job.Job.{Job}
 use Rattle.htl_walk.specs.Walk.{Left}
 use Rattle.htl_refine.specs.ServedSoFar.{IsServedSoFar}
 use Rattle.htl_machine.specs.JobsSoFar.{HaveWindows}
-use Rattle.htl_machine.proofs.JobWindows.{job_is}
+use Rattle.htl_walk.proofs.Work.{job_is}
 
 pub windows_of : (jobs : List Job) (ls : List Left) (frame n : ℕ) → IsServedSoFar jobs ls frame n → HaveWindows jobs
 windows_of jobs ls frame n run p j at here =

@@ -90,11 +90,11 @@ putting_over t f k n old now before between low none h = record {
   kept = h.kept;
 }
 
-same_self : (x : ℤ) → same x x ≡ true
+pub same_self : (x : ℤ) → same x x ≡ true
 same_self (pos a) = grind (arith, nat_tests)
 same_self (negsuc a) = grind (arith, nat_tests)
 
-same_mode_self : (o : Option ℕ) → same_mode o o ≡ true
+pub same_mode_self : (o : Option ℕ) → same_mode o o ≡ true
 same_mode_self None = refl
 same_mode_self (Some n) = grind (arith, nat_tests)
 

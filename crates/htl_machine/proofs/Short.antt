@@ -4,7 +4,7 @@ use Rattle.std.specs.List.{list_any, AllByRecursion, IsDistinct}
 use Rattle.std.proofs.lemmas.Bool.{eqb-true}
 use Rattle.std.proofs.lemmas.List.{length-map}
 use Rattle.std.proofs.lemmas.Map.Steps.{length-le_from_distinct_below}
-use Rattle.std.proofs.lemmas.Option.{slice_get_within}
+use Rattle.std.proofs.lemmas.Option.{slice_get_within, same_Some}
 use Rattle.htl_model.specs.declared.event.Event.{Event}
 use Rattle.htl_model.specs.Meaning.{state}
 use Rattle.htl_model.specs.Tables.{Tables}
@@ -27,10 +27,7 @@ use Rattle.htl_ecode.proofs.SpellingLaws.{spelled_departs_not}
 use Rattle.htl_ecode.specs.Spelling.{Spells}
 use Rattle.htl_model.specs.FrameRules.{KeptApart}
 use Rattle.htl_model.specs.Ranges.{AreInRange}
-
-no_end : (front : List ℕ) (b : ℕ) → [] ≡ front ++ b ∷ [] → ⊥
-no_end [] b e = cc
-no_end (x ∷ xs) b e = cc
+use Rattle.htl_base.proofs.Places.{nothing_ends}
 
 none_all : (p : ℕ → Bool) (xs : List ℕ) → list_any p xs ≡ false → AllByRecursion (λ y. p y ≡ false) xs
 none_all p [] e = tt
@@ -43,17 +40,14 @@ none_all p (x ∷ xs) e = by (λ f. none_all p xs f) (p x) refl
 module _ (code : List EInstr) (go : ℕ → EInstr → Option ℕ) where
   -- one path leads from an address to the end of its block
   one_path : (a : ℕ) (xs ys : List ℕ) → Ends code go a xs → Ends code go a ys → length xs ≡ length ys
-  one_path a [] ys p q = absurd (no_end p.0 p.1 p.3)
-  one_path a (x ∷ xs) [] p q = absurd (no_end q.0 q.1 q.3)
+  one_path a [] ys p q = absurd (nothing_ends p.0 p.1 p.3)
+  one_path a (x ∷ xs) [] p q = absurd (nothing_ends q.0 q.1 q.3)
   one_path a (x ∷ xs) (y ∷ ys) p q =
       let r = next_of_block code go a x xs p in
       let s = next_of_block code go a y ys q in
-      let same : r.1.0 ≡ s.1.0 = some_same r.1.0 s.1.0 (sym r.1.1 ∙ s.1.1) in
+      let same : r.1.0 ≡ s.1.0 = same_Some r.1.0 s.1.0 (sym r.1.1 ∙ s.1.1) in
       ap suc (by (λ c p' q'. one_path c xs ys p' q') r.1.0 s.1.0 same r.1.2 s.1.2)
     where
-      some_same : {A : Type 0} (u v : A) → Some u ≡ Some v → u ≡ v
-      some_same u v e = cc
-
       none_some : (n : ℕ) → None ≡ Some n → ⊥
       none_some n e = cc
 
@@ -63,12 +57,12 @@ module _ (code : List EInstr) (go : ℕ → EInstr → Option ℕ) where
       by again i j same (inl h) (inr k) = absurd (none_some k.0 (sym h.0 ∙ ap (go a) same ∙ k.1))
       by again i j same (inr h) (inl k) = absurd (none_some h.0 (sym k.0 ∙ sym (ap (go a) same) ∙ h.1))
       by again i j same (inr h) (inr k) =
-          let to : h.0 ≡ k.0 = some_same h.0 k.0 (sym h.1 ∙ ap (go a) same ∙ k.1) in
+          let to : h.0 ≡ k.0 = same_Some h.0 k.0 (sym h.1 ∙ ap (go a) same ∙ k.1) in
           again k.0 (subst (λ c. Ends code go c xs) to h.2) k.2
 
   -- from an address on it a path goes on to the same end
   goes_from : (a b : ℕ) (xs : List ℕ) → Ends code go a xs → list_any (eqb b) xs ≡ true → (ys : List ℕ) × (length ys ≤ length xs) × Ends code go b ys
-  goes_from a b [] p e = absurd (no_end p.0 p.1 p.3)
+  goes_from a b [] p e = absurd (nothing_ends p.0 p.1 p.3)
   goes_from a b (x ∷ xs) p e = by (λ c p' e'. goes_from c b xs p' e') (eqb b x) refl
     where
       r : (x ≡ a) × ((i : EInstr) × (slice_get code a ≡ Some i) × (((go a i ≡ None) × (xs ≡ [])) ⊎ ((c : ℕ) × (go a i ≡ Some c) × Ends code go c xs)))
@@ -86,7 +80,7 @@ module _ (code : List EInstr) (go : ℕ → EInstr → Option ℕ) where
   -- no address stands twice on it
   distinct : (a : ℕ) (xs : List ℕ) → Ends code go a xs → IsDistinct eqb xs
   unfolding IsDistinct
-  distinct a [] p = absurd (no_end p.0 p.1 p.3)
+  distinct a [] p = absurd (nothing_ends p.0 p.1 p.3)
   distinct a (x ∷ xs) p = (none_all (eqb x) xs (not_again (list_any (eqb x) xs) refl), rest (λ c q. distinct c xs q) r.1.2)
     where
       r : (x ≡ a) × ((i : EInstr) × (slice_get code a ≡ Some i) × (((go a i ≡ None) × (xs ≡ [])) ⊎ ((c : ℕ) × (go a i ≡ Some c) × Ends code go c xs)))
@@ -114,7 +108,7 @@ module _ (code : List EInstr) (go : ℕ → EInstr → Option ℕ) where
       first m.0 m.2
     where
       first : (ys : List ℕ) → Ends code go q ys → q < length code
-      first [] h = absurd (no_end h.0 h.1 h.3)
+      first [] h = absurd (nothing_ends h.0 h.1 h.3)
       first (y ∷ ys) h = let r = next_of_block code go q y ys h in slice_get_within code q r.1.0 r.1.1
 
   pub block_short : (a : ℕ) (xs : List ℕ) → Ends code go a xs → length xs ≤ length code
@@ -158,11 +152,6 @@ module _ (t : Tables) (code : ECode) (es : List Event) (now phase : ℕ) (sound 
       (short_from (length t.modules) 0 c (omega arith) b)
 
 -- ---- the instructions that are left, counted without the events
-
--- no block runs, and none of the phase is done
-pub midway_start : (t : Tables) (code : ECode) (es : List Event) (now phase : ℕ) (m : Standing) → m.running ≡ None → Between t code es now phase m.calendar 0 → Midway t code es now phase m [] (phase_path t code es now phase)
-midway_start t code es now phase m idle b =
-    subst (λ (r : Option Block). Midway t code es now phase (record { calendar = m.calendar; running = r }) [] (phase_path t code es now phase)) (sym idle) (phase_starts t code es now phase m.calendar b)
 
 pub steps_for : (t : Tables) (code : ECode) (es : List Event) (now phase : ℕ) (values : List ℤ) (n : ℕ) (m : Standing) (done rest : List Done) → Sound t code → IsPhase phase → (eqb phase 2 ≡ true → values ≡ (state t es now).values) → length rest ≤ n
     → Midway t code es now phase m done rest → steps n t code values phase now m ≡ length rest

@@ -15,7 +15,7 @@ use Rattle.htl_machine.specs.Sensors.{AreShown}
 use Rattle.htl_machine.proofs.Finishing.{list_to_at}
 use Rattle.htl_machine.proofs.Periods.{begins_or_not}
 use Rattle.htl_machine.proofs.Valued.{length-shown}
-use Rattle.htl_machine.proofs.Plain.{zero_down}
+use Rattle.htl_base.proofs.Numbers.{zero_down}
 
 list_is : (xs ys : List ℤ) → length xs ≡ length ys → ((k : ℕ) → k < length xs → get_or xs k (pos 0) ≡ get_or ys k (pos 0)) → xs ≡ ys
 list_is [] [] e h = refl

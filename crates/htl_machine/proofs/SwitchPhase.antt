@@ -24,9 +24,9 @@ use Rattle.htl_ecode.proofs.Spelled.{Reads, ModeReads}
 use Rattle.htl_emach.specs.Contents.{Content, effect}
 use Rattle.htl_machine.specs.Worlds.{want_effect, effects}
 use Rattle.std.proofs.lemmas.Option.{slice_get_within}
-use Rattle.htl_walk.proofs.Work.{all_at}
 use Rattle.htl_machine.proofs.Asked.{In, numbered_in}
 use Rattle.htl_machine.proofs.Tying.{replay, replay_more, jumps_do_nothing, one_does, same_effect, reached_does, chain_does, addresses, addresses_on, addresses_more}
+use Rattle.htl_base.proofs.Places.{each_at}
 
 -- what is required, but for calls
 abbrev pub IsQuiet : Want → Type 0
@@ -162,7 +162,7 @@ aimed_decide t code m range =
     aimed_more t (asks_for (parent_of t (mode_module t m))) (tests_of t (block_begun code m) code.enter m ++ Arrives (block_begun code m) ∷ []) (asks (parent_of t (mode_module t m)))
     (aimed_more t (tests_of t (block_begun code m) code.enter m) (Arrives (block_begun code m) ∷ [])
     (aimed_tests t code m (numbered 0 t.switches)
-    (λ n g. let d = numbered_in t.switches 0 n g in let r = (all_at (IsSwitchInRange t) t.switches range.switches d.0 n.1 d.2).target in slice_get_within t.modes n.1.target r.0 r.1))
+    (λ n g. let d = numbered_in t.switches 0 n g in let r = (each_at (IsSwitchInRange t) t.switches range.switches d.0 n.1 d.2).target in slice_get_within t.modes n.1.target r.0 r.1))
     (tt, tt))
   where
     asks : (o : Option ℕ) → AreAimed t (asks_for o)

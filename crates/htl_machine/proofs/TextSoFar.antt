@@ -1,6 +1,6 @@
 -- The text before an instant stays, whatever is read at that instant or later.
 use Rattle.std.proofs.Common.{◌≡◌, ◌<◌, ℕ, Bool, true, false, ◌&&◌, cond, eqb, leb, List, [], ◌∷◌, ◌++◌, refl, sym, ap, ◌∙◌, subst, arith}
-use Rattle.std.proofs.lemmas.Bool.{lt-leb}
+use Rattle.std.proofs.lemmas.Bool.{lt-leb, and_right}
 use Rattle.std.proofs.lemmas.List.{append_assoc, append-nil}
 use Rattle.htl_model.specs.declared.event.Event.{Event}
 use Rattle.htl_model.specs.declared.event.Event.TheVariants as V
@@ -20,10 +20,6 @@ use Rattle.htl_machine.proofs.TextStays.{instant_same}
 use Rattle.htl_machine.proofs.LoadedRecords.{loaded_before}
 use Rattle.htl_machine.proofs.Writing.{before_stays}
 
-and_false : (a b : Bool) → b ≡ false → (a && b) ≡ false
-and_false true b e = e
-and_false false b e = refl
-
 front_within : (t : Tables) (es later : List Event) → AreTookWithin t (es ++ later) → AreTookWithin t es
 front_within t [] later h = tt
 front_within t (e ∷ es) later h = (h.0, front_within t es later h.1)
@@ -39,7 +35,7 @@ module _ (t : Tables) (code : ECode) (schedules : List (List SInstr)) (show : Sh
       alike : (c u : ℕ) → u < now → sense t es c u ≡ sense t (es ++ V.Sense d y ∷ []) c u
       alike c u h =
           let late : leb (reading_of 0 es) u ≡ false = lt-leb (reading_of 0 es) u (omega (arith, h, from.0)) in
-          sym (sense_sense t es d c u y ∙ ap (λ b. cond b y (sense t es c u)) (and_false (eqb c d) (leb (reading_of 0 es) u) late))
+          sym (sense_sense t es d c u y ∙ ap (λ b. cond b y (sense t es c u)) (and_right (eqb c d) (leb (reading_of 0 es) u) late))
   more es (V.Took i n) within fits from =
       up_to_same (instant_text t code schedules es show) (instant_text t code schedules (es ++ V.Took i n ∷ []) show) now
       (λ m h. instant_same t code schedules loaded es within i n fits (reading_of 0 es) refl show m (omega (arith, h, from.0)))

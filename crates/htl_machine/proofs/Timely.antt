@@ -2,7 +2,7 @@
 use Rattle.std.proofs.Common.{◌≡◌, ◌≢◌, ℕ, zero, suc, ◌+◌, ◌-◌, ◌≤◌, ◌<◌, Bool, true, false, cond, ◌&&◌, eqb, is_some, List, [], ◌∷◌, length, get_or, slice_get, set, take, Option, Some, None, refl, sym, ap, ap₂, ◌∙◌, arith, inl, inr, length-append}
 use Rattle.std.proofs.lemmas.Bool.{eqb-true}
 use Rattle.std.proofs.lemmas.List.{set-get_or}
-use Rattle.std.proofs.lemmas.Option.{slice_get_within}
+use Rattle.std.proofs.lemmas.Option.{slice_get_within, same_Some}
 use Rattle.htl_model.specs.declared.event.Event.{Event}
 use Rattle.htl_model.specs.Tables.{Tables}
 use Rattle.htl_model.specs.Ranges.{AreInRange}
@@ -24,17 +24,18 @@ use Rattle.htl_machine.specs.Follows.{SMachineAt}
 use Rattle.htl_machine.specs.ReleaseFlags.{raise_at, raise_want, raise_all}
 use Rattle.htl_machine.specs.Readiness.{made_ready, released_to, s_machine_replay, s_machine_want, s_machine_all}
 use Rattle.htl_refine.proofs.Standing.{standing_at}
-use Rattle.htl_walk.proofs.Finishes.{some_same}
 use Rattle.htl_refine.proofs.RecordOrder.{not_some}
 use Rattle.htl_refine.proofs.DoneRecords.{done_some}
 use Rattle.htl_refine.proofs.DoneRecords as records
-use Rattle.htl_machine.proofs.JobWindows.{job_is, position_some}
-use Rattle.htl_machine.proofs.SMachineInstants.{count_within, length-walk}
+use Rattle.htl_machine.proofs.JobWindows.{position_some}
+use Rattle.htl_machine.proofs.SMachineInstants.{count_within}
 use Rattle.htl_machine.proofs.ListValues.{take_front}
 use Rattle.htl_machine.proofs.Asked.{AsksFor}
 use Rattle.htl_machine.proofs.Releasing.{release_of}
 use Rattle.htl_machine.proofs.Instants.{with_flags}
 use Rattle.htl_machine.proofs.Acting.{read_phase_acts}
+use Rattle.htl_walk.proofs.Work.{job_is}
+use Rattle.htl_refine.proofs.WorkDone.{length-walk}
 
 -- ---- flags
 
@@ -154,6 +155,6 @@ module _ (t : Tables) (es : List Event) (turn : ℕ → Turn) (turns : AreTurns 
           let w = position_some 0 jobs i q own in
           let here : slice_get jobs q ≡ Some w.2 = ap (slice_get jobs) (let z : q ≡ w.0 = omega (arith, w.1) in z) ∙ w.3 in
           let h = (turns.frames.jobs_so_far now).has i st.0 st.1 st.2 in
-          let same : h.0 ≡ q = some_same _ _ (sym h.2 ∙ own) in
+          let same : h.0 ≡ q = same_Some _ _ (sym h.2 ∙ own) in
           let job : (job_at jobs q).release ≡ h.1.job.release = ap (λ (j : Job). j.release) (job_is jobs q h.1.job (ap (slice_get jobs) (sym same) ∙ h.1.at)) in
           not_done q (slice_get_within jobs q w.2 here) (omega (arith, job, h.1.release, st.3))

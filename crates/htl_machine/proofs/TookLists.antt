@@ -1,10 +1,10 @@
 -- A length more: the lists of a run have left the same before it, and the S machine stands in the list as it takes so long.
 use Rattle.std.proofs.Common.{◌≡◌, ◌≢◌, ℕ, suc, ◌+◌, ◌-◌, ◌≤◌, ◌<◌, ◌⊎◌, Bool, true, false, cond, ◌&&◌, eqb, leb, ltb, List, [], ◌∷◌, ◌++◌, length, get_or, map, slice_get, set, take, Option, Some, None, refl, sym, ap, ap₂, ◌∙◌, subst, arith, inl, inr, option_map}
 use mathlib.Core.Path.{fun_ext}
-use Rattle.std.proofs.lemmas.Bool.{eq-eqb, ne_eqb, le-leb, ltb-true, ltb-false}
+use Rattle.std.proofs.lemmas.Bool.{eq-eqb, ne_eqb, le-leb, ltb-true, ltb-false, cases_lt}
 use Rattle.std.proofs.lemmas.Bool.Decides.{nat_tests}
 use Rattle.std.proofs.lemmas.List.{get_or-set_same, get_or-set_other, length-set, length-take}
-use Rattle.std.proofs.lemmas.Option.{slice_get_within}
+use Rattle.std.proofs.lemmas.Option.{slice_get_within, same_Some}
 use Rattle.htl_model.specs.declared.event.Event.{Event}
 use Rattle.htl_model.specs.declared.event.Event.TheVariants as V
 use Rattle.htl_model.specs.declared.state.State.{State}
@@ -19,7 +19,7 @@ use Rattle.htl_walk.specs.PathJobs.{legs_of}
 use Rattle.htl_walk.specs.Paths.{end_to_end}
 use Rattle.htl_walk.specs.Refinement.{HaveLengths}
 use Rattle.htl_walk.specs.Walk.{Point, Left, job_at, work, first_point}
-use Rattle.htl_walk.proofs.Work.{job_there, work_present}
+use Rattle.htl_walk.proofs.Work.{job_there, work_present, job_is}
 use Rattle.htl_smach.specs.Rounds as rounds
 use Rattle.htl_smach.specs.Rounds.{Round, state_of, state_by}
 use Rattle.htl_smach.proofs.RoundRecords.{absent_idle}
@@ -28,8 +28,8 @@ use Rattle.htl_refine.specs.ListPlans.{leg_at, list_start, list_plan}
 use Rattle.htl_refine.specs.RecordCounts.{count_left_before}
 use Rattle.htl_refine.specs.Records.{lengths_of, took, IsTookWithin, AreTookWithin}
 use Rattle.htl_refine.specs.ServedFrames.{IsServing, IsFeasibleRun}
-use Rattle.htl_refine.proofs.FrontPlans.{same_lists, point_long, length-work}
-use Rattle.htl_refine.proofs.Fronts.{job_front, get_front}
+use Rattle.htl_refine.proofs.FrontPlans.{point_long}
+use Rattle.htl_refine.proofs.Fronts.{job_front}
 use Rattle.htl_refine.proofs.LaterPoints.{later_time, later_released, later_unreleased, later_walks}
 use Rattle.htl_refine.proofs.LengthsLater.{lengths_later}
 use Rattle.htl_refine.proofs.RecordOrder.{walk_rises}
@@ -39,19 +39,18 @@ use Rattle.htl_machine.specs.Follows.{reading_of, SMachineAt, SMachineStands, wi
 use Rattle.htl_machine.specs.ListTurns.{Turn, turn_walk}
 use Rattle.htl_machine.specs.RunLists.{list_number, list_turn}
 use Rattle.htl_machine.specs.Turns.{position_from}
-use Rattle.htl_machine.proofs.JobWindows.{get_map, job_is, position_some, position_none}
+use Rattle.htl_machine.proofs.JobWindows.{get_map, position_some, position_none}
 use Rattle.htl_machine.proofs.SMachineInstants.{s_machine_opens}
 use Rattle.htl_machine.proofs.Events.{state_same, sense_took, took_took, front_is, length-front}
 use Rattle.htl_machine.proofs.Following.{within_more}
 use Rattle.htl_machine.proofs.Instants.{windows}
 use Rattle.htl_machine.proofs.ListsSoFar.{AreSoFar}
 use Rattle.htl_machine.proofs.RunLists.{past, serving, stands, there, from_is, few, length-jobs, are_turns, are_listed}
-use Rattle.htl_walk.proofs.Finishes.{some_same}
 use Rattle.htl_machine.proofs.InstantRecords.{none_before}
 use Rattle.htl_machine.proofs.Timely.{done_late}
-
-either : (a b : ℕ) → (a < b) ⊎ (b ≤ a)
-either a b = grind arith
+use Rattle.htl_base.proofs.Places.{get_taken}
+use Rattle.htl_walk.proofs.CodeWalk.{work_length}
+use Rattle.std.proofs.lemmas.Grind.{same_number_lists}
 
 module _ (t : Tables) (lists : List (List SInstr)) (es : List Event) (run : IsFeasibleRun t lists es) (i n : ℕ) (fits : IsTookWithin t (V.Took i n)) (now : ℕ) (reading : now ≡ reading_of 0 es) where
   abbrev fs : List Event
@@ -167,7 +166,7 @@ module _ (t : Tables) (lists : List (List SInstr)) (es : List Event) (run : IsFe
     )
 
     fronts : (e : ℕ) → f + e ≤ now → take (count_left_before e (turn_walk u)) (turn_walk u) ≡ take (count_left_before e (turn_walk v)) (turn_walk v)
-    fronts e early = elim (either (leg_at p j).from e) [
+    fronts e early = elim (cases_lt (leg_at p j).from e) [
       | inl some ↦
           front_is u.plan.first.time e (turn_walk u) (walk_rises u.plan.jobs u.plan.schedule u.plan.first)
           ∙ lengths_later p ms (frame_of t) e j form.forms form.chain here some least more (agree e early)
@@ -205,12 +204,12 @@ module _ (t : Tables) (lists : List (List SInstr)) (es : List Event) (run : IsFe
     length-left : (length u.plan.first.left ≡ known) × (length v.plan.first.left ≡ known)
     length-left =
         let enough = few t lists es run m in (
-          length-take known (list_start p j).left ∙ (let z = point_long p.jobs p.lists p.legs j (first_point p.jobs p.lengths) in let y = length-work p.jobs p.lengths in omega (arith, enough, z, y)),
-          length-take known (list_start g j).left ∙ (let z = point_long p.jobs p.lists p.legs j (first_point p.jobs ms) in let y = length-work p.jobs ms in omega (arith, enough, z, y)),
+          length-take known (list_start p j).left ∙ (let z = point_long p.jobs p.lists p.legs j (first_point p.jobs p.lengths) in let y = work_length p.jobs p.lengths in omega (arith, enough, z, y)),
+          length-take known (list_start g j).left ∙ (let z = point_long p.jobs p.lists p.legs j (first_point p.jobs ms) in let y = work_length p.jobs ms in omega (arith, enough, z, y)),
         )
 
     fronted : (q : ℕ) → q < known → (get_or u.plan.first.left q 0 ≡ get_or (list_start p j).left q 0) × (get_or v.plan.first.left q 0 ≡ get_or (list_start g j).left q 0)
-    fronted q less = (get_front known (list_start p j).left q less, get_front known (list_start g j).left q less)
+    fronted q less = (get_taken known (list_start p j).left q less, get_taken known (list_start g j).left q less)
 
     -- the length of a present position
     own_work : (ns : List ℕ) (q : ℕ) → (job_at p.jobs q).present ≡ true → get_or (work p.jobs ns) q 0 ≡ get_or ns q 0
@@ -223,7 +222,7 @@ module _ (t : Tables) (lists : List (List SInstr)) (es : List Event) (run : IsFe
         (get_map (λ z. took t es z.inv (f + z.release)) p.jobs q (job_at p.jobs q) 0 at, get_map (λ z. took t fs z.inv (f + z.release)) p.jobs q (job_at p.jobs q) 0 at)
 
     left_same : (q : ℕ) → q < known → ((job_at p.jobs q).present ≡ true → (job_at p.jobs q).inv ≡ i → f + (job_at p.jobs q).release < now) → get_or u.plan.first.left q 0 ≡ get_or v.plan.first.left q 0
-    left_same q less early = (fronted q less).0 ∙ by (either (job_at p.jobs q).release (now - f)) ∙ sym (fronted q less).1
+    left_same q less early = (fronted q less).0 ∙ by (cases_lt (job_at p.jobs q).release (now - f)) ∙ sym (fronted q less).1
       where
         late_work : now - f ≤ (job_at p.jobs q).release → (b : Bool) → (job_at p.jobs q).present ≡ b → get_or (work p.jobs p.lengths) q 0 ≡ get_or (work p.jobs ms) q 0
         late_work late false e = absent_idle p.jobs p.lengths q e ∙ sym (absent_idle p.jobs ms q e)
@@ -248,7 +247,7 @@ module _ (t : Tables) (lists : List (List SInstr)) (es : List Event) (run : IsFe
 
     first_kept : ((q : ℕ) → q < known → (job_at p.jobs q).present ≡ true → (job_at p.jobs q).inv ≡ i → f + (job_at p.jobs q).release < now) → u.plan.first ≡ v.plan.first
     first_kept early =
-        let lefts : u.plan.first.left ≡ v.plan.first.left = same_lists u.plan.first.left v.plan.first.left (length-left.0 ∙ sym length-left.1) (λ q less. let k : q < known = omega (arith, less, length-left.0) in left_same q k (early q k)) in
+        let lefts : u.plan.first.left ≡ v.plan.first.left = same_number_lists u.plan.first.left v.plan.first.left (length-left.0 ∙ sym length-left.1) (λ q less. let k : q < known = omega (arith, less, length-left.0) in left_same q k (early q k)) in
         ap₂ point_of same_time lefts
 
     first_set : (d : ℕ) → d < known → (job_at p.jobs d).present ≡ true → (job_at p.jobs d).inv ≡ i → now ≤ f + (job_at p.jobs d).release
@@ -256,7 +255,7 @@ module _ (t : Tables) (lists : List (List SInstr)) (es : List Event) (run : IsFe
         → point_of u.plan.first.time (set u.plan.first.left d n) ≡ v.plan.first
     first_set d below present mine late early =
         let lefts : set u.plan.first.left d n ≡ v.plan.first.left =
-        same_lists (set u.plan.first.left d n) v.plan.first.left (length-set u.plan.first.left d n ∙ length-left.0 ∙ sym length-left.1)
+        same_number_lists (set u.plan.first.left d n) v.plan.first.left (length-set u.plan.first.left d n ∙ length-left.0 ∙ sym length-left.1)
         (λ q less. at q (omega (arith, less, length-set u.plan.first.left d n, length-left.0)) (apart q d)) in
         ap₂ point_of same_time lefts
       where
@@ -288,7 +287,7 @@ module _ (t : Tables) (lists : List (List SInstr)) (es : List Event) (run : IsFe
         let st = jobs_so_far.stands q (job_at jobs q) at present' (omega (arith, late, window, ap (λ (z : Job). z.release) front, next)) in
         let inv : (job_at jobs q).inv ≡ i = ap (λ (z : Job). z.inv) front ∙ mine in
         let h = jobs_so_far.has (job_at jobs q).inv st.0 st.1 st.2 in
-        sym (jobs_so_far.once h.0 q (job_at jobs q).inv st.1 st.0 h.1 st.3) ∙ some_same _ _ (sym h.2 ∙ ap (position_from 0 jobs) inv ∙ last)
+        sym (jobs_so_far.once h.0 q (job_at jobs q).inv st.1 st.0 h.1 st.3) ∙ same_Some _ _ (sym h.2 ∙ ap (position_from 0 jobs) inv ∙ last)
 
     s_machine_kept : (r : Round) → SMachineStands u.plan f now r → u.plan.first ≡ v.plan.first → SMachineStands v.plan f now r
     s_machine_kept r s e =
@@ -352,7 +351,7 @@ module _ (t : Tables) (lists : List (List SInstr)) (es : List Event) (run : IsFe
               -- where it was released, all of the invocation were
               all_early : (d : ℕ) (k : Job) → slice_get jobs d ≡ Some k → position_from 0 jobs i ≡ Some d → f + k.release < now
                   → (q : ℕ) → q < known → (job_at p.jobs q).present ≡ true → (job_at p.jobs q).inv ≡ i → f + (job_at p.jobs q).release < now
-              all_early d k at last early q less present mine = elim (either (f + (job_at p.jobs q).release) now) [
+              all_early d k at last early q less present mine = elim (cases_lt (f + (job_at p.jobs q).release) now) [
                 | inl before ↦ before
                 | inr late ↦
                     let same : q ≡ d = only next d q last less present mine late in
@@ -378,7 +377,7 @@ module _ (t : Tables) (lists : List (List SInstr)) (es : List Event) (run : IsFe
                   let own = job_of d k at in
                   s_machine_set r d s
                   (first_set d own.0 (ap (λ (z : Job). z.present) own.1 ∙ present) (ap (λ (z : Job). z.inv) own.1 ∙ mine) (omega (arith, after, ap (λ (z : Job). z.release) own.1))
-                  (λ q less other present' mine'. elim (either (f + (job_at p.jobs q).release) now) [ inl before ↦ before | inr z ↦ absurd (other (only next d q last less present' mine' z)) ])) st
+                  (λ q less other present' mine'. elim (cases_lt (f + (job_at p.jobs q).release) now) [ inl before ↦ before | inr z ↦ absurd (other (only next d q last less present' mine' z)) ])) st
 
       pub took_s_machine : (r : Round) → SMachineStands (list_turn t lists es m).plan (list_turn t lists es m).frame now r → rounds.Stands (s_machine_taking i n r) (list_turn t lists es m).plan.schedule
           → SMachineStands (list_turn t lists (es ++ V.Took i n ∷ []) m).plan (list_turn t lists (es ++ V.Took i n ∷ []) m).frame now (s_machine_taking i n r)

@@ -11,11 +11,12 @@ use Rattle.htl_model.specs.RefinementRules.{IsAbstractIn, ParentFault}
 use Rattle.htl_model.specs.SecondWriters.{parent_mode}
 use Rattle.htl_model.specs.Selected.{Runs, IsActive, IsEntry, IsSelection}
 use Rattle.htl_model.specs.Tables.{Tables, is_concrete, mode_module, mode_period}
-use Rattle.htl_form.proofs.PartLaws.{none_some}
-use Rattle.htl_model.proofs.TestLaws.{same_number, other_number}
 use Rattle.htl_refine.proofs.Chains.{right_parent}
-use Rattle.htl_walk.proofs.Work.{all_at}
 use Rattle.htl_refine.proofs.OwnPeriods.{parent_period}
+use Rattle.htl_base.proofs.Places.{each_at}
+use Rattle.std.proofs.lemmas.Option.{none-some}
+use Rattle.htl_base.proofs.Tests.{eqb_apart}
+use Rattle.std.proofs.lemmas.Bool.{eqb-true}
 
 module _ (t : Tables) (range : AreInRange t) (kept : KeptApart t 16) (modes : List (Option ℕ)) (selection : IsSelection t modes) where
   kept12 : KeptApart t 12
@@ -30,7 +31,7 @@ module _ (t : Tables) (range : AreInRange t) (kept : KeptApart t 16) (modes : Li
   up_runs m p runs refines = by (slice_get t.modules (mode_module t m)) refl
     where
       by : (o : Option Module) → slice_get t.modules (mode_module t m) ≡ o → Runs t modes p × (mode_module t p < mode_module t m)
-      by None e = absurd (none_some p (sym (ap refined e) ∙ refines))
+      by None e = absurd (none-some p (sym (ap refined e) ∙ refines))
       by (Some x) e =
           let u = mode_module t m in
           let parent : x.parent ≡ Some p = sym (ap refined e) ∙ refines in
@@ -56,7 +57,7 @@ module _ (t : Tables) (range : AreInRange t) (kept : KeptApart t 16) (modes : Li
           right_parent t range kept k x at h n (subst (λ q. ParentFault t q x.parent h n) (sym refines) (subst (λ q. ParentFault t (Some m) q h n) (sym e) f))
 
       by_inv : (p : ℕ) → x.parent ≡ Some p → (o : Option Inv) → slice_get t.invs p ≡ o → HasParent x m
-      by_inv p e None f = absurd (wrong (Some p) 2 1 e (refl, (refl, λ a. none_some a.parent (sym f ∙ a.at))))
+      by_inv p e None f = absurd (wrong (Some p) 2 1 e (refl, (refl, λ a. none-some a.parent (sym f ∙ a.at))))
       by_inv p e (Some y) f = by_tests (is_concrete t y) refl (eqb y.mode m) refl
         where
           is_it : (a : IsAbstractIn t m p) → a.parent ≡ y
@@ -65,9 +66,9 @@ module _ (t : Tables) (range : AreInRange t) (kept : KeptApart t 16) (modes : Li
           by_tests : (b : Bool) → is_concrete t y ≡ b → (c : Bool) → eqb y.mode m ≡ c → HasParent x m
           by_tests true g c h =
               absurd (wrong (Some p) 2 1 e (refl, (refl, λ a. let z : true ≡ false = sym g ∙ ap (is_concrete t) (sym (is_it a)) ∙ a.abstract in cc)))
-          by_tests false g true h = record { number = p; is = e; inv = y; at = f; abstract = g; mode = same_number y.mode m h }
+          by_tests false g true h = record { number = p; is = e; inv = y; at = f; abstract = g; mode = eqb-true y.mode m h }
           by_tests false g false h =
-              absurd (wrong (Some p) 2 1 e (refl, (refl, λ a. other_number y.mode m h (ap (λ (z : Inv). z.mode) (sym (is_it a)) ∙ a.mode))))
+              absurd (wrong (Some p) 2 1 e (refl, (refl, λ a. eqb_apart y.mode m h (ap (λ (z : Inv). z.mode) (sym (is_it a)) ∙ a.mode))))
 
       by : (o : Option ℕ) → x.parent ≡ o → HasParent x m
       by None e = absurd (wrong None 0 1 e (refl, refl))
@@ -98,7 +99,7 @@ module _ (t : Tables) (range : AreInRange t) (kept : KeptApart t 16) (modes : Li
           let mode : mode_module t p.inv.mode ≡ mode_module t m = ap (mode_module t) p.mode in
           up p.number p.inv (omega (arith, mode, higher.1)) p.at (subst (Runs t modes) (sym p.mode) higher.0)
           (below p.number k c p.inv x p.at p.abstract at p.is runs s)
-          (ap (mode_period t) p.mode ∙ sym (parent_period t range kept12 x.mode (mode_module t x.mode) m (all_at (IsInvInRange t) t.invs range.invs k x at).owner refl e) ∙ period)
+          (ap (mode_period t) p.mode ∙ sym (parent_period t range kept12 x.mode (mode_module t x.mode) m (each_at (IsInvInRange t) t.invs range.invs k x at).owner refl e) ∙ period)
 
   -- ---- down
 
@@ -114,7 +115,7 @@ module _ (t : Tables) (range : AreInRange t) (kept : KeptApart t 16) (modes : Li
           let number : p.number ≡ k = cc in
           let one : Some p.inv ≡ Some i = sym p.at ∙ ap (slice_get t.invs) number ∙ here in
           let same : p.inv ≡ i = cc in
-          parent_period t range kept12 x.mode (mode_module t x.mode) m (all_at (IsInvInRange t) t.invs range.invs n x at).owner refl e ∙ ap (mode_period t) (sym p.mode) ∙ ap (λ (z : Inv). mode_period t z.mode) same
+          parent_period t range kept12 x.mode (mode_module t x.mode) m (each_at (IsInvInRange t) t.invs range.invs n x at).owner refl e ∙ ap (mode_period t) (sym p.mode) ∙ ap (λ (z : Inv). mode_period t z.mode) same
 
   pub down : (k c : ℕ) (x : Inv) → slice_get t.invs k ≡ Some x → Runs t modes x.mode → StandsFor t modes k c
       → (y : Inv) × (slice_get t.invs c ≡ Some y) × (is_concrete t y ≡ true) × Runs t modes y.mode × (mode_period t y.mode ≡ mode_period t x.mode)

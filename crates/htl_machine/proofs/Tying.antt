@@ -24,6 +24,7 @@ use Rattle.htl_emach.specs.Contents.{Content, effect}
 use Rattle.htl_machine.specs.Worlds.{want_effect, effects, wanted_writes, wanted_reads, all_writes, all_reads}
 use Rattle.htl_machine.specs.Running.{effect_at}
 use Rattle.htl_machine.proofs.Valued.{effects_more}
+use Rattle.std.proofs.lemmas.Bool.{or_parts}
 
 -- the world after the instructions at these addresses
 abbrev pub replay : Tables → List EInstr → List ℕ → Content → Content
@@ -83,10 +84,6 @@ waits_do_nothing t o p (Some x) w = refl
 
 -- ---- at an offset that is none of the mode's the chain does nothing
 
-or_false_both : (a b : Bool) → (a || b) ≡ false → (a ≡ false) × (b ≡ false)
-or_false_both true b e = absurd (let z : ⊥ = cc in z)
-or_false_both false b e = (refl, e)
-
 holds_more : (o : ℕ) (xs ys : List ℕ) → holds o (xs ++ ys) ≡ (holds o xs || holds o ys)
 holds_more o [] ys = refl
 holds_more o (x ∷ xs) ys = ap (λ b. eqb x o || b) (holds_more o xs ys) ∙ sym (or_assoc (eqb x o) (holds o xs) (holds o ys))
@@ -99,30 +96,30 @@ idle_ends : (t : Tables) (o k : ℕ) (ends : List End) → holds o (offsets t en
 idle_ends t o k [] h = refl
 idle_ends t o k (E.Port p ∷ ends) h = idle_ends t o (suc k) ends h
 idle_ends t o k (E.Comm c n ∷ ends) h =
-    let e = or_false_both (eqb (n * comm_period t c) o) (holds o (offsets t ends)) h in
+    let e = or_parts (eqb (n * comm_period t c) o) (holds o (offsets t ends)) h in
     ap (λ b. cond b (k ∷ places_at t o (suc k) ends) (places_at t o (suc k) ends)) e.0 ∙ idle_ends t o (suc k) ends e.1
 
 idle_calls : (t : Tables) (m p o k : ℕ) (xs : List Inv) → holds o (joined (counted_in t m p) xs) ≡ false → joined (calls_of t m p o) (numbered k xs) ≡ []
 idle_calls t m p o k [] h = refl
 idle_calls t m p o k (x ∷ xs) h =
-    let e = or_false_both (holds o (counted_in t m p x)) (holds o (joined (counted_in t m p) xs)) (sym (holds_more o (counted_in t m p x) (joined (counted_in t m p) xs)) ∙ h) in
+    let e = or_parts (holds o (counted_in t m p x)) (holds o (joined (counted_in t m p) xs)) (sym (holds_more o (counted_in t m p x) (joined (counted_in t m p) xs)) ∙ h) in
     ap (λ zs. zs ++ joined (calls_of t m p o) (numbered (suc k) xs)) (item (counts t m x) (eqb p 1) e.0) ∙ idle_calls t m p o (suc k) xs e.1
   where
     item : (b c : Bool) → holds o (cond b (cond c (offsets t x.writes) (release t x ∷ offsets t x.reads)) []) ≡ false →
         ◌≡◌ {A = List EInstr} (cond b (map (call_of p k) (places_at t o 0 (cond c x.writes x.reads))) []) []
     item true true e = ap (λ js. map (call_of p k) js) (idle_ends t o 0 x.writes e)
-    item true false e = ap (λ js. map (call_of p k) js) (idle_ends t o 0 x.reads (or_false_both (eqb (release t x) o) (holds o (offsets t x.reads)) e).1)
+    item true false e = ap (λ js. map (call_of p k) js) (idle_ends t o 0 x.reads (or_parts (eqb (release t x) o) (holds o (offsets t x.reads)) e).1)
     item false c e = refl
 
 idle_releases : (t : Tables) (m p o k : ℕ) (xs : List Inv) → eqb p 1 ≡ false → holds o (joined (counted_in t m p) xs) ≡ false → joined (release_of t m o) (numbered k xs) ≡ []
 idle_releases t m p o k [] reads h = refl
 idle_releases t m p o k (x ∷ xs) reads h =
-    let e = or_false_both (holds o (counted_in t m p x)) (holds o (joined (counted_in t m p) xs)) (sym (holds_more o (counted_in t m p x) (joined (counted_in t m p) xs)) ∙ h) in
+    let e = or_parts (holds o (counted_in t m p x)) (holds o (joined (counted_in t m p) xs)) (sym (holds_more o (counted_in t m p x) (joined (counted_in t m p) xs)) ∙ h) in
     let now : holds o (cond (counts t m x) (release t x ∷ offsets t x.reads) []) ≡ false = ap (λ c. holds o (cond (counts t m x) (cond c (offsets t x.writes) (release t x ∷ offsets t x.reads)) [])) (sym reads) ∙ e.0 in
     ap (λ zs. zs ++ joined (release_of t m o) (numbered (suc k) xs)) (item (counts t m x) now) ∙ idle_releases t m p o (suc k) xs reads e.1
   where
     item : (b : Bool) → holds o (cond b (release t x ∷ offsets t x.reads) []) ≡ false → ◌≡◌ {A = List EInstr} (cond (b && eqb (release t x) o) (I.Release k ∷ []) []) []
-    item true e = ap (λ b. cond b (I.Release k ∷ []) []) (or_false_both (eqb (release t x) o) (holds o (offsets t x.reads)) e).0
+    item true e = ap (λ b. cond b (I.Release k ∷ []) []) (or_parts (eqb (release t x) o) (holds o (offsets t x.reads)) e).0
     item false e = refl
 
 -- at another offset nothing is called or released

@@ -23,7 +23,9 @@ use Rattle.htl_refine.proofs.RecordOrder.{not_some}
 use Rattle.htl_machine.proofs.Asked.{due_of, due_asks}
 use Rattle.htl_machine.proofs.Moving.{Written, are_written}
 use Rattle.htl_machine.proofs.Due.{found_write, no_due}
-use Rattle.htl_machine.proofs.Plain.{length-list_to, zero_down}
+use Rattle.htl_model.proofs.Listed.{length-list_to}
+use Rattle.htl_base.proofs.Places.{length_mapped}
+use Rattle.htl_base.proofs.Numbers.{zero_down}
 
 -- the communicator at an output that is due
 due_comm : (t : Tables) (stays : List (Option Stay)) (now i k c : ℕ) → IsDue t stays now i k c → comm_of (slice_get (contents.writes_at t i) k) ≡ Some c
@@ -84,13 +86,9 @@ first_are t sensed = ap (λ f. list_to f (length t.comms)) (fun_ext (λ c. by_co
         ap (λ u. cond x.sensor (sensed c u) (get_or (map (λ c. c.init) t.comms) c (pos 0))) (zero_down x.period)
         ∙ ap (λ y. cond x.sensor (sensed c 0) y) (map_at (λ c. c.init) t.comms c (pos 0) x e)
 
-length-map : {A B : Type 0} (f : A → B) (xs : List A) → length (map f xs) ≡ length xs
-length-map f [] = refl
-length-map f (x ∷ xs) = ap suc (length-map f xs)
-
 -- as many values as communicators
 pub length-values : (t : Tables) (es : List Event) (now : ℕ) → length (values_before t es now) ≡ length t.comms
-length-values t es zero = length-map (λ c. c.init) t.comms
+length-values t es zero = length_mapped (λ c. c.init) t.comms
 length-values t es (suc zero) = length-list_to _ (length t.comms)
 length-values t es (suc (suc n)) = length-list_to _ (length t.comms)
 

@@ -1,6 +1,6 @@
 -- The sensors that wait are gone over, and the others have what they are shown.
 use Rattle.std.proofs.Common.{◌≡◌, ◌≢◌, ℕ, suc, ◌+◌, ◌%◌, ◌<◌, ◌≤◌, ◌⊎◌, Bool, true, false, cond, ◌&&◌, eqb, List, length, get_or, set, slice_get, Option, Some, ℤ, pos, refl, sym, ap, ◌∙◌, subst, arith, inl, inr, length-set, get_or-set_same, get_or-set_other}
-use Rattle.std.proofs.lemmas.Bool.{cases_lt}
+use Rattle.std.proofs.lemmas.Bool.{cases_lt, ne_eqb, and_parts}
 use Rattle.std.proofs.lemmas.Bool.Decides.{nat_tests}
 use Rattle.htl_model.specs.declared.parts.Comm.{Comm}
 use Rattle.htl_model.specs.Tables.{Tables}
@@ -14,7 +14,7 @@ use Rattle.htl_machine.specs.Waiting.{MarksWaiting, takes_now}
 use Rattle.htl_machine.specs.declared.marks.Marks.{Marks}
 use Rattle.htl_machine.specs.declared.noted.Noted.{Noted}
 use Rattle.htl_machine.specs.declared.sensors.Sensors.{Sensors}
-use Rattle.htl_walk.proofs.Finishes.{some_same}
+use Rattle.std.proofs.lemmas.Option.{same_Some}
 
 -- ---- the sensors stay
 
@@ -36,9 +36,6 @@ pub record AreTaking (t : Tables) (old : List ℤ) (now : ℕ) (s0 s : Sensors) 
   pub waiting : MarksWaiting t s w.values
   pub marked : (modes : List (Option ℕ)) → MarksChanges noted0 w0.values modes → MarksChanges noted w.values modes
   pub kept : KeepsNoted noted0 noted
-
-not_same : (a b : ℕ) → (a ≡ b → ⊥) → eqb a b ≡ false
-not_same a b e = grind (arith, nat_tests)
 
 module _ (t : Tables) (old : List ℤ) (now : ℕ) (s0 : Sensors) (w0 : Content) (noted0 : Noted) (before : SensorsStay t old w0.values) where
   -- a communicator that is no sensor that waits is as it was, and is what it is shown
@@ -124,7 +121,7 @@ module _ (t : Tables) (old : List ℤ) (now : ℕ) (s0 : Sensors) (w0 : Content)
       there k e = get_or-set_other w.values c k y (pos 0) e
 
       waits_k : (k : ℕ) → k ≢ c → is_marked s1.waiting k ≡ false → is_marked s.waiting k ≡ false
-      waits_k k e free = sym (waiting k ∙ ap (λ (b : Bool). cond b (cond (eqb k c) false (is_marked s.waiting k)) (is_marked s.waiting k)) takes ∙ ap (λ (b : Bool). cond b false (is_marked s.waiting k)) (not_same k c e)) ∙ free
+      waits_k k e free = sym (waiting k ∙ ap (λ (b : Bool). cond b (cond (eqb k c) false (is_marked s.waiting k)) (is_marked s.waiting k)) takes ∙ ap (λ (b : Bool). cond b false (is_marked s.waiting k)) (ne_eqb k c e)) ∙ free
 
       waiting_taken : MarksWaiting t s1 (set w.values c y)
       waiting_taken k z there_is sensor free = elim (split k) [
@@ -133,12 +130,7 @@ module _ (t : Tables) (old : List ℤ) (now : ℕ) (s0 : Sensors) (w0 : Content)
       ]
 
       sensor_is : (x.sensor ≡ true) × (eqb (now % x.period) 0 ≡ true)
-      sensor_is = by x.sensor (eqb (now % x.period) 0) takes
-        where
-          by : (a b : Bool) → (a && b) ≡ true → (a ≡ true) × (b ≡ true)
-          by true true e = (refl, refl)
-          by true false e = cc
-          by false b e = cc
+      sensor_is = and_parts x.sensor (eqb (now % x.period) 0) takes
 
       shown_is : y ≡ shown_then s0.shows old now w0.values c x
       shown_is =
@@ -151,7 +143,7 @@ module _ (t : Tables) (old : List ℤ) (now : ℕ) (s0 : Sensors) (w0 : Content)
         only = ap (λ (u : Content). record u { values = set w.values c y }) h.set.only;
         long = length-set w.values c y ∙ h.set.long;
         below = λ k z less there_is. elim (split k) [
-          | inl e ↦ ap (λ j. get_or (set w.values c y) j (pos 0)) e ∙ here ∙ shown_is ∙ ap (shown_then s0.shows old now w0.values c) (some_same x z (sym at ∙ sym (ap (slice_get t.comms) e) ∙ there_is))
+          | inl e ↦ ap (λ j. get_or (set w.values c y) j (pos 0)) e ∙ here ∙ shown_is ∙ ap (shown_then s0.shows old now w0.values c) (same_Some x z (sym at ∙ sym (ap (slice_get t.comms) e) ∙ there_is))
               ∙ sym (ap (λ j. shown_then s0.shows old now w0.values j z) e)
           | inr e ↦ there k e ∙ h.set.below k z (omega (arith, e, less)) there_is
         ];
@@ -168,7 +160,7 @@ module _ (t : Tables) (old : List ℤ) (now : ℕ) (s0 : Sensors) (w0 : Content)
                   ∙ ap (λ (b : Bool). cond b true (is_marked noted.written k)) (same_place k e)) ∙ free in let v : ⊥ = cc in v)
               | inr e ↦ ap (λ (xs : List ℤ). get_or xs k (pos 0)) kept.values
                   ∙ m.values_are k (sym (written k ∙ ap (λ (b : Bool). cond b (cond (eqb k c) true (is_marked noted.written k)) (is_marked noted.written k)) takes
-                  ∙ ap (λ (b : Bool). cond b true (is_marked noted.written k)) (not_same k c e)) ∙ free)
+                  ∙ ap (λ (b : Bool). cond b true (is_marked noted.written k)) (ne_eqb k c e)) ∙ free)
                   ∙ sym (there k e)
             ];
             modules = ap length kept.modes ∙ m.modules;
@@ -202,7 +194,7 @@ module _ (t : Tables) (old : List ℤ) (now : ℕ) (s0 : Sensors) (w0 : Content)
                   long = h.set.long;
                   below = λ k z less there_is. elim (split k) [
                     | inl e ↦
-                        let same : x ≡ z = some_same x z (sym at ∙ sym (ap (slice_get t.comms) e) ∙ there_is) in
+                        let same : x ≡ z = same_Some x z (sym at ∙ sym (ap (slice_get t.comms) e) ∙ there_is) in
                         stays s1 w k z there_is shows_are waiting_left (h.set.above k (omega (arith, e))) (inr (sym (ap (takes_now now) same) ∙ leaves))
                     | inr e ↦ h.set.below k z (omega (arith, e, less)) there_is
                   ];
@@ -255,7 +247,7 @@ nothing_step t s values shows from least next new n m x waits before same is her
         | inl behind ↦ waits c y get sensor (skipped c (omega (arith, behind)) less)
         | inr down ↦
             let c_is : c ≡ n = omega (arith, up, down) in
-            let y_is : y ≡ x = some_same _ _ (sym get ∙ ap (slice_get t.comms) c_is ∙ is) in
+            let y_is : y ≡ x = same_Some _ _ (sym get ∙ ap (slice_get t.comms) c_is ∙ is) in
             subst (λ k. get_or s.shows k (pos 0) ≡ get_or values k (pos 0)) (sym c_is)
             (sym (ap (λ xs. get_or xs n (pos 0)) same) ∙ here at low (omega (arith, high, next_is)) (sym (ap (λ (z : Comm). z.sensor) y_is) ∙ sensor) (sym (ap (λ (z : Comm). eqb (at % z.period) 0) y_is) ∙ divides))
       ]

@@ -15,6 +15,7 @@ use Rattle.htl_emach.specs.Pending.{Entry, opening, awaited, turning, is_called,
 use Rattle.htl_emach.proofs.States.{parent_runs, parent_at, module_at, active_some, begins_now}
 use Rattle.htl_emach.specs.Following.{FollowsCode}
 use Rattle.htl_machine.proofs.Events.{Alike, before_same}
+use Rattle.htl_base.proofs.Tests.{none_below}
 
 module _ (t : Tables) (range : AreInRange t) (now : ℕ) where
   -- a root module that wasn't there begins in its start mode
@@ -26,10 +27,7 @@ module _ (t : Tables) (range : AreInRange t) (now : ℕ) where
 
   -- before the instant a child module isn't called yet
   child_waits : (j q : ℕ) → parent_of t j ≡ Some q → is_called t 0 j ≡ false
-  child_waits j q e = ap (λ (o : Option ℕ). elim o as (λ _. Bool) [ None ↦ true | Some p ↦ ltb (mode_module t p) 0 ]) e ∙ none (mode_module t q)
-    where
-      none : (n : ℕ) → ltb n 0 ≡ false
-      none n = grind (arith, nat_tests)
+  child_waits j q e = ap (λ (o : Option ℕ). elim o as (λ _. Bool) [ None ↦ true | Some p ↦ ltb (mode_module t p) 0 ]) e ∙ none_below (mode_module t q)
 
   module _ (code : ECode) (es fs : List Event) (alike : Alike t es fs now) where
     old_same : (j : ℕ) → old_stay t es now j ≡ old_stay t fs now j

@@ -8,9 +8,10 @@ use Rattle.htl_walk.specs.Paths.{Leg, list_point, walks_from, end_to_end}
 use Rattle.htl_walk.specs.Walk.{Point, Left, job_at, dispatch_begins, time_after, work_after, slice_between, finishes_by, next_point, left_by, walk_from, last_point}
 use Rattle.htl_walk.proofs.Acceptance.{left_falls_to}
 use Rattle.htl_walk.proofs.Steps.{left_falls, left_same}
-use Rattle.htl_refine.proofs.RecordOrder.{get_in, get_past, not_some}
+use Rattle.htl_refine.proofs.RecordOrder.{not_some}
 use Rattle.htl_refine.proofs.SliceOrder.{slice_inside}
-use Rattle.htl_walk.proofs.Finishes.{some_same}
+use Rattle.htl_base.proofs.Places.{get_back, within_front}
+use Rattle.std.proofs.lemmas.Option.{same_Some}
 
 -- the record has a slice, or finishes a job
 abbrev pub DoesWork : Left → Type 0
@@ -79,10 +80,10 @@ works_at jobs [] x k l at does = not_some l at
 works_at jobs (i ∷ is) x (suc k) l at does =
     let w = works_at jobs is (next_point jobs i x) k l at does in
     record { position = w.position; of = w.of; some = omega (arith, w.some, left_falls jobs i x w.position); released = w.released; ends = w.ends }
-works_at jobs (Idle until ∷ is) x zero l at does = let same = some_same _ _ at in idle l (ap (λ (m : Left). m.slice) same) (ap (λ (m : Left). m.finished) same) does
-works_at jobs (End ∷ is) x zero l at does = let same = some_same _ _ at in idle l (ap (λ (m : Left). m.slice) same) (ap (λ (m : Left). m.finished) same) does
+works_at jobs (Idle until ∷ is) x zero l at does = let same = same_Some _ _ at in idle l (ap (λ (m : Left). m.slice) same) (ap (λ (m : Left). m.finished) same) does
+works_at jobs (End ∷ is) x zero l at does = let same = same_Some _ _ at in idle l (ap (λ (m : Left). m.slice) same) (ap (λ (m : Left). m.finished) same) does
 works_at jobs (Dispatch q until ∷ is) x zero l at does =
-    let same : record_of jobs q until x ≡ l = some_same _ _ at in
+    let same : record_of jobs q until x ≡ l = same_Some _ _ at in
     subst (λ m. DoesWork m → Works jobs x m) same (dispatched jobs q until x) does
 
 -- in the walks of a frame's lists
@@ -97,7 +98,7 @@ works_in jobs (s ∷ ss) (g ∷ gs) x k l at does = elim (cases_lt k (length (wa
     here : k < length (walk_from jobs s (list_point g.from x)) → Works jobs x l
     here h =
         let y = list_point g.from x in
-        let w = works_at jobs s y k l (sym (get_in (walk_from jobs s y) (end_to_end (walks_from jobs ss gs (last_point jobs s y))) k h) ∙ at) does in
+        let w = works_at jobs s y k l (sym (within_front (walk_from jobs s y) (end_to_end (walks_from jobs ss gs (last_point jobs s y))) k h) ∙ at) does in
         record { position = w.position; of = w.of; some = w.some; released = w.released; ends = w.ends }
 
     there : length (walk_from jobs s (list_point g.from x)) ≤ k
@@ -108,5 +109,5 @@ works_in jobs (s ∷ ss) (g ∷ gs) x k l at does = elim (cases_lt k (length (wa
         let ms = end_to_end (walks_from jobs ss gs (last_point jobs s y)) in
         let d = k - length ls in
         let is : length ls + d ≡ k = omega (arith, h) in
-        let w = ih d (sym (get_past ls ms d) ∙ ap (slice_get (ls ++ ms)) is ∙ at) in
+        let w = ih d (sym (get_back ls ms d) ∙ ap (slice_get (ls ++ ms)) is ∙ at) in
         record { position = w.position; of = w.of; some = omega (arith, w.some, left_falls_to jobs s y w.position); released = w.released; ends = w.ends }

@@ -6,6 +6,8 @@ use Rattle.std.proofs.lemmas.Bool.Decides.{nat_tests}
 use Rattle.std.proofs.lemmas.Slice.Eq.{bytes_eq-Decides}
 use Rattle.htl_model.specs.Lists.{AreApart}
 use Rattle.htl_model.specs.Ranges.{are_different, are_different_owned, same_owned, are_different_pairs, same_pair, are_different_numbers}
+use Rattle.std.proofs.lemmas.Bool.{and_parts, not-true}
+use Rattle.htl_base.proofs.Tests.{or_second}
 
 pub apart_rest : {A : Type 0} (y : A) (xs : List A) → AreApart (y ∷ xs) → AreApart xs
 apart_rest y xs apart j k x less p q = apart (suc j) (suc k) x (omega (arith, less)) p q
@@ -22,18 +24,14 @@ none_same same tells y (x ∷ xs) none = by (same y x) refl (none_same same tell
     by true is later = absurd (none 0 (ap Some (sym (tells y x is))))
     by false is later = grind (arith, nat_tests)
 
-both : (a b : Bool) → (a && b) ≡ true → (a ≡ true) × (b ≡ true)
-both true b h = (refl, h)
-both false b h = absurd cc
-
 pub same_owned_is : (a b : ℕ × List ℕ) → same_owned a b ≡ true → a ≡ b
 same_owned_is a b h =
-    let p = both (eqb a.0 b.0) (bytes_eq a.1 b.1) h in
+    let p = and_parts (eqb a.0 b.0) (bytes_eq a.1 b.1) h in
     ap (λ (n : ℕ). (n, a.1)) (eqb-true a.0 b.0 p.0) ∙ ap (λ (n : List ℕ). (b.0, n)) ((bytes_eq-Decides a.1 b.1).0 p.1)
 
 pub same_pair_is : (a b : ℕ × ℕ) → same_pair a b ≡ true → a ≡ b
 same_pair_is a b h =
-    let p = both (eqb a.0 b.0) (eqb a.1 b.1) h in
+    let p = and_parts (eqb a.0 b.0) (eqb a.1 b.1) h in
     ap (λ (n : ℕ). (n, a.1)) (eqb-true a.0 b.0 p.0) ∙ ap (λ (n : ℕ). (b.0, n)) (eqb-true a.1 b.1 p.1)
 
 pub different : (xs : List (List ℕ)) → AreApart xs → are_different xs ≡ true
@@ -76,15 +74,7 @@ none_again same itself y (x ∷ xs) h zero e = let is : x ≡ y = cc in true_fal
     neither : (a b : Bool) → (a || b) ≡ false → a ≡ false
     neither true b h = h
     neither false b h = refl
-none_again same itself y (x ∷ xs) h (suc k) e = none_again same itself y xs (later (same y x) (list_any (same y) xs) h) k e
-  where
-    later : (a b : Bool) → (a || b) ≡ false → b ≡ false
-    later true b h = absurd cc
-    later false b h = h
-
-none_of : (a : Bool) → not a ≡ true → a ≡ false
-none_of true h = absurd cc
-none_of false h = refl
+none_again same itself y (x ∷ xs) h (suc k) e = none_again same itself y xs (or_second (same y x) (list_any (same y) xs) h) k e
 
 bytes_itself : (n : List ℕ) → bytes_eq n n ≡ true
 bytes_itself n = (bytes_eq-Decides n n).1 refl
@@ -98,23 +88,23 @@ pair_itself a = ap (λ b. b && eqb a.1 a.1) (eq-eqb a.0 a.0 refl) ∙ eq-eqb a.1
 pub apart_names : (xs : List (List ℕ)) → are_different xs ≡ true → AreApart xs
 apart_names [] h = apart_none
 apart_names (x ∷ xs) h =
-    let p = both (not (list_any (bytes_eq x) xs)) (are_different xs) h in
-    apart_more x xs (none_again bytes_eq bytes_itself x xs (none_of (list_any (bytes_eq x) xs) p.0)) (apart_names xs p.1)
+    let p = and_parts (not (list_any (bytes_eq x) xs)) (are_different xs) h in
+    apart_more x xs (none_again bytes_eq bytes_itself x xs (not-true (list_any (bytes_eq x) xs) p.0)) (apart_names xs p.1)
 
 pub apart_owned : (xs : List (ℕ × List ℕ)) → are_different_owned xs ≡ true → AreApart xs
 apart_owned [] h = apart_none
 apart_owned (x ∷ xs) h =
-    let p = both (not (list_any (same_owned x) xs)) (are_different_owned xs) h in
-    apart_more x xs (none_again same_owned owned_itself x xs (none_of (list_any (same_owned x) xs) p.0)) (apart_owned xs p.1)
+    let p = and_parts (not (list_any (same_owned x) xs)) (are_different_owned xs) h in
+    apart_more x xs (none_again same_owned owned_itself x xs (not-true (list_any (same_owned x) xs) p.0)) (apart_owned xs p.1)
 
 pub apart_pairs : (xs : List (ℕ × ℕ)) → are_different_pairs xs ≡ true → AreApart xs
 apart_pairs [] h = apart_none
 apart_pairs (x ∷ xs) h =
-    let p = both (not (list_any (same_pair x) xs)) (are_different_pairs xs) h in
-    apart_more x xs (none_again same_pair pair_itself x xs (none_of (list_any (same_pair x) xs) p.0)) (apart_pairs xs p.1)
+    let p = and_parts (not (list_any (same_pair x) xs)) (are_different_pairs xs) h in
+    apart_more x xs (none_again same_pair pair_itself x xs (not-true (list_any (same_pair x) xs) p.0)) (apart_pairs xs p.1)
 
 pub apart_numbers : (xs : List ℕ) → are_different_numbers xs ≡ true → AreApart xs
 apart_numbers [] h = apart_none
 apart_numbers (x ∷ xs) h =
-    let p = both (not (list_any (eqb x) xs)) (are_different_numbers xs) h in
-    apart_more x xs (none_again eqb (λ a. eq-eqb a a refl) x xs (none_of (list_any (eqb x) xs) p.0)) (apart_numbers xs p.1)
+    let p = and_parts (not (list_any (eqb x) xs)) (are_different_numbers xs) h in
+    apart_more x xs (none_again eqb (λ a. eq-eqb a a refl) x xs (not-true (list_any (eqb x) xs) p.0)) (apart_numbers xs p.1)

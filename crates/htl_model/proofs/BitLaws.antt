@@ -5,6 +5,7 @@ use Rattle.std.specs.Int.Bits.{bit_or}
 use Rattle.std.proofs.lemmas.Bool.Decides.{nat_tests}
 use Rattle.std.proofs.lemmas.Nat.Bits.{bit_at_or, bit_at-lt, bit_at-zero, bit_at-suc, bit_at_lowest, bit_at_set_same, bit_at_set_other}
 use Rattle.htl_model.specs.Bits.{has_bit, cell}
+use Rattle.htl_base.proofs.Places.{all_zero}
 
 joined : (x y : ℕ) → x < 2 → y < 2 → eqb (max x y) 1 ≡ (eqb x 1 || eqb y 1)
 joined zero zero p q = refl
@@ -40,14 +41,9 @@ has_bit_set row k q h = by (eqb q k) refl
 pub has_no_bit : (q : ℕ) → has_bit 0 q ≡ false
 has_no_bit q = ap (λ x. eqb x 1) (bit_at-zero q)
 
-zeros_at : (n k : ℕ) → ◌≡◌ {A = ℕ} (get_or (replicate n 0) k 0) 0
-zeros_at zero k = refl
-zeros_at (suc n) zero = refl
-zeros_at (suc n) (suc k) = zeros_at n k
-
 -- rows of zeros
 pub no_bits : (n p q : ℕ) → cell (replicate n 0) p q ≡ false
-no_bits n p q = ap (λ x. has_bit x q) (zeros_at n p) ∙ has_no_bit q
+no_bits n p q = ap (λ x. has_bit x q) (all_zero n p) ∙ has_no_bit q
 
 -- numbers with the same bits are the same
 same_digit : (a b : ℕ) → a < 2 → b < 2 → eqb a 1 ≡ eqb b 1 → a ≡ b

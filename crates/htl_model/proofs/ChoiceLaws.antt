@@ -1,7 +1,7 @@
 -- A product that is capped as it grows.
 use Rattle.std.proofs.Common.{◌≡◌, ◌≤◌, ◌<◌, ◌⊎◌, ◌*◌, ◌+◌, ℕ, zero, suc, min, sym, ◌∙◌, ap, arith, inl, inr}
 
-order : (x c : ℕ) → (x ≤ c) ⊎ (c < x)
+pub order : (x c : ℕ) → (x ≤ c) ⊎ (c < x)
 order x c = grind arith
 
 at_least : (a r : ℕ) → a ≤ a * suc r

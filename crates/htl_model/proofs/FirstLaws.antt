@@ -2,6 +2,7 @@
 use Rattle.std.proofs.Common.{◌≡◌, ℕ, zero, suc, ◌+◌, ◌<◌, ◌⊎◌, length, get_or, drop, drop-cons, add-one, List, [], ◌∷◌, Option, Some, None, refl, sym, ◌∙◌, ap, subst, arith, inl, inr}
 use Rattle.std.specs.Prelude.{slice_get}
 use Rattle.htl_model.specs.First.{or_else, first_from, first_to}
+use Rattle.htl_base.proofs.Numbers.{cases_below}
 
 pub or_else_some : {A : Type 0} (a b : Option A) (y : A) → or_else a b ≡ Some y → (a ≡ Some y) ⊎ ((a ≡ None) × (b ≡ Some y))
 or_else_some (Some x) b y e = inl e
@@ -88,10 +89,7 @@ pub to_none : {B : Type 0} (f : ℕ → Option B) (n : ℕ) → first_to f n ≡
 to_none f zero e i h = absurd (omega arith)
 to_none f (suc n) e i h =
     let parts = or_else_none (first_to f n) (f n) e in
-    elim (last i n h) [ inl below ↦ to_none f n parts.0 i below | inr is ↦ subst (λ j. f j ≡ None) (sym is) parts.1 ]
-  where
-    last : (i n : ℕ) → i < suc n → (i < n) ⊎ (i ≡ n)
-    last i n h = grind arith
+    elim (cases_below i n h) [ inl below ↦ to_none f n parts.0 i below | inr is ↦ subst (λ j. f j ≡ None) (sym is) parts.1 ]
 
 pub to_found : {B : Type 0} (f : ℕ → Option B) (n : ℕ) (y : B) → first_to f n ≡ Some y → (k : ℕ) × (k < n) × (f k ≡ Some y) × ((i : ℕ) → i < k → f i ≡ None)
 to_found f zero y e = absurd (let no : None ≡ Some y = e in cc)

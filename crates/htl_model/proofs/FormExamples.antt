@@ -12,6 +12,7 @@ use Rattle.htl_model.specs.FormRules.{AbstractPlaces, Parents, SharedParents, In
 use Rattle.htl_model.specs.RefinementRules.{IsRefined, IsAbstractIn, AsksMore, SharesParent, SecondChild}
 use Rattle.htl_model.specs.Broken.{Broken}
 use Rattle.htl_model.proofs.Sources.{plain, mode, module_named, task, call, int_one}
+use Rattle.std.proofs.lemmas.Option.{none-some}
 
 -- mode m holds an abstract invocation, whose window is 5 to 10 and whose worst case is 4; the mode n of a module with this parent
 -- holds the given invocations of a task with the worst case w
@@ -50,13 +51,10 @@ at m k = record { mode = m; inv = Some k; part = Itself }
 
 -- ---- rule 13
 
-some_none : {A : Type 0} (y : A) → ◌≡◌ {A = Option A} None (Some y) → ⊥
-some_none y e = cc
-
 no_parent : (k m : ℕ) (u : Module) → slice_get (below None 1 []).modules k ≡ Some u → u.parent ≡ Some m → ⊥
 no_parent zero m u e p = (let same : module_named (codes "M") None 0 ≡ u = cc in cc)
 no_parent (suc zero) m u e p = (let same : module_named (codes "N") None 1 ≡ u = cc in cc)
-no_parent (suc (suc k)) m u e p = some_none u e
+no_parent (suc (suc k)) m u e p = none-some u e
 
 -- nothing refines mode m
 unrefined : Broken (below None 1 []) AbstractPlaces (at 0 0) 0 1

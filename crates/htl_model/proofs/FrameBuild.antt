@@ -14,9 +14,7 @@ use Rattle.htl_model.specs.Tables.{Tables, mode_period}
 use Rattle.htl_model.proofs.Divisors.{greatest_divisor}
 use Rattle.htl_model.proofs.FrameLimits.{limits_kept, one_divides, frame_is, too_short, radix_few, roots_have, rounds_have, choices_some, choices_starts}
 use Rattle.htl_model.proofs.SelectionLaws.{all_places_below}
-
-all_at : {A : Type 0} (P : A → Type 0) (xs : List A) → All P xs → (p : ℕ) (x : A) → slice_get xs p ≡ Some x → P x
-all_at P xs all p x e = subst P (get_or_from_slice_get xs p x x e) (all p x (slice_get_within xs p x e))
+use Rattle.htl_base.proofs.Places.{each_at}
 
 -- ---- periods are some
 
@@ -27,7 +25,7 @@ unit_period_some t u r l = elim (slice_get_cases t.modules u).1 [
       let at : slice_get t.modules u ≡ Some x = c.2 in
       let begin = (r.modules u x at).start in
       let m : Mode = begin.0 in
-      let range : IsModeInRange t m = all_at (IsModeInRange t) t.modes r.modes x.start m begin.1 in
+      let range : IsModeInRange t m = each_at (IsModeInRange t) t.modes r.modes x.start m begin.1 in
       let first : unit_start t u ≡ x.start = ap (λ (o : Option Module). elim o as (λ _. ℕ) [ Some y ↦ y.start | None ↦ 0 ]) at in
       let period : mode_period t x.start ≡ m.period = ap (λ (o : Option Mode). elim o as (λ _. ℕ) [ Some y ↦ y.period | None ↦ 0 ]) begin.1 in
       omega (arith, range.period.some, ap (mode_period t) first ∙ period)

@@ -1,9 +1,11 @@
 -- Starts one after another, and the numbers of nodes place by place.
 use Rattle.std.proofs.Common.{◌≡◌, ℕ, zero, suc, ◌+◌, ◌-◌, ◌*◌, ◌/◌, ◌%◌, ◌≤◌, ◌<◌, Bool, true, false, cond, ◌||◌, eqb, ne_eqb, min, List, [], ◌∷◌, ◌++◌, length, drop, drop-cons, map, get_or, add-one, refl, sym, ap, ◌∙◌, subst, arith, inl, inr}
-use Rattle.std.proofs.lemmas.Bool.{cases_lt}
+use Rattle.std.proofs.lemmas.Bool.{cases_lt, or_right}
 use Rattle.std.proofs.lemmas.List.{append-nil, length-append}
 use Rattle.std.proofs.Math.Nat.{div-add-mod, mul-le-mul_left, mul-le-mul_right, div-mul-le_self, mul-div-le, mul-mod_left, le-mul_of_pos_right, mul_assoc}
 use Rattle.htl_model.specs.Frames.{begins, starts_below, gcd_in, ways, nodes_of, node_of}
+use Rattle.htl_base.proofs.Tests.{eqb_some}
+use Rattle.htl_base.proofs.Numbers.{product_parts}
 
 -- ---- instants at which no round begins
 
@@ -18,12 +20,9 @@ next_least p a x l e =
       | inr h ↦ absurd (omega (arith, mul-le-mul_left p h, mul-div-le a p, whole, e, l))
     ]
 
-not_zero : (n : ℕ) → 0 < n → eqb n 0 ≡ false
-not_zero n l = ne_eqb n 0 (λ e. omega (arith, e, l))
-
 pub between : (p a x : ℕ) → a < x → x < (a / p + 1) * p → eqb (x % p) 0 ≡ false
 between p a x l h = elim (cases_lt 0 (x % p)) [
-  | inl k ↦ not_zero (x % p) k
+  | inl k ↦ eqb_some (x % p) k
   | inr k ↦ absurd (omega (arith, h, next_least p a x l (omega (arith, k))))
 ]
 
@@ -52,11 +51,7 @@ gcd_more (suc n) (suc m) a (suc b) l k = let less : a % suc b < suc b = omega ar
 pub begins_some : (f : ℕ → ℕ) (us : List ℕ) (k x : ℕ) → k < length us → eqb (x % f (get_or us k 0)) 0 ≡ true → begins (map f us) x ≡ true
 begins_some f [] k x l e = absurd (omega (arith, l))
 begins_some f (u ∷ us) zero x l e = ap (λ b. b || begins (map f us) x) e
-begins_some f (u ∷ us) (suc k) x l e = or_true (eqb (x % f u) 0) (begins (map f us) x) (begins_some f us k x (omega (arith, l)) e)
-  where
-    or_true : (a b : Bool) → b ≡ true → (a || b) ≡ true
-    or_true true b e = refl
-    or_true false b e = e
+begins_some f (u ∷ us) (suc k) x l e = or_right (eqb (x % f u) 0) (begins (map f us) x) (begins_some f us k x (omega (arith, l)) e)
 
 pub begins_zero : (f : ℕ → ℕ) (us : List ℕ) → 0 < length us → begins (map f us) 0 ≡ true
 begins_zero f us l = begins_some f us 0 0 l (let e : 0 % f (get_or us 0 0) ≡ 0 = omega arith in ap (λ n. eqb n 0) e)
@@ -89,11 +84,6 @@ room_for ps a h e l =
 
 -- ---- numbers of nodes
 
-pub product_some : (a b : ℕ) → 0 < a * b → (0 < a) × (0 < b)
-product_some zero b h = absurd (omega arith)
-product_some (suc a) zero h = absurd (let z : suc a * 0 ≡ 0 = omega arith in omega arith)
-product_some (suc a) (suc b) h = (omega arith, omega arith)
-
 pub ways_next : (cs : List ℕ) (i : ℕ) → i < length cs → ways (drop i cs) ≡ get_or cs i 0 * ways (drop (i + 1) cs)
 ways_next cs i l = rw add-one (ap ways (drop-cons cs i 0 l))
 
@@ -103,7 +93,7 @@ nodes_next cs i l = rw add-one (ap nodes_of (drop-cons cs i 0 l))
 pub nodes_few : (cs : List ℕ) → 0 < ways cs → nodes_of cs ≤ length cs * ways cs
 nodes_few [] h = omega arith
 nodes_few (c ∷ cs) h =
-    let some = product_some c (ways cs) h in
+    let some = product_parts c (ways cs) h in
     let rest = nodes_few cs some.1 in
     by c (ways cs) (nodes_of cs) (length cs) some.1 rest
   where
@@ -146,7 +136,7 @@ node_step cs i path b m l e some n =
     let w = ways (drop (i + 1) cs) in
     let k = nodes_of (drop (i + 1) cs) in
     let both : b ≡ c * w = e ∙ ways_next cs i l in
-    let parts = product_some c w (subst (λ x. 0 < x) both some) in
+    let parts = product_parts c w (subst (λ x. 0 < x) both some) in
     let q : b / c ≡ w = quotient c w b both parts.0 in
     let whole : m ≡ c * suc k = n ∙ nodes_next cs i l in
     let next : m / c ≡ suc k = quotient c (suc k) m whole parts.0 in
@@ -187,7 +177,7 @@ count_step cs i n f l some nodes product =
     let w = ways (drop (i + 1) cs) in
     let k = nodes_of (drop (i + 1) cs) in
     let cut : ways (drop i cs) ≡ c * w = ways_next cs i l in
-    let parts = product_some c w (subst (λ x. 0 < x) cut some) in
+    let parts = product_parts c w (subst (λ x. 0 < x) cut some) in
     let whole : f * c * w ≡ ways cs = mul_assoc f c w ∙ ap (λ x. f * x) (sym cut) ∙ product in (
       omega (arith, whole, le-mul_of_pos_right (f * c) parts.1),
       omega (arith, nodes, ap (λ x. f * x) (nodes_next cs i l) ∙ spread f c k),

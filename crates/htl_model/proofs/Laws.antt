@@ -6,6 +6,8 @@ use Rattle.htl_model.specs.declared.event.Event.{Event}
 use Rattle.htl_model.specs.Tables.{Tables}
 use Rattle.htl_model.specs.declared.state.State.{State}
 use Rattle.htl_model.specs.Meaning.{History, history, state, newest, state_after, past, sense, val}
+use Rattle.htl_model.proofs.ChoiceLaws.{order}
+use Rattle.htl_base.proofs.Numbers.{cases_at_most}
 
 pub length-history : (t : Tables) (f : ℕ → ℕ → ℤ) (n : ℕ) → length (history t f n) ≡ suc n
 length-history t f zero = refl
@@ -28,17 +30,11 @@ unfolding at_place
 past_newest x h c u p =
     past_known (x ∷ h) c u (omega arith) ∙ ap (at_place (x ∷ h) c) (let e : suc (length h) - suc u ≡ 0 = omega arith in e)
 
-split : (u n : ℕ) → u ≤ suc n → (u ≤ n) ⊎ (u ≡ suc n)
-split u n p = grind arith
-
-either : (u n : ℕ) → (u ≤ n) ⊎ (n < u)
-either u n = grind arith
-
 -- the history holds the value of each instant so far
 pub past_is : (t : Tables) (f : ℕ → ℕ → ℤ) (n c u : ℕ) → u ≤ n → past (history t f n) c u ≡ get_or (newest (history t f u)).values c (pos 0)
 past_is t f zero c u p = rw (let e : u ≡ 0 = omega arith in e) refl
 past_is t f (suc n) c u p =
-    elim (split u n p) [
+    elim (cases_at_most u n p) [
       | inl q ↦ past_older (newest (history t f (suc n))) (history t f n) c u (omega (arith, length-history t f n)) ∙ past_is t f n c u q
       | inr e ↦
           past_newest (newest (history t f (suc n))) (history t f n) c u (e ∙ sym (length-history t f n))
@@ -55,7 +51,7 @@ seen_before t es now c u = cond (ltb u now) (val t es c u) (pos 0)
 
 past_is_val : (t : Tables) (es : List Event) (n c u : ℕ) → past (history t (sense t es) n) c u ≡ seen_before t es (suc n) c u
 past_is_val t es n c u =
-    elim (either u n) [
+    elim (order u n) [
       | inl q ↦ past_is t (sense t es) n c u q ∙ sym (ap (λ b. cond b (val t es c u) (pos 0)) (lt-ltb u (suc n) (omega arith)))
       | inr q ↦ past_later t (sense t es) n c u q ∙ sym (ap (λ b. cond b (val t es c u) (pos 0)) (le-ltb u (suc n) (omega arith)))
     ]

@@ -1,6 +1,7 @@
 -- The list of a function's values.
 use Rattle.std.proofs.Common.{◌≡◌, ℕ, zero, suc, ◌<◌, List, [], ◌∷◌, length, get_or, refl, sym, ap, ◌∙◌, arith, ◌++◌, ◌⊎◌, inl, inr, length-append}
 use Rattle.htl_model.specs.Lists.{list_to}
+use Rattle.htl_base.proofs.Numbers.{cases_below}
 
 pub length-list_to : {A : Type 0} (f : ℕ → A) (n : ℕ) → length (list_to f n) ≡ n
 length-list_to f zero = refl
@@ -17,14 +18,11 @@ get_front [] ys d k h = absurd (omega arith)
 get_front (x ∷ xs) ys d zero h = refl
 get_front (x ∷ xs) ys d (suc k) h = get_front xs ys d k (omega arith)
 
-upto : (k n : ℕ) → k < suc n → (k < n) ⊎ (k ≡ n)
-upto k n h = grind arith
-
 -- the value at a place
 pub get_list_to : {A : Type 0} (f : ℕ → A) (n k : ℕ) (d : A) → k < n → get_or (list_to f n) k d ≡ f k
 get_list_to f zero k d h = absurd (omega arith)
 get_list_to f (suc n) k d h =
-    elim (upto k n h) [
+    elim (cases_below k n h) [
       | inl q ↦ get_front (list_to f n) _ d k (omega (arith, length-list_to f n)) ∙ get_list_to f n k d q
       | inr e ↦ get_end (list_to f n) (f n) d k (e ∙ sym (length-list_to f n)) ∙ ap f (sym e)
     ]

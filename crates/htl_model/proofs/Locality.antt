@@ -9,10 +9,7 @@ use Rattle.htl_model.specs.declared.state.State.{State}
 use Rattle.htl_model.specs.declared.state.Stay.{Stay}
 use Rattle.htl_model.specs.Lists.{up_to, list_to}
 use Rattle.htl_model.specs.Meaning.{run_lines, value_lines, changes, no_state, History, history, newest, next_state, next_values, next_value, written, stays_at, first_state, first_values, first_value, past, sense, last_sense, initial, all_value_lines, lines_so_far, val}
-
-round_down : (p now : ℕ) → p * (now / p) ≤ now
-round_down zero now = omega arith
-round_down (suc p) now = omega arith
+use Rattle.htl_base.proofs.Numbers.{round_down}
 
 -- two sensor readings that agree up to n
 abbrev pub Agree : (ℕ → ℕ → ℤ) → (ℕ → ℕ → ℤ) → ℕ → Type 0

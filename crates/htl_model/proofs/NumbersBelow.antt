@@ -3,8 +3,10 @@ use Rattle.std.proofs.Common.{◌≡◌, ◌<◌, ◌≤◌, ◌⊎◌, ℕ, zer
 use Rattle.std.specs.List.{list_any, IsDistinct, AllByRecursion}
 use Rattle.std.proofs.lemmas.Bool.Decides.{nat_tests}
 use Rattle.std.proofs.lemmas.Map.Keys.{IsDistinct-from_apart, IsDistinct-cons}
-use Rattle.htl_model.proofs.TestLaws.{either, on_left, on_right, equal, last, not_both}
 use Rattle.htl_model.specs.NumbersBelow.{numbers_below, count_below}
+use Rattle.std.proofs.lemmas.Bool.{eq-eqb, or_cases, or_left, or_right}
+use Rattle.htl_base.proofs.Numbers.{cases_below}
+use Rattle.htl_base.proofs.Tests.{true_not_false}
 
 pub has_number : (p : ℕ → Bool) (n k : ℕ) → list_any (eqb k) (numbers_below p n) ≡ true → (k < n) × (p k ≡ true)
 has_number p zero k h = cc
@@ -13,7 +15,7 @@ has_number p (suc n) k h = by (p n) refl (λ e. has_number p n k e) h
     by : (b : Bool) → p n ≡ b → (list_any (eqb k) (numbers_below p n) ≡ true → (k < n) × (p k ≡ true))
         → list_any (eqb k) (cond b (n ∷ numbers_below p n) (numbers_below p n)) ≡ true → (k < suc n) × (p k ≡ true)
     by true is later h =
-        elim (either (eqb k n) (list_any (eqb k) (numbers_below p n)) h) [
+        elim (or_cases (eqb k n) (list_any (eqb k) (numbers_below p n)) h) [
           | inl e ↦ let same : n ≡ k = grind (arith, nat_tests) in (omega arith, subst (λ x. p x ≡ true) same is)
           | inr e ↦ let r = later e in (omega (arith, r.0), r.1)
         ]
@@ -24,9 +26,9 @@ number_has p zero k less h = absurd (omega arith)
 number_has p (suc n) k less h = by (p n) refl (λ below. number_has p n k below h)
   where
     by : (b : Bool) → p n ≡ b → (k < n → list_any (eqb k) (numbers_below p n) ≡ true) → list_any (eqb k) (cond b (n ∷ numbers_below p n) (numbers_below p n)) ≡ true
-    by true is later = elim (last k n less) [ inl below ↦ on_right (eqb k n) _ (later below) | inr same ↦ on_left (eqb k n) _ (equal k n same) ]
+    by true is later = elim (cases_below k n less) [ inl below ↦ or_right (eqb k n) _ (later below) | inr same ↦ or_left (eqb k n) _ (eq-eqb k n same) ]
     by false is later =
-        elim (last k n less) [
+        elim (cases_below k n less) [
           | inl below ↦ later below
           | inr same ↦ absurd (let no : false ≡ true = sym is ∙ sym (ap p same) ∙ h in cc)
         ]
@@ -67,13 +69,13 @@ count_most p (suc n) = by (p n) (count_most p n)
 
 pub count_less : (p : ℕ → Bool) (n q : ℕ) → q < n → p q ≡ false → count_below p n < n
 count_less p zero q h e = absurd (omega arith)
-count_less p (suc n) q h e = by (p n) refl (λ less. count_less p n q less e) (last q n h)
+count_less p (suc n) q h e = by (p n) refl (λ less. count_less p n q less e) (cases_below q n h)
   where
     by : (b : Bool) → p n ≡ b → (q < n → count_below p n < n) → (q < n) ⊎ (q ≡ n) → count_below p n + cond b 1 0 < suc n
     by true is rest (inl less) = omega (arith, rest less)
     by false is rest (inl less) = omega (arith, rest less)
     by false is rest (inr same) = omega (arith, count_most p n)
-    by true is rest (inr same) = absurd (not_both (p n) is (sym (ap p same) ∙ e))
+    by true is rest (inr same) = absurd (true_not_false (p n) is (sym (ap p same) ∙ e))
 
 count_mono : (p r : ℕ → Bool) (n : ℕ) → ((x : ℕ) → p x ≡ true → r x ≡ true) → count_below p n ≤ count_below r n
 count_mono p r zero h = omega arith
@@ -87,13 +89,13 @@ count_mono p r (suc n) h = by (p n) (r n) (h n) (count_mono p r n h)
 
 pub count_strict : (p r : ℕ → Bool) (n q : ℕ) → ((x : ℕ) → p x ≡ true → r x ≡ true) → q < n → p q ≡ false → r q ≡ true → count_below p n < count_below r n
 count_strict p r zero q h less e f = absurd (omega arith)
-count_strict p r (suc n) q h less e f = by (p n) (r n) refl refl (λ k. count_strict p r n q h k e f) (last q n less)
+count_strict p r (suc n) q h less e f = by (p n) (r n) refl refl (λ k. count_strict p r n q h k e f) (cases_below q n less)
   where
     by : (a b : Bool) → p n ≡ a → r n ≡ b → (q < n → count_below p n < count_below r n) → (q < n) ⊎ (q ≡ n) → count_below p n + cond a 1 0 < count_below r n + cond b 1 0
     by true true i j rest (inl k) = omega (arith, rest k)
-    by true false i j rest (inl k) = absurd (not_both (r n) (h n i) j)
+    by true false i j rest (inl k) = absurd (true_not_false (r n) (h n i) j)
     by false true i j rest (inl k) = omega (arith, rest k)
     by false false i j rest (inl k) = omega (arith, rest k)
-    by true b i j rest (inr same) = absurd (not_both (p n) i (sym (ap p same) ∙ e))
+    by true b i j rest (inr same) = absurd (true_not_false (p n) i (sym (ap p same) ∙ e))
     by false true i j rest (inr same) = omega (arith, count_mono p r n h)
-    by false false i j rest (inr same) = absurd (not_both (r n) (sym (ap r same) ∙ f) j)
+    by false false i j rest (inr same) = absurd (true_not_false (r n) (sym (ap r same) ∙ f) j)

@@ -13,6 +13,9 @@ use Rattle.htl_model.specs.PortWriters.{is_port}
 use Rattle.htl_model.specs.Bits.{cell}
 use Rattle.htl_model.specs.Ranges.{AreInRange, IsInvInRange, IsEndInRange}
 use Rattle.htl_model.specs.Tables.{Tables}
+use Rattle.htl_base.proofs.Places.{some_place}
+use Rattle.htl_base.proofs.Tests.{and_none}
+use Rattle.std.proofs.lemmas.Bool.{eq-eqb}
 
 -- one writer more among those before number q
 pub one_writer : (w : ℕ → Bool) (q r : ℕ) (old new last : Bool) → old ≡ (ltb r q && w r) → last ≡ w q → new ≡ (old || (eqb r q && last)) → new ≡ (ltb r (q + 1) && w r)
@@ -43,18 +46,8 @@ none_any : {A : Type 0} (xs : List A) → list_any (λ (x : A). false) xs ≡ fa
 none_any [] = refl
 none_any (x ∷ xs) = none_any xs
 
-all_at : {A : Type 0} (P : A → Type 0) (xs : List A) (k : ℕ) (x : A) → ((k : ℕ) (d : A) → k < length xs → P (get_or xs k d)) → slice_get xs k ≡ Some x → P x
+pub all_at : {A : Type 0} (P : A → Type 0) (xs : List A) (k : ℕ) (x : A) → ((k : ℕ) (d : A) → k < length xs → P (get_or xs k d)) → slice_get xs k ≡ Some x → P x
 all_at P xs k x all at = subst P (get_or_from_slice_get xs k x x at) (all k x (slice_get_within xs k x at))
-
--- what passes stands somewhere
-found : {A : Type 0} (f : A → Bool) (xs : List A) → list_any f xs ≡ true → (k : ℕ) × (x : A) × (slice_get xs k ≡ Some x) × (f x ≡ true)
-found f [] h = cc
-found f (x ∷ xs) h = by (f x) refl h (λ r. found f xs r)
-  where
-    by : (b : Bool) → f x ≡ b → (b || list_any f xs) ≡ true → (list_any f xs ≡ true → (k : ℕ) × (y : _) × (slice_get xs k ≡ Some y) × (f y ≡ true))
-        → (k : ℕ) × (y : _) × (slice_get (x ∷ xs) k ≡ Some y) × (f y ≡ true)
-    by true e h rest = (0, x, refl, e)
-    by false e h rest = let r = rest h in (suc r.0, r.1, r.2, r.3)
 
 -- an invocation that reads a port of another is of the same mode
 module _ (t : Tables) (r : AreInRange t) (x y : Inv) (m n : ℕ) (at_x : slice_get t.invs m ≡ Some x) (at_y : slice_get t.invs n ≡ Some y) where
@@ -68,7 +61,7 @@ module _ (t : Tables) (r : AreInRange t) (x y : Inv) (m n : ℕ) (at_x : slice_g
 
   by_read : (e : End) (k : ℕ) → slice_get y.reads k ≡ Some e → is_read_from x.writes e ≡ true → x.mode ≡ y.mode
   by_read (E.Comm c o) k at h = cc
-  by_read (E.Port p) k at h = by_write (found (is_port p) x.writes h)
+  by_read (E.Port p) k at h = by_write (some_place (is_port p) x.writes h)
     where
       by_write : (j : ℕ) × (e : End) × (slice_get x.writes j ≡ Some e) × (is_port p e ≡ true) → x.mode ≡ y.mode
       by_write (j, E.Comm c o, written, is) = cc
@@ -84,16 +77,9 @@ module _ (t : Tables) (r : AreInRange t) (x y : Inv) (m n : ℕ) (at_x : slice_g
       and_true true b e = refl
       and_true false b e = cc
 
-      no_right : (a : Bool) → (a && false) ≡ false
-      no_right true = refl
-      no_right false = refl
-
-      equal : (a b : ℕ) → a ≡ b → eqb a b ≡ true
-      equal a b e = grind (arith, nat_tests)
-
       by : (b : Bool) → list_any (is_read_from x.writes) y.reads ≡ b → (eqb x.mode y.mode && list_any (is_read_from x.writes) y.reads) ≡ list_any (is_read_from x.writes) y.reads
-      by true e = let f = found (is_read_from x.writes) y.reads e in and_true (eqb x.mode y.mode) _ (equal x.mode y.mode (by_read f.1 f.0 f.2 f.3))
-      by false e = ap (λ b. eqb x.mode y.mode && b) e ∙ no_right (eqb x.mode y.mode) ∙ sym e
+      by true e = let f = some_place (is_read_from x.writes) y.reads e in and_true (eqb x.mode y.mode) _ (eq-eqb x.mode y.mode (by_read f.1 f.0 f.2 f.3))
+      by false e = ap (λ b. eqb x.mode y.mode && b) e ∙ and_none (eqb x.mode y.mode) ∙ sym e
 
   -- a table that has bit q for the ports that x writes says what y reads from x
   pub row_of_reads : (table : List ℕ) (q : ℕ) → length t.ports ≤ length table → ((p : ℕ) → p < length table → cell table p q ≡ writes_to (Some x) p)

@@ -2,12 +2,13 @@
 use Rattle.std.proofs.Common.{◌≡◌, ◌≤◌, ◌<◌, ◌⊎◌, ℕ, zero, suc, ◌+◌, Bool, true, false, cond, eqb, List, [], ◌∷◌, ◌++◌, ◌||◌, length, get_or, map, Some, refl, sym, ◌∙◌, ap, arith, inl, inr}
 use Rattle.std.specs.Prelude.{slice_get}
 use Rattle.std.specs.List.Sorted.{IsNonDecreasing}
-use Rattle.std.proofs.lemmas.Bool.{lt-ltb, le-ltb}
+use Rattle.std.proofs.lemmas.Bool.{lt-ltb, le-ltb, cases_lt, eq-eqb, false_from_ne_true}
 use Rattle.std.proofs.lemmas.Bool.Decides.{nat_tests}
 use Rattle.std.proofs.lemmas.List.{get_or-map, length-map}
 use Rattle.std.proofs.lemmas.Option.{slice_get_within, get_or_from_slice_get}
 use Rattle.htl_model.specs.Lists.{places_from}
 use Rattle.htl_model.specs.RootModes.{below}
+use Rattle.htl_base.proofs.Numbers.{cases_less_same}
 
 -- no key is below one before it
 abbrev pub Rises : {X : Type 0} → (X → ℕ) → List X → Type 0
@@ -24,12 +25,6 @@ rises key xs r p q x y le at_p at_q =
 
 later : {X : Type 0} (key : X → ℕ) (x : X) (xs : List X) → Rises key (x ∷ xs) → Rises key xs
 later key x xs r p q y z le at_p at_q = r (suc p) (suc q) y z (omega arith) at_p at_q
-
-order : (a b : ℕ) → (a < b) ⊎ (b ≤ a)
-order a b = grind arith
-
-pub equal : (a b : ℕ) → a ≡ b → eqb a b ≡ true
-equal a b e = grind (arith, nat_tests)
 
 pub unequal : (a b : ℕ) → (a < b) ⊎ (b < a) → eqb a b ≡ false
 unequal a b (inl h) = grind (arith, nat_tests)
@@ -53,7 +48,7 @@ all_below key u (x ∷ xs) h =
 -- and no more than all
 pub most_below : {X : Type 0} (key : X → ℕ) (u : ℕ) (xs : List X) → below key u xs ≤ length xs
 most_below key u [] = omega arith
-most_below key u (x ∷ xs) = let more = most_below key u xs in elim (order (key x) u) [
+most_below key u (x ∷ xs) = let more = most_below key u xs in elim (cases_lt (key x) u) [
   | inl h ↦ let here = ap (λ b. cond b 1 0 + below key u xs) (lt-ltb (key x) u h) in omega (arith, more, here)
   | inr h ↦ let here = ap (λ b. cond b 1 0 + below key u xs) (le-ltb (key x) u h) in omega (arith, more, here)
 ]
@@ -72,7 +67,7 @@ low_at key u (suc p) x y ys deeper at h less = deeper p at (omega (arith, one_be
 
 pub key_below : {X : Type 0} (key : X → ℕ) (u p : ℕ) (x : X) (xs : List X) → Rises key xs → slice_get xs p ≡ Some x → p < below key u xs → key x < u
 key_below key u p x [] r at h = cc
-key_below key u p x (y ∷ ys) r at h = elim (order (key y) u) [
+key_below key u p x (y ∷ ys) r at h = elim (cases_lt (key y) u) [
   | inl less ↦ low_at key u p x y ys (λ i. key_below key u i x ys (later key y ys r)) at h less
   | inr more ↦ absurd (omega (arith, first_above key u y ys r more))
 ]
@@ -84,7 +79,7 @@ high_at key u (suc p) x y ys deeper at h less = deeper p at (omega (arith, one_b
 
 pub key_above : {X : Type 0} (key : X → ℕ) (u p : ℕ) (x : X) (xs : List X) → Rises key xs → slice_get xs p ≡ Some x → below key u xs ≤ p → u ≤ key x
 key_above key u p x [] r at h = cc
-key_above key u p x (y ∷ ys) r at h = elim (order (key y) u) [
+key_above key u p x (y ∷ ys) r at h = elim (cases_lt (key y) u) [
   | inl less ↦ high_at key u p x y ys (λ i. key_above key u i x ys (later key y ys r)) at h less
   | inr more ↦ let up = r 0 p y x (omega arith) refl at in omega arith
 ]
@@ -93,14 +88,11 @@ key_above key u p x (y ∷ ys) r at h = elim (order (key y) u) [
 abbrev pub places_of : {X : Type 0} → (X → ℕ) → ℕ → ℕ → List X → List ℕ
 places_of key u k xs = places_from (λ x. eqb (key x) u) k xs
 
-three : (a b : ℕ) → (a < b) ⊎ ((a ≡ b) ⊎ (b < a))
-three a b = grind arith
-
 passed : {X : Type 0} (key : X → ℕ) (u k : ℕ) (x : X) (xs : List X) → (key x < u) ⊎ (u < key x) → places_of key u k (x ∷ xs) ≡ places_of key u (suc k) xs
 passed key u k x xs h = ap (λ (b : Bool). cond b (k ∷ places_of key u (suc k) xs) (places_of key u (suc k) xs)) (unequal (key x) u h)
 
 taken : {X : Type 0} (key : X → ℕ) (u k : ℕ) (x : X) (xs : List X) → key x ≡ u → places_of key u k (x ∷ xs) ≡ k ∷ places_of key u (suc k) xs
-taken key u k x xs h = ap (λ (b : Bool). cond b (k ∷ places_of key u (suc k) xs) (places_of key u (suc k) xs)) (equal (key x) u h)
+taken key u k x xs h = ap (λ (b : Bool). cond b (k ∷ places_of key u (suc k) xs) (places_of key u (suc k) xs)) (eq-eqb (key x) u h)
 
 not_below : {X : Type 0} (key : X → ℕ) (u : ℕ) (x : X) (xs : List X) → u ≤ key x → below key u (x ∷ xs) ≡ below key u xs
 not_below key u x xs h = let here = ap (λ b. cond b 1 0 + below key u xs) (le-ltb (key x) u h) in omega (arith, here)
@@ -110,7 +102,7 @@ pub run_length : {X : Type 0} (key : X → ℕ) (u k : ℕ) (xs : List X) → le
 run_length key u k [] = refl
 run_length key u k (x ∷ xs) =
     let more = run_length key u (suc k) xs in
-    elim (three (key x) u) [
+    elim (cases_less_same (key x) u) [
       | inl h ↦ omega (arith, more, ap length (passed key u k x xs (inl h)), one_below key u x xs h, one_below key (u + 1) x xs (omega arith))
       | inr (inl h) ↦ omega (arith, more, ap length (taken key u k x xs h), not_below key u x xs (omega arith), one_below key (u + 1) x xs (omega arith))
       | inr (inr h) ↦ omega (arith, more, ap length (passed key u k x xs (inr h)), not_below key u x xs (omega arith), not_below key (u + 1) x xs (omega arith))
@@ -125,7 +117,7 @@ taken_at key u k (suc j) xs deeper none h = deeper j (omega arith) ∙ omega (ar
 pub run_at : {X : Type 0} (key : X → ℕ) (u k j : ℕ) (xs : List X) → Rises key xs → j < length (places_of key u k xs) → get_or (places_of key u k xs) j 0 ≡ k + below key u xs + j
 run_at key u k j [] r h = absurd (omega arith)
 run_at key u k j (x ∷ xs) r within =
-    elim (three (key x) u) [
+    elim (cases_less_same (key x) u) [
       | inl h ↦
           let e = passed key u k x xs (inl h) in
           let less : j < length (places_of key u (suc k) xs) = omega (arith, ap length e) in
@@ -155,11 +147,7 @@ AreInTurn {X} p q xs = (i j : ℕ) (x y : X) → i ≤ j → slice_get xs i ≡ 
 pub none_pass : {X : Type 0} (p : X → Bool) (k : ℕ) (xs : List X) → ((j : ℕ) (y : X) → slice_get xs j ≡ Some y → p y ≡ true → ⊥) → places_from p k xs ≡ []
 none_pass p k [] h = refl
 none_pass p k (x ∷ xs) h =
-    ap (λ (b : Bool). cond b (k ∷ places_from p (suc k) xs) (places_from p (suc k) xs)) (fails (p x) (h 0 x refl)) ∙ none_pass p (suc k) xs (λ j y at. h (suc j) y at)
-  where
-    fails : (b : Bool) → (b ≡ true → ⊥) → b ≡ false
-    fails true h = absurd (h refl)
-    fails false h = refl
+    ap (λ (b : Bool). cond b (k ∷ places_from p (suc k) xs) (places_from p (suc k) xs)) (false_from_ne_true (p x) (h 0 x refl)) ∙ none_pass p (suc k) xs (λ j y at. h (suc j) y at)
 
 pub in_two : {X : Type 0} (p q : X → Bool) (k : ℕ) (xs : List X) → AreInTurn p q xs → places_from (λ x. p x || q x) k xs ≡ places_from p k xs ++ places_from q k xs
 in_two p q k [] h = refl

@@ -17,11 +17,11 @@ use Rattle.htl_model.specs.Selections.{is_root, modes_of, choices_from, root_mod
 use Rattle.htl_model.specs.Tables.{Tables, mode_module}
 use Rattle.htl_model.proofs.ChoiceLaws.{capped}
 use Rattle.htl_model.proofs.ChosenLaws.{get_none}
-use Rattle.htl_model.proofs.RisingKeys.{Rises, rises, equal, unequal, most_below, all_below, key_below, key_above, run_length, run_at, places_same, none_pass, in_two, AreInTurn}
+use Rattle.htl_model.proofs.RisingKeys.{Rises, rises, unequal, most_below, all_below, key_below, key_above, run_length, run_at, places_same, none_pass, in_two, AreInTurn}
 use Rattle.htl_model.proofs.SelectionLaws.{modes_some, cut_front}
-
-all_at : {A : Type 0} (P : A → Type 0) (xs : List A) (k : ℕ) (x : A) → ((k : ℕ) (d : A) → k < length xs → P (get_or xs k d)) → slice_get xs k ≡ Some x → P x
-all_at P xs k x all at = subst P (get_or_from_slice_get xs k x x at) (all k x (slice_get_within xs k x at))
+use Rattle.htl_model.proofs.PortTableLaws.{all_at}
+use Rattle.std.proofs.lemmas.Bool.{eq-eqb, ne_eqb, cases_lt, cases_order}
+use Rattle.htl_base.proofs.Numbers.{cases_up_to}
 
 pub modes_rise : (t : Tables) → AreInRange t → Rises (λ (m : Mode). m.«module») t.modes
 modes_rise t r = rises (λ (m : Mode). m.«module») t.modes r.modes_by_module
@@ -40,21 +40,18 @@ mode_between t u j first r e h = run_at (λ (m : Mode). m.«module») u 0 j t.mo
 -- a mode of the module more in front
 pub first_back : (modes : List Mode) (u first : ℕ) (x : Mode) → IsNonDecreasing (map (λ (m : Mode). m.«module») modes) → 0 < first → first ≤ length modes
     → x ≡ get_or modes (first - 1) x → x.«module» ≡ u → modes_below modes u ≤ first - 1
-first_back modes u first x rising some room is own = elim (either (first - 1) (modes_below modes u)) [
+first_back modes u first x rising some room is own = elim (cases_lt (first - 1) (modes_below modes u)) [
   | inl less ↦
       let at : slice_get modes (first - 1) ≡ Some x = slice_get-get_or modes (first - 1) x (omega arith) ∙ ap (λ (m : Mode). Some m) (sym is) in
       let low = key_below (λ (m : Mode). m.«module») u (first - 1) x modes (rises (λ (m : Mode). m.«module») modes rising) at less in
       absurd (omega (arith, low, own))
   | inr more ↦ more
 ]
-  where
-    either : (a b : ℕ) → (a < b) ⊎ (b ≤ a)
-    either a b = grind arith
 
 -- none more
 pub first_found : (modes : List Mode) (u first : ℕ) (x : Mode) → IsNonDecreasing (map (λ (m : Mode). m.«module») modes) → 0 < first → first ≤ length modes
     → x ≡ get_or modes (first - 1) x → (x.«module» ≡ u → ⊥) → first ≤ modes_below modes (u + 1) → modes_below modes u ≤ first → first ≡ modes_below modes u
-first_found modes u first x rising some room is other high low = elim (either (first - 1) (modes_below modes u)) [
+first_found modes u first x rising some room is other high low = elim (cases_lt (first - 1) (modes_below modes u)) [
   | inl less ↦ omega arith
   | inr more ↦
       let at : slice_get modes (first - 1) ≡ Some x = slice_get-get_or modes (first - 1) x (omega arith) ∙ ap (λ (m : Mode). Some m) (sym is) in
@@ -63,9 +60,6 @@ first_found modes u first x rising some room is other high low = elim (either (f
       let down = key_below (λ (m : Mode). m.«module») (u + 1) (first - 1) x modes rise at (omega arith) in
       absurd (other (omega (arith, up, down)))
 ]
-  where
-    either : (a b : ℕ) → (a < b) ⊎ (b ≤ a)
-    either a b = grind arith
 
 pub modes_grow : (modes : List Mode) (u : ℕ) → modes_below modes u ≤ modes_below modes (u + 1)
 modes_grow modes u = omega (arith, run_length (λ (m : Mode). m.«module») u 0 modes)
@@ -132,12 +126,9 @@ entries_none t sel k size end u h =
       | inr c ↦ sym (ap (λ (o : Option Module). elim o as (λ _. Option ℕ) [ Some y ↦ cond (is_root y) (Some (root_mode t sel u)) None | None ↦ None ]) c.1)
     ])
 
-order : (k u : ℕ) → k ≤ u → (k < u) ⊎ (k ≡ u)
-order k u h = grind arith
-
 pub entries_more : (t : Tables) (sel k : ℕ) (entries : List (Option ℕ)) (mode : Option ℕ) → k < length entries → mode ≡ root_entry t sel k
     → AreRootModesFrom t sel (suc k) entries → AreRootModesFrom t sel k (set entries k mode)
-entries_more t sel k entries mode room is so_far u h = elim (order k u h) [
+entries_more t sel k entries mode room is so_far u h = elim (cases_up_to k u h) [
   | inl less ↦ get_or-set_other entries k u mode None (λ e. omega (arith, e)) ∙ so_far u (omega arith)
   | inr e ↦ ap (λ (n : ℕ). get_or (set entries k mode) n None) (sym e) ∙ get_or-set_same entries k mode None room ∙ is ∙ ap (root_entry t sel) e
 ]
@@ -160,13 +151,6 @@ own_mode t sel u r h =
           ap {B = ℕ} (λ (o : Option Mode). elim o [ Some y ↦ y.«module» | None ↦ 0 ]) c.2 ∙ omega (arith, low, high)
       | inr c ↦ absurd (omega (arith, c.0, there, within, count, most_below (λ (m : Mode). m.«module») (u + 1) t.modes))
     ]
-
-differs : (a b : ℕ) → (a ≡ b → ⊥) → eqb a b ≡ false
-differs a b never = by (eqb a b) refl
-  where
-    by : (e : Bool) → eqb a b ≡ e → eqb a b ≡ false
-    by true f = absurd (never (let same : a ≡ b = grind (arith, nat_tests) in same))
-    by false f = f
 
 split : (m k : ℕ) (b : Bool) → ((eqb m k && b) || (leb (suc k) m && b)) ≡ (leb k m && b)
 split m k true = grind (arith, nat_tests)
@@ -225,9 +209,9 @@ module _ (t : Tables) (sel : ℕ) (entries : List (Option ℕ)) (r : AreInRange 
   fails false = refl
 
   owned : (k : ℕ) (x : Module) (i : Inv) → slice_get t.modules k ≡ Some x → here k i ≡ cond (is_root x) (eqb i.mode (root_mode t sel k)) false
-  owned k x i at = elim (three (mode_module t i.mode) k) [
+  owned k x i at = elim (cases_order (mode_module t i.mode) k) [
     | inl same ↦
-        ap (λ b. b && is_running t entries i.mode) (equal (mode_module t i.mode) k same)
+        ap (λ b. b && is_running t entries i.mode) (eq-eqb (mode_module t i.mode) k same)
         ∙ ap (λ u. is_at (entry entries u) i.mode) same ∙ ap (λ o. is_at o i.mode) (are k)
         ∙ ap (λ (o : Option Module). is_at (elim o as (λ _. Option ℕ) [ Some y ↦ cond (is_root y) (Some (root_mode t sel k)) None | None ↦ None ]) i.mode) at
         ∙ at_root (is_root x) i.mode (root_mode t sel k)
@@ -236,15 +220,12 @@ module _ (t : Tables) (sel : ℕ) (entries : List (Option ℕ)) (r : AreInRange 
         ∙ sym (ap (λ b. cond (is_root x) b false) (no_mode (λ e. other_not (ap (mode_module t) e ∙ own_mode t sel k r (slice_get_within t.modules k x at)) other)) ∙ fails (is_root x))
   ]
     where
-      three : (a b : ℕ) → (a ≡ b) ⊎ ((a < b) ⊎ (b < a))
-      three a b = grind arith
-
       other_not : mode_module t i.mode ≡ k → (mode_module t i.mode < k) ⊎ (k < mode_module t i.mode) → ⊥
       other_not e (inl h) = omega (arith, e)
       other_not e (inr h) = omega (arith, e)
 
       no_mode : (i.mode ≡ root_mode t sel k → ⊥) → eqb i.mode (root_mode t sel k) ≡ false
-      no_mode never = differs i.mode (root_mode t sel k) never
+      no_mode never = ne_eqb i.mode (root_mode t sel k) never
 
   -- one module more
   one_more : (k : ℕ) (i : Inv) → (here k i || behind (suc k) i) ≡ behind k i
@@ -279,7 +260,7 @@ module _ (t : Tables) (sel : ℕ) (entries : List (Option ℕ)) (r : AreInRange 
       ∙ sym (in_two (here k) (behind (suc k)) 0 t.invs (in_turn k))
       ∙ places_same (λ (i : Inv). here k i || behind (suc k) i) (behind k) 0 t.invs (λ j i there. one_more k i)
 
-  -- one pass over the invocations meets the positions in their order
+  -- one pass over the invocations meets the positions in their cases_up_to
   pub positions_met : positions t sel ≡ places_from (λ i. is_running t entries i.mode) 0 t.invs
   positions_met = from_module 0 t.modules (λ j. ap (slice_get t.modules) (let e : j ≡ 0 + j = omega arith in e)) (omega arith)
       ∙ places_same (behind 0) (λ (i : Inv). is_running t entries i.mode) 0 t.invs (λ j i there. all_behind (mode_module t i.mode) (is_running t entries i.mode))

@@ -11,9 +11,7 @@ use Rattle.htl_model.specs.declared.parts.Task.{Task}
 use Rattle.htl_model.specs.Tables.{Tables, mode_period, function_count, count_at, count_before}
 use Rattle.htl_model.specs.Ranges.{AreInRange, IsModeThat}
 use Rattle.htl_model.specs.Selections.{is_root, mode_of_module, modes_of, choices_from, root_mode, invs_of, root_modules, root_period, inv_of_mode, positions}
-
-either : (a b : ℕ) → (a < b) ⊎ (b ≤ a)
-either a b = grind arith
+use Rattle.std.proofs.lemmas.Bool.{cases_lt}
 
 -- ---- places that pass a test
 
@@ -76,7 +74,7 @@ choices_some t k (x ∷ xs) h =
 
 -- a quotient by a number of choices that is capped above the dividend is the quotient
 pub capped_quotient : (sel c cap : ℕ) → sel < cap → 0 < c → sel / min c cap ≡ sel / c
-capped_quotient sel c cap h k = elim (either cap c) [
+capped_quotient sel c cap h k = elim (cases_lt cap c) [
   | inl a ↦
       let m : min c cap ≡ cap = omega arith in
       ap (λ n. sel / n) m ∙ div-eq_of_lt h ∙ sym (div-eq_of_lt (let b : sel < c = omega arith in b))
@@ -147,7 +145,7 @@ module _ (t : Tables) (u p : ℕ) where
 
 pub count_grows : (m n : ℕ) (ts : List Task) → m ≤ n → count_before m ts ≤ count_before n ts
 count_grows m zero ts h = let same : m ≡ 0 = omega arith in omega (arith, ap (λ k. count_before k ts) same)
-count_grows m (suc n) ts h = elim (either n m) [
+count_grows m (suc n) ts h = elim (cases_lt n m) [
   | inl a ↦ let same : m ≡ suc n = omega arith in omega (arith, ap (λ k. count_before k ts) same)
   | inr a ↦ let less : count_before m ts ≤ count_before n ts = count_grows m n ts a in omega arith
 ]

@@ -3,16 +3,13 @@ use Rattle.std.proofs.Common.{◌≡◌, ℕ, zero, suc, ◌<◌, List, [], ◌�
 use Rattle.htl_model.specs.Tables.{Tables}
 use Rattle.htl_model.specs.declared.state.Stay.{Stay}
 use Rattle.htl_model.specs.Meaning.{stay_of, stays_to, next_stay_at}
+use Rattle.htl_base.proofs.Places.{within_front}
+use Rattle.htl_base.proofs.Numbers.{cases_below}
 
-length-stays_to : (t : Tables) (v : List ℤ) (now : ℕ) (old : List (Option Stay)) (k : ℕ) → length (stays_to t v now old k) ≡ k
+pub length-stays_to : (t : Tables) (v : List ℤ) (now : ℕ) (old : List (Option Stay)) (k : ℕ) → length (stays_to t v now old k) ≡ k
 length-stays_to t v now old zero = refl
 length-stays_to t v now old (suc k) =
     length-append (stays_to t v now old k) _ ∙ omega (arith, length-stays_to t v now old k)
-
-get_front : {A : Type 0} (xs ys : List A) (k : ℕ) → k < length xs → slice_get (xs ++ ys) k ≡ slice_get xs k
-get_front [] ys k h = absurd (omega arith)
-get_front (x ∷ xs) ys zero h = refl
-get_front (x ∷ xs) ys (suc k) h = get_front xs ys k (omega arith)
 
 get_end : {A : Type 0} (xs : List A) (y : A) (k : ℕ) → k ≡ length xs → slice_get (xs ++ y ∷ []) k ≡ Some y
 get_end [] y zero h = refl
@@ -23,17 +20,14 @@ get_end (x ∷ xs) y (suc k) h = get_end xs y k (omega arith)
 opened : Option (Option Stay) → Option Stay
 opened o = elim o [ Some x ↦ x | None ↦ None ]
 
-upto : (k n : ℕ) → k < suc n → (k < n) ⊎ (k ≡ n)
-upto k n h = grind arith
-
 -- the stay of module k is that which the modules below it give
 pub stay_at : (t : Tables) (v : List ℤ) (now : ℕ) (old : List (Option Stay)) (n k : ℕ) → k < n →
     stay_of (stays_to t v now old n) k ≡ next_stay_at t v now (stays_to t v now old k) k (stay_of old k)
 unfolding opened
 stay_at t v now old zero k h = absurd (omega arith)
 stay_at t v now old (suc n) k h =
-    elim (upto k n h) [
-      | inl q ↦ ap opened (get_front (stays_to t v now old n) _ k (omega (arith, length-stays_to t v now old n))) ∙ stay_at t v now old n k q
+    elim (cases_below k n h) [
+      | inl q ↦ ap opened (within_front (stays_to t v now old n) _ k (omega (arith, length-stays_to t v now old n))) ∙ stay_at t v now old n k q
       | inr e ↦
           ap opened (get_end (stays_to t v now old n) _ k (e ∙ sym (length-stays_to t v now old n)))
           ∙ ap (λ m. next_stay_at t v now (stays_to t v now old m) m (stay_of old m)) (sym e)

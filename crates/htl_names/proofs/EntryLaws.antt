@@ -6,8 +6,10 @@ use Rattle.htl_names.specs.SameKeys.{same_key_decides}
 use Rattle.htl_names.specs.declared.fault.NameFault.TheVariants as fault
 use Rattle.htl_names.specs.declared.key.Space.TheVariants as space
 use Rattle.htl_names.proofs.FlatMaps.{at_flat, flat_part}
-use Rattle.htl_names.proofs.Members.{at_place, Each, each_at, each_append, each_part, In, in_next, in_first, in_second, in_mapped_at, in_part_at, All-at}
-use Rattle.htl_names.proofs.Places.{part_is, part_there, module_there, tasks_there, modes_there, program_of_module, module_of_task, module_of_mode, order_of, module_in_source, item_in_source, part_in_source}
+use Rattle.htl_names.proofs.Members.{at_place, Each, each_at, each_append, each_part, In, in_next, in_first, in_second, in_mapped_at, in_part_at}
+use Rattle.htl_names.proofs.Places.{part_is, part_there, module_there, tasks_there, modes_there, program_of_module, module_of_task, module_of_mode, module_in_source, item_in_source, part_in_source}
+use Rattle.htl_base.proofs.Places.{all_at}
+use Rattle.htl_base.proofs.Numbers.{cases_less_more}
 
 -- where an entry comes from
 pub data Origin (ps : List PlainProgram) : Entry → Type 0 where
@@ -122,7 +124,7 @@ module _ (ps : List PlainProgram) where
 
 pub one_place : (ps : List PlainProgram) → AreNamesRight ps → (j k : ℕ) (e d : Entry) → slice_get (entries ps) j ≡ Some e → slice_get (entries ps) k ≡ Some d → e.key ≡ d.key → j ≡ k
 one_place ps right j k e d at there same =
-    elim (order_of j k) [
+    elim (cases_less_more j k) [
       | inl less ↦ absurd (right RepeatedName k (fault.Twice d.token) (d, there, (j, e, less, at, same), refl))
       | inr r ↦ elim r [ inl more ↦ absurd (right RepeatedName j (fault.Twice e.token) (e, at, (k, d, more, there, sym same), refl)) | inr is ↦ is ]
     ]
@@ -208,7 +210,7 @@ entry_low ps h e (of_module p u x there) = low_at (modules_of ps) u x (module_in
 entry_low ps h e (of_task p u k t there) = low_at (tasks_of (modules_of ps)) k t (item_in_source (λ (y : PlainModule). y.tasks) ps p u k t there) h.tasks
 entry_low ps h e (of_param p u k t there j x at) =
     let n = item_in_source (λ (y : PlainModule). y.tasks) ps p u k t there in
-    let small = All-at MeetsTaskBounds (tasks_of (modules_of ps)) (n.0 + k) t h.small n.1 in
+    let small = all_at MeetsTaskBounds (tasks_of (modules_of ps)) (n.0 + k) t h.small n.1 in
     omega (arith, slice_get_within (params_of t) j x at, length-append t.inputs (out_params t.outputs), small.inputs, small.outputs)
 entry_low ps h e (of_mode p u m x there) = low_at (modes_of (modules_of ps)) m x (item_in_source (λ (y : PlainModule). y.modes) ps p u m x there) h.modes
 entry_low ps h e (of_port a j y at) = low_at (ports_of (modes_of (modules_of ps))) j y (part_in_source (λ (z : PlainMode). z.ports) ps a j y at) h.ports

@@ -2,43 +2,9 @@
 use Rattle.std.proofs.Common.{◌≡◌, ℕ, zero, suc, ◌+◌, ◌<◌, ◌≤◌, ◌⊎◌, inl, inr, List, [], ◌∷◌, ◌++◌, length, take, slice_get, Some, refl, sym, ◌∙◌, ap, ap₂, subst, arith, length-append, drop, take-append-drop, get_or, map, cond, Bool, eqb, leb, flat_map, count_by}
 use Rattle.htl_names.proofs.Words.{length-map, length-take, get_or-take, slice_get_within, same_Some, none-some, slice_get-get_or, get_or_from_slice_get, flat_map-append, cases_lt, nat_tests, sum_by-cons, sum_by-append, list_to, length-list_to, get_list_to, get_mapped, flat_map_at}
 use Rattle.std.specs.List.Sorted.{IsNonDecreasing}
+use Rattle.htl_base.proofs.Places.{from_map, get_back, get_either, get_front}
 
 -- ---- the front and the back of a list
-
-pub get_front : {A : Type 0} (xs ys : List A) (k : ℕ) (x : A) → slice_get xs k ≡ Some x → slice_get (xs ++ ys) k ≡ Some x
-get_front [] ys k x e = absurd cc
-get_front (z ∷ xs) ys zero x e = e
-get_front (z ∷ xs) ys (suc k) x e = get_front xs ys k x e
-
-pub get_back : {A : Type 0} (xs ys : List A) (k : ℕ) → slice_get (xs ++ ys) (length xs + k) ≡ slice_get ys k
-get_back [] ys k = let e : 0 + k ≡ k = omega arith in ap (slice_get ys) e
-get_back (z ∷ xs) ys k =
-    let e : length (z ∷ xs) + k ≡ suc (length xs + k) = omega arith in ap (slice_get (z ∷ (xs ++ ys))) e ∙ get_back xs ys k
-
--- an item stands in the front or in the back
-pub get_either : {A : Type 0} (xs ys : List A) (k : ℕ) (x : A) → slice_get (xs ++ ys) k ≡ Some x
-    → (slice_get xs k ≡ Some x) ⊎ ((j : ℕ) × (k ≡ length xs + j) × (slice_get ys j ≡ Some x))
-get_either [] ys k x e = inr (k, omega arith, e)
-get_either (z ∷ xs) ys zero x e = inl e
-get_either (z ∷ xs) ys (suc k) x e =
-    elim (get_either xs ys k x e) [ inl a ↦ inl a | inr b ↦ inr (b.0, omega (arith, b.1), b.2) ]
-
--- an item stands at each place below the length
-pub there_is : {A : Type 0} (xs : List A) (k : ℕ) → k < length xs → (x : A) × (slice_get xs k ≡ Some x)
-there_is [] k less = absurd (omega (arith, less))
-there_is (x ∷ xs) zero less = (x, refl)
-there_is (x ∷ xs) (suc k) less = there_is xs k (omega (arith, less))
-
--- items before place k
-pub in_front : {A : Type 0} (es : List A) (k j : ℕ) (d : A) → slice_get (take k es) j ≡ Some d → (j < k) × (slice_get es j ≡ Some d)
-in_front es k j d e =
-    let within = slice_get_within (take k es) j d e in
-    (omega (arith, within, length-take k es), ap (λ xs. slice_get xs j) (sym (take-append-drop k es)) ∙ get_front (take k es) (drop k es) j d e)
-
-pub at_front : {A : Type 0} (es : List A) (k j : ℕ) (d : A) → j < k → slice_get es j ≡ Some d → slice_get (take k es) j ≡ Some d
-at_front es k j d below e =
-    slice_get-get_or (take k es) j d (omega (arith, below, slice_get_within es j d e, length-take k es))
-    ∙ ap (λ x. Some x) (get_or-take k es j d below ∙ get_or_from_slice_get es j d d e)
 
 -- ---- lists by places
 
@@ -164,12 +130,6 @@ flat_part f xs n y e =
 
 -- ---- mapped lists
 
--- an item of a mapped list is the image of one
-pub of_map : {A B : Type 0} (f : A → B) (xs : List A) (k : ℕ) (y : B) → slice_get (map f xs) k ≡ Some y → (x : A) × (slice_get xs k ≡ Some x) × (f x ≡ y)
-of_map f [] k y e = absurd cc
-of_map f (x ∷ xs) zero y e = (x, refl, cc)
-of_map f (x ∷ xs) (suc k) y e = of_map f xs k y e
-
 -- ---- how many items pass a test
 
 most_from : {A B : Type 0} (test : B → Bool) (f : ℕ → A → List B) (m most k : ℕ) (xs : List A)
@@ -207,7 +167,7 @@ stands item nodes xs k m x n there its =
 -- an item has the place of its part as owner
 owned : {A N B : Type 0} (item : ℕ → A → N → B) (nodes : A → List N) (own : B → ℕ) → ((k : ℕ) (x : A) (n : N) → own (item k x n) ≡ k)
     → (k : ℕ) (x : A) (j : ℕ) (y : B) → slice_get (given item nodes k x) j ≡ Some y → own y ≡ k
-owned item nodes own is k x j y e = let r = of_map (item k x) (nodes x) j y e in sym (ap own r.2) ∙ is k x r.0
+owned item nodes own is k x j y e = let r = from_map (item k x) (nodes x) j y e in sym (ap own r.2) ∙ is k x r.0
 
 -- all items of an owner pass the test, or none does
 count_alike : {N B : Type 0} (test : B → Bool) (b : Bool) (g : N → B) (ns : List N) → ((n : N) → test (g n) ≡ b) → count_by test (map g ns) ≤ cond b (length ns) 0
@@ -233,8 +193,8 @@ pub owners_order : {A N B : Type 0} (item : ℕ → A → N → B) (nodes : A �
 owners_order item nodes own is xs i j d less below =
     let f = given item nodes in
     let owners = map own (flat_map_at f 0 xs) in
-    let y = of_map own (flat_map_at f 0 xs) i (get_or owners i d) (slice_get-get_or owners i d (omega (arith, less, below))) in
-    let z = of_map own (flat_map_at f 0 xs) j (get_or owners j d) (slice_get-get_or owners j d below) in
+    let y = from_map own (flat_map_at f 0 xs) i (get_or owners i d) (slice_get-get_or owners i d (omega (arith, less, below))) in
+    let z = from_map own (flat_map_at f 0 xs) j (get_or owners j d) (slice_get-get_or owners j d below) in
     let p = part_of f xs i y.0 y.1 in
     let q = part_of f xs j z.0 z.1 in
     let one = owned item nodes own is p.part p.owner p.place y.0 p.item in

@@ -8,22 +8,23 @@ use Rattle.htl_model.proofs.Apart.{different, different_owned, different_pairs, 
 use Rattle.htl_text.specs.Bounds.{modes_of}
 use Rattle.htl_text.specs.declared.tree.EndNode.TheVariants as end
 use Rattle.htl_names.proofs.EntryLaws.{declared, one_place, one_entry, source_entries, entries_are, Origin, of_comm, of_module, of_task, of_mode as mode_origin, of_port, of_invoke}
-use Rattle.htl_names.proofs.FlatMaps.{at_part, same_part, part_of, given, of_map, counted, few_owned, owners_order, stands as item_stands}
+use Rattle.htl_names.proofs.FlatMaps.{at_part, same_part, part_of, given, counted, few_owned, owners_order, stands as item_stands}
 use Rattle.htl_names.proofs.SmallFunctions.{functions_in_range, functions_counted}
 use Rattle.htl_names.proofs.Numbered.{task_small, switch_small, each_mode, each_module, module_in_range, mode_count, module_count, mode_number_is, all_in_modes, mode_numbered, mode_owner, mode_stands, mode_meant}
 use Rattle.htl_names.proofs.ModulePlaces.{Comes, top, under, kid, comes}
 use Rattle.htl_names.proofs.TreeLevels.{refined_at}
-use Rattle.htl_names.proofs.Members.{In, in_next, in_second, in_part_at, All-from_places, in_first, in_mapped, All-at, all_given}
+use Rattle.htl_names.proofs.Members.{In, in_next, in_second, in_part_at, All-from_places, in_first, in_mapped, all_given}
 use Rattle.htl_names.proofs.NameUses.{mode_period_span, worst_span, known, used_in_invoke, comm_period_span, initial_fits, used_in_switch, parent_stands}
 use Rattle.htl_names.proofs.Places.{modes_in, tasks_in, program_of_module, within as inside, part_in_source}
 use Rattle.htl_names.proofs.Ordering.{kept_limit, right_tree, number_is, are_few, few_in_mode, instances}
 use Rattle.htl_names.proofs.ListLaws.{few_reads, read_of, distinct_once, distinct_apart, among_at}
+use Rattle.htl_base.proofs.Places.{all_at, from_map}
 
 -- items differ by what they are called, where those called alike stand at one place
 apart_by : {B N : Type 0} (called : B → N) (ys : List B) → ((j k : ℕ) (y z : B) → slice_get ys j ≡ Some y → slice_get ys k ≡ Some z → called y ≡ called z → j ≡ k) → AreApart (map called ys)
 apart_by called ys one j k n less p q =
-    let y = of_map called ys j n p in
-    let z = of_map called ys k n q in
+    let y = from_map called ys j n p in
+    let z = from_map called ys k n q in
     omega (arith, less, one j k y.0 z.0 y.1 z.1 (y.2 ∙ sym z.2))
 
 -- the same of the items of nodes, which differ by their owner and what they are told by among its nodes
@@ -35,8 +36,8 @@ apart_by_owner {C = C} item nodes own called told xs is one =
     apart_by {N = ℕ × C} (λ y. (own y, called y)) (flat_map_at (given item nodes) 0 xs) (λ j k y z p q same.
     let r = part_of (given item nodes) xs j y p in
     let s = part_of (given item nodes) xs k z q in
-    let v = of_map (item r.part r.owner) (nodes r.owner) r.place y r.item in
-    let w = of_map (item s.part s.owner) (nodes s.owner) s.place z s.item in
+    let v = from_map (item r.part r.owner) (nodes r.owner) r.place y r.item in
+    let w = from_map (item s.part s.owner) (nodes s.owner) s.place z s.item in
     let first = is r.part r.owner v.0 in
     let second = is s.part s.owner w.0 in
     let part : s.part ≡ r.part = sym second.0 ∙ ap own w.2 ∙ sym (ap (λ (t : ℕ × C). t.0) same) ∙ sym (ap own v.2) ∙ first.0 in
@@ -54,8 +55,8 @@ module _ (ps : List PlainProgram) (right : AreNamesRight ps) where
   comm_names_apart : AreApart (map (λ (c : Comm). c.name) (comm_items ps))
   comm_names_apart =
       apart_by (λ (c : Comm). c.name) (comm_items ps) (λ j k c d p q names.
-      let x = of_map comm_item (comms_of ps) j c p in
-      let y = of_map comm_item (comms_of ps) k d q in
+      let x = from_map comm_item (comms_of ps) j c p in
+      let y = from_map comm_item (comms_of ps) k d q in
       let same : x.0.name.name ≡ y.0.name.name = ap (λ (c : Comm). c.name) x.2 ∙ names ∙ sym (ap (λ (c : Comm). c.name) y.2) in
       same_number (comm_entry j x.0) (comm_entry k y.0) (of_comm j x.0 x.1) (of_comm k y.0 y.1) (ap (λ (m : List ℕ). comm_key m) same))
 
@@ -155,7 +156,7 @@ module _ (ps : List PlainProgram) (small : MeetsBounds ps) (right : AreNamesRigh
       → All (IsEndInRange (tables_of_tree ps) n) (map (end_item (layout ps) ps n a) es)
   ends_in_range es used narrow =
       All-map (IsEndInRange (tables_of_tree ps) n) (end_item (layout ps) ps n a) es
-      (All-from_places (λ e. IsEndInRange (tables_of_tree ps) n (end_item (layout ps) ps n a e)) es (λ j e at. end_in_range e (used j e at) (All-at IsNarrowEnd es j e narrow at)))
+      (All-from_places (λ e. IsEndInRange (tables_of_tree ps) n (end_item (layout ps) ps n a e)) es (λ j e at. end_in_range e (used j e at) (all_at IsNarrowEnd es j e narrow at)))
 
   parent_within : (j : ℕ) (i : InvokeNode) → slice_get (invokes_at ps a) j ≡ Some i → (o : Option Id) → i.parent ≡ o
       → IfSome (elim o [ Some id ↦ parent_number (layout ps) ps (refined_mode (layout ps) s.program s.«module») id | None ↦ None ]) (λ p. p < length (invoke_items (layout ps) ps))
@@ -181,8 +182,8 @@ module _ (ps : List PlainProgram) (small : MeetsBounds ps) (right : AreNamesRigh
   invoke_in_range : (j : ℕ) (i : InvokeNode) → slice_get (invokes_at ps a) j ≡ Some i → IsInvInRange (tables_of_tree ps) (invoke_item (layout ps) ps n a i)
   invoke_in_range j i at =
       let q = part_in_source (λ (z : PlainMode). z.invokes) ps a j i at in
-      let few = All-at MeetsInvokeBounds (invokes_of (modes_of (modules_of ps))) (q.0 + j) i small.invokes q.1 in
-      let narrow = All-at IsNarrowInvoke (invokes_at ps a) j i (instances ps right a) at in
+      let few = all_at MeetsInvokeBounds (invokes_of (modes_of (modules_of ps))) (q.0 + j) i small.invokes q.1 in
+      let narrow = all_at IsNarrowInvoke (invokes_at ps a) j i (instances ps right a) at in
       record {
         owner = within;
         task = task_in_module j i at;

@@ -8,7 +8,8 @@ use Rattle.std.proofs.lemmas.Cmp.{nat_eq_equiv}
 use Rattle.std.proofs.lemmas.Map.Keys.{IsDistinct-push, apart_from_distinct, any_passes_from_place}
 use Rattle.std.proofs.lemmas.Slice.Eq.{bytes_eq-Decides}
 use Rattle.htl_names.proofs.Members.{In}
-use Rattle.htl_names.proofs.FlatMaps.{of_map, flat_map_is, flat_map_parts}
+use Rattle.htl_names.proofs.FlatMaps.{flat_map_is, flat_map_parts}
+use Rattle.htl_base.proofs.Places.{from_map}
 
 abbrev pub is_among : List ℕ → ℕ → Bool
 is_among xs x = list_any (eqb x) xs
@@ -83,7 +84,7 @@ pub read_of : (l : Layout) (e : Expr) (q : ℕ) → is_among (comms_in l e) q �
 read_of l e q h =
     let f : Id → ℕ = λ id. meaning l (comm_key id.name) in
     let at = among_place (map f (names_of e)) q (sym (distinct_has q [] (map f (names_of e))) ∙ h) in
-    let id = of_map f (names_of e) at.0 q at.1 in
+    let id = from_map f (names_of e) at.0 q at.1 in
     (id.0, (at.0, id.1), id.2)
 
 -- so is the place of each

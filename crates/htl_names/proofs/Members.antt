@@ -1,7 +1,8 @@
 -- Lists: what holds of each item, and which items there are.
 use Rattle.std.proofs.Common.{◌≡◌, ℕ, zero, suc, ◌+◌, ◌<◌, List, [], ◌∷◌, ◌++◌, map, slice_get, Some, All, refl, sym, ◌∙◌, ap, subst, arith, length, get_or, flat_map}
 use Rattle.htl_names.proofs.Words.{All-nil, All-cons, All-get_or, none-some, same_Some, slice_get_within, slice_get-get_or, get_or_from_slice_get, flat_map_single, get_mapped, flat_map_at, map_at}
-use Rattle.htl_names.proofs.FlatMaps.{get_front, get_back, at_part, at_flat, part_of, of_map, given, flat_map_parts}
+use Rattle.htl_names.proofs.FlatMaps.{at_part, at_flat, part_of, given, flat_map_parts}
+use Rattle.htl_base.proofs.Places.{all_at, from_map, get_back, get_front}
 
 -- P holds of each item
 abbrev pub Each : {A : Type 0} → (A → Type 0) → List A → Type 0
@@ -91,11 +92,8 @@ pub all_given : {A N B : Type 0} (P : B → Type 0) (item : ℕ → A → N → 
 all_given P item nodes xs h =
     All-from_places P (flat_map_at (given item nodes) 0 xs) (λ i y e.
     let p = part_of (given item nodes) xs i y e in
-    let n = of_map (item p.part p.owner) (nodes p.owner) p.place y p.item in
+    let n = from_map (item p.part p.owner) (nodes p.owner) p.place y p.item in
     subst P n.2 (h p.part p.owner p.place n.0 p.there n.1))
-
-pub All-at : {A : Type 0} (P : A → Type 0) (xs : List A) (k : ℕ) (x : A) → All P xs → slice_get xs k ≡ Some x → P x
-All-at P xs k x all e = subst P (get_or_from_slice_get xs k x x e) (All-get_or P xs k x (slice_get_within xs k x e) all)
 
 -- ---- maps
 
@@ -110,4 +108,4 @@ map_flat_map_at h f g e k xs =
 pub all_part : {X Y : Type 0} (P : Y → Type 0) (f : X → List Y) (xs : List X) (k : ℕ) (x : X) → k < length xs → All P (flat_map f xs)
     → All P (f (get_or xs k x))
 all_part P f xs k x below all =
-    All-from_places P (f (get_or xs k x)) (λ j y e. All-at P (flat_map f xs) _ y all (at_flat f xs k j (get_or xs k x) y (slice_get-get_or xs k x below) e))
+    All-from_places P (f (get_or xs k x)) (λ j y e. all_at P (flat_map f xs) _ y all (at_flat f xs k j (get_or xs k x) y (slice_get-get_or xs k x below) e))

@@ -4,7 +4,8 @@ use Rattle.htl_names.proofs.Words.{common_steps, filter-append, none-some, same_
 use Rattle.htl_names.specs.Order.{below}
 use Rattle.htl_names.proofs.Naming.{Names}
 use Rattle.htl_names.proofs.Members.{In}
-use Rattle.htl_names.proofs.FlatMaps.{there_is, at_flat, flat_part, part_of, of_list_to}
+use Rattle.htl_names.proofs.FlatMaps.{at_flat, flat_part, part_of, of_list_to}
+use Rattle.htl_base.proofs.Places.{item_at}
 
 -- the module of a module
 abbrev pub Exists : List PlainProgram → ModuleAt → Type 0
@@ -26,7 +27,7 @@ module _ (symbols : List (Key × ℕ)) (ps : List PlainProgram) where
   in_program : (parent : Option ModeAt) (q k : ℕ) (r : ModuleAt) → slice_get (modules_in ps parent q) k ≡ Some r → (y : PlainModule) × (module_at ps q k ≡ Some y) × (nth_module q parent k ≡ r)
   in_program parent q k r e =
       let u = of_list_to (nth_module q parent) (length (modules_at ps q)) k r e in
-      let y = there_is (modules_at ps q) k u.0 in
+      let y = item_at (modules_at ps q) k u.0 in
       (y.0, y.1, u.1)
 
   kid_of : (s : ModuleAt) (k : ℕ) (r : ModuleAt) → slice_get (kids symbols ps s) k ≡ Some r → IsKid symbols ps s r

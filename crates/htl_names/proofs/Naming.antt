@@ -3,9 +3,9 @@ use Rattle.std.proofs.Common.{◌≡◌, ℕ, zero, suc, ◌≤◌, ◌<◌, Boo
 use Rattle.htl_names.proofs.Words.{list_any, nat_tests, sum_by-cons, slice_get_within, none-some, same_Some, PlainProgram, PlainMode, Key, ModeAt, symbols_of, mode_at, named_program, links, targets, named_by, named_from, Naming, mode_naming, module_naming, program_naming, naming, refined_in, level_by, level, levels_by, levels, Named, AreNamed, map_at, list_to, greatest}
 use Rattle.htl_names.specs.Named.{refined_at}
 use Rattle.htl_names.proofs.Members.{In, Each, in_part_at, each_at, each_flat_map_at, each_weaker}
-use Rattle.htl_names.proofs.FlatMaps.{of_map}
 use Rattle.htl_names.proofs.ListLaws.{among_place}
 use Rattle.htl_names.proofs.Places.{program_of_module, module_of_mode}
+use Rattle.htl_base.proofs.Places.{from_map}
 
 -- ---- the mode that names a program
 
@@ -82,7 +82,7 @@ row_at symbols k (x ∷ ps) (suc p) q n is h = row_at symbols (suc k) ps p q n (
 target_of : (q : ℕ) (row : List Naming) → list_any (eqb q) (targets row) ≡ true → (a : ModeAt) × In {A = Naming} (a, q) row
 target_of q row e =
     let at = among_place (targets row) q e in
-    let from = of_map (λ (x : Naming). x.1) row at.0 q at.1 in
+    let from = from_map (λ (x : Naming). x.1) row at.0 q at.1 in
     (from.0.0, (at.0, from.1 ∙ ap (λ (n : ℕ). Some (from.0.0, n)) from.2))
 
 -- what a program names, one of its modes names

@@ -2,13 +2,14 @@
 use Rattle.std.proofs.Common.{◌≡◌, ◌<◌, ◌+◌, ℕ, zero, suc, true, List, [], ◌∷◌, length, take, slice_get, Some, None, refl, sym, ◌∙◌, ap, subst, arith, length-append, ◌≤◌, Option, IfSome, All}
 use Rattle.htl_names.proofs.Words.{length-take-le, slice_get_within, same_Some, Module, IsModeThat, IsModuleInRange, parent_of, is_within, mode_module, PlainProgram, PlainModule, PlainMode, PlainTask, PlainSwitch, modules_of, tasks_of, switches_of, ModeAt, ModuleAt, Layout, modes_before, mode_item, mode_items, module_item, module_items_at, module_items, layout, symbols_of, meaning, mode_number, tables_of_tree, flat_map_at, module_at, tasks_at, module_modes, switches_at, MeetsBounds, MeetsTaskBounds, MeetsSwitchBounds, mode_key, AreNamesRight, naming, Naming, level, usage, uses, mode_in, Id}
 use Rattle.htl_text.specs.Bounds.{modes_of}
-use Rattle.htl_names.proofs.FlatMaps.{in_front, at_part, at_flat, flat_part, there_is, list_to_at, of_list_to, counted, given, stands}
+use Rattle.htl_names.proofs.FlatMaps.{at_part, at_flat, flat_part, list_to_at, of_list_to, counted, given, stands}
 use Rattle.htl_names.proofs.NameUses.{known, used_in_module}
 use Rattle.htl_names.proofs.Places.{modes_in, mode_parts, within, item_in_source, part_in_source}
 use Rattle.htl_names.proofs.ModulePlaces.{Comes, top, under, kid, comes, exist}
 use Rattle.htl_names.proofs.Ordering.{right_tree, number_is, low}
 use Rattle.htl_names.proofs.TreeLevels.{level_step}
-use Rattle.htl_names.proofs.Members.{In, All-at, all_given}
+use Rattle.htl_names.proofs.Members.{In, all_given}
+use Rattle.htl_base.proofs.Places.{all_at, from_take, item_at}
 
 -- ---- modes by their numbers
 
@@ -45,7 +46,7 @@ module _ (ps : List PlainProgram) where
   each_mode P holds n a e =
       let p = flat_part (module_modes ps) l.modules n a e in
       let m = of_list_to (mode_in p.owner) (length (modes_in ps p.owner)) p.place a p.item in
-      let x = there_is (modes_in ps p.owner) p.place m.0 in
+      let x = item_at (modes_in ps p.owner) p.place m.0 in
       let number : modes_before l ps p.part + p.place ≡ n = omega (arith, p.number, mode_parts ps (take p.part l.modules)) in
       subst (P n) m.1 (subst (λ (i : ℕ). P i (mode_in p.owner p.place)) number (holds p.part p.place p.owner x.0 p.there x.1))
 
@@ -81,7 +82,7 @@ module _ (ps : List PlainProgram) where
       → slice_get (module_items (layout ps) ps) k ≡ Some (module_item (layout ps) ps k s x)
   module_stands k s x there is =
       let l = layout ps in
-      let front = singles (module_items_at l ps) (take k modules) (λ i r e n. one n i r (in_front modules k i r e).1) 0 in
+      let front = singles (module_items_at l ps) (take k modules) (λ i r e n. one n i r (from_take modules k i r e).1) 0 in
       let size = length-take-le k modules (omega (arith, slice_get_within modules k s there)) in
       let own : slice_get (module_items_at l ps k s) 0 ≡ Some (module_item l ps k s x) = ap (λ ms. slice_get ms 0) (one_module l ps k s x is) in
       let place : length (flat_map_at (module_items_at l ps) 0 (take k modules)) + 0 ≡ k = omega (arith, front, size) in
@@ -92,7 +93,7 @@ module _ (ps : List PlainProgram) where
       → ((k : ℕ) (s : ModuleAt) (x : PlainModule) → slice_get modules k ≡ Some s → module_at ps s.program s.«module» ≡ Some x → P k (module_item (layout ps) ps k s x))
       → (k : ℕ) (y : Module) → slice_get (module_items (layout ps) ps) k ≡ Some y → P k y
   each_module P holds k y e =
-      let s = there_is modules k (omega (arith, module_count, slice_get_within (module_items (layout ps) ps) k y e)) in
+      let s = item_at modules k (omega (arith, module_count, slice_get_within (module_items (layout ps) ps) k y e)) in
       let x = exist (symbols_of ps) ps k s.0 s.1 in
       subst (P k) (same_Some _ _ (sym (module_stands k s.0 x.0 s.1 x.1) ∙ e)) (holds k s.0 x.0 s.1 x.1)
 
@@ -149,9 +150,9 @@ module _ (ps : List PlainProgram) (right : AreNamesRight ps) where
 
 module _ (ps : List PlainProgram) (small : MeetsBounds ps) where
   pub task_small : (p u k : ℕ) (t : PlainTask) → slice_get (tasks_at ps p u) k ≡ Some t → MeetsTaskBounds t
-  task_small p u k t e = let n = item_in_source (λ (y : PlainModule). y.tasks) ps p u k t e in All-at MeetsTaskBounds (tasks_of (modules_of ps)) (n.0 + k) t small.tasks n.1
+  task_small p u k t e = let n = item_in_source (λ (y : PlainModule). y.tasks) ps p u k t e in all_at MeetsTaskBounds (tasks_of (modules_of ps)) (n.0 + k) t small.tasks n.1
 
   pub switch_small : (a : ModeAt) (j : ℕ) (w : PlainSwitch) → slice_get (switches_at ps a) j ≡ Some w → MeetsSwitchBounds w
   switch_small a j w at =
       let n = part_in_source (λ (z : PlainMode). z.switches) ps a j w at in
-      All-at MeetsSwitchBounds (switches_of (modes_of (modules_of ps))) (n.0 + j) w small.switches n.1
+      all_at MeetsSwitchBounds (switches_of (modes_of (modules_of ps))) (n.0 + j) w small.switches n.1

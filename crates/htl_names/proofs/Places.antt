@@ -7,9 +7,6 @@ use Rattle.htl_names.proofs.FlatMaps.{at_flat, flat_map_is, same_length}
 pub stable : (m n : ℕ) → ((m ≡ n → ⊥) → ⊥) → m ≡ n
 stable m n h = elim (cases_eq m n) [ inl p ↦ p | inr q ↦ absurd (h q) ]
 
-pub order_of : (m n : ℕ) → (m < n) ⊎ ((n < m) ⊎ (m ≡ n))
-order_of m n = grind arith
-
 -- ---- what stands at a place of a tree, and where it stands among all of its kind
 
 pub module_there : (ps : List PlainProgram) (p u : ℕ) (x : PlainProgram) (y : PlainModule) → slice_get ps p ≡ Some x → slice_get x.modules u ≡ Some y → module_at ps p u ≡ Some y

@@ -4,11 +4,12 @@ use Rattle.htl_names.proofs.Words.{AllZip, flat_map-map, map-map, slice_get_with
 use Rattle.htl_base.specs.declared.Ty.TheVariants.{Bool as BoolTy}
 use Rattle.htl_model.specs.FunctionTypes.{FunctionType, output_type, task_types, switch_type, comm_type, function_types}
 use Rattle.htl_names.proofs.ListLaws.{zip_append, zip_map, zip_parts, zip_at, distinct_has, among_at, place_within, few_reads}
-use Rattle.htl_names.proofs.FlatMaps.{there_is, flat_map_is, flat_map_parts}
-use Rattle.htl_names.proofs.Members.{All-from_places, In, in_first, in_second, in_part, in_mapped, at_place, All-at, map_flat_map_at}
+use Rattle.htl_names.proofs.FlatMaps.{flat_map_is, flat_map_parts}
+use Rattle.htl_names.proofs.Members.{All-from_places, In, in_first, in_second, in_part, in_mapped, at_place, map_flat_map_at}
 use Rattle.htl_names.proofs.Numbered.{task_small, switch_small}
 use Rattle.htl_names.proofs.Places.{tasks_in}
 use Rattle.htl_names.proofs.NameUses.{known, used_in_task}
+use Rattle.htl_base.proofs.Places.{all_at, item_at}
 
 -- ---- expressions
 
@@ -66,7 +67,7 @@ module _ (ps : List PlainProgram) (small : MeetsBounds ps) (right : AreNamesRigh
           subst (λ (fs : List FunctionType). AllZip IsSmallFunction fs (map (flat_output_function (layout ps) p u n) os)) (sym types)
           (zip_map IsSmallFunction (λ (o : PlainOut). output_type (types_of t.inputs) o.param.ty) (flat_output_function (layout ps) p u n) os (λ i o its.
           small_by (output_type (types_of t.inputs) o.param.ty) o.first (length t.inputs) (input_place (layout ps) p u n) o.value (sym (length-map t.inputs (λ x. x.ty))) bounds.inputs
-          (All-at fits (map (λ (y : PlainOut). y.value) os) i o.value values (get_mapped (λ (y : PlainOut). y.value) os i o its)) (λ id named. input_below p u n t os i o id at e its named)))
+          (all_at fits (map (λ (y : PlainOut). y.value) os) i o.value values (get_mapped (λ (y : PlainOut). y.value) os i o its)) (λ id named. input_below p u n t os i o id at e its named)))
 
   tasks_zipped : AllZip IsSmallFunction (flat_map task_types (task_items (layout ps) ps)) (flat_map (module_functions (layout ps) ps) (layout ps).modules)
   tasks_zipped =
@@ -128,7 +129,7 @@ functions_in_range ps small right =
     let functions = function_items (layout ps) ps in
     let all = all_zipped ps small right in
     All-from_places IsFunInRange functions (λ k g e.
-    let f = there_is types k (omega (arith, AllZip-long IsSmallFunction types functions all, slice_get_within functions k g e)) in
+    let f = item_at types k (omega (arith, AllZip-long IsSmallFunction types functions all, slice_get_within functions k g e)) in
     by f.0 g (zip_at IsSmallFunction types functions k f.0 g all f.1 e))
   where
     by : (f : FunctionType) (g : Fun) → IsSmallFunction f g → IsFunInRange g

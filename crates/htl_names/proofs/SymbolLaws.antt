@@ -3,9 +3,9 @@ use Rattle.std.proofs.Common.{◌≡◌, ℕ, cond, List, [], ◌∷◌, Some, r
 use Rattle.htl_names.proofs.Words.{Key, same_key, look_up, pair_of, none-some, Entry, Repeats, AreApartTo}
 use Rattle.std.specs.Map.{lookup}
 use Rattle.std.proofs.Math.Nat.{eq-or-lt_of_le}
-use Rattle.htl_names.proofs.FlatMaps.{in_front, at_front}
 use Rattle.htl_names.proofs.EntryLaws.{found, some}
 use Rattle.htl_names.specs.contracts.key.KeyPartialEq.TheImpl as key_impl
+use Rattle.htl_base.proofs.Places.{from_take, into_take}
 
 pub lookup_is : (k : Key) (es : List (Key × ℕ)) → lookup ((key_impl.eq-value).it k) es ≡ look_up k es
 lookup_is k [] = refl
@@ -16,7 +16,7 @@ lookup_is k (e ∷ es) = ap (λ o. cond (same_key k e.0) (Some e.1) o) (lookup_i
 pub repeats_here : (es : List Entry) (k : ℕ) (e : Entry) (seen : List (Key × ℕ)) (n : ℕ) → seen ≡ map pair_of (take k es) → Some n ≡ look_up e.key seen → Repeats es k e
 repeats_here es k e seen n are is =
     let f = found e.key (take k es) n (ap (look_up e.key) (sym are) ∙ sym is) in
-    let place = in_front es k f.1.0 f.0 f.1.1 in
+    let place = from_take es k f.1.0 f.0 f.1.1 in
     (f.1.0, f.0, place.0, place.1, f.2)
 
 pub apart_here : (es : List Entry) (k : ℕ) (e : Entry) (seen : List (Key × ℕ)) → seen ≡ map pair_of (take k es) → look_up e.key seen ≡ None
@@ -29,7 +29,7 @@ apart_here es k e seen are is here apart j d below there repeats = place j d (om
         let same_entry : e ≡ d = cc in
         let before = repeats.2 in
         let keys : repeats.1.key ≡ e.key = repeats.4 ∙ ap (λ (x : Entry). x.key) (sym same_entry) in
-        let there_is = some (take k es) repeats.0 repeats.1 (at_front es k repeats.0 repeats.1 (omega (arith, before, same)) repeats.3) in
+        let there_is = some (take k es) repeats.0 repeats.1 (into_take es k repeats.0 repeats.1 (omega (arith, before, same)) repeats.3) in
         none-some {A = ℕ} there_is.0 (sym is ∙ ap (look_up e.key) are ∙ ap (λ (key : Key). look_up key (map pair_of (take k es))) (sym keys) ∙ there_is.1)
 
     place : (j : ℕ) (d : Entry) → j < suc k → slice_get es j ≡ Some d → Repeats es j d → ⊥

@@ -2,8 +2,9 @@
 use Rattle.std.proofs.Common.{List, map, All, arith, flat_map, bytes_eq}
 use Rattle.htl_names.proofs.Words.{length-map, All-weaker, distinct_count-le, MeetsTaskBounds, MeetsInvokeBounds, MeetsSwitchBounds, MeetsBounds, names_of, modules_of, IsBounded, PlainProgram, PlainTask, PlainSwitch, Id, InvokeNode}
 use Rattle.htl_names.proofs.FlatMaps.{flat_part}
-use Rattle.htl_names.proofs.Members.{All-from_places, All-at}
+use Rattle.htl_names.proofs.Members.{All-from_places}
 use Rattle.htl_text.specs.Bounds.{modes_of, IsBoundedTask, IsBoundedInvoke, IsBoundedSwitch, IsBoundedMode, IsBoundedModule, IsBoundedProgram}
+use Rattle.htl_base.proofs.Places.{all_at}
 
 -- ---- the parts
 
@@ -26,7 +27,7 @@ all_parts : {A B : Type 0} (P : A → Type 0) (Q : B → Type 0) (parts : A → 
 all_parts P Q parts f xs all =
     All-from_places Q (flat_map parts xs) (λ n y e.
     let p = flat_part parts xs n y e in
-    All-at Q (parts p.owner) p.place y (f p.owner (All-at P xs p.part p.owner all p.there)) p.item)
+    all_at Q (parts p.owner) p.place y (f p.owner (all_at P xs p.part p.owner all p.there)) p.item)
 
 -- ---- the tree
 

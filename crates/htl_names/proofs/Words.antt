@@ -1,6 +1,5 @@
 -- The words that several proofs cite, of this crate and of those below it, passed on from one place. Declares nothing.
 pub use Rattle.htl_model.proofs.Listed.{get_list_to, length-list_to}
-pub use Rattle.htl_model.proofs.PlaceLaws.{get_mapped}
 pub use Rattle.htl_model.specs.Broken.{KeepsLimits}
 pub use Rattle.htl_model.specs.Lists.{AreApart, first_some, places_from}
 pub use Rattle.htl_model.specs.Ranges.{AreInRange, FitsType, IsCommInRange, IsEndInRange, IsFunInRange, IsInvInRange, IsModeInRange, IsModeThat, IsModuleInRange, IsPortInRange, IsSpan, IsSwitchInRange, IsTaskInRange, is_within, parent_of}
@@ -53,3 +52,4 @@ pub use Rattle.std.proofs.lemmas.Option.{MatchOption-at_some, get_or_from_slice_
 pub use Rattle.std.proofs.lemmas.Simd.{map-map}
 pub use Rattle.std.proofs.lemmas.Slice.Zip.{AllZip-left, AllZip-long}
 pub use Rattle.std.specs.List.{AllZip, list_any, range_with_len}
+pub use Rattle.htl_base.proofs.Places.{get_mapped}

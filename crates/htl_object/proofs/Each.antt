@@ -5,9 +5,12 @@ use Rattle.std.specs.List.Sorted.{IsNonDecreasing}
 use Rattle.std.proofs.lemmas.List.{length-map}
 use Rattle.std.proofs.lemmas.List.Sums.{sum_by-cons, sum_by-append}
 use Rattle.std.proofs.lemmas.Option.{slice_get_cases, slice_get-get_or, slice_get_within}
-use Rattle.htl_model.proofs.PlaceLaws.{get_mapped}
 use Rattle.htl_model.specs.Lists.{AreApart}
 use Rattle.htl_object.specs.Items.{Each}
+use Rattle.htl_base.proofs.Places.{all_at, from_map, from_take, get_mapped}
+use Rattle.htl_base.proofs.Tests.{true_not_false, or_second}
+use Rattle.htl_base.proofs.Numbers.{cases_at_most}
+use Rattle.std.proofs.lemmas.Bool.{or_from}
 
 -- ---- by place
 
@@ -31,12 +34,6 @@ get_take [] (suc k) j h = refl
 get_take (x ∷ xs) (suc k) zero h = refl
 get_take (x ∷ xs) (suc k) (suc j) h = get_take xs k j (omega arith)
 
-pub taken : {A : Type 0} (xs : List A) (k j : ℕ) (x : A) → slice_get (take k xs) j ≡ Some x → (j < k) × (slice_get xs j ≡ Some x)
-taken xs zero j x e = absurd (let z : ⊥ = cc in z)
-taken [] (suc k) j x e = absurd (let z : ⊥ = cc in z)
-taken (y ∷ xs) (suc k) zero x e = (omega arith, e)
-taken (y ∷ xs) (suc k) (suc j) x e = let r = taken xs k j x e in (omega (arith, r.0), r.1)
-
 pub length_take : {A : Type 0} (xs : List A) (k : ℕ) → k ≤ length xs → length (take k xs) ≡ k
 length_take xs zero h = refl
 length_take [] (suc k) h = absurd (omega arith)
@@ -49,31 +46,18 @@ none_there f (y ∷ xs) zero x h e = let one : y ≡ x = cc in sym (ap f one) �
     left : (a b : Bool) → (a || b) ≡ false → a ≡ false
     left true b h = cc
     left false b h = refl
-none_there f (y ∷ xs) (suc k) x h e = none_there f xs k x (right (f y) (list_any f xs) h) e
-  where
-    right : (a b : Bool) → (a || b) ≡ false → b ≡ false
-    right true b h = cc
-    right false b h = h
-
-of_map : {A B : Type 0} (f : A → B) (xs : List A) (k : ℕ) (y : B) → slice_get (map f xs) k ≡ Some y → (x : A) × (slice_get xs k ≡ Some x) × (f x ≡ y)
-of_map f [] k y e = absurd cc
-of_map f (x ∷ xs) zero y e = (x, refl, (let is : f x ≡ y = cc in is))
-of_map f (x ∷ xs) (suc k) y e = of_map f xs k y e
+none_there f (y ∷ xs) (suc k) x h e = none_there f xs k x (or_second (f y) (list_any f xs) h) e
 
 -- ---- keys that differ
-
-clash : (b : Bool) → b ≡ true → b ≡ false → ⊥
-clash true p q = cc
-clash false p q = cc
 
 pub apart : {A B : Type 0} (key : A → B) (fits : List A → A → Type 0) (same : A → A → Bool) (xs : List A)
     → ((before : List A) (x : A) → fits before x → list_any (λ y. same y x) before ≡ false) → ((y x : A) → key y ≡ key x → same y x ≡ true) → Each fits [] xs → AreApart (map key xs)
 apart key fits same xs none tells h = λ j k v less p q.
-    let y = of_map key xs j v p in
-    let x = of_map key xs k v q in
+    let y = from_map key xs j v p in
+    let x = from_map key xs k v q in
     let off = none (take k xs) x.0 (at_place fits xs k x.0 h x.1) in
     let here : slice_get (take k xs) j ≡ Some y.0 = get_take xs k j less ∙ y.1 in
-    clash (same y.0 x.0) (tells y.0 x.0 (y.2 ∙ sym x.2)) (none_there (λ z. same z x.0) (take k xs) j y.0 off here)
+    true_not_false (same y.0 x.0) (tells y.0 x.0 (y.2 ∙ sym x.2)) (none_there (λ z. same z x.0) (take k xs) j y.0 off here)
 
 -- ---- owners that don't fall
 
@@ -88,9 +72,6 @@ last_is {A} own xs k y e =
     ap (λ (n : ℕ). elim (slice_get (take (suc k) xs) n) as (λ _. ℕ) [ Some m ↦ own m | None ↦ 0 ]) place
     ∙ ap (λ (o : Option A). elim o as (λ _. ℕ) [ Some m ↦ own m | None ↦ 0 ]) (get_take xs (suc k) k (omega arith) ∙ e)
 
-either : (i j : ℕ) → i ≤ suc j → (i ≤ j) ⊎ (i ≡ suc j)
-either i j h = grind arith
-
 climbs : {A : Type 0} (own : A → ℕ) (fits : List A → A → Type 0) (xs : List A) → ((before : List A) (x : A) → fits before x → last_by own before ≤ own x) → Each fits [] xs
     → (j i : ℕ) (y x : A) → i ≤ j → slice_get xs i ≡ Some y → slice_get xs j ≡ Some x → own y ≤ own x
 climbs own fits xs f h zero i y x less p q =
@@ -98,7 +79,7 @@ climbs own fits xs f h zero i y x less p q =
     let e : Some y ≡ Some x = sym p ∙ ap (slice_get xs) same ∙ q in
     let one : y ≡ x = cc in
     omega (arith, ap own one)
-climbs own fits xs f h (suc j) i y x less p q = elim (either i j less) [
+climbs own fits xs f h (suc j) i y x less p q = elim (cases_at_most i j less) [
   | inl low ↦ elim (slice_get_cases xs j).1 [
     | inl c ↦
         let up = f (take (suc j) xs) x (at_place fits xs (suc j) x h q) in
@@ -114,8 +95,8 @@ climbs own fits xs f h (suc j) i y x less p q = elim (either i j less) [
 pub rising : {A : Type 0} (own : A → ℕ) (fits : List A → A → Type 0) (xs : List A) → ((before : List A) (x : A) → fits before x → last_by own before ≤ own x) → Each fits [] xs → IsNonDecreasing (map own xs)
 rising own fits xs f h = λ i j d less below.
     let owners = map own xs in
-    let y = of_map own xs i (get_or owners i d) (slice_get-get_or owners i d (omega (arith, less, below))) in
-    let x = of_map own xs j (get_or owners j d) (slice_get-get_or owners j d below) in
+    let y = from_map own xs i (get_or owners i d) (slice_get-get_or owners i d (omega (arith, less, below))) in
+    let x = from_map own xs j (get_or owners j d) (slice_get-get_or owners j d below) in
     omega (arith, climbs own fits xs f h j i y.0 x.0 less y.1 x.1, y.2, x.2)
 
 -- ---- few of one owner
@@ -135,13 +116,6 @@ few_from test fits most before (x ∷ xs) f low h =
 
 -- ---- from what is known of each place to what fits those before it
 
-pub all_at : {A : Type 0} (P : A → Type 0) (xs : List A) (k : ℕ) (x : A) → All P xs → slice_get xs k ≡ Some x → P x
-all_at P xs k x h e =
-    let less : k < length xs = slice_get_within xs k x e in
-    let there : Some (get_or xs k x) ≡ Some x = sym (slice_get-get_or xs k x less) ∙ e in
-    let one : get_or xs k x ≡ x = cc in
-    subst P one (h k x less)
-
 each_from : {A : Type 0} (fits : List A → A → Type 0) (before xs : List A) → ((k : ℕ) (x : A) → slice_get xs k ≡ Some x → fits (before ++ take k xs) x) → Each fits before xs
 each_from fits before [] f = tt
 each_from fits before (y ∷ xs) f = (
@@ -157,16 +131,12 @@ every P xs h = each_of (λ _. P) xs (λ k x e. all_at P xs k x h e)
 
 none_any : {A : Type 0} (f : A → Bool) (xs : List A) → ((j : ℕ) (y : A) → slice_get xs j ≡ Some y → f y ≡ false) → list_any f xs ≡ false
 none_any f [] h = refl
-none_any f (x ∷ xs) h = neither (f x) (list_any f xs) (h 0 x refl) (none_any f xs (λ j y e. h (suc j) y e))
-  where
-    neither : (a b : Bool) → a ≡ false → b ≡ false → (a || b) ≡ false
-    neither true b p q = p
-    neither false b p q = q
+none_any f (x ∷ xs) h = or_from (f x) (list_any f xs) (h 0 x refl) (none_any f xs (λ j y e. h (suc j) y e))
 
 -- where keys differ, no item before one has its key
 pub none_before : {A B : Type 0} (key : A → B) (same : A → Bool) (xs : List A) (k : ℕ) (x : A) → AreApart (map key xs) → slice_get xs k ≡ Some x → ((y : A) → same y ≡ true → key y ≡ key x)
     → list_any same (take k xs) ≡ false
-none_before key same xs k x apart at tells = none_any same (take k xs) (λ j y e. by j y (taken xs k j y e) (same y) refl)
+none_before key same xs k x apart at tells = none_any same (take k xs) (λ j y e. by j y (from_take xs k j y e) (same y) refl)
   where
     by : (j : ℕ) (y : _) → (j < k) × (slice_get xs j ≡ Some y) → (b : Bool) → same y ≡ b → b ≡ false
     by j y t true is = absurd (apart j k (key x) t.0 (get_mapped key xs j y t.1 ∙ ap (λ z. Some z) (tells y is)) (get_mapped key xs k x at))

@@ -30,9 +30,9 @@ use Rattle.htl_model.specs.declared.parts.Module.{Module}
 use Rattle.htl_model.specs.declared.parts.Port.{Port}
 use Rattle.htl_model.specs.declared.parts.Switch.{Switch}
 use Rattle.htl_model.specs.declared.parts.Task.{Task}
-use Rattle.htl_object.proofs.Each.{all_at, each_of, every, none_before, last_least, length_take, get_take}
-use Rattle.htl_object.proofs.NodeCounts.{nodes_few, node_count_so}
-use Rattle.htl_object.proofs.ListRanges.{both, counted, equal, itself, left, module_of_mode, right}
+use Rattle.htl_object.proofs.Each.{each_of, every, none_before, last_least, length_take, get_take}
+use Rattle.htl_object.proofs.NodeCounts.{nodes_few, node_count_so, small as le_test}
+use Rattle.htl_object.proofs.ListRanges.{counted, itself, module_of_mode, right}
 use Rattle.htl_object.proofs.Listed.{all_codes, object_again}
 use Rattle.htl_object.specs.Comms.{is_named_comm}
 use Rattle.htl_object.specs.Fields.{is_span, is_owner, is_of}
@@ -49,53 +49,38 @@ use Rattle.htl_object.specs.Schedules.{IsSchedule}
 use Rattle.htl_object.specs.declared.lists.Anchors.{Anchors}
 use Rattle.htl_object.specs.declared.object.Object.{Object}
 use Rattle.htl_walk.specs.declared.schedule.Schedule.{Schedule}
+use Rattle.htl_base.proofs.Places.{all_at}
+use Rattle.std.proofs.lemmas.Bool.{and_from, eq-eqb, eqb-true, not_from_false, or_left, or_right}
+use Rattle.htl_base.proofs.Tests.{and_first}
 
 -- ---- tests
 
-le_test : (n m : ℕ) → n ≤ m → nat_le n m ≡ true
-le_test n m h = grind (arith, nat_tests)
-
 lt_test : (n m : ℕ) → n < m → nat_lt n m ≡ true
 lt_test n m h = grind (arith, nat_tests)
-
-eq_test : (n m : ℕ) → n ≡ m → eqb n m ≡ true
-eq_test n m h = grind (arith, nat_tests)
-
-off : (b : Bool) → b ≡ false → not b ≡ true
-off true h = absurd cc
-off false h = refl
 
 small : (n most : ℕ) → most < 65536 → n ≤ most → Fits16 (λ k. nat_le k most) n
 small n most h k = (omega (arith, h, k), le_test n most k)
 
 span_test : (n : ℕ) → IsSpan n → is_span n ≡ true
-span_test n s = both (nat_le 1 n) (nat_le n 1000000) (le_test 1 n s.some) (le_test n 1000000 s.most)
+span_test n s = and_from (nat_le 1 n) (nat_le n 1000000) (le_test 1 n s.some) (le_test n 1000000 s.most)
 
 owner_test : (count least n : ℕ) → count ≤ 65535 → n < count → least ≤ n → Fits16 (is_owner count least) n
-owner_test count least n few below up = (omega (arith, few, below), both (nat_lt n count) (nat_le least n) (lt_test n count below) (le_test least n up))
+owner_test count least n few below up = (omega (arith, few, below), and_from (nat_lt n count) (nat_le least n) (lt_test n count below) (le_test least n up))
 
 same_bytes : (a b : List ℕ) → bytes_eq a b ≡ true → a ≡ b
 same_bytes a b h = (bytes_eq-Decides a b).0 h
 
 same_owned_name : (m n : ℕ) (a b : List ℕ) → (eqb m n && bytes_eq a b) ≡ true → ◌≡◌ {A = ℕ × List ℕ} (m, a) (n, b)
 same_owned_name m n a b h =
-    ap (λ (x : ℕ). (x, a)) (equal m n (left (eqb m n) (bytes_eq a b) h)) ∙ ap (λ (x : List ℕ). (n, x)) (same_bytes a b (right (eqb m n) (bytes_eq a b) h))
+    ap (λ (x : ℕ). (x, a)) (eqb-true m n (and_first (eqb m n) (bytes_eq a b) h)) ∙ ap (λ (x : List ℕ). (n, x)) (same_bytes a b (right (eqb m n) (bytes_eq a b) h))
 
 same_pair : (m n a b : ℕ) → (eqb m n && eqb a b) ≡ true → ◌≡◌ {A = ℕ × ℕ} (m, a) (n, b)
-same_pair m n a b h = ap (λ (x : ℕ). (x, a)) (equal m n (left (eqb m n) (eqb a b) h)) ∙ ap (λ (x : ℕ). (n, x)) (equal a b (right (eqb m n) (eqb a b) h))
+same_pair m n a b h = ap (λ (x : ℕ). (x, a)) (eqb-true m n (and_first (eqb m n) (eqb a b) h)) ∙ ap (λ (x : ℕ). (n, x)) (eqb-true a b (right (eqb m n) (eqb a b) h))
 
 init_test : (t : Ty) (x : ℤ) → FitsType t x → is_of t x ≡ true
 init_test ty.Int x h = refl
-init_test ty.Bool x (inl e) = one (int_eq x (pos 0)) (int_eq x (pos 1)) ((Decides-int_eq x (pos 0)).1 e)
-  where
-    one : (a b : Bool) → a ≡ true → (a || b) ≡ true
-    one true b h = refl
-    one false b h = absurd cc
-init_test ty.Bool x (inr e) = other (int_eq x (pos 0)) (int_eq x (pos 1)) ((Decides-int_eq x (pos 1)).1 e)
-  where
-    other : (a b : Bool) → b ≡ true → (a || b) ≡ true
-    other true b h = refl
-    other false b h = h
+init_test ty.Bool x (inl e) = or_left (int_eq x (pos 0)) (int_eq x (pos 1)) ((Decides-int_eq x (pos 0)).1 e)
+init_test ty.Bool x (inr e) = or_right (int_eq x (pos 0)) (int_eq x (pos 1)) ((Decides-int_eq x (pos 1)).1 e)
 
 all_there : {A : Type 0} (xs : List A) → Each (λ _ _. Unit {0}) [] xs
 all_there xs = each_of (λ _ _. Unit {0}) xs (λ k x e. tt)
@@ -103,7 +88,7 @@ all_there xs = each_of (λ _ _. Unit {0}) xs (λ k x e. tt)
 -- ---- modes of modules
 
 mode_test : (modes : List Mode) (k n : ℕ) (m : Mode) → slice_get modes n ≡ Some m → m.«module» ≡ k → is_mode_of modes k n ≡ true
-mode_test modes k n m e same = ap (λ (o : Option Mode). elim o as (λ _. Bool) [ Some y ↦ eqb y.«module» k | None ↦ false ]) e ∙ eq_test m.«module» k same
+mode_test modes k n m e same = ap (λ (o : Option Mode). elim o as (λ _. Bool) [ Some y ↦ eqb y.«module» k | None ↦ false ]) e ∙ eq-eqb m.«module» k same
 
 -- a mode of the module of the mode
 same_module_test : (t : Tables) (mode k : ℕ) → mode < length t.modes → k ≡ mode_module t mode → is_mode_of t.modes k mode ≡ true
@@ -148,7 +133,7 @@ end_test : (t : Tables) → AreInRange t → (mode : ℕ) (e : End) → IsEndInR
 end_test t r mode (E.Comm c n) h = ((omega (arith, h.0, r.few_comms), lt_test c (length t.comms) h.0), (omega (arith, h.1), le_test n 1000000 h.1))
 end_test t r mode (E.Port p) h = (
   omega (arith, slice_get_within t.ports p h.0 h.1, r.few_ports),
-  ap (λ (o : Option Port). elim o as (λ _. Bool) [ Some y ↦ eqb y.mode mode | None ↦ false ]) h.1 ∙ eq_test h.0.mode mode h.2,
+  ap (λ (o : Option Port). elim o as (λ _. Bool) [ Some y ↦ eqb y.mode mode | None ↦ false ]) h.1 ∙ eq-eqb h.0.mode mode h.2,
 )
 
 ends_test : (t : Tables) → AreInRange t → (mode : ℕ) (es : List End) → length es ≤ 256 → All (IsEndInRange t mode) es → AreEnds (length t.comms) t.ports mode es
@@ -186,7 +171,7 @@ instr_fits : (i : EInstr) → HasWidths i → IsPhased i → IsEInstr i
 instr_fits (I.CallWrite a b) w p = w
 instr_fits (I.CallRead a b) w p = w
 instr_fits (I.Release a) w p = w
-instr_fits (I.Future d f x) w p = (w.0, ((omega (arith, p.1), both (nat_le 1 f) (nat_le f 3) (le_test 1 f p.0) (le_test f 3 p.1)), w.1))
+instr_fits (I.Future d f x) w p = (w.0, ((omega (arith, p.1), and_from (nat_le 1 f) (nat_le f 3) (le_test 1 f p.0) (le_test f 3 p.1)), w.1))
 instr_fits (I.JumpIf a b) w p = w
 instr_fits (I.Jump a) w p = w
 instr_fits (I.IfMode a b) w p = w
@@ -200,7 +185,7 @@ code_test c w h =
     record {
       arg_count = small (length c.args) 256 (omega arith) h.2;
       args = all_there c.args;
-      instr_count = (omega (arith, h.1), both (nat_le 1 (length c.instrs)) (nat_le (length c.instrs) 512) (le_test 1 (length c.instrs) h.0) (le_test (length c.instrs) 512 h.1));
+      instr_count = (omega (arith, h.1), and_from (nat_le 1 (length c.instrs)) (nat_le (length c.instrs) 512) (le_test 1 (length c.instrs) h.0) (le_test (length c.instrs) 512 h.1));
       instrs = every IsFInstr c.instrs w;
     }
 
@@ -216,7 +201,7 @@ module _ (o : Object) (h : IsObject o) where
       let ty = all_at (λ (y : Comm). (is_name y.name ≡ true) × FitsSigned w64 y.init) o.tables.comms k c h.types.comms at in
       record {
         name = ty.0;
-        differs = off (is_named_comm (take k o.tables.comms) c.name) (none_before (λ (y : Comm). y.name) (λ y. bytes_eq y.name c.name) o.tables.comms k c (apart_names (map (λ (y : Comm). y.name) o.tables.comms) r.comm_names) at (λ y e. same_bytes y.name c.name e));
+        differs = not_from_false (is_named_comm (take k o.tables.comms) c.name) (none_before (λ (y : Comm). y.name) (λ y. bytes_eq y.name c.name) o.tables.comms k c (apart_names (map (λ (y : Comm). y.name) o.tables.comms) r.comm_names) at (λ y e. same_bytes y.name c.name e));
         period = span_test c.period f.period;
         init = init_test c.ty c.init f.init;
         width = ty.1;
@@ -228,7 +213,7 @@ module _ (o : Object) (h : IsObject o) where
       record {
         name = all_at (λ (y : Mode). is_name y.name ≡ true) o.tables.modes k m h.types.modes at;
         owner = owner_test (length o.tables.modules) (last_module (take k o.tables.modes)) m.«module» (omega (arith, r.few_modules)) f.owner (last_least (λ (y : Mode). y.«module») o.tables.modes k m r.modes_by_module at);
-        differs = off (is_named_mode (take k o.tables.modes) m.«module» m.name) (none_before (λ (y : Mode). (y.«module», y.name)) (λ y. eqb y.«module» m.«module» && bytes_eq y.name m.name) o.tables.modes k m (apart_owned (map (λ (y : Mode). (y.«module», y.name)) o.tables.modes) r.mode_names) at
+        differs = not_from_false (is_named_mode (take k o.tables.modes) m.«module» m.name) (none_before (λ (y : Mode). (y.«module», y.name)) (λ y. eqb y.«module» m.«module» && bytes_eq y.name m.name) o.tables.modes k m (apart_owned (map (λ (y : Mode). (y.«module», y.name)) o.tables.modes) r.mode_names) at
             (λ y e. same_owned_name y.«module» m.«module» y.name m.name e));
         period = span_test m.period f.period;
       }
@@ -240,7 +225,7 @@ module _ (o : Object) (h : IsObject o) where
       let s = f.start in
       record {
         name = all_at (λ (y : Module). is_name y.name ≡ true) o.tables.modules k x h.types.modules at;
-        differs = off (is_named_module (take k o.tables.modules) x.name) (none_before (λ (y : Module). y.name) (λ y. bytes_eq y.name x.name) o.tables.modules k x (apart_names (map (λ (y : Module). y.name) o.tables.modules) r.module_names) at (λ y e. same_bytes y.name x.name e));
+        differs = not_from_false (is_named_module (take k o.tables.modules) x.name) (none_before (λ (y : Module). y.name) (λ y. bytes_eq y.name x.name) o.tables.modules k x (apart_names (map (λ (y : Module). y.name) o.tables.modules) r.module_names) at (λ y e. same_bytes y.name x.name e));
         parent = (few_parents x.parent (length o.tables.modes) (omega (arith, r.few_modes)) (mode_that_below o.tables (λ owner. owner < k) x.parent f.parent), levels o.tables r k 7 x.parent f.parent f.levels);
         start = (omega (arith, slice_get_within o.tables.modes x.start s.0 s.1, r.few_modes), mode_test o.tables.modes (length (take k o.tables.modules)) x.start s.0 s.1 (s.2 ∙ sym size));
       }
@@ -250,7 +235,7 @@ module _ (o : Object) (h : IsObject o) where
       record {
         name = all_at (λ (y : Port). is_name y.name ≡ true) o.tables.ports k p h.types.ports at;
         owner = owner_test (length o.tables.modes) (last_mode (take k o.tables.ports)) p.mode (omega (arith, r.few_modes)) (all_at (IsPortInRange o.tables) o.tables.ports k p r.ports at) (last_least (λ (y : Port). y.mode) o.tables.ports k p r.ports_by_mode at);
-        differs = off (is_named_port (take k o.tables.ports) p.mode p.name) (none_before (λ (y : Port). (y.mode, y.name)) (λ y. eqb y.mode p.mode && bytes_eq y.name p.name) o.tables.ports k p (apart_owned (map (λ (y : Port). (y.mode, y.name)) o.tables.ports) r.port_names) at
+        differs = not_from_false (is_named_port (take k o.tables.ports) p.mode p.name) (none_before (λ (y : Port). (y.mode, y.name)) (λ y. eqb y.mode p.mode && bytes_eq y.name p.name) o.tables.ports k p (apart_owned (map (λ (y : Port). (y.mode, y.name)) o.tables.ports) r.port_names) at
             (λ y e. same_owned_name y.mode p.mode y.name p.name e));
       }
 
@@ -260,7 +245,7 @@ module _ (o : Object) (h : IsObject o) where
       record {
         name = all_at (λ (y : Task). is_name y.name ≡ true) o.tables.tasks k x h.types.tasks at;
         owner = owner_test (length o.tables.modules) (last_owner (take k o.tables.tasks)) x.«module» (omega (arith, r.few_modules)) f.owner (last_least (λ (y : Task). y.«module») o.tables.tasks k x r.tasks_by_module at);
-        differs = off (is_named_task (take k o.tables.tasks) x.«module» x.name) (none_before (λ (y : Task). (y.«module», y.name)) (λ y. eqb y.«module» x.«module» && bytes_eq y.name x.name) o.tables.tasks k x (apart_owned (map (λ (y : Task). (y.«module», y.name)) o.tables.tasks) r.task_names) at
+        differs = not_from_false (is_named_task (take k o.tables.tasks) x.«module» x.name) (none_before (λ (y : Task). (y.«module», y.name)) (λ y. eqb y.«module» x.«module» && bytes_eq y.name x.name) o.tables.tasks k x (apart_owned (map (λ (y : Task). (y.«module», y.name)) o.tables.tasks) r.task_names) at
             (λ y e. same_owned_name y.«module» x.«module» y.name x.name e));
         worst = span_test x.worst f.worst;
         inputs = types_test x.inputs f.few_inputs;
@@ -272,16 +257,16 @@ module _ (o : Object) (h : IsObject o) where
       let f = all_at (IsInvInRange o.tables) o.tables.invs k i r.invs at in
       let before = take k o.tables.invs in
       let owner = owner_test (length o.tables.modes) (last_inv_mode before) i.mode (omega (arith, r.few_modes)) f.owner (last_least (λ (y : Inv). y.mode) o.tables.invs k i r.invs_by_mode at) in
-      let free = room (λ (y : Inv). eqb y.mode i.mode) o.tables.invs k i 128 at (eq_test i.mode i.mode refl) (r.few_in_mode i.mode) in
+      let free = room (λ (y : Inv). eqb y.mode i.mode) o.tables.invs k i 128 at (eq-eqb i.mode i.mode refl) (r.few_in_mode i.mode) in
       let task = f.task in
       let there : elim (slice_get o.tables.tasks i.task) as (λ _. Bool) [ Some y ↦ is_mode_of o.tables.modes y.«module» i.mode | None ↦ false ] ≡ true =
       ap (λ (z : Option Task). elim z as (λ _. Bool) [ Some y ↦ is_mode_of o.tables.modes y.«module» i.mode | None ↦ false ]) task.1 ∙ same_module_test o.tables i.mode task.0.«module» f.owner task.2 in
       let once = none_before (λ (y : Inv). (y.mode, y.task)) (λ y. eqb y.mode i.mode && eqb y.task i.task) o.tables.invs k i (apart_pairs (map (λ (y : Inv). (y.mode, y.task)) o.tables.invs) r.invoked_once) at (λ y e. same_pair y.mode i.mode y.task i.task e) in
       record {
-        mode = (owner.0, both (is_owner (length o.tables.modes) (last_inv_mode before) i.mode) (nat_lt (count_by (λ (y : Inv). eqb y.mode i.mode) before) 128) owner.1 (lt_test (count_by (λ (y : Inv). eqb y.mode i.mode) before) 128 free));
+        mode = (owner.0, and_from (is_owner (length o.tables.modes) (last_inv_mode before) i.mode) (nat_lt (count_by (λ (y : Inv). eqb y.mode i.mode) before) 128) owner.1 (lt_test (count_by (λ (y : Inv). eqb y.mode i.mode) before) 128 free));
         task = (
           omega (arith, slice_get_within o.tables.tasks i.task task.0 task.1, r.few_tasks),
-          both (elim (slice_get o.tables.tasks i.task) as (λ _. Bool) [ Some y ↦ is_mode_of o.tables.modes y.«module» i.mode | None ↦ false ]) (not (list_any (λ (y : Inv). eqb y.mode i.mode && eqb y.task i.task) before)) there (off (list_any (λ (y : Inv). eqb y.mode i.mode && eqb y.task i.task) before) once),
+          and_from (elim (slice_get o.tables.tasks i.task) as (λ _. Bool) [ Some y ↦ is_mode_of o.tables.modes y.«module» i.mode | None ↦ false ]) (not (list_any (λ (y : Inv). eqb y.mode i.mode && eqb y.task i.task) before)) there (not_from_false (list_any (λ (y : Inv). eqb y.mode i.mode && eqb y.task i.task) before) once),
         );
         parent = (few_parents i.parent (length o.tables.invs) (omega (arith, r.few_invs)) f.parent, parent_test (length o.tables.invs) i.parent f.parent);
         reads = ends_test o.tables r i.mode i.reads f.few_reads f.reads;
@@ -291,8 +276,8 @@ module _ (o : Object) (h : IsObject o) where
   read_fits : (reads : List ℕ) → All (λ c. c < length o.tables.comms) reads → AreApart reads → (k c : ℕ) → slice_get reads k ≡ Some c → Fits16 (is_read (length o.tables.comms) (take k reads)) c
   read_fits reads below apart k c at =
       let less = all_at (λ c. c < length o.tables.comms) reads k c below at in
-      let others = none_before (λ (y : ℕ). y) (λ y. eqb y c) reads k c (subst (λ (ns : List ℕ). AreApart ns) (sym (itself reads)) apart) at (λ y e. equal y c e) in
-      (omega (arith, less, r.few_comms), both (nat_lt c (length o.tables.comms)) (not (list_any (λ y. eqb y c) (take k reads))) (lt_test c (length o.tables.comms) less) (off (list_any (λ y. eqb y c) (take k reads)) others))
+      let others = none_before (λ (y : ℕ). y) (λ y. eqb y c) reads k c (subst (λ (ns : List ℕ). AreApart ns) (sym (itself reads)) apart) at (λ y e. eqb-true y c e) in
+      (omega (arith, less, r.few_comms), and_from (nat_lt c (length o.tables.comms)) (not (list_any (λ y. eqb y c) (take k reads))) (lt_test c (length o.tables.comms) less) (not_from_false (list_any (λ y. eqb y c) (take k reads)) others))
 
   switch_fits : (k : ℕ) (w : Switch) → slice_get o.tables.switches k ≡ Some w → IsSwitch (length o.tables.comms) o.tables.modes (take k o.tables.switches) w
   switch_fits k w at =

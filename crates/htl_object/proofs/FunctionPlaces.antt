@@ -11,8 +11,8 @@ use Rattle.htl_model.specs.Ranges.{AreInRange, IsTaskInRange}
 use Rattle.htl_model.specs.Tables.{Tables, Fun, fun_of, function_count, count_at, count_before}
 use Rattle.htl_model.proofs.SelectionLaws.{output_within}
 use Rattle.htl_model.specs.FunctionTypes.{function_types, output_type, comm_type}
-use Rattle.htl_model.proofs.PlaceLaws.{get_mapped, output_types_at, switch_types_at}
-use Rattle.htl_walk.proofs.Work.{all_at}
+use Rattle.htl_model.proofs.PlaceLaws.{output_types_at, switch_types_at}
+use Rattle.htl_base.proofs.Places.{each_at, get_mapped}
 
 -- ---- how many functions there are
 
@@ -27,7 +27,7 @@ count_small : (t : Tables) (n : ℕ) → AreInRange t → count_before n t.tasks
 count_small t zero r = omega arith
 count_small t (suc n) r = elim (slice_get_cases t.tasks n).1 [
   | inl c ↦
-      let range : IsTaskInRange t c.0 = all_at (IsTaskInRange t) t.tasks r.tasks n c.0 c.2 in
+      let range : IsTaskInRange t c.0 = each_at (IsTaskInRange t) t.tasks r.tasks n c.0 c.2 in
       let is : count_at (slice_get t.tasks n) ≡ function_count c.0 = ap count_at c.2 in
       omega (arith, is, count_of c.0 range.few_outputs, count_small t n r)
   | inr c ↦ let is : count_at (slice_get t.tasks n) ≡ 0 = ap count_at c.1 in omega (arith, is, count_small t n r)
@@ -51,9 +51,6 @@ output_there t k j x r at concrete less =
 
 pub below_next : (k n : ℕ) → k < n + 1 → (k < n) ⊎ (k ≡ n)
 below_next k n h = grind arith
-
-pub either : (k n : ℕ) → (k < n) ⊎ (n ≤ k)
-either k n = grind arith
 
 -- ---- the outputs of one task
 

@@ -20,8 +20,10 @@ use Rattle.htl_model.specs.Tables.{Tables}
 use Rattle.htl_model.specs.declared.parts.Inv.{Inv}
 use Rattle.htl_model.specs.declared.parts.Mode.{Mode}
 use Rattle.htl_model.specs.declared.parts.Module.{Module}
-use Rattle.htl_object.proofs.ListRanges.{at_most, equal, lists_in_range}
+use Rattle.htl_object.proofs.ListRanges.{at_most, lists_in_range}
 use Rattle.htl_object.specs.Lists.{tables_of_lists}
+use Rattle.std.proofs.lemmas.Bool.{eqb-true}
+use Rattle.htl_base.proofs.Numbers.{cases_below}
 
 -- ---- places that pass, and how many
 
@@ -71,16 +73,13 @@ choices_are t k (x ∷ xs) e =
 
 widest_at : (modes : List Mode) (invs : List Inv) (k m n : ℕ) → m < n → is_mode_of modes k m ≡ true → count_by (λ i. eqb i.mode m) invs ≤ widest_to modes invs k n
 widest_at modes invs k m zero less h = absurd (omega arith)
-widest_at modes invs k m (suc n) less h = elim (split m n less) [
+widest_at modes invs k m (suc n) less h = elim (cases_below m n less) [
   | inl low ↦ omega (arith, widest_at modes invs k m n low h)
   | inr same ↦
       let here : cond (is_mode_of modes k n) (count_by (λ (i : Inv). eqb i.mode n) invs) 0 ≡ count_by (λ (i : Inv). eqb i.mode m) invs =
       ap (λ (q : ℕ). cond (is_mode_of modes k q) (count_by (λ (i : Inv). eqb i.mode q) invs) 0) (sym same) ∙ ap (λ (b : Bool). cond b (count_by (λ (i : Inv). eqb i.mode m) invs) 0) h in
       omega (arith, here)
 ]
-  where
-    split : (m n : ℕ) → m < suc n → (m < n) ⊎ (m ≡ n)
-    split m n h = grind arith
 
 mode_at_place : (modes : List Mode) (k m : ℕ) (x : Mode) → slice_get modes m ≡ Some x → eqb x.«module» k ≡ true → is_mode_of modes k m ≡ true
 mode_at_place modes k m x e h = ap (λ (o : Option Mode). elim o as (λ _. Bool) [ Some y ↦ eqb y.«module» k | None ↦ false ]) e ∙ h
@@ -174,7 +173,7 @@ counted_so t n h =
     let count : ℕ = selections_of t.modes t.modules in
     let most : ℕ = positions_to t.modes t.modules t.invs (length t.modules) in
     let p = parts (nat_le count 1024) (nat_le most 128) (is_none (frame_limit t)) (eqb n (nodes t)) h in
-    record { selections = at_most count 1024 p.0; positions = at_most most 128 p.1; frames = none_is (frame_limit t) p.2; same = equal n (nodes t) p.3 }
+    record { selections = at_most count 1024 p.0; positions = at_most most 128 p.1; frames = none_is (frame_limit t) p.2; same = eqb-true n (nodes t) p.3 }
   where
     none_is : (o : Option (ℕ × (ℕ × ℕ))) → is_none o ≡ true → o ≡ None
     none_is None e = refl

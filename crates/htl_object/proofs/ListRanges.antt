@@ -36,25 +36,17 @@ use Rattle.htl_model.specs.declared.parts.Switch.{Switch}
 use Rattle.htl_model.specs.declared.parts.Task.{Task}
 use Rattle.htl_model.proofs.Apart.{different, different_owned, different_pairs, different_numbers}
 use Rattle.htl_model.specs.Lists.{AreApart}
-use Rattle.htl_object.proofs.Each.{at_place, all_of, taken, length_take, apart, rising, few_from}
+use Rattle.htl_object.proofs.Each.{at_place, all_of, length_take, apart, rising, few_from}
 use Rattle.htl_object.specs.Lists.{tables_of_lists}
+use Rattle.std.proofs.lemmas.Bool.{and_from, eq-eqb, eqb-true, not-true, or_cases}
+use Rattle.htl_base.proofs.Tests.{and_first}
+use Rattle.htl_base.proofs.Places.{from_take}
 
 -- ---- tests
-
-pub left : (a b : Bool) → (a && b) ≡ true → a ≡ true
-left true b h = refl
-left false b h = cc
 
 pub right : (a b : Bool) → (a && b) ≡ true → b ≡ true
 right true b h = h
 right false b h = cc
-
-off : (b : Bool) → not b ≡ true → b ≡ false
-off true h = cc
-off false h = refl
-
-pub both : (a b : Bool) → a ≡ true → b ≡ true → (a && b) ≡ true
-both a b h k = grind (arith, nat_tests)
 
 pub at_most : (n m : ℕ) → nat_le n m ≡ true → n ≤ m
 at_most n m h = grind (arith, nat_tests)
@@ -62,20 +54,14 @@ at_most n m h = grind (arith, nat_tests)
 below : (n m : ℕ) → nat_lt n m ≡ true → n < m
 below n m h = grind (arith, nat_tests)
 
-pub equal : (n m : ℕ) → eqb n m ≡ true → n ≡ m
-equal n m h = grind (arith, nat_tests)
-
-same_number : (n m : ℕ) → n ≡ m → eqb n m ≡ true
-same_number n m h = grind (arith, nat_tests)
-
 same_bytes : (a b : List ℕ) → a ≡ b → bytes_eq a b ≡ true
 same_bytes a b h = (bytes_eq-Decides a b).1 h
 
 span : (n : ℕ) → is_span n ≡ true → IsSpan n
-span n h = record { some = at_most 1 n (left (nat_le 1 n) (nat_le n 1000000) h); most = at_most n 1000000 (right (nat_le 1 n) (nat_le n 1000000) h) }
+span n h = record { some = at_most 1 n (and_first (nat_le 1 n) (nat_le n 1000000) h); most = at_most n 1000000 (right (nat_le 1 n) (nat_le n 1000000) h) }
 
 owner_below : (count least n : ℕ) → is_owner count least n ≡ true → n < count
-owner_below count least n h = below n count (left (nat_lt n count) (nat_le least n) h)
+owner_below count least n h = below n count (and_first (nat_lt n count) (nat_le least n) h)
 
 owner_least : (count least n : ℕ) → is_owner count least n ≡ true → least ≤ n
 owner_least count least n h = at_most least n (right (nat_lt n count) (nat_le least n) h)
@@ -90,11 +76,7 @@ itself (x ∷ xs) = ap (λ ys. x ∷ ys) (itself xs)
 
 init_fits : (t : Ty) (x : ℤ) → is_of t x ≡ true → FitsType t x
 init_fits ty.Int x h = tt
-init_fits ty.Bool x h = elim (split (int_eq x (pos 0)) (int_eq x (pos 1)) h) [ inl a ↦ inl ((Decides-int_eq x (pos 0)).0 a) | inr b ↦ inr ((Decides-int_eq x (pos 1)).0 b) ]
-  where
-    split : (a b : Bool) → (a || b) ≡ true → (a ≡ true) ⊎ (b ≡ true)
-    split true b h = inl refl
-    split false b h = inr h
+init_fits ty.Bool x h = elim (or_cases (int_eq x (pos 0)) (int_eq x (pos 1)) h) [ inl a ↦ inl ((Decides-int_eq x (pos 0)).0 a) | inr b ↦ inr ((Decides-int_eq x (pos 1)).0 b) ]
 
 -- ---- modes of modules
 
@@ -102,7 +84,7 @@ pub mode_of : (modes : List Mode) (k n : ℕ) → is_mode_of modes k n ≡ true 
 mode_of modes k n h = by (slice_get modes n) refl h
   where
     by : (o : Option Mode) → slice_get modes n ≡ o → elim o as (λ _. Bool) [ Some m ↦ eqb m.«module» k | None ↦ false ] ≡ true → (m : Mode) × (slice_get modes n ≡ Some m) × (m.«module» ≡ k)
-    by (Some m) e h = (m, e, equal m.«module» k h)
+    by (Some m) e h = (m, e, eqb-true m.«module» k h)
     by None e h = cc
 
 pub module_of_mode : (t : Tables) (n : ℕ) (m : Mode) → slice_get t.modes n ≡ Some m → mode_module t n ≡ m.«module»
@@ -120,7 +102,7 @@ levels t k (suc n) (Some q) h = by (slice_get t.modes q) refl (λ p g. levels t 
         → elim o as (λ _. Bool) [ Some x ↦ is_within_before n t.modes (take k t.modules) x.parent | None ↦ false ] ≡ true → is_within n t (parent_of t (mode_module t q)) ≡ true
     above m e None f go h = cc
     above m e (Some x) f go h =
-        let there : slice_get t.modules m.«module» ≡ Some x = (taken t.modules k m.«module» x f).1 in
+        let there : slice_get t.modules m.«module» ≡ Some x = (from_take t.modules k m.«module» x f).1 in
         let parent : parent_of t (mode_module t q) ≡ x.parent =
         ap (parent_of t) (module_of_mode t q m e) ∙ ap (λ (o : Option Module). elim o as (λ _. Option ℕ) [ Some y ↦ y.parent | None ↦ None ]) there in
         ap (is_within n t) parent ∙ go x.parent h
@@ -139,7 +121,7 @@ parent_there t k (suc n) (Some q) size h = by (slice_get t.modes q) refl h
   where
     above : (m : Mode) → (o : Option Module) → slice_get (take k t.modules) m.«module» ≡ o → elim o as (λ _. Bool) [ Some x ↦ is_within_before n t.modes (take k t.modules) x.parent | None ↦ false ] ≡ true → m.«module» < k
     above m None f h = cc
-    above m (Some x) f h = (taken t.modules k m.«module» x f).0
+    above m (Some x) f h = (from_take t.modules k m.«module» x f).0
 
     by : (o : Option Mode) → slice_get t.modes q ≡ o
         → elim o as (λ _. Bool) [ Some m ↦ elim (slice_get (take k t.modules) m.«module») as (λ _. Bool) [ Some x ↦ is_within_before n t.modes (take k t.modules) x.parent | None ↦ false ] | None ↦ false ] ≡ true
@@ -153,7 +135,7 @@ port_there : (ports : List Port) (mode n : ℕ) → is_port_of ports mode n ≡ 
 port_there ports mode n h = by (slice_get ports n) refl h
   where
     by : (o : Option Port) → slice_get ports n ≡ o → elim o as (λ _. Bool) [ Some p ↦ eqb p.mode mode | None ↦ false ] ≡ true → (q : Port) × (slice_get ports n ≡ Some q) × (q.mode ≡ mode)
-    by (Some p) e h = (p, e, equal p.mode mode h)
+    by (Some p) e h = (p, e, eqb-true p.mode mode h)
     by None e h = cc
 
 end_there : (t : Tables) (mode : ℕ) (e : End) → IsEnd (length t.comms) t.ports mode e → IsEndInRange t mode e
@@ -169,7 +151,7 @@ few_ends t mode es h = at_most (length es) 256 h.0.1
 -- ---- invocations
 
 task_there : (t : Tables) (before : List Inv) (mode n : ℕ) → is_inv_task t.modes t.tasks before mode n ≡ true → (k : Task) × (slice_get t.tasks n ≡ Some k) × (k.«module» ≡ mode_module t mode)
-task_there t before mode n h = by (slice_get t.tasks n) refl (left (elim (slice_get t.tasks n) as (λ _. Bool) [ Some k ↦ is_mode_of t.modes k.«module» mode | None ↦ false ]) (not (list_any (λ i. eqb i.mode mode && eqb i.task n) before)) h)
+task_there t before mode n h = by (slice_get t.tasks n) refl (and_first (elim (slice_get t.tasks n) as (λ _. Bool) [ Some k ↦ is_mode_of t.modes k.«module» mode | None ↦ false ]) (not (list_any (λ i. eqb i.mode mode && eqb i.task n) before)) h)
   where
     by : (o : Option Task) → slice_get t.tasks n ≡ o → elim o as (λ _. Bool) [ Some k ↦ is_mode_of t.modes k.«module» mode | None ↦ false ] ≡ true
         → (k : Task) × (slice_get t.tasks n ≡ Some k) × (k.«module» ≡ mode_module t mode)
@@ -178,7 +160,7 @@ task_there t before mode n h = by (slice_get t.tasks n) refl (left (elim (slice_
 
 not_invoked : (t : Tables) (before : List Inv) (mode n : ℕ) → is_inv_task t.modes t.tasks before mode n ≡ true → list_any (λ i. eqb i.mode mode && eqb i.task n) before ≡ false
 not_invoked t before mode n h =
-    off (list_any (λ i. eqb i.mode mode && eqb i.task n) before)
+    not-true (list_any (λ i. eqb i.mode mode && eqb i.task n) before)
     (right (elim (slice_get t.tasks n) as (λ _. Bool) [ Some k ↦ is_mode_of t.modes k.«module» mode | None ↦ false ]) (not (list_any (λ i. eqb i.mode mode && eqb i.task n) before)) h)
 
 parent_below : (invs : ℕ) (o : Option ℕ) → is_parent invs o ≡ true → IfSome o (λ p. p < invs)
@@ -188,7 +170,7 @@ parent_below invs (Some p) h = below p invs h
 inv_there : (t : Tables) (before : List Inv) (i : Inv) → IsInv (length t.comms) (length t.invs) t.modes t.tasks t.ports before i → IsInvInRange t i
 inv_there t before i h =
     record {
-      owner = owner_below (length t.modes) (last_inv_mode before) i.mode (left (is_owner (length t.modes) (last_inv_mode before) i.mode) (nat_lt (count_by (λ j. eqb j.mode i.mode) before) 128) h.mode.1);
+      owner = owner_below (length t.modes) (last_inv_mode before) i.mode (and_first (is_owner (length t.modes) (last_inv_mode before) i.mode) (nat_lt (count_by (λ j. eqb j.mode i.mode) before) 128) h.mode.1);
       task = task_there t before i.mode i.task h.task.1;
       parent = parent_below (length t.invs) i.parent h.parent.1;
       reads = ends_there t i.mode i.reads h.reads;
@@ -200,7 +182,7 @@ inv_there t before i h =
 room : (comms invs : ℕ) (modes : List Mode) (tasks : List Task) (ports : List Port) (m : ℕ) (before : List Inv) (i : Inv) → IsInv comms invs modes tasks ports before i → eqb i.mode m ≡ true
     → count_by (λ j. eqb j.mode m) before < 128
 room comms invs modes tasks ports m before i h e =
-    let one : i.mode ≡ m = equal i.mode m e in
+    let one : i.mode ≡ m = eqb-true i.mode m e in
     subst (λ (n : ℕ). count_by (λ (j : Inv). eqb j.mode n) before < 128) one
     (below (count_by (λ (j : Inv). eqb j.mode i.mode) before) 128 (right (is_owner (length modes) (last_inv_mode before) i.mode) (nat_lt (count_by (λ (j : Inv). eqb j.mode i.mode) before) 128) h.mode.1))
 
@@ -217,7 +199,7 @@ reads_apart : (comms : ℕ) (rs : List ℕ) → Each (λ before. Fits16 (is_read
 reads_apart comms rs h =
     different_numbers rs (subst (λ (ns : List ℕ). AreApart ns) (itself rs)
     (apart (λ (x : ℕ). x) (λ before. Fits16 (is_read comms before)) (λ (y x : ℕ). eqb y x) rs
-    (λ before x f. off (list_any (λ c. eqb c x) before) (right (nat_lt x comms) (not (list_any (λ c. eqb c x) before)) f.1)) (λ y x e. same_number y x e) h))
+    (λ before x f. not-true (list_any (λ c. eqb c x) before) (right (nat_lt x comms) (not (list_any (λ c. eqb c x) before)) f.1)) (λ y x e. eq-eqb y x e) h))
 
 switch_there : (t : Tables) (before : List Switch) (s : Switch) → IsSwitch (length t.comms) t.modes before s → IsSwitchInRange t s
 switch_there t before s h =
@@ -225,7 +207,7 @@ switch_there t before s h =
       owner = owner_below (length t.modes) (last_switch_mode before) s.mode h.mode.1;
       target = target_there t s.mode s.target h.target.1;
       reads = all_of (λ b. Fits16 (is_read (length t.comms) b)) (λ c. c < length t.comms) s.reads
-          (λ b c f. below c (length t.comms) (left (nat_lt c (length t.comms)) (not (list_any (λ d. eqb d c) b)) f.1)) h.reads;
+          (λ b c f. below c (length t.comms) (and_first (nat_lt c (length t.comms)) (not (list_any (λ d. eqb d c) b)) f.1)) h.reads;
       different = reads_apart (length t.comms) s.reads h.reads;
       few_reads = at_most (length s.reads) 256 h.read_count.1;
     }
@@ -233,7 +215,7 @@ switch_there t before s h =
 -- ---- functions
 
 body : (n : ℕ) → is_body n ≡ true → (1 ≤ n) × (n ≤ 512)
-body n h = (at_most 1 n (left (nat_le 1 n) (nat_le n 512) h), at_most n 512 (right (nat_le 1 n) (nat_le n 512) h))
+body n h = (at_most 1 n (and_first (nat_le 1 n) (nat_le n 512) h), at_most n 512 (right (nat_le 1 n) (nat_le n 512) h))
 
 code_there : (c : Code) → IsCode c → IsFunInRange (Compiled c)
 code_there c h = let b = body (length c.instrs) h.instr_count.1 in (b.0, b.1, at_most (length c.args) 256 h.arg_count.1)
@@ -262,26 +244,26 @@ lists_in_range l h =
       few_in_mode = λ m. few_from (λ (i : Inv). eqb i.mode m) (IsInv (length l.comms) (length l.invs) l.modes l.tasks l.ports) 128 [] l.invs
           (λ b i f e. room (length l.comms) (length l.invs) l.modes l.tasks l.ports m b i f e) (omega arith) h.invs;
       comm_names = different (map (λ c. c.name) l.comms) (apart (λ (c : Comm). c.name) IsComm (λ y x. bytes_eq y.name x.name) l.comms
-          (λ b x f. off (is_named_comm b x.name) f.differs) (λ y x e. same_bytes y.name x.name e) h.comms);
+          (λ b x f. not-true (is_named_comm b x.name) f.differs) (λ y x e. same_bytes y.name x.name e) h.comms);
       module_names = different (map (λ x. x.name) l.modules) (apart (λ (c : Module). c.name) (IsModule l.modes) (λ y x. bytes_eq y.name x.name) l.modules
-          (λ b x f. off (is_named_module b x.name) f.differs) (λ y x e. same_bytes y.name x.name e) h.modules);
+          (λ b x f. not-true (is_named_module b x.name) f.differs) (λ y x e. same_bytes y.name x.name e) h.modules);
       mode_names = different_owned (map (λ m. (m.«module», m.name)) l.modes) (apart (λ (m : Mode). (m.«module», m.name)) (IsMode (length l.modules)) (λ y x. eqb y.«module» x.«module» && bytes_eq y.name x.name) l.modes
-          (λ b x f. off (is_named_mode b x.«module» x.name) f.differs)
-          (λ y x e. both (eqb y.«module» x.«module») (bytes_eq y.name x.name) (same_number y.«module» x.«module» (ap (λ (p : ℕ × List ℕ). p.0) e)) (same_bytes y.name x.name (ap (λ (p : ℕ × List ℕ). p.1) e))) h.modes);
+          (λ b x f. not-true (is_named_mode b x.«module» x.name) f.differs)
+          (λ y x e. and_from (eqb y.«module» x.«module») (bytes_eq y.name x.name) (eq-eqb y.«module» x.«module» (ap (λ (p : ℕ × List ℕ). p.0) e)) (same_bytes y.name x.name (ap (λ (p : ℕ × List ℕ). p.1) e))) h.modes);
       port_names = different_owned (map (λ p. (p.mode, p.name)) l.ports) (apart (λ (p : Port). (p.mode, p.name)) (IsPort (length l.modes)) (λ y x. eqb y.mode x.mode && bytes_eq y.name x.name) l.ports
-          (λ b x f. off (is_named_port b x.mode x.name) f.differs)
-          (λ y x e. both (eqb y.mode x.mode) (bytes_eq y.name x.name) (same_number y.mode x.mode (ap (λ (p : ℕ × List ℕ). p.0) e)) (same_bytes y.name x.name (ap (λ (p : ℕ × List ℕ). p.1) e))) h.ports);
+          (λ b x f. not-true (is_named_port b x.mode x.name) f.differs)
+          (λ y x e. and_from (eqb y.mode x.mode) (bytes_eq y.name x.name) (eq-eqb y.mode x.mode (ap (λ (p : ℕ × List ℕ). p.0) e)) (same_bytes y.name x.name (ap (λ (p : ℕ × List ℕ). p.1) e))) h.ports);
       task_names = different_owned (map (λ k. (k.«module», k.name)) l.tasks) (apart (λ (k : Task). (k.«module», k.name)) (IsTask (length l.modules)) (λ y x. eqb y.«module» x.«module» && bytes_eq y.name x.name) l.tasks
-          (λ b x f. off (is_named_task b x.«module» x.name) f.differs)
-          (λ y x e. both (eqb y.«module» x.«module») (bytes_eq y.name x.name) (same_number y.«module» x.«module» (ap (λ (p : ℕ × List ℕ). p.0) e)) (same_bytes y.name x.name (ap (λ (p : ℕ × List ℕ). p.1) e))) h.tasks);
+          (λ b x f. not-true (is_named_task b x.«module» x.name) f.differs)
+          (λ y x e. and_from (eqb y.«module» x.«module») (bytes_eq y.name x.name) (eq-eqb y.«module» x.«module» (ap (λ (p : ℕ × List ℕ). p.0) e)) (same_bytes y.name x.name (ap (λ (p : ℕ × List ℕ). p.1) e))) h.tasks);
       invoked_once = different_pairs (map (λ i. (i.mode, i.task)) l.invs) (apart (λ (i : Inv). (i.mode, i.task)) (IsInv (length l.comms) (length l.invs) l.modes l.tasks l.ports) (λ y x. eqb y.mode x.mode && eqb y.task x.task) l.invs
           (λ b x f. not_invoked t b x.mode x.task f.task.1)
-          (λ y x e. both (eqb y.mode x.mode) (eqb y.task x.task) (same_number y.mode x.mode (ap (λ (p : ℕ × ℕ). p.0) e)) (same_number y.task x.task (ap (λ (p : ℕ × ℕ). p.1) e))) h.invs);
+          (λ y x e. and_from (eqb y.mode x.mode) (eqb y.task x.task) (eq-eqb y.mode x.mode (ap (λ (p : ℕ × ℕ). p.0) e)) (eq-eqb y.task x.task (ap (λ (p : ℕ × ℕ). p.1) e))) h.invs);
       modes_by_module = rising (λ (m : Mode). m.«module») (IsMode (length l.modules)) l.modes (λ b x f. owner_least (length l.modules) (last_module b) x.«module» f.owner.1) h.modes;
       ports_by_mode = rising (λ (p : Port). p.mode) (IsPort (length l.modes)) l.ports (λ b x f. owner_least (length l.modes) (last_mode b) x.mode f.owner.1) h.ports;
       tasks_by_module = rising (λ (k : Task). k.«module») (IsTask (length l.modules)) l.tasks (λ b x f. owner_least (length l.modules) (last_owner b) x.«module» f.owner.1) h.tasks;
       invs_by_mode = rising (λ (i : Inv). i.mode) (IsInv (length l.comms) (length l.invs) l.modes l.tasks l.ports) l.invs
-          (λ b x f. owner_least (length l.modes) (last_inv_mode b) x.mode (left (is_owner (length l.modes) (last_inv_mode b) x.mode) (nat_lt (count_by (λ (j : Inv). eqb j.mode x.mode) b) 128) f.mode.1)) h.invs;
+          (λ b x f. owner_least (length l.modes) (last_inv_mode b) x.mode (and_first (is_owner (length l.modes) (last_inv_mode b) x.mode) (nat_lt (count_by (λ (j : Inv). eqb j.mode x.mode) b) 128) f.mode.1)) h.invs;
       switches_by_mode = rising (λ (s : Switch). s.mode) (IsSwitch (length l.comms) l.modes) l.switches (λ b x f. owner_least (length l.modes) (last_switch_mode b) x.mode f.mode.1) h.switches;
       comms = all_of IsComm IsCommInRange l.comms (λ b c f. record { period = span c.period f.period; init = init_fits c.ty c.init f.init }) h.comms;
       modes = all_of (IsMode (length l.modules)) (IsModeInRange t) l.modes (λ b m f. record { owner = owner_below (length l.modules) (last_module b) m.«module» f.owner.1; period = span m.period f.period }) h.modes;

@@ -6,7 +6,6 @@ use Rattle.std.proofs.lemmas.List.Elements.{All-head, All-tail}
 use Rattle.std.proofs.lemmas.Option.{slice_get-get_or, slice_get_within}
 use Rattle.htl_ecode.specs.declared.ecode.ECode.{ECode}
 use Rattle.htl_ecode.specs.declared.instr.EInstr.{EInstr}
-use Rattle.htl_model.proofs.PlaceLaws.{get_mapped}
 use Rattle.htl_model.specs.Lists.{list_to}
 use Rattle.htl_model.specs.Tables.{Tables, Fun, Formula, Compiled}
 use Rattle.htl_model.specs.declared.function.Code.{Code}
@@ -16,12 +15,9 @@ use Rattle.htl_object.specs.Ranges.{IsFunctionCode, IsInRange}
 use Rattle.htl_object.specs.declared.lists.Anchors.{Anchors}
 use Rattle.htl_object.specs.declared.lists.Lists.{Lists}
 use Rattle.htl_object.specs.declared.object.Object.{Object}
+use Rattle.htl_base.proofs.Places.{get_mapped, take_all}
 
 -- ---- lists by their places
-
-take_all : {A : Type 0} (xs : List A) → take (length xs) xs ≡ xs
-take_all [] = refl
-take_all (x ∷ xs) = ap (λ ys. x ∷ ys) (take_all xs)
 
 listed_front : {A : Type 0} (f : ℕ → A) (xs : List A) (d : A) → ((k : ℕ) → k < length xs → get_or xs k d ≡ f k) → (n : ℕ) → n ≤ length xs → list_to f n ≡ take n xs
 listed_front f xs d at zero h = refl

@@ -10,24 +10,21 @@ use Rattle.htl_model.specs.Frames.{starts, rounds, rounds_at, choices, radices, 
 use Rattle.htl_model.specs.Ranges.{AreInRange}
 use Rattle.htl_model.specs.Tables.{Tables}
 use Rattle.htl_object.proofs.Limits.{selections_are}
-use Rattle.htl_object.proofs.ListRanges.{both}
 use Rattle.htl_object.proofs.Widest.{most_few}
 use Rattle.htl_object.specs.Files.{selections_of, positions_to, are_few, is_node_count}
+use Rattle.std.proofs.lemmas.Bool.{and_from, eq-eqb}
 
-small : (n m : ℕ) → n ≤ m → nat_le n m ≡ true
+pub small : (n m : ℕ) → n ≤ m → nat_le n m ≡ true
 small n m h = grind (arith, nat_tests)
-
-same : (n m : ℕ) → n ≡ m → eqb n m ≡ true
-same n m h = grind (arith, nat_tests)
 
 -- the number of nodes is a count of schedules
 pub node_count_so : (t : Tables) (n : ℕ) → AreInRange t → KeepsLimits t → frame_limit t ≡ None → n ≡ nodes t → is_node_count t n ≡ true
 node_count_so t n r limits none is =
     let count : ℕ = selections_of t.modes t.modules in
     let most : ℕ = positions_to t.modes t.modules t.invs (length t.modules) in
-    both (are_few t.modes t.modules t.invs) (is_none (frame_limit t) && eqb n (nodes t))
-    (both (nat_le count 1024) (nat_le most 128) (small count 1024 (omega (arith, selections_are t r, limits.selections))) (small most 128 (most_few t r limits)))
-    (both (is_none (frame_limit t)) (eqb n (nodes t)) (ap is_none none) (same n (nodes t) is))
+    and_from (are_few t.modes t.modules t.invs) (is_none (frame_limit t) && eqb n (nodes t))
+    (and_from (nat_le count 1024) (nat_le most 128) (small count 1024 (omega (arith, selections_are t r, limits.selections))) (small most 128 (most_few t r limits)))
+    (and_from (is_none (frame_limit t)) (eqb n (nodes t)) (ap is_none none) (eq-eqb n (nodes t) is))
 
 -- where no limit of frames is exceeded there are few nodes
 pub nodes_few : (t : Tables) → AreInRange t → frame_limit t ≡ None → nodes t ≤ 32768

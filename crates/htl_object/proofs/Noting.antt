@@ -7,16 +7,7 @@ use Rattle.std.proofs.lemmas.List.Sums.{sum_by-cons}
 use Rattle.htl_model.specs.declared.parts.Inv.{Inv}
 use Rattle.htl_object.specs.Notes.{CountsMode, IsNoted, IsAdded}
 use Rattle.htl_object.specs.declared.notes.InvNotes.{InvNotes}
-
-pub nothing_marked : (n k : ℕ) → get_or (replicate n false) k false ≡ false
-nothing_marked zero k = refl
-nothing_marked (suc n) zero = refl
-nothing_marked (suc n) (suc k) = nothing_marked n k
-
-pub none_filled : (n k : ℕ) → ◌≡◌ {A = ℕ} (get_or (replicate n 0) k 0) 0
-none_filled zero k = refl
-none_filled (suc n) zero = refl
-none_filled (suc n) (suc k) = none_filled n k
+use Rattle.htl_base.proofs.Places.{none_marked}
 
 -- one item more of which a test is asked
 pub any_more : {A : Type 0} (p : A → Bool) (xs : List A) (x : A) → list_any p (xs ++ x ∷ []) ≡ (list_any p xs || p x)
@@ -113,5 +104,5 @@ later_turned old new before counts less none empty =
     record {
       most = λ k i at. (let below = below_later old before new.mode counts less k i at in omega arith);
       count = none_counted new.mode before (below_later old before new.mode counts less) ∙ sym none;
-      invoked = λ t few. ap (λ (marks : List Bool). get_or marks t false) empty ∙ nothing_marked 4096 t ∙ sym (none_invoked new.mode t before (below_later old before new.mode counts less));
+      invoked = λ t few. ap (λ (marks : List Bool). get_or marks t false) empty ∙ none_marked 4096 t ∙ sym (none_invoked new.mode t before (below_later old before new.mode counts less));
     }

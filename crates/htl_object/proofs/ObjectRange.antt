@@ -14,15 +14,16 @@ use Rattle.htl_model.specs.Tables.{Compiled}
 use Rattle.htl_model.specs.declared.function.Code.{Code}
 use Rattle.htl_object.specs.Ranges.{IsFunctionCode, IsPhased, IsShort, IsInRange}
 use Rattle.htl_object.proofs.Each.{all_of}
-use Rattle.htl_object.proofs.ListRanges.{at_most, left, right, lists_in_range}
+use Rattle.htl_object.proofs.ListRanges.{at_most, right, lists_in_range}
 use Rattle.htl_object.proofs.Limits.{lists_keep_limits, frames_kept, counted_schedules}
 use Rattle.htl_object.specs.Lists.{object_of_lists}
+use Rattle.htl_base.proofs.Tests.{and_first}
 
 phased : (i : EInstr) → IsEInstr i → IsPhased i
 phased (I.CallWrite a b) h = tt
 phased (I.CallRead a b) h = tt
 phased (I.Release a) h = tt
-phased (I.Future d p x) h = (at_most 1 p (left (nat_le 1 p) (nat_le p 3) h.1.0.1), at_most p 3 (right (nat_le 1 p) (nat_le p 3) h.1.0.1))
+phased (I.Future d p x) h = (at_most 1 p (and_first (nat_le 1 p) (nat_le p 3) h.1.0.1), at_most p 3 (right (nat_le 1 p) (nat_le p 3) h.1.0.1))
 phased (I.JumpIf a b) h = tt
 phased (I.Jump a) h = tt
 phased (I.IfMode a b) h = tt

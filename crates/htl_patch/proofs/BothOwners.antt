@@ -11,9 +11,9 @@ use Rattle.htl_model.specs.declared.parts.Task.{Task}
 use Rattle.htl_model.specs.Tables.{Tables}
 use Rattle.htl_patch.specs.Owners.{mode_owners, port_owners, task_owners, inv_owners, switch_owners}
 use Rattle.htl_patch.specs.United.{Graft, united, donor_mode, donor_port, donor_task, donor_inv, donor_switch}
-use Rattle.htl_patch.proofs.Grafting.{all_at}
-use Rattle.htl_patch.proofs.Members.{Has, map_append, map_map, of_map}
+use Rattle.htl_patch.proofs.Members.{Has, map_append, map_map}
 use Rattle.htl_patch.proofs.OwnerLaws.{rise_both}
+use Rattle.htl_base.proofs.Places.{all_at, from_map}
 
 pub map_same : {A B : Type 0} (f g : A → B) (xs : List A) → ((x : A) → f x ≡ g x) → map f xs ≡ map g xs
 map_same f g [] h = refl
@@ -37,7 +37,7 @@ rise : {A : Type 0} (own : A → ℕ) (f : A → A) (h : ℕ) (xs ys : List A) �
     → ((x : A) → Has xs x → own x < h) → IsNonDecreasing (map own (xs ++ map f ys))
 rise own f h xs ys moved p q low =
     subst IsNonDecreasing (ap (λ zs. map own xs ++ zs) (map_map (λ (y : ℕ). h + y) own ys) ∙ sym (owners_joined own f h xs ys moved))
-    (rise_both h (map own xs) (map own ys) p q (λ x i. (let r = of_map own xs i.0 x i.1 in subst (λ (n : ℕ). n < h) r.2 (low r.0 (i.0, r.1)))))
+    (rise_both h (map own xs) (map own ys) p q (λ x i. (let r = from_map own xs i.0 x i.1 in subst (λ (n : ℕ). n < h) r.2 (low r.0 (i.0, r.1)))))
 
 -- owners are below what a program has of them
 low : {A : Type 0} (own : A → ℕ) (h : ℕ) (xs front : List A) → front ≡ xs → h ≤ 512 → All (λ x. own x < h) xs → All (λ x. own x ≤ 512) front

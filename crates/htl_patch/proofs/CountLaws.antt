@@ -6,8 +6,8 @@ use Rattle.std.proofs.lemmas.Map.Made.{IsDistinct-from_AllPairs}
 use Rattle.std.proofs.lemmas.Map.Steps.{length-le_from_distinct_below}
 use Rattle.std.proofs.lemmas.Option.{slice_get-get_or}
 use Rattle.htl_model.specs.Lists.{AreApart}
-use Rattle.htl_patch.proofs.Grafting.{all_at}
 use Rattle.htl_patch.proofs.Taking.{any_has}
+use Rattle.htl_base.proofs.Places.{all_at}
 
 distinct : (xs : List ℕ) → AreApart xs → IsDistinct eqb xs
 distinct xs a =

@@ -3,13 +3,15 @@ use Rattle.std.proofs.Common.{◌≡◌, ◌≤◌, ◌<◌, ◌⊎◌, inl, inr
 use Rattle.std.specs.List.{flat_map, count_by}
 use Rattle.std.specs.List.Sorted.{IsNonDecreasing}
 use Rattle.std.proofs.lemmas.List.Sums.{sum_by-cons}
-use Rattle.std.proofs.lemmas.Option.{slice_get_within, slice_get-get_or}
+use Rattle.std.proofs.lemmas.Option.{slice_get_within, slice_get-get_or, same_Some}
 use Rattle.htl_model.specs.Lists.{places_from, AreApart}
 use Rattle.htl_model.specs.declared.parts.Task.{Task}
 use Rattle.htl_model.specs.Ranges.{is_within, parent_of}
 use Rattle.htl_model.specs.Tables.{Tables, mode_module, function_count, count_before}
 use Rattle.htl_patch.specs.Joining.{level}
-use Rattle.htl_patch.proofs.Members.{Has, none, some_eq, of_flat, get_map, of_map}
+use Rattle.htl_patch.proofs.Members.{Has, none, of_flat}
+use Rattle.htl_base.proofs.Numbers.{cases_less_more}
+use Rattle.htl_base.proofs.Places.{from_map, get_mapped}
 
 -- ---- lists
 
@@ -17,25 +19,22 @@ pub all_from : {A : Type 0} (P : A → Type 0) (xs : List A) → ((x : A) → Ha
 all_from P xs h k d less = h (get_or xs k d) (k, slice_get-get_or xs k d less)
 
 pub all_map : {A B : Type 0} (P : B → Type 0) (f : A → B) (xs : List A) → ((x : A) → Has xs x → P (f x)) → All P (map f xs)
-all_map P f xs h = all_from P (map f xs) (λ y i. (let r = of_map f xs i.0 y i.1 in subst P r.2 (h r.0 (i.0, r.1))))
+all_map P f xs h = all_from P (map f xs) (λ y i. (let r = from_map f xs i.0 y i.1 in subst P r.2 (h r.0 (i.0, r.1))))
 
 -- images that differ
 pub apart_image : {A B : Type 0} (f : A → B) (xs : List A) → AreApart xs → ((x y : A) → Has xs x → Has xs y → f x ≡ f y → x ≡ y) → AreApart (map f xs)
 apart_image f xs apart one j k y less p q =
-    let a = of_map f xs j y p in
-    let b = of_map f xs k y q in
+    let a = from_map f xs j y p in
+    let b = from_map f xs k y q in
     let same = one a.0 b.0 (j, a.1) (k, b.1) (a.2 ∙ sym b.2) in
     apart j k b.0 less (a.1 ∙ ap (λ x. Some x) same) b.1
-
-either_way : (i j : ℕ) → (i < j) ⊎ ((j < i) ⊎ (i ≡ j))
-either_way i j = grind arith
 
 -- where keys differ, two items with one key stand at one place
 pub one_key : {A B : Type 0} (key : A → B) (xs : List A) → AreApart (map key xs) → (i j : ℕ) (a b : A) → slice_get xs i ≡ Some a → slice_get xs j ≡ Some b → key a ≡ key b → i ≡ j
 one_key key xs apart i j a b p q e =
-    let f = get_map key xs i a p in
-    let g = get_map key xs j b q in
-    elim (either_way i j) [
+    let f = get_mapped key xs i a p in
+    let g = get_mapped key xs j b q in
+    elim (cases_less_more i j) [
       | inl l ↦ absurd (apart i j (key a) l f (g ∙ ap (λ x. Some x) (sym e)))
       | inr r ↦ elim r [ inl l ↦ absurd (apart j i (key a) l (g ∙ ap (λ x. Some x) (sym e)) f) | inr s ↦ s ]
     ]
@@ -71,22 +70,10 @@ pub owners_rise : (own : ℕ → List ℕ) (to : ℕ → ℕ) (us : List ℕ) �
 owners_rise own to us tells i j d less below =
     let items = flat_map own us in
     let owners = map to items in
-    let y = of_map to items i (get_or owners i d) (slice_get-get_or owners i d (omega (arith, less, below))) in
-    let z = of_map to items j (get_or owners j d) (slice_get-get_or owners j d below) in
+    let y = from_map to items i (get_or owners i d) (slice_get-get_or owners i d (omega (arith, less, below))) in
+    let z = from_map to items j (get_or owners j d) (slice_get-get_or owners j d below) in
     let order = rising own to 0 us (λ i z m e h. (let r = tells i z m e h in omega (arith, r))) i j y.0 z.0 less y.1 z.1 in
     omega (arith, order, y.2, z.2)
-
-pub length_places : {A : Type 0} (test : A → Bool) (k : ℕ) (xs : List A) → length (places_from test k xs) ≡ count_by test xs
-length_places test k [] = refl
-length_places test k (x ∷ xs) = by (test x) (length_places test (suc k) xs) ∙ sym (sum_by-cons (λ y. cond (test y) 1 0) x xs)
-  where
-    by : (b : Bool) → length (places_from test (suc k) xs) ≡ count_by test xs → length (cond b (k ∷ places_from test (suc k) xs) (places_from test (suc k) xs)) ≡ cond b 1 0 + count_by test xs
-    by true e = omega (arith, e)
-    by false e = omega (arith, e)
-
-pub map_fuse : {A B C : Type 0} (g : B → C) (f : A → B) (xs : List A) → map g (map f xs) ≡ map (λ x. g (f x)) xs
-map_fuse g f [] = refl
-map_fuse g f (x ∷ xs) = ap (λ ys. g (f x) ∷ ys) (map_fuse g f xs)
 
 -- ---- functions
 
@@ -107,7 +94,7 @@ pub count_within : (ks : List Task) (n : ℕ) (k : Task) → slice_get ks n ≡ 
 count_within [] n k e = absurd (none k n e)
 count_within (x ∷ ks) zero k e =
     let a = count_shift (length ks) x ks in
-    let same : function_count x ≡ function_count k = ap function_count (some_eq x k e) in
+    let same : function_count x ≡ function_count k = ap function_count (same_Some x k e) in
     omega (arith, a, same)
 count_within (x ∷ ks) (suc n) k e =
     let a = count_shift (length ks) x ks in

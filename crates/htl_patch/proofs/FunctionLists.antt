@@ -3,7 +3,7 @@ use Rattle.std.proofs.Common.{◌≡◌, ◌≤◌, ◌<◌, ◌+◌, ℕ, zero,
 use Rattle.std.specs.List.{flat_map}
 use Rattle.std.proofs.lemmas.List.{length-map}
 use Rattle.std.proofs.lemmas.Option.{slice_get-get_or}
-use Rattle.htl_model.proofs.Listed.{length-list_to}
+use Rattle.htl_model.proofs.Listed.{length-list_to, get_list_to}
 use Rattle.htl_model.specs.Ranges.{AreInRange, IsTaskInRange}
 use Rattle.htl_model.specs.Tables.{Tables, Fun, fun_of, function_count, count_at, count_before}
 use Rattle.htl_model.specs.declared.function.Function.{Function}
@@ -12,10 +12,9 @@ use Rattle.htl_object.proofs.FunctionPlaces.{task_there}
 use Rattle.htl_object.specs.Ranges.{IsFunctionCode}
 use Rattle.htl_patch.specs.Firsts.{first_function, firsts_of}
 use Rattle.htl_patch.specs.Renumbered.{functions_of}
-use Rattle.htl_patch.proofs.Grafting.{all_at}
-use Rattle.htl_patch.proofs.JoinLaws.{get_list_to}
-use Rattle.htl_patch.proofs.Members.{none, get_map, map_append}
+use Rattle.htl_patch.proofs.Members.{none, map_append}
 use Rattle.htl_patch.proofs.Counting.{count_within}
+use Rattle.htl_base.proofs.Places.{all_at, get_mapped}
 
 -- a function in memory is one of the tables
 pub function_there : (fs : List Fun) (held : List Function) (k : ℕ) (f : Function) → fs ≡ map fun_of held → k < length fs → f ≡ get_or held k f → slice_get fs k ≡ Some (fun_of f)
@@ -23,7 +22,7 @@ function_there fs held k f same less is =
     let size = ap length same in
     let count = length-map held fun_of in
     ap (λ (xs : List Fun). slice_get xs k) same
-    ∙ get_map fun_of held k f (slice_get-get_or held k f (omega (arith, less, size, count)) ∙ ap (λ (x : Function). Some x) (sym is))
+    ∙ get_mapped fun_of held k f (slice_get-get_or held k f (omega (arith, less, size, count)) ∙ ap (λ (x : Function). Some x) (sym is))
 
 pub function_is_code : (fs : List Fun) (held : List Function) (k : ℕ) (f : Function) → All IsFunctionCode fs → fs ≡ map fun_of held → k < length fs → f ≡ get_or held k f → IsFunctionCode (fun_of f)
 function_is_code fs held k f all same less is = all_at IsFunctionCode fs k (fun_of f) all (function_there fs held k f same less is)

@@ -7,20 +7,11 @@ use Rattle.htl_model.specs.Tables.{Tables, Fun, Formula, function_count, count_a
 use Rattle.htl_model.specs.declared.parts.Task.{Task}
 use Rattle.htl_patch.specs.Renumbered.{functions_of, function_of_switch}
 use Rattle.htl_patch.specs.United.{Graft, united, donor_task, donor_switch, output_count, output_functions, switch_functions}
-use Rattle.htl_patch.proofs.Members.{none, get_front, get_back, get_map}
+use Rattle.htl_patch.proofs.Members.{none}
 use Rattle.htl_patch.proofs.Counting.{count_within, take_length}
+use Rattle.htl_base.proofs.Places.{get_back, get_front, get_mapped, take_front}
 
 -- ---- lists
-
-take_front : {A : Type 0} (c : ℕ) (xs ys : List A) → c ≤ length xs → take c (xs ++ ys) ≡ take c xs
-take_front zero [] ys le = nothing ys
-  where
-    nothing : {A : Type 0} (ys : List A) → take 0 ys ≡ take 0 []
-    nothing [] = refl
-    nothing (y ∷ ys) = refl
-take_front zero (x ∷ xs) ys le = refl
-take_front (suc c) [] ys le = absurd (omega (arith, le))
-take_front (suc c) (x ∷ xs) ys le = ap (λ zs. x ∷ zs) (take_front c xs ys (omega (arith, le)))
 
 pub cut_front : {A : Type 0} (a c : ℕ) (xs ys : List A) → a + c ≤ length xs → take c (drop a (xs ++ ys)) ≡ take c (drop a xs)
 cut_front zero c xs ys le = take_front c xs ys (omega (arith, le))
@@ -117,7 +108,7 @@ module _ (g : Graft) (host : AreInRange g.host) (donor : AreInRange g.donor) whe
   functions_there j x at =
       let c = function_count x in
       let a = count_before j g.donor.tasks in
-      let there : slice_get u.tasks (length g.host.tasks + j) ≡ Some (donor_task g x) = get_back g.host.tasks (map (donor_task g) g.donor.tasks) j ∙ get_map (donor_task g) g.donor.tasks j x at in
+      let there : slice_get u.tasks (length g.host.tasks + j) ≡ Some (donor_task g x) = get_back g.host.tasks (map (donor_task g) g.donor.tasks) j ∙ get_mapped (donor_task g) g.donor.tasks j x at in
       let fits = count_within g.donor.tasks j x at in
       let size = outputs_length g.donor donor in
       let before : count_before (length g.host.tasks + j) u.tasks ≡ length (output_functions g.host) + a =

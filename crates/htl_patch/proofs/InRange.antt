@@ -3,7 +3,7 @@ use Rattle.std.proofs.Common.{◌≡◌, ◌≤◌, ◌<◌, inl, inr, ℕ, suc,
 use Rattle.std.specs.List.{flat_map, count_by}
 use Rattle.std.specs.List.Sorted.{IsNonDecreasing}
 use Rattle.std.proofs.lemmas.List.{length-map}
-use Rattle.std.proofs.lemmas.Option.{slice_get_within, slice_get-get_or}
+use Rattle.std.proofs.lemmas.Option.{slice_get_within, slice_get-get_or, get_or_from_slice_get}
 use Rattle.htl_base.specs.declared.limits.TheConstants.{MAX_MODE_INVOCATIONS}
 use Rattle.htl_model.specs.Lists.{AreApart}
 use Rattle.htl_model.specs.declared.parts.End.{End}
@@ -18,12 +18,13 @@ use Rattle.htl_model.specs.Ranges.{are_different_pairs, AreInRange, IsInvInRange
 use Rattle.htl_model.specs.Selections.{invs_of}
 use Rattle.htl_model.specs.Tables.{Tables, Fun, mode_module, function_count, count_at, count_before, switch_function}
 use Rattle.htl_patch.specs.Renumbered.{place_among, tasks_of, ports_of, switches_of, task_of_module, port_of_mode, Numbering, numbering, mode_at, port_at, task_at, inv_at, switch_at, new_port, new_task, new_inv, new_switch, new_end, functions_of, function_of_switch, renumbered}
-use Rattle.htl_patch.proofs.Members.{Has, has_either, of_flat, in_flat, get_map, of_map, get_some, in_places_0, place_get, place_one}
+use Rattle.htl_patch.proofs.Members.{Has, has_either, of_flat, in_flat, in_places_0, place_get, place_one, map_map}
 use Rattle.htl_patch.proofs.Renumbering.{inv_owner, switch_owner, invs_apart, task_new}
 use Rattle.htl_patch.proofs.Widths.{widths}
 use Rattle.htl_patch.proofs.Sound.{inv_key, IsSound, IsOrder}
-use Rattle.htl_patch.proofs.Counting.{all_from, all_map, apart_image, one_key, owners_rise, map_fuse, total, count_total, count_within, take_length, has_take, has_drop}
+use Rattle.htl_patch.proofs.Counting.{all_from, all_map, apart_image, one_key, owners_rise, total, count_total, count_within, take_length, has_take, has_drop}
 use Rattle.htl_patch.proofs.Ranging.{AreParentsTaken, AreFew, mode_of, inv_of, task_of, switch_of, mode_below, inv_below, mode_taken, mode_owner_place, mode_owner_at, modes, modes_rise, modules, module_names, mode_names, ports, mode_place_at, ports_rise, port_names, tasks, tasks_rise, task_names}
+use Rattle.htl_base.proofs.Places.{from_map, get_mapped}
 
 module _ (u : Tables) (units : List ℕ) (sound : IsSound u) (order : IsOrder u units) (parents : AreParentsTaken u (numbering u units))
     (few : AreFew (renumbered u (numbering u units))) where
@@ -51,9 +52,9 @@ module _ (u : Tables) (units : List ℕ) (sound : IsSound u) (order : IsOrder u 
   end_range m h (E.Comm c k) r = r
   end_range m h (E.Port p) r =
       let has = port_taken m h p r.0 r.1 r.2 in
-      let is : port_at u p ≡ r.0 = get_some u.ports p r.0 _ r.1 in (
+      let is : port_at u p ≡ r.0 = get_or_from_slice_get u.ports p r.0 _ r.1 in (
         new_port n (port_at u p),
-        get_map (λ (k : ℕ). new_port n (port_at u k)) n.ports (place_among p n.ports) p (place_get n.ports p has),
+        get_mapped (λ (k : ℕ). new_port n (port_at u k)) n.ports (place_among p n.ports) p (place_get n.ports p has),
         ap (λ (x : Port). place_among x.mode n.modes) is ∙ ap (λ (y : ℕ). place_among y n.modes) r.2,
       )
 
@@ -71,7 +72,7 @@ module _ (u : Tables) (units : List ℕ) (sound : IsSound u) (order : IsOrder u 
         task = (
           new_task n (task_at u r.2.task),
           task_new u units order.apart r.2.task (task_taken k h),
-          ap (λ (x : Task). place_among x.«module» units) (get_some u.tasks r.2.task s.task.0 _ s.task.1)
+          ap (λ (x : Task). place_among x.«module» units) (get_or_from_slice_get u.tasks r.2.task s.task.0 _ s.task.1)
               ∙ ap (λ (y : ℕ). place_among y units) (s.task.2 ∙ owner r.2.mode mode)
               ∙ sym ((mode_owner_place u units sound order parents few) r.2.mode mode),
         );
@@ -94,14 +95,14 @@ module _ (u : Tables) (units : List ℕ) (sound : IsSound u) (order : IsOrder u 
 
   invs_rise : IsNonDecreasing (map (λ i. i.mode) t.invs)
   invs_rise =
-      subst IsNonDecreasing (sym (map_fuse (λ (m : Inv). m.mode) (λ (k : ℕ). new_inv n (inv_at u k)) n.invs))
+      subst IsNonDecreasing (sym (map_map (λ (m : Inv). m.mode) (λ (k : ℕ). new_inv n (inv_at u k)) n.invs))
       (owners_rise (invs_of u) (λ m. place_among (inv_at u m).mode n.modes) n.modes
       (λ i z m e h. ap (λ (y : ℕ). place_among y n.modes) (inv_owner u z m h) ∙ (mode_place_at u units sound order parents few) i z e))
 
   invoked_once : are_different_pairs (map inv_key t.invs) ≡ true
   invoked_once =
       different_pairs (map inv_key t.invs)
-      (subst AreApart (sym (map_fuse inv_key (λ (k : ℕ). new_inv n (inv_at u k)) n.invs))
+      (subst AreApart (sym (map_map inv_key (λ (k : ℕ). new_inv n (inv_at u k)) n.invs))
       (apart_image (λ (k : ℕ). inv_key (new_inv n (inv_at u k))) n.invs (invs_apart u units order.apart) (λ x y h i e. (let a = (inv_of u units sound order parents few) x h in
       let b = (inv_of u units sound order parents few) y i in
       let p = key_at x h in
@@ -145,7 +146,7 @@ module _ (u : Tables) (units : List ℕ) (sound : IsSound u) (order : IsOrder u 
 
   switches_rise : IsNonDecreasing (map (λ w. w.mode) t.switches)
   switches_rise =
-      subst IsNonDecreasing (sym (map_fuse (λ (m : Switch). m.mode) (λ (k : ℕ). new_switch n (switch_at u k)) n.switches))
+      subst IsNonDecreasing (sym (map_map (λ (m : Switch). m.mode) (λ (k : ℕ). new_switch n (switch_at u k)) n.switches))
       (owners_rise (switches_of u) (λ m. place_among (switch_at u m).mode n.modes) n.modes
       (λ i z m e h. ap (λ (y : ℕ). place_among y n.modes) (switch_owner u z m h) ∙ (mode_place_at u units sound order parents few) i z e))
 
@@ -165,7 +166,7 @@ module _ (u : Tables) (units : List ℕ) (sound : IsSound u) (order : IsOrder u 
         | inl a ↦ (let r = of_flat (functions_of u) n.tasks f a in
             let s = has_drop (count_before r.0 u.tasks) u.functions f (has_take (count_at (slice_get u.tasks r.0)) (drop (count_before r.0 u.tasks) u.functions) f r.2) in
             all s.0 f s.1)
-        | inr b ↦ (let r = of_map (function_of_switch u) n.switches b.0 f b.1 in
+        | inr b ↦ (let r = from_map (function_of_switch u) n.switches b.0 f b.1 in
             let less = switch_within r.0 (b.0, r.1) in
             all (switch_function u r.0) f (slice_get-get_or u.functions (switch_function u r.0) _ less ∙ ap (λ (x : Fun). Some x) r.2))
       ])

@@ -10,14 +10,15 @@ use Rattle.htl_model.specs.Tables.{Tables, mode_module}
 use Rattle.htl_model.specs.declared.parts.Inv.{Inv}
 use Rattle.htl_model.specs.declared.parts.Mode.{Mode}
 use Rattle.htl_model.specs.declared.parts.Module.{Module}
-use Rattle.htl_model.proofs.Listed.{length-list_to}
+use Rattle.htl_model.proofs.Listed.{length-list_to, get_list_to}
 use Rattle.htl_patch.specs.Calls.{call_for, calls_for}
 use Rattle.htl_patch.specs.Joining.{first, is_taken, inv_module, is_met, is_stray_parent, module_name, is_kept_name, twice_at}
 use Rattle.htl_patch.specs.Patched.{order}
 use Rattle.htl_patch.specs.Placed.{ArePlacesOf}
 use Rattle.htl_patch.specs.Renumbered.{place_among}
 use Rattle.htl_patch.specs.United.{Graft, calls_named, call_name, belongs_to_mode, donor_parent, united, donor_module}
-use Rattle.htl_patch.proofs.Grafting.{all_at}
+use Rattle.htl_base.proofs.Places.{all_at}
+use Rattle.htl_base.proofs.Tests.{eqb_flips, and_none, and_with_true}
 
 below_some : (n : ℕ) → ltb 0 (suc n) ≡ true
 below_some n = grind (arith, nat_tests)
@@ -25,15 +26,12 @@ below_some n = grind (arith, nat_tests)
 below_next : (a b : ℕ) → ltb (suc a) (suc b) ≡ ltb a b
 below_next a b = grind (arith, nat_tests)
 
-same_test : (a b : ℕ) → eqb a b ≡ eqb b a
-same_test a b = grind (arith, nat_tests)
-
 taken_place : (m : ℕ) (xs : List ℕ) → ltb (place_among m xs) (length xs) ≡ list_any (eqb m) xs
 taken_place m [] = none 0 (omega arith)
   where
     none : (a : ℕ) → a ≡ 0 → ltb a 0 ≡ false
     none a e = grind (arith, nat_tests)
-taken_place m (x ∷ xs) = by (eqb x m) (taken_place m xs) ∙ ap (λ (b : Bool). b || list_any (eqb m) xs) (same_test x m)
+taken_place m (x ∷ xs) = by (eqb x m) (taken_place m xs) ∙ ap (λ (b : Bool). b || list_any (eqb m) xs) (eqb_flips x m)
   where
     by : (b : Bool) → ltb (place_among m xs) (length xs) ≡ list_any (eqb m) xs → ltb (cond b 0 (suc (place_among m xs))) (suc (length xs)) ≡ (b || list_any (eqb m) xs)
     by true later = below_some (length xs)
@@ -65,28 +63,6 @@ unit_within t m r less = by (slice_get t.modes m) refl
 
 -- ---- the invocations that stand for others
 
-pub get_list_to : {A : Type 0} (f : ℕ → A) (n k : ℕ) (d : A) → k < n → get_or (list_to f n) k d ≡ f k
-get_list_to f zero k d less = absurd (omega (arith, less))
-get_list_to {A} f (suc n) k d less = by (side k n (omega (arith, less))) (λ l. get_list_to f n k d l)
-  where
-    side : (k n : ℕ) → k ≤ n → (k < n) ⊎ (k ≡ n)
-    side k n le = grind arith
-
-    front : (xs ys : List A) (k : ℕ) → k < length xs → get_or (xs ++ ys) k d ≡ get_or xs k d
-    front [] ys k l = absurd (omega (arith, l))
-    front (x ∷ xs) ys zero l = refl
-    front (x ∷ xs) ys (suc k) l = front xs ys k (omega (arith, l))
-
-    last : (xs : List A) (x : A) (k : ℕ) → k ≡ length xs → get_or (xs ++ x ∷ []) k d ≡ x
-    last [] x zero e = refl
-    last [] x (suc k) e = absurd (omega (arith, e))
-    last (y ∷ xs) x zero e = absurd (omega (arith, e))
-    last (y ∷ xs) x (suc k) e = last xs x k (omega (arith, e))
-
-    by : (k < n) ⊎ (k ≡ n) → (k < n → get_or (list_to f n) k d ≡ f k) → get_or (list_to f n ++ f n ∷ []) k d ≡ f k
-    by (inl l) later = let size = length-list_to f n in front (list_to f n) (f n ∷ []) k (omega (arith, l, size)) ∙ later l
-    by (inr e) later = let size = length-list_to f n in last (list_to f n) (f n) k (omega (arith, e, size)) ∙ ap f (sym e)
-
 module _ (g : Graft) (calls : List (Option ℕ)) (are : calls ≡ calls_for g) (p : ℕ) (less : p < length g.donor.invs) where
   pub calls_within : p < length calls
   calls_within = let size = ap length are in let n = length-list_to (call_for g) (length g.donor.invs) in omega (arith, size, n, less)
@@ -106,20 +82,12 @@ module _ (g : Graft) (calls : List (Option ℕ)) (are : calls ≡ calls_for g) (
   pub stray_met : (k : ℕ) → call_for g p ≡ Some k → is_stray_parent g (Some p) ≡ false
   stray_met k e =
       ap (λ (b : Bool). not (is_taken g (inv_module g.donor p)) && not b) (met_is ∙ ap (λ (o : Option ℕ). elim o as (λ _. Bool) [ Some k ↦ true | None ↦ false ]) e)
-      ∙ off (not (is_taken g (inv_module g.donor p)))
-    where
-      off : (b : Bool) → (b && false) ≡ false
-      off true = refl
-      off false = refl
+      ∙ and_none (not (is_taken g (inv_module g.donor p)))
 
   pub stray_unmet : (t : Bool) → call_for g p ≡ None → t ≡ is_taken g (inv_module g.donor p) → is_stray_parent g (Some p) ≡ not t
   stray_unmet t e is =
       ap (λ (b : Bool). not (is_taken g (inv_module g.donor p)) && not b) (met_is ∙ ap (λ (o : Option ℕ). elim o as (λ _. Bool) [ Some k ↦ true | None ↦ false ]) e)
-      ∙ ap (λ (b : Bool). not b && true) (sym is) ∙ on (not t)
-    where
-      on : (b : Bool) → (b && true) ≡ b
-      on true = refl
-      on false = refl
+      ∙ ap (λ (b : Bool). not b && true) (sym is) ∙ and_with_true (not t)
 
 -- the parent that stands for one in the donor's mode
 moved_call : (g : Graft) (p : ℕ) → belongs_to_mode g.donor g.from p ≡ true → donor_parent g p ≡ elim (call_for g p) as (λ _. ℕ) [ Some k ↦ k | None ↦ 0 ]

@@ -19,6 +19,7 @@ use Rattle.htl_patch.proofs.Limiting.{greatest_most, of_list_to}
 use Rattle.htl_patch.proofs.NumberLaws.{few_units, few_modes, few_tasks, few_ports, few_invs, few_switches}
 use Rattle.htl_patch.proofs.Uniting.{united_sound}
 use Rattle.htl_patch.proofs.Widths.{widths}
+use Rattle.std.proofs.lemmas.Bool.{le-ltb}
 
 -- levels by the lists of modules and modes alone
 level_upright : (t : Tables) (n u : ℕ) → level n (upright t.modules t.modes) u ≡ level n t u
@@ -46,10 +47,7 @@ exceeded_behind [] ys zs k same = same k
 exceeded_behind (x ∷ xs) ys zs k same = ap (λ (o : Option (ℕ × ℕ)). cond (ltb x.1 x.0) (Some (k, x.0)) o) (exceeded_behind xs ys zs (suc k) same)
 
 not_first : (j : ℕ) (x : ℕ × ℕ) (xs : List (ℕ × ℕ)) → x.0 ≤ x.1 → exceeded j (x ∷ xs) ≡ exceeded (suc j) xs
-not_first j x xs le = ap (λ (b : Bool). cond b (Some (j, x.0)) (exceeded (suc j) xs)) (off x.1 x.0 le)
-  where
-    off : (a b : ℕ) → b ≤ a → ltb a b ≡ false
-    off a b h = grind (arith, nat_tests)
+not_first j x xs le = ap (λ (b : Bool). cond b (Some (j, x.0)) (exceeded (suc j) xs)) (le-ltb x.1 x.0 le)
 
 abbrev made : ℕ → ℕ → ℕ → ℕ → ℕ → ℕ → ℕ → ℕ → List (ℕ × ℕ)
 made a b c d e f w l =

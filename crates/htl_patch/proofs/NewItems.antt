@@ -1,7 +1,7 @@
 -- The items of both programs with their new numbers, by where they lie in memory.
 use Rattle.std.proofs.Common.{◌≡◌, ◌≤◌, ◌<◌, ◌+◌, ◌-◌, ℕ, Bool, true, false, cond, eqb, List, [], ◌++◌, length, length-append, map, get_or, slice_get, Option, Some, None, IfSome, option_map, sym, ◌∙◌, ap, subst, arith}
 use Rattle.std.proofs.lemmas.List.{length-map}
-use Rattle.std.proofs.lemmas.Option.{slice_get_within}
+use Rattle.std.proofs.lemmas.Option.{slice_get_within, get_or_from_slice_get}
 use Rattle.htl_base.specs.declared.Ty.TheVariants as ty
 use Rattle.htl_model.specs.Ranges.{AreInRange, IsModeInRange, IsPortInRange, IsTaskInRange, IsInvInRange, IsSwitchInRange, IsModeThat}
 use Rattle.htl_model.specs.Tables.{Tables}
@@ -15,15 +15,14 @@ use Rattle.htl_patch.specs.Placed.{ArePlaces, HasPlaces, placed_mode, placed_mod
 use Rattle.htl_patch.specs.Renumbered.{Numbering, mode_at, module_at, port_at, task_at, inv_at, switch_at, new_mode, new_module, new_port, new_task, new_inv, new_switch}
 use Rattle.htl_patch.specs.United.{Graft, united, donor_mode, donor_module, donor_port, donor_task, donor_inv, donor_switch, refined_mode, donor_parent}
 use Rattle.htl_patch.specs.declared.numbers.NewNumbers.{NewNumbers}
-use Rattle.htl_patch.proofs.Grafting.{all_at}
-use Rattle.htl_patch.proofs.Members.{get_front, get_back, get_map, get_some}
 use Rattle.htl_patch.proofs.PlacedLaws.{has_item, units_size, modes_size, host_mode, guest_mode, host_task, guest_task, host_module, guest_module, refined_within, host_port, guest_port, host_switch, guest_switch, host_inv, guest_inv, host_has_places, guest_has_places}
+use Rattle.htl_base.proofs.Places.{all_at, get_back, get_front, get_mapped}
 
 -- an item that lies in front
 pub here : {A : Type 0} (xs ys front : List A) (k : ℕ) (x d : A) → front ≡ xs → k < length front → x ≡ get_or front k x → (slice_get xs k ≡ Some x) × (get_or (xs ++ ys) k d ≡ x)
 here xs ys front k x d same less is =
     let at = subst (λ zs. slice_get zs k ≡ Some x) same (has_item front k x less is) in
-    (at, get_some (xs ++ ys) k x d (get_front xs ys k x at))
+    (at, get_or_from_slice_get (xs ++ ys) k x d (get_front xs ys k x at))
 
 -- an item that lies behind
 pub there : {A B : Type 0} (f : B → A) (xs front : List A) (ys back : List B) (k : ℕ) (x : B) (d : A) → front ≡ xs → back ≡ ys → length front ≤ k → k < length (xs ++ map f ys)
@@ -35,8 +34,8 @@ there f xs front ys back k x d same other le less is =
     let images = length-map ys f in
     let at = subst (λ zs. slice_get zs (k - length front) ≡ Some x) other (has_item back (k - length front) x (omega (arith, le, less, size, end, sum, images)) is) in
     let place : length xs + (k - length front) ≡ k = omega (arith, le, size) in
-    let moved = subst (λ (m : ℕ). slice_get (xs ++ map f ys) m ≡ Some (f x)) place (get_back xs (map f ys) (k - length front) ∙ get_map f ys (k - length front) x at) in
-    (at, get_some (xs ++ map f ys) k (f x) d moved)
+    let moved = subst (λ (m : ℕ). slice_get (xs ++ map f ys) m ≡ Some (f x)) place (get_back xs (map f ys) (k - length front) ∙ get_mapped f ys (k - length front) x at) in
+    (at, get_or_from_slice_get (xs ++ map f ys) k (f x) d moved)
 
 -- the mode that a module of the donor refines has a small number
 pub refined_small : (g : Graft) (host : AreInRange g.host) (donor : AreInRange g.donor) (parent : Option ℕ) (k : ℕ) → g.into < length g.host.modes

@@ -2,7 +2,7 @@
 use Rattle.std.proofs.Common.{◌≡◌, ◌≤◌, ◌<◌, ℕ, zero, suc, List, [], ◌∷◌, ◌++◌, length, map, All, length-append, refl, ◌∙◌, ap, subst, arith}
 use Rattle.std.specs.List.{flat_map}
 use Rattle.std.proofs.lemmas.List.{length-map}
-use Rattle.std.proofs.lemmas.Option.{slice_get_within}
+use Rattle.std.proofs.lemmas.Option.{slice_get_within, same_Some}
 use Rattle.htl_model.specs.declared.parts.Inv.{Inv}
 use Rattle.htl_model.specs.declared.parts.Mode.{Mode}
 use Rattle.htl_model.specs.declared.parts.Port.{Port}
@@ -17,9 +17,10 @@ use Rattle.htl_patch.specs.United.{Graft, donor_module, united}
 use Rattle.htl_patch.proofs.BothOwners.{modes_few, tasks_few, ports_few, invs_few, switches_few}
 use Rattle.htl_patch.proofs.CountLaws.{few_apart}
 use Rattle.htl_patch.proofs.Grafting.{CanGraft, host_root, kid_there, order_apart}
-use Rattle.htl_patch.proofs.Members.{Has, none, some_eq, of_flat, get_front, places_map}
+use Rattle.htl_patch.proofs.Members.{Has, none, of_flat, places_map}
 use Rattle.htl_patch.proofs.Counting.{all_from}
 use Rattle.htl_patch.proofs.Renumbering.{mode_there, task_there, port_there, inv_there, switch_there, modes_apart, tasks_apart, ports_apart, invs_apart, switches_apart}
+use Rattle.htl_base.proofs.Places.{get_front}
 
 flat_on : {A : Type 0} (f g : ℕ → List A) (xs : List ℕ) → ((x : ℕ) → f x ≡ g x) → flat_map f xs ≡ flat_map g xs
 flat_on f g [] same = refl
@@ -75,9 +76,9 @@ module _ (g : Graft) (c : CanGraft g) where
       let m = kid_there g c s.0 z s.2 in slice_get_within (united g).modules z m.0 m.1
 
   below_within : (n y x : ℕ) → y < length (united g).modules → Has (below (kids g) n y) x → x < length (united g).modules
-  below_within zero y x less (zero, e) = subst (λ m. m < length (united g).modules) (some_eq y x e) less
+  below_within zero y x less (zero, e) = subst (λ m. m < length (united g).modules) (same_Some y x e) less
   below_within zero y x less (suc j, e) = absurd (none x j e)
-  below_within (suc n) y x less (zero, e) = subst (λ m. m < length (united g).modules) (some_eq y x e) less
+  below_within (suc n) y x less (zero, e) = subst (λ m. m < length (united g).modules) (same_Some y x e) less
   below_within (suc n) y x less (suc j, e) =
       let r = of_flat (below (kids g) n) (kids g y) x (j, e) in below_within n r.0 x (kid_within y r.0 r.1) r.2
 

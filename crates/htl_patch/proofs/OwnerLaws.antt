@@ -1,13 +1,15 @@
 -- What one owner owns stands in one run of the list, where owners don't fall.
 use Rattle.std.proofs.Common.{◌≡◌, ◌≤◌, ◌<◌, ◌⊎◌, inl, inr, ℕ, zero, suc, ◌+◌, Bool, true, false, cond, eqb, List, [], ◌∷◌, ◌++◌, length, map, drop, get_or, slice_get, Some, refl, sym, ◌∙◌, ap, subst, arith, append-nil}
 use Rattle.std.specs.List.Sorted.{IsNonDecreasing}
-use Rattle.std.proofs.lemmas.Option.{slice_get_within, slice_get-get_or}
+use Rattle.std.proofs.lemmas.Option.{slice_get_within, slice_get-get_or, get_or_from_slice_get}
 use Rattle.htl_model.specs.Lists.{places_from}
 use Rattle.htl_patch.specs.Owners.{is_owner, owned_by}
 use Rattle.htl_patch.specs.Renumbered.{place_among}
 use Rattle.htl_patch.proofs.Grafting.{get_drop}
 use Rattle.htl_patch.proofs.KidLaws.{places_end}
-use Rattle.htl_patch.proofs.Members.{Has, same_or, differ, get_some, of_map, place_get, places_nothing}
+use Rattle.htl_patch.proofs.Members.{Has, same_or, place_get, places_nothing}
+use Rattle.std.proofs.lemmas.Bool.{ne_eqb}
+use Rattle.htl_base.proofs.Places.{from_map}
 
 -- nothing stands before the first place
 pub owned_first : (m k : ℕ) (xs : List ℕ) → places_from (is_owner m) k xs ≡ places_from (is_owner m) (k + place_among m xs) (drop (place_among m xs) xs)
@@ -47,12 +49,12 @@ has_among m (x ∷ xs) less = by (same_or x m) less (has_among m xs)
 pub owned_past : (m k : ℕ) (xs : List ℕ) → IsNonDecreasing xs → place_among m xs ≤ k → k < length xs → (get_or xs k 0 ≡ m → ⊥) → places_from (is_owner m) k (drop k xs) ≡ []
 owned_past m k xs rises least less other =
     places_nothing (is_owner m) k (drop k xs) (λ x h. (let at = get_drop k xs h.0 x h.1 in
-    let is = get_some xs (k + h.0) x 0 at in
+    let is = get_or_from_slice_get xs (k + h.0) x 0 at in
     let within = slice_get_within xs (k + h.0) x at in
-    let first = get_some xs (place_among m xs) m 0 (place_get xs m (has_among m xs (omega (arith, least, less)))) in
+    let first = get_or_from_slice_get xs (place_among m xs) m 0 (place_get xs m (has_among m xs (omega (arith, least, less)))) in
     let one = rises (place_among m xs) k 0 least less in
     let two = rises k (k + h.0) 0 (omega arith) within in
-    differ x m (λ same. other (omega (arith, first, one, two, is, same)))))
+    ne_eqb x m (λ same. other (omega (arith, first, one, two, is, same)))))
 
 -- a number stands in front, or is the image of one behind
 abbrev Part : ℕ → List ℕ → List ℕ → ℕ → ℕ → Type 0
@@ -67,21 +69,21 @@ rise_both h xs ys p q low i j d le within =
     by (part xs i (get_or all i d) a) (part xs j (get_or all j d) b)
   where
     part : (zs : List ℕ) (k x : ℕ) → slice_get (zs ++ map (λ (y : ℕ). h + y) ys) k ≡ Some x → Part h ys zs k x
-    part [] k x e = let r = of_map (λ (y : ℕ). h + y) ys k x e in inr (k, r.0, omega arith, r.1, r.2)
+    part [] k x e = let r = from_map (λ (y : ℕ). h + y) ys k x e in inr (k, r.0, omega arith, r.1, r.2)
     part (z ∷ zs) zero x e = inl e
     part (z ∷ zs) (suc k) x e = elim (part zs k x e) [ inl a ↦ inl a | inr b ↦ inr (b.0, b.1, omega (arith, b.2), b.3, b.4) ]
 
     by : {x y : ℕ} → Part h ys xs i x → Part h ys xs j y → x ≤ y
     by {x} {y} (inl a) (inl b) =
-        let e = get_some xs i x 0 a in
-        let f = get_some xs j y 0 b in
+        let e = get_or_from_slice_get xs i x 0 a in
+        let f = get_or_from_slice_get xs j y 0 b in
         let r = p i j 0 le (slice_get_within xs j y b) in
         omega (arith, e, f, r)
     by {x} {y} (inl a) (inr b) = let l = low x (i, a) in omega (arith, l, b.4)
     by {x} {y} (inr a) (inl b) = let w = slice_get_within xs j y b in absurd (omega (arith, w, le, a.2))
     by {x} {y} (inr a) (inr b) =
-        let e = get_some ys a.0 a.1 0 a.3 in
-        let f = get_some ys b.0 b.1 0 b.3 in
+        let e = get_or_from_slice_get ys a.0 a.1 0 a.3 in
+        let f = get_or_from_slice_get ys b.0 b.1 0 b.3 in
         let r = q a.0 b.0 0 (omega (arith, le, a.2, b.2)) (slice_get_within ys b.0 b.1 b.3) in
         omega (arith, e, f, r, a.4, b.4)
 

@@ -16,8 +16,8 @@ use Rattle.htl_patch.specs.Placed.{ArePlacesOf, ArePlaces, HasPlace, HasPlaces, 
 use Rattle.htl_patch.specs.Renumbered.{Numbering, place_among, new_mode, new_module, new_port, new_task, new_end, new_inv, new_switch}
 use Rattle.htl_patch.specs.United.{Graft, united, donor_mode, donor_module, donor_port, donor_task, donor_end, donor_inv, donor_switch, refined_mode, donor_parent, calls_named, call_name, is_call, belongs_to_mode}
 use Rattle.htl_patch.specs.declared.numbers.NewNumbers.{NewNumbers}
-use Rattle.htl_patch.proofs.Grafting.{all_at}
 use Rattle.htl_patch.proofs.Members.{Has, map_map, map_on, of_places_0}
+use Rattle.htl_base.proofs.Places.{all_at}
 
 -- ---- an item of both programs, by its number
 

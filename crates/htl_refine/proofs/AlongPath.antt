@@ -5,7 +5,7 @@ use Rattle.std.specs.List.{flat_map}
 use Rattle.std.proofs.Math.Nat.{div-add-mod}
 use Rattle.std.proofs.lemmas.Bool.{lt-leb}
 use Rattle.std.proofs.lemmas.List.{length-map}
-use Rattle.std.proofs.lemmas.Option.{get_or_from_slice_get}
+use Rattle.std.proofs.lemmas.Option.{get_or_from_slice_get, none-some}
 use Rattle.htl_model.specs.declared.frame.Place.{Place}
 use Rattle.htl_model.specs.declared.frame.Round.{Round}
 use Rattle.htl_model.specs.Frames.{begins, starts_below, root_periods, frame_of, unit_period, rounds_of, rounds_at, rounds, starts, mode_in, mode_from, path_mode, places_of, places_in, path_places, known_by}
@@ -15,16 +15,18 @@ use Rattle.htl_model.specs.Selections.{is_root, root_modules, invs_of}
 use Rattle.htl_model.specs.Tables.{Tables}
 use Rattle.htl_walk.specs.PathJobs.{placed_job, placed_jobs, legs_of, legs}
 use Rattle.htl_walk.specs.Paths.{AreWithin}
-use Rattle.htl_form.proofs.PartLaws.{none_some}
 use Rattle.htl_refine.specs.DerivedPaths.{derived_place, derived_jobs, start_places, standing_place, begun_places, begun_jobs, start_modes, IsAlong}
 use Rattle.htl_refine.proofs.BegunTimes.{start_below, started_at}
-use Rattle.htl_refine.proofs.Members.{of_joined, of_flat, mapped}
+use Rattle.htl_refine.proofs.Members.{of_joined, of_flat}
 use Rattle.htl_refine.proofs.RisingPositions.{AreRising, Has, joined_rise, places_rise}
+use Rattle.htl_walk.proofs.Nodes.{known_append, map_append}
+use Rattle.htl_walk.proofs.Starts.{known_few}
+use Rattle.htl_base.proofs.Places.{from_map}
 
 -- ---- lists that rise
 
 rising_at : (xs : List ℕ) (i j x y : ℕ) → AreRising xs → slice_get xs i ≡ Some x → slice_get xs j ≡ Some y → i < j → x < y
-rising_at [] i j x y r e f l = absurd (none_some x e)
+rising_at [] i j x y r e f l = absurd (none-some x e)
 rising_at (z ∷ xs) zero zero x y r e f l = absurd (omega (arith, l))
 rising_at (z ∷ xs) zero (suc j) x y r e f l = let same : z ≡ x = cc in omega (arith, same, r.0 y (j, f))
 rising_at (z ∷ xs) (suc i) zero x y r e f l = absurd (omega (arith, l))
@@ -35,13 +37,13 @@ starts_rise ps zero = tt
 starts_rise ps (suc n) = joined_rise (starts_below ps n) (cond (begins ps n) (n ∷ []) []) (starts_rise ps n) (last (begins ps n)) (λ a b h k. omega (arith, start_below ps n h.0 a h.1, only (begins ps n) b k))
   where
     last : (b : Bool) → AreRising (cond b (n ∷ []) [])
-    last true = (λ a h. absurd (none_some a h.1), tt)
+    last true = (λ a h. absurd (none-some a h.1), tt)
     last false = tt
 
     only : (b : Bool) (x : ℕ) → Has (cond b (n ∷ []) []) x → x ≡ n
     only true x (zero, e) = cc
-    only true x (suc i, e) = absurd (none_some x e)
-    only false x h = absurd (none_some x h.1)
+    only true x (suc i, e) = absurd (none-some x e)
+    only false x h = absurd (none-some x h.1)
 
 -- ---- a round in the frame
 
@@ -59,18 +61,18 @@ flat_append t [] ys = refl
 flat_append t (x ∷ xs) ys = ap (λ rs. rounds_at t x ++ rs) (flat_append t xs ys) ∙ sym (append_assoc (rounds_at t x) (flat_map (rounds_at t) xs) (flat_map (rounds_at t) ys))
 
 cut_at : (xs : List ℕ) (j x : ℕ) → slice_get xs j ≡ Some x → xs ≡ take j xs ++ x ∷ drop (suc j) xs
-cut_at [] j x e = absurd (none_some x e)
+cut_at [] j x e = absurd (none-some x e)
 cut_at (y ∷ xs) zero x e = let same : y ≡ x = cc in ap (λ z. z ∷ xs) same
 cut_at (y ∷ xs) (suc j) x e = ap (λ zs. y ∷ zs) (cut_at xs j x e)
 
 of_front : (k p : ℕ) (xs : List ℕ) (x : ℕ) → slice_get (take k xs) p ≡ Some x → (p < k) × (slice_get xs p ≡ Some x)
-of_front zero p xs x e = absurd (none_some x e)
-of_front (suc k) p [] x e = absurd (none_some x e)
+of_front zero p xs x e = absurd (none-some x e)
+of_front (suc k) p [] x e = absurd (none-some x e)
 of_front (suc k) zero (y ∷ xs) x e = (omega arith, e)
 of_front (suc k) (suc p) (y ∷ xs) x e = let f = of_front k p xs x e in (omega (arith, f.0), f.1)
 
 of_rounds : (t : Tables) (a : ℕ) (us : List ℕ) (p : ℕ) (r : Round) → slice_get (rounds_of t a us) p ≡ Some r → (r.at ≡ a) × (i : ℕ) × (slice_get us i ≡ Some r.unit)
-of_rounds t a [] p r e = absurd (none_some r e)
+of_rounds t a [] p r e = absurd (none-some r e)
 of_rounds t a (u ∷ us) p r e = by (eqb (a % unit_period t u) 0) (λ q f. of_rounds t a us q r f) p e
   where
     more : (r.at ≡ a) × (i : ℕ) × (slice_get us i ≡ Some r.unit) → (r.at ≡ a) × (i : ℕ) × (slice_get (u ∷ us) i ≡ Some r.unit)
@@ -178,14 +180,10 @@ same_map : {B : Type 0} (f g : Place → B) (xs : List Place) → ((p : ℕ) (x 
 same_map f g [] h = refl
 same_map f g (x ∷ xs) h = ap (λ y. y ∷ map f xs) (h 0 x refl) ∙ ap (λ ys. g x ∷ ys) (same_map f g xs (λ p y e. h (suc p) y e))
 
-map_join : {B : Type 0} (f : Place → B) (xs ys : List Place) → map f (xs ++ ys) ≡ map f xs ++ map f ys
-map_join f [] ys = refl
-map_join f (x ∷ xs) ys = ap (λ zs. f x ∷ zs) (map_join f xs ys)
-
 module _ (t : Tables) where
   root_at : (ms : List (List (Option ℕ))) (as' : List ℕ) (p : ℕ) (x : Place) → slice_get (root_places t ms as') p ≡ Some x → Has as' x.at
-  root_at [] as' p x e = absurd (none_some x e)
-  root_at (m ∷ ms) [] p x e = absurd (none_some x e)
+  root_at [] as' p x e = absurd (none-some x e)
+  root_at (m ∷ ms) [] p x e = absurd (none-some x e)
   root_at (m ∷ ms) (a ∷ as') p x e = elim (of_joined (start_places t m a (root_modules t)) (root_places t ms as') p x e) [
     | inl f ↦ (0, ap (λ (n : ℕ). Some n) (sym (started_at t m a (root_modules t) p x f)))
     | inr f ↦ let j = root_at ms as' f.0 x f.1 in (suc j.0, j.1)
@@ -204,7 +202,7 @@ module _ (t : Tables) where
       same_map (derived_place t (start_modes ms as')) (derived_place t whole) ys (λ p x e.
       let above = r.0 x.at (root_at ms as' p x e) in
       by_modes x (start_modes ms as' x.at) (whole x.at) (sym (ap (λ b. cond b m (start_modes ms as' x.at)) (ne_eqb x.at a (λ same. omega (arith, above, same)))))) in
-      ap (λ zs. zs ++ begun_places t ms as') here ∙ ap (λ zs. map (derived_place t whole) xs ++ zs) (stands_as ms as' r.1 ∙ later) ∙ sym (map_join (derived_place t whole) xs ys)
+      ap (λ zs. zs ++ begun_places t ms as') here ∙ ap (λ zs. map (derived_place t whole) xs ++ zs) (stands_as ms as' r.1 ∙ later) ∙ sym (map_append (derived_place t whole) xs ys)
     where
       by_modes : (x : Place) (p q : List (Option ℕ)) → p ≡ q → standing_place t p x ≡ standing_place t q x
       by_modes x p q e = ap (λ n. standing_place t n x) e
@@ -236,26 +234,14 @@ module _ (t : Tables) (path : ℕ) (sels : List (List (Option ℕ))) (few : leng
 
 -- ---- the legs that the selections reach know no further positions
 
-pub known_append : (a : ℕ) (xs ys : List Place) → known_by a (xs ++ ys) ≡ known_by a xs + known_by a ys
-known_append a [] ys = omega arith
-known_append a (x ∷ xs) ys = omega (arith, known_append a xs ys)
-
-pub known_few : (a : ℕ) (xs : List Place) → known_by a xs ≤ length xs
-known_few a [] = omega arith
-known_few a (x ∷ xs) = omega (arith, one (leb x.at a), known_few a xs)
-  where
-    one : (b : Bool) → of_bool b ≤ 1
-    one true = omega arith
-    one false = omega arith
-
 pub known_none : (a : ℕ) (xs : List Place) → ((p : ℕ) (x : Place) → slice_get xs p ≡ Some x → a < x.at) → known_by a xs ≡ 0
 known_none a [] h = refl
 known_none a (x ∷ xs) h = omega (arith, ap of_bool (lt-leb x.at a (h 0 x refl)), known_none a xs (λ p y e. h (suc p) y e))
 
 placed_start : (t : Tables) (path : ℕ) (rs : List Round) (p : ℕ) (x : Place) → slice_get (places_in t path rs) p ≡ Some x → (q : ℕ) × (r : Round) × (slice_get rs q ≡ Some r) × (r.at ≡ x.at)
-placed_start t path [] p x e = absurd (none_some x e)
+placed_start t path [] p x e = absurd (none-some x e)
 placed_start t path (r ∷ rs) p x e = elim (of_joined (places_of r.at (invs_of t (mode_in t path r rs))) (places_in t path rs) p x e) [
-  | inl f ↦ let k = mapped (λ (i : ℕ). let y : Place = record { inv = Some i; at = r.at } in y) (invs_of t (mode_in t path r rs)) p x f in (0, r, refl, ap (λ (y : Place). y.at) k.2)
+  | inl f ↦ let k = from_map (λ (i : ℕ). let y : Place = record { inv = Some i; at = r.at } in y) (invs_of t (mode_in t path r rs)) p x f in (0, r, refl, ap (λ (y : Place). y.at) k.2)
   | inr f ↦ let g = placed_start t path rs f.0 x f.1 in (suc g.0, g.1, g.2, g.3)
 ]
 
@@ -266,7 +252,7 @@ legs_within h n (suc k) xs (a ∷ as') l = (l 0 a (omega arith) refl, legs_withi
 
 dropped : (k p x : ℕ) (xs : List ℕ) → slice_get (drop k xs) p ≡ Some x → slice_get xs (k + p) ≡ Some x
 dropped zero p x xs e = let same : 0 + p ≡ p = omega arith in ap (slice_get xs) same ∙ e
-dropped (suc k) p x [] e = absurd (none_some x e)
+dropped (suc k) p x [] e = absurd (none-some x e)
 dropped (suc k) p x (y ∷ xs) e = let next : suc k + p ≡ suc (k + p) = omega arith in ap (slice_get (y ∷ xs)) next ∙ dropped k p x xs e
 
 pub legs_reached : (t : Tables) (path : ℕ) (sels : List (List (Option ℕ))) → length sels ≤ length (starts t) → IsAlong t path sels → (n : ℕ) → n ≡ length (begun_places t sels (starts t)) → AreWithin n (take (length sels) (legs t path))

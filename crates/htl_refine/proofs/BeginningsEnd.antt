@@ -16,9 +16,7 @@ use Rattle.htl_refine.proofs.OwnPeriods.{same_period, some_time}
 use Rattle.htl_refine.proofs.OwnRounds.{own_starts}
 use Rattle.htl_refine.proofs.PathDerived.{root_units}
 use Rattle.htl_refine.proofs.StateLaws.{mode_in, entry_is, states_are_selections}
-
-grow : (p a b : ℕ) → a ≤ b → p * a ≤ p * b
-grow p a b h = grind arith
+use Rattle.htl_base.proofs.Numbers.{times_grow}
 
 some_begins : (t : Tables) (us : List ℕ) (a : ℕ) → begins (map (unit_period t) us) a ≡ true → (j u : ℕ) × (slice_get us j ≡ Some u) × (a % unit_period t u ≡ 0)
 some_begins t [] a e = absurd (let z : ⊥ = cc in z)
@@ -40,13 +38,13 @@ ends_there p n some even = by (order (suc n / p) (n / p))
     by (inl l) =
         let now : p * (n / p) + n % p ≡ n = div-add-mod n p in
         let later : p * (suc n / p) + suc n % p ≡ suc n = div-add-mod (suc n) p in
-        let less : p * (suc n / p) ≤ p * (n / p) = grow p (suc n / p) (n / p) l in
+        let less : p * (suc n / p) ≤ p * (n / p) = times_grow p (suc n / p) (n / p) l in
         absurd (omega (arith, now, later, less, even))
     by (inr l) =
         let now : p * (n / p) + n % p ≡ n = div-add-mod n p in
         let later : p * (suc n / p) + suc n % p ≡ suc n = div-add-mod (suc n) p in
         let rest : n % p < p = mod-lt n some in
-        let more : p * suc (n / p) ≤ p * (suc n / p) = grow p (suc (n / p)) (suc n / p) l in
+        let more : p * suc (n / p) ≤ p * (suc n / p) = times_grow p (suc (n / p)) (suc n / p) l in
         let one : p * suc (n / p) ≡ p * (n / p) + p = grind arith in
         omega (arith, now, later, rest, more, one, even)
 

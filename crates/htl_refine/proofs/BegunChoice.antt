@@ -1,7 +1,6 @@
 -- The choice of modes at one start, module by module.
 use Rattle.std.proofs.Common.{◌≡◌, ◌<◌, ◌≤◌, ℕ, zero, suc, ◌+◌, ◌*◌, ◌%◌, Bool, true, false, cond, eqb, List, [], ◌∷◌, length, get_or, drop, drop-cons, add-one, Option, Some, refl, sym, ap, ◌∙◌, arith}
 use Rattle.std.specs.Prelude.{slice_get}
-use Rattle.htl_form.proofs.PartLaws.{none_some}
 use Rattle.htl_model.proofs.SelectionLaws.{modes_some}
 use Rattle.htl_model.specs.Frames.{unit_period, choices, rounds_of}
 use Rattle.htl_model.specs.Ranges.{AreInRange}
@@ -11,7 +10,7 @@ use Rattle.htl_refine.specs.BegunJobs.{choice_rest}
 use Rattle.htl_refine.specs.FrameRuns.{path_in}
 use Rattle.htl_refine.specs.Roots.{entry_place}
 use Rattle.htl_refine.proofs.Members.{of_places}
-use Rattle.std.proofs.lemmas.Option.{slice_get_within}
+use Rattle.std.proofs.lemmas.Option.{slice_get_within, none-some}
 
 one_more : (t : Tables) (modes : List (Option ℕ)) (a n m u : ℕ) (us : List ℕ) → m ≡ cond (eqb (a % unit_period t u) 0) (n * length (modes_of t u) + entry_place t modes u) n → choice_rest t modes a m us ≡ choice_rest t modes a n (u ∷ us)
 one_more t modes a n m u us e = by (eqb (a % unit_period t u) 0) e
@@ -57,7 +56,7 @@ choice_below t modes a n k whole us range is sum less =
 
     behind : (k : ℕ) (us : List ℕ) (i u : ℕ) → slice_get (drop k us) i ≡ Some u → (j : ℕ) × (slice_get us j ≡ Some u)
     behind zero us i u e = (i, e)
-    behind (suc k) [] i u e = absurd (none_some u e)
+    behind (suc k) [] i u e = absurd (none-some u e)
     behind (suc k) (v ∷ us) i u e = let r = behind k us i u e in (suc r.0, r.1)
 
     roots : (i u : ℕ) → slice_get (root_modules t) i ≡ Some u → 0 < length (modes_of t u)

@@ -10,11 +10,11 @@ use Rattle.htl_model.specs.Frames.{unit_period, rounds_of, rounds_at, places_of,
 use Rattle.htl_model.specs.Selected.{entry, IsSelection, IsEntry, IsModeOf}
 use Rattle.htl_model.specs.Selections.{is_root, root_modules, mode_of_module, modes_of, invs_of}
 use Rattle.htl_model.specs.Tables.{Tables}
-use Rattle.htl_form.proofs.PartLaws.{none_some}
-use Rattle.htl_model.proofs.TestLaws.{equal}
 use Rattle.htl_refine.specs.DerivedPaths.{round_places, start_places, standing_place, begun_places, modes_of_all}
 use Rattle.htl_refine.specs.declared.selection.Selection.{Selection}
 use Rattle.htl_refine.proofs.Members.{of_places, at_place}
+use Rattle.std.proofs.lemmas.Bool.{eq-eqb}
+use Rattle.std.proofs.lemmas.Option.{none-some}
 
 -- ---- one module, and one start, more
 
@@ -78,7 +78,7 @@ most_append t [] ss = omega arith
 most_append t (r ∷ rs) ss = omega (arith, most_append t rs ss)
 
 most_has : (t : Tables) (ms : List ℕ) (i m : ℕ) → slice_get ms i ≡ Some m → length (invs_of t m) ≤ most_invs t ms
-most_has t [] i m e = absurd (none_some m e)
+most_has t [] i m e = absurd (none-some m e)
 most_has t (x ∷ ms) zero m e = let same : x ≡ m = cc in omega (arith, ap (λ n. length (invs_of t n)) same)
 most_has t (x ∷ ms) (suc i) m e = omega (arith, most_has t ms i m e)
 
@@ -86,7 +86,7 @@ entry_few : (t : Tables) (m : List (Option ℕ)) (u : ℕ) (parent o : Option �
 entry_few t m u parent None e a = omega arith
 entry_few t m u parent (Some n) e a =
     let own : IsModeOf t u n = e.0 in
-    let place = at_place (mode_of_module u) t.modes n own.0 own.1 (equal own.0.«module» u own.2) in
+    let place = at_place (mode_of_module u) t.modes n own.0 own.1 (eq-eqb own.0.«module» u own.2) in
     omega (arith, most_has t (modes_of t u) place.0 n place.1, length-map (invs_of t n) (λ (k : ℕ). let x : Place = record { inv = Some k; at = a } in x))
 
 module _ (t : Tables) where

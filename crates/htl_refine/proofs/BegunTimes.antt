@@ -3,7 +3,7 @@ use Rattle.std.proofs.Common.{◌≡◌, ℕ, zero, suc, ◌≤◌, ◌<◌, Boo
 use Rattle.std.specs.Prelude.{slice_get}
 use Rattle.std.specs.List.{All}
 use Rattle.std.proofs.lemmas.List.Elements.{All-from_get_or}
-use Rattle.std.proofs.lemmas.Option.{slice_get-get_or}
+use Rattle.std.proofs.lemmas.Option.{slice_get-get_or, none-some}
 use Rattle.htl_model.specs.declared.frame.Place.{Place}
 use Rattle.htl_model.specs.declared.parts.Inv.{Inv}
 use Rattle.htl_model.specs.Frames.{begins, starts_below, starts, root_periods, frame_of, places_of}
@@ -15,14 +15,14 @@ use Rattle.htl_walk.specs.Jobs.{absent_job}
 use Rattle.htl_walk.specs.PathJobs.{job_in, placed, placed_job, placed_jobs}
 use Rattle.htl_walk.specs.Placing.{HasTimes}
 use Rattle.htl_walk.proofs.PathReady.{window_small}
-use Rattle.htl_form.proofs.PartLaws.{none_some}
 use Rattle.htl_refine.specs.BegunJobs.{nowhere, new_places}
 use Rattle.htl_refine.specs.DerivedPaths.{begun_mode, round_places, start_places, standing_place, begun_places, begun_jobs}
-use Rattle.htl_refine.proofs.Members.{of_joined, of_flat, mapped}
+use Rattle.htl_refine.proofs.Members.{of_joined, of_flat}
+use Rattle.htl_base.proofs.Places.{from_map}
 
 -- a start is before the frame's end
 pub start_below : (ps : List ℕ) (n p a : ℕ) → slice_get (starts_below ps n) p ≡ Some a → a < n
-start_below ps zero p a e = absurd (none_some a e)
+start_below ps zero p a e = absurd (none-some a e)
 start_below ps (suc n) p a e = elim (of_joined (starts_below ps n) (cond (begins ps n) (n ∷ []) []) p a e) [
   | inl f ↦ let less = start_below ps n p a f in omega (arith, less)
   | inr f ↦ by (begins ps n) f.0 f.1
@@ -30,8 +30,8 @@ start_below ps (suc n) p a e = elim (of_joined (starts_below ps n) (cond (begins
   where
     by : (b : Bool) (q : ℕ) → slice_get (cond b (n ∷ []) []) q ≡ Some a → a < suc n
     by true zero f = let same : n ≡ a = cc in omega (arith, same)
-    by true (suc q) f = absurd (none_some a f)
-    by false q f = absurd (none_some a f)
+    by true (suc q) f = absurd (none-some a f)
+    by false q f = absurd (none-some a f)
 
 module _ (t : Tables) where
   -- a root invocation of a round that begins at a
@@ -39,15 +39,15 @@ module _ (t : Tables) where
   started_at m a us p x e = let f = of_flat (round_places t m a) us p x e in by (begun_mode t m a f.1) f.3 f.4
     where
       by : (o : Option ℕ) (q : ℕ) → slice_get (elim o as (λ _. List Place) [ Some n ↦ places_of a (invs_of t n) | None ↦ [] ]) q ≡ Some x → x.at ≡ a
-      by (Some n) q g = let k = mapped (λ (i : ℕ). let y : Place = record { inv = Some i; at = a } in y) (invs_of t n) q x g in sym (ap (λ (y : Place). y.at) k.2)
-      by None q g = absurd (none_some x g)
+      by (Some n) q g = let k = from_map (λ (i : ℕ). let y : Place = record { inv = Some i; at = a } in y) (invs_of t n) q x g in sym (ap (λ (y : Place). y.at) k.2)
+      by None q g = absurd (none-some x g)
 
   pub begun_at : (sels : List (List (Option ℕ))) (as' : List ℕ) (p : ℕ) (x : Place) → slice_get (begun_places t sels as') p ≡ Some x → (j : ℕ) × (slice_get as' j ≡ Some x.at)
-  begun_at [] as' p x e = absurd (none_some x e)
-  begun_at (m ∷ ms) [] p x e = absurd (none_some x e)
+  begun_at [] as' p x e = absurd (none-some x e)
+  begun_at (m ∷ ms) [] p x e = absurd (none-some x e)
   begun_at (m ∷ ms) (a ∷ as') p x e = elim (of_joined (map (standing_place t m) (start_places t m a (root_modules t))) (begun_places t ms as') p x e) [
     | inl f ↦
-        let y = mapped (standing_place t m) (start_places t m a (root_modules t)) p x f in
+        let y = from_map (standing_place t m) (start_places t m a (root_modules t)) p x f in
         (0, ap (λ (n : ℕ). Some n) (sym (started_at m a (root_modules t) p y.0 y.1) ∙ ap (λ (z : Place). z.at) y.2))
     | inr f ↦ let j = begun_at ms as' f.0 x f.1 in (suc j.0, j.1)
   ]
@@ -65,7 +65,7 @@ module _ (t : Tables) where
     begun_times sels short =
         let ys = begun_places t sels (starts t) in
         All-from_get_or HasTimes (begun_jobs t sels) absent_job (λ p l.
-        let y = mapped (placed_job t ys) ys p (get_or (begun_jobs t sels) p absent_job) (slice_get-get_or (begun_jobs t sels) p absent_job l) in
+        let y = from_map (placed_job t ys) ys p (get_or (begun_jobs t sels) p absent_job) (slice_get-get_or (begun_jobs t sels) p absent_job l) in
         let j = begun_at sels (starts t) p y.0 y.1 in
         let early = start_below (root_periods t) (frame_of t) j.0 y.0.at j.1 in
         subst HasTimes y.2 (placed_times ys y.0.at y.0.inv (omega (arith, early, short))))
@@ -75,12 +75,12 @@ module _ (t : Tables) where
     new_times m a n short =
         let ys = new_places t m a n in
         All-from_get_or HasTimes (placed_jobs t ys) absent_job (λ p l.
-        let y = mapped (placed_job t ys) ys p (get_or (placed_jobs t ys) p absent_job) (slice_get-get_or (placed_jobs t ys) p absent_job l) in
+        let y = from_map (placed_job t ys) ys p (get_or (placed_jobs t ys) p absent_job) (slice_get-get_or (placed_jobs t ys) p absent_job l) in
         subst HasTimes y.2 (placed_times ys y.0.at y.0.inv (at_most n p y.0 y.1)))
       where
         at_most : (n p : ℕ) (x : Place) → slice_get (new_places t m a n) p ≡ Some x → x.at ≤ 1000000
         at_most zero p x e =
-            let y = mapped (standing_place t m) (start_places t m a (root_modules t)) p x e in
+            let y = from_map (standing_place t m) (start_places t m a (root_modules t)) p x e in
             let at : x.at ≡ a = ap (λ (z : Place). z.at) (sym y.2) ∙ started_at m a (root_modules t) p y.0 y.1 in
             omega (arith, at, short)
         at_most (suc n) zero x e = let same : nowhere ≡ x = cc in omega (arith, ap (λ (z : Place). z.at) same)

@@ -2,9 +2,9 @@
 use Rattle.std.proofs.Common.{◌≡◌, ℕ, zero, suc, ◌<◌, Bool, true, false, cond, ◌&&◌, ltb, is_some, List, [], ◌∷◌, take, Option, Some, None, refl, arith}
 use Rattle.std.proofs.lemmas.Bool.{ltb-true}
 use Rattle.htl_walk.specs.Walk.{Left, is_position, finish}
-use Rattle.htl_walk.proofs.Finishes.{some_same}
 use Rattle.htl_refine.specs.RecordCounts.{count_left_before, done_by}
 use Rattle.htl_refine.proofs.RecordOrder.{not_some}
+use Rattle.std.proofs.lemmas.Option.{same_Some}
 
 -- who is done finishes then
 pub done_finish : (ls : List Left) (k p f : ℕ) → finish (take k ls) p ≡ Some f → finish ls p ≡ Some f
@@ -34,7 +34,7 @@ done_before e (m ∷ ls) p f h = by_test (ltb m.at e) refl h (λ g. done_before 
     by_test true is g ih = by_record (is_position m.position p && m.finished) g
       where
         by_record : (b : Bool) → cond b (Some m.at) (finish (take (count_left_before e ls) ls) p) ≡ Some f → f < e
-        by_record true k = omega (arith, ltb-true m.at e is, some_same _ _ k)
+        by_record true k = omega (arith, ltb-true m.at e is, same_Some _ _ k)
         by_record false k = ih k
 
 pub done_is : (e : ℕ) (ls : List Left) (p : ℕ) → done_by ls (count_left_before e ls) p ≡ true → (f : ℕ) × (finish ls p ≡ Some f) × (f < e)

@@ -7,18 +7,19 @@ use Rattle.htl_walk.specs.declared.schedule.SInstr.TheVariants.{Dispatch, Idle, 
 use Rattle.htl_walk.specs.Paths.{Leg, list_point, walks_from, end_to_end, AreInForm}
 use Rattle.htl_walk.specs.Walk.{Point, Left, job_at, dispatch_begins, time_after, work_after, slice_between, slice_onto, finishes_by, next_point, left_by, walk_from, last_point, is_position, finish, slices, InForm}
 use Rattle.htl_walk.proofs.Acceptance.{no_finish, left_falls_to}
-use Rattle.htl_walk.proofs.Finishes.{some_same}
 use Rattle.htl_walk.proofs.Steps.{left_falls, left_same}
 use Rattle.htl_refine.specs.ListPlans.{no_leg}
 use Rattle.htl_refine.specs.RecordCounts.{Rises, done_by}
-use Rattle.htl_refine.proofs.RecordOrder.{not_some, walk_rises, get_in, get_past}
+use Rattle.htl_refine.proofs.RecordOrder.{not_some, walk_rises}
 use Rattle.htl_refine.proofs.SliceOrder.{slice_from}
+use Rattle.htl_base.proofs.Places.{get_back, within_front}
+use Rattle.std.proofs.lemmas.Option.{same_Some}
 
 -- ---- one record more
 
-finish_more : (ls : List Left) (k p : ℕ) (l : Left) → slice_get ls k ≡ Some l → done_by ls (suc k) p ≡ (done_by ls k p || (is_position l.position p && l.finished))
+pub finish_more : (ls : List Left) (k p : ℕ) (l : Left) → slice_get ls k ≡ Some l → done_by ls (suc k) p ≡ (done_by ls k p || (is_position l.position p && l.finished))
 finish_more [] k p l h = not_some l h
-finish_more (m ∷ ls) zero p l h = by_test (is_position m.position p && m.finished) ∙ ap (λ (z : Left). is_position z.position p && z.finished) (some_same _ _ h)
+finish_more (m ∷ ls) zero p l h = by_test (is_position m.position p && m.finished) ∙ ap (λ (z : Left). is_position z.position p && z.finished) (same_Some _ _ h)
   where
     by_test : (b : Bool) → is_some (cond b (Some m.at) None) ≡ b
     by_test true = refl
@@ -29,9 +30,6 @@ finish_more (m ∷ ls) (suc k) p l h = by_test (is_position m.position p && m.fi
         → is_some (cond b (Some m.at) (finish (take (suc k) ls) p)) ≡ (is_some (cond b (Some m.at) (finish (take k ls) p)) || (is_position l.position p && l.finished))
     by_test true ih = refl
     by_test false ih = ih
-
-pub done_more : (ls : List Left) (k p : ℕ) (l : Left) → slice_get ls k ≡ Some l → done_by ls (suc k) p ≡ (done_by ls k p || (is_position l.position p && l.finished))
-done_more ls k p l h = finish_more ls k p l h
 
 -- ---- in one list
 
@@ -109,11 +107,11 @@ module _ (jobs : List Job) (p : ℕ) where
   pub last_is : (is : List SInstr) (x : Point) (k : ℕ) (l : Left) → slice_get (walk_from jobs is x) k ≡ Some l → l.position ≡ Some p → l.finished ≡ true → IsLast jobs is x k p l
   last_is [] x k l at pos fin = not_some l at
   last_is (Dispatch q h ∷ is) x zero l at pos fin =
-      let e : left_by jobs (Dispatch q h) x (next_point jobs (Dispatch q h) x) ≡ l = some_same _ _ at in
-      let same : q ≡ p = some_same _ _ (ap (λ (z : Left). z.position) e ∙ pos) in
+      let e : left_by jobs (Dispatch q h) x (next_point jobs (Dispatch q h) x) ≡ l = same_Some _ _ at in
+      let same : q ≡ p = same_Some _ _ (ap (λ (z : Left). z.position) e ∙ pos) in
       subst (IsLast jobs (Dispatch q h ∷ is) x 0 p) e (last_here q h is x same (ap (λ (z : Left). z.finished) e ∙ fin))
-  last_is (Idle h ∷ is) x zero l at pos fin = let e = some_same _ _ at in not_some p (ap (λ (z : Left). z.position) e ∙ pos)
-  last_is (End ∷ is) x zero l at pos fin = let e = some_same _ _ at in not_some p (ap (λ (z : Left). z.position) e ∙ pos)
+  last_is (Idle h ∷ is) x zero l at pos fin = let e = same_Some _ _ at in not_some p (ap (λ (z : Left). z.position) e ∙ pos)
+  last_is (End ∷ is) x zero l at pos fin = let e = same_Some _ _ at in not_some p (ap (λ (z : Left). z.position) e ∙ pos)
   last_is (i ∷ is) x (suc k) l at pos fin =
       let y = next_point jobs i x in
       let r = last_is is y k l at pos fin in
@@ -128,7 +126,7 @@ module _ (jobs : List Job) (p : ℕ) where
     where
       at_least : (ls : List Left) (a k : ℕ) (l : Left) → Rises a ls → slice_get ls k ≡ Some l → a ≤ l.at
       at_least [] a k l r e = not_some l e
-      at_least (m ∷ ls) a zero l r e = omega (arith, r.0, ap (λ (z : Left). z.at) (some_same _ _ e))
+      at_least (m ∷ ls) a zero l r e = omega (arith, r.0, ap (λ (z : Left). z.at) (same_Some _ _ e))
       at_least (m ∷ ls) a (suc k) l r e = omega (arith, r.0, at_least ls m.at k l r.1 e)
 
       not_first : (j : SInstr) → 0 < get_or (next_point jobs j x).left p 0 → done_by (walk_from jobs is (next_point jobs j x)) k p ≡ false → done_by (walk_from jobs (j ∷ is) x) (suc k) p ≡ false
@@ -166,7 +164,7 @@ finish_record (l ∷ ls) p f e = by_test (is_position l.position p && l.finished
     by_test : (b : Bool) → (is_position l.position p && l.finished) ≡ b → cond b (Some l.at) (finish ls p) ≡ Some f
         → (finish ls p ≡ Some f → (k : ℕ) × (m : Left) × (slice_get ls k ≡ Some m) × (m.position ≡ Some p) × (m.finished ≡ true) × (m.at ≡ f))
         → (k : ℕ) × (m : Left) × (slice_get (l ∷ ls) k ≡ Some m) × (m.position ≡ Some p) × (m.finished ≡ true) × (m.at ≡ f)
-    by_test true is g ih = let r = both l.position l.finished is in (0, l, refl, r.0, r.1, some_same _ _ g)
+    by_test true is g ih = let r = both l.position l.finished is in (0, l, refl, r.0, r.1, same_Some _ _ g)
     by_test false is g ih = let r = ih g in (suc r.0, r.1, r.2, r.3, r.4, r.5)
 
 -- ---- among the records of all lists
@@ -195,12 +193,12 @@ done_past (x ∷ xs) ys k p e =
 -- a list dispatches what it knows alone
 known_in : (jobs : List Job) (c b : ℕ) (is : List SInstr) (x : Point) (k p : ℕ) (l : Left) → InForm c b is → slice_get (walk_from jobs is x) k ≡ Some l → l.position ≡ Some p → p < c
 known_in jobs c b [] x k p l f e pos = not_some l e
-known_in jobs c b (End ∷ []) x zero p l f e pos = not_some p (ap (λ (z : Left). z.position) (some_same _ _ e) ∙ pos)
+known_in jobs c b (End ∷ []) x zero p l f e pos = not_some p (ap (λ (z : Left). z.position) (same_Some _ _ e) ∙ pos)
 known_in jobs c b (End ∷ []) x (suc k) p l f e pos = not_some l e
 known_in jobs c b (End ∷ i ∷ is) x k p l f e pos = absurd f.0
-known_in jobs c b (Dispatch q h ∷ is) x zero p l f e pos = let same : q ≡ p = some_same _ _ (ap (λ (z : Left). z.position) (some_same _ _ e) ∙ pos) in omega (arith, f.0.0, same)
+known_in jobs c b (Dispatch q h ∷ is) x zero p l f e pos = let same : q ≡ p = same_Some _ _ (ap (λ (z : Left). z.position) (same_Some _ _ e) ∙ pos) in omega (arith, f.0.0, same)
 known_in jobs c b (Dispatch q h ∷ is) x (suc k) p l f e pos = known_in jobs c b is (next_point jobs (Dispatch q h) x) k p l f.1 e pos
-known_in jobs c b (Idle h ∷ is) x zero p l f e pos = not_some p (ap (λ (z : Left). z.position) (some_same _ _ e) ∙ pos)
+known_in jobs c b (Idle h ∷ is) x zero p l f e pos = not_some p (ap (λ (z : Left). z.position) (same_Some _ _ e) ∙ pos)
 known_in jobs c b (Idle h ∷ is) x (suc k) p l f e pos = known_in jobs c b is (next_point jobs (Idle h) x) k p l f.1 e pos
 
 -- a slice that is listed is one of a record
@@ -242,7 +240,7 @@ finishing jobs (s ∷ ss) (g ∷ gs) x k p l f e pos fin = elim (cases_lt k (len
     here h =
         let ls = walk_from jobs s (list_point g.from x) in
         let ms = end_to_end (walks_from jobs ss gs (last_point jobs s (list_point g.from x))) in
-        let at : slice_get ls k ≡ Some l = sym (get_in ls ms k h) ∙ e in
+        let at : slice_get ls k ≡ Some l = sym (within_front ls ms k h) ∙ e in
         let last = last_is jobs p s (list_point g.from x) k l at pos fin in
         let one = listed ls p 0 last.first.0 last.first.1 in
         let from : g.from ≤ last.first.0.0 = slice_from jobs s (list_point g.from x) one.0 one.1 last.first.0 one.2 one.3 in
@@ -265,7 +263,7 @@ finishing jobs (s ∷ ss) (g ∷ gs) x k p l f e pos fin = elim (cases_lt k (len
         let ms = end_to_end (walks_from jobs ss gs z) in
         let d = k - length ls in
         let is : length ls + d ≡ k = omega (arith, h) in
-        let r = ih d (sym (get_past ls ms d) ∙ ap (slice_get (ls ++ ms)) is ∙ e) in
+        let r = ih d (sym (get_back ls ms d) ∙ ap (slice_get (ls ++ ms)) is ∙ e) in
         record {
           some = omega (arith, r.some, left_falls_to jobs s (list_point g.from x) p);
           open_yet = ap (λ m. done_by (ls ++ ms) m p) (sym is) ∙ done_past ls ms d p (no_finish jobs s (list_point g.from x) p r.some) ∙ r.open_yet;

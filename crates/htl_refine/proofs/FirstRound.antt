@@ -12,7 +12,7 @@ use Rattle.htl_model.specs.Selections.{is_root, root_modules, modes_of, invs_of,
 use Rattle.htl_model.specs.Tables.{Tables}
 use Rattle.htl_walk.specs.Jobs.{is_fed_by, job_of, jobs_standing}
 use Rattle.htl_walk.specs.PathJobs.{placed_job, placed_jobs}
-use Rattle.htl_walk.proofs.OnePeriod.{job_at_start}
+use Rattle.htl_walk.proofs.OnePeriod.{job_at_start, places_join}
 use Rattle.htl_refine.specs.BegunJobs.{new_jobs, choice_of}
 use Rattle.htl_refine.specs.ConcreteJobs.{running_invs, running_positions, standing, concrete_jobs}
 use Rattle.htl_refine.specs.DerivedPaths.{derived_place, derived_jobs, start_places, standing_place}
@@ -37,10 +37,6 @@ choices_first t k (m ∷ ms) = by (is_root m) (choices_first t (suc k) ms)
         ≡ cond b (length (modes_of t k)) 1 * choices_from t (suc k) ms
     by true ih = ap (λ n. length (modes_of t k) * n) ih
     by false ih = ih ∙ (let z : choices_from t (suc k) ms ≡ 1 * choices_from t (suc k) ms = omega arith in z)
-
-places_join : (ks ls : List ℕ) → places_of 0 ks ++ places_of 0 ls ≡ places_of 0 (ks ++ ls)
-places_join [] ls = refl
-places_join (k ∷ ks) ls = ap (λ xs. record { inv = Some k; at = 0 } ∷ xs) (places_join ks ls)
 
 -- ---- the path
 

@@ -20,11 +20,14 @@ use Rattle.htl_refine.specs.ConcreteJobs.{running_invs}
 use Rattle.htl_refine.specs.DerivedPaths.{derived_place}
 use Rattle.htl_refine.specs.FramePlaces.{standing_places}
 use Rattle.htl_refine.specs.FrameRuns.{frame_modes, path_of, running_places, frame_places, frame_jobs}
-use Rattle.htl_refine.proofs.AlongPath.{known_append, known_none}
-use Rattle.htl_refine.proofs.Fronts.{front_there, map_same, take_map}
+use Rattle.htl_refine.proofs.AlongPath.{known_none}
+use Rattle.htl_refine.proofs.Fronts.{front_there, take_map}
 use Rattle.htl_refine.proofs.NodeRead.{nodes_read, nodes_agree}
 use Rattle.htl_refine.proofs.RoundOrder.{Sorted, RoundLess, ByStart, sorted_rounds, least_first, run_of, frame_by_start, standing_by_start, begun_known, known_begun, known_same}
 use Rattle.htl_refine.proofs.StateLaws.{states_are_selections}
+use Rattle.htl_walk.proofs.Nodes.{known_append}
+use Rattle.htl_model.proofs.Listed.{length-list_to}
+use Rattle.htl_base.proofs.Places.{map_same, take_front}
 
 -- ---- the places so far
 
@@ -76,7 +79,7 @@ places_agree t modes later d (r ∷ rs) s same = by (cases_lt d r.at) (places_ag
 
 -- ---- what stands at them, and the jobs
 
-all_false : (test : Place → Bool) (ys : List Place) → ((q : ℕ) (y : Place) → slice_get ys q ≡ Some y → test y ≡ false) → mask (map test ys) ≡ 0
+pub all_false : (test : Place → Bool) (ys : List Place) → ((q : ℕ) (y : Place) → slice_get ys q ≡ Some y → test y ≡ false) → mask (map test ys) ≡ 0
 all_false test [] h = refl
 all_false test (y ∷ ys) h = let bit : of_bool (test y) ≡ 0 = ap of_bool (h 0 y refl) in let rest = all_false test ys (λ q z e. h (suc q) z e) in omega (arith, bit, rest)
 
@@ -120,18 +123,9 @@ legs_agree h xs ys (a ∷ later) zero e = refl
 legs_agree h xs ys (a ∷ later) (suc k) e =
     ap₂ (λ n gs. let g : Leg = record { from = a; to = next_of h later; known = n } in g ∷ gs) (e 0 (omega arith) (omega arith)) (legs_agree h xs ys later k (λ j l m. e (suc j) (omega (arith, l)) (omega (arith, m))))
 
-take_within : {A : Type 0} (k : ℕ) (xs ys : List A) → k ≤ length xs → take k (xs ++ ys) ≡ take k xs
-take_within zero xs ys l = refl
-take_within (suc k) [] ys l = absurd (omega arith)
-take_within (suc k) (x ∷ xs) ys l = ap (λ zs. x ∷ zs) (take_within k xs ys (omega (arith, l)))
-
 length_snoc : {A : Type 0} (xs : List A) (y : A) → length (xs ++ y ∷ []) ≡ suc (length xs)
 length_snoc [] y = refl
 length_snoc (x ∷ xs) y = ap (λ n. suc n) (length_snoc xs y)
-
-list_many : {A : Type 0} (g : ℕ → A) (n : ℕ) → length (list_to g n) ≡ n
-list_many g zero = refl
-list_many g (suc n) = length_snoc (list_to g n) (g n) ∙ ap (λ z. suc z) (list_many g n)
 
 lists_same : {A : Type 0} (g h : ℕ → A) (n : ℕ) → ((j : ℕ) → j < n → g j ≡ h j) → list_to g n ≡ list_to h n
 lists_same g h zero e = refl
@@ -144,7 +138,7 @@ lists_agree {A} g h (suc n) k e = by (cases_lt n k) (lists_agree g h n k e)
     by : (n < k) ⊎ (k ≤ n) → take k (list_to g n) ≡ take k (list_to h n) → take k (list_to g (suc n)) ≡ take k (list_to h (suc n))
     by (inl l) ih = ap (take k) (lists_same g h (suc n) (λ j m. e j (omega (arith, l, m))))
     by (inr l) ih =
-        take_within k (list_to g n) (g n ∷ []) (omega (arith, l, list_many g n)) ∙ ih ∙ sym (take_within k (list_to h n) (h n ∷ []) (omega (arith, l, list_many h n)))
+        take_front k (list_to g n) (g n ∷ []) (omega (arith, l, length-list_to g n)) ∙ ih ∙ sym (take_front k (list_to h n) (h n ∷ []) (omega (arith, l, length-list_to h n)))
 
 -- ---- the frames
 

@@ -9,9 +9,12 @@ use Rattle.htl_walk.proofs.GoingOn.{same_length}
 use Rattle.htl_refine.specs.AgreeingRuns.{AreSameSoFar}
 use Rattle.htl_refine.specs.FrameRuns.{Frame, walks_of}
 use Rattle.htl_refine.specs.ListPlans.{ListPlan, no_leg, leg_at, front_of, list_start, list_plan}
-use Rattle.htl_refine.proofs.Fronts.{job_front, get_front, take_work}
+use Rattle.htl_refine.proofs.Fronts.{job_front, take_work}
 use Rattle.htl_refine.proofs.PointsAgree.{points_agree}
 use Rattle.htl_refine.proofs.WalksAgree.{fronts_alike}
+use Rattle.htl_base.proofs.Places.{get_taken}
+use Rattle.htl_walk.proofs.CodeWalk.{work_length}
+use Rattle.std.proofs.lemmas.Grind.{same_number_lists}
 
 -- ---- lists
 
@@ -28,29 +31,18 @@ take_less zero xs = refl
 take_less (suc k) [] = refl
 take_less (suc k) (x ∷ xs) = ap (λ ys. x ∷ ys) (take_less k xs)
 
-pub same_lists : (xs ys : List ℕ) → length xs ≡ length ys → ((p : ℕ) → p < length xs → get_or xs p 0 ≡ get_or ys p 0) → xs ≡ ys
-same_lists [] [] e h = refl
-same_lists [] (y ∷ ys) e h = absurd (omega (arith, e))
-same_lists (x ∷ xs) [] e h = absurd (omega (arith, e))
-same_lists (x ∷ xs) (y ∷ ys) e h = ap₂ (λ a b. a ∷ b) (h 0 (omega arith)) (same_lists xs ys (omega (arith, e)) (λ p l. h (suc p) (omega (arith, l))))
-
 pub point_long : (jobs : List Job) (ss : List (List SInstr)) (gs : List Leg) (j : ℕ) (x : Point) → length (path_point jobs ss gs j 0 x).left ≡ length x.left
 point_long jobs [] gs j x = refl
 point_long jobs (s ∷ ss) [] j x = refl
 point_long jobs (s ∷ ss) (g ∷ gs) zero x = refl
 point_long jobs (s ∷ ss) (g ∷ gs) (suc j) x = point_long jobs ss gs j (last_point jobs s (record { time = g.from; left = x.left })) ∙ same_length jobs s (record { time = g.from; left = x.left })
 
-pub length-work : (js : List Job) (ns : List ℕ) → length (work js ns) ≡ length js
-length-work [] ns = refl
-length-work (j ∷ js) [] = ap suc (length-work js [])
-length-work (j ∷ js) (n ∷ ns) = ap suc (length-work js ns)
-
 -- points that agree have the same front
 front_same : (n : ℕ) (x y : Point) → AgreeAt n x y → n ≤ length x.left → n ≤ length y.left → front_of n x ≡ front_of n y
 front_same n x y a l m =
     let lefts : take n x.left ≡ take n y.left =
-    same_lists (take n x.left) (take n y.left) (let z : length (take n x.left) ≡ length (take n y.left) = omega (arith, length-take n x.left, length-take n y.left, l, m) in z)
-    (λ p h. let k : p < n = omega (arith, h, length-take n x.left) in get_front n x.left p k ∙ a.left p k ∙ sym (get_front n y.left p k)) in
+    same_number_lists (take n x.left) (take n y.left) (let z : length (take n x.left) ≡ length (take n y.left) = omega (arith, length-take n x.left, length-take n y.left, l, m) in z)
+    (λ p h. let k : p < n = omega (arith, h, length-take n x.left) in get_taken n x.left p k ∙ a.left p k ∙ sym (get_taken n y.left p k)) in
     let make : ℕ → List ℕ → Point = λ t ws. record { time = t; left = ws } in
     ap₂ make a.time lefts
 
@@ -60,7 +52,7 @@ module _ (p q : Frame) (j : ℕ) (m : ℕ) (known : (leg_at p j).known ≡ m) (s
   work_same = sym (take_work m p.jobs p.lengths) ∙ ap₂ work same.jobs lengths ∙ take_work m q.jobs q.lengths
 
   begins_same : AgreeAt m (first_point p.jobs p.lengths) (first_point q.jobs q.lengths)
-  begins_same = record { time = refl; left = λ k l. sym (get_front m (work p.jobs p.lengths) k l) ∙ ap (λ ws. get_or ws k 0) work_same ∙ get_front m (work q.jobs q.lengths) k l }
+  begins_same = record { time = refl; left = λ k l. sym (get_taken m (work p.jobs p.lengths) k l) ∙ ap (λ ws. get_or ws k 0) work_same ∙ get_taken m (work q.jobs q.lengths) k l }
 
   jobs_same : AgreeOn m p.jobs q.jobs
   jobs_same k l = sym (job_front m p.jobs k l) ∙ ap (λ js. job_at js k) same.jobs ∙ job_front m q.jobs k l
@@ -75,8 +67,8 @@ module _ (p q : Frame) (j : ℕ) (m : ℕ) (known : (leg_at p j).known ≡ m) (s
       points_agree m p.jobs q.jobs p.lists q.lists p.legs q.legs j (first_point p.jobs p.lengths) (first_point q.jobs q.lengths) jobs_same begins_same forms within same.lists same.legs in
       let fronts : front_of m (list_start p j) ≡ front_of m (list_start q j) =
       front_same m (list_start p j) (list_start q j) points
-      (omega (arith, point_long p.jobs p.lists p.legs j (first_point p.jobs p.lengths), length-work p.jobs p.lengths, few))
-      (omega (arith, point_long q.jobs q.lists q.legs j (first_point q.jobs q.lengths), length-work q.jobs q.lengths, few_q)) in
+      (omega (arith, point_long p.jobs p.lists p.legs j (first_point p.jobs p.lengths), work_length p.jobs p.lengths, few))
+      (omega (arith, point_long q.jobs q.lists q.legs j (first_point q.jobs q.lengths), work_length q.jobs q.lengths, few_q)) in
       let plan : List Job → List ℕ → Point → List SInstr → ListPlan = λ js ns x c. record { jobs = js; lengths = ns; first = x; schedule = c } in
       let of : ℕ → Frame → ListPlan = λ n f. plan (take n f.jobs) (take n f.lengths) (front_of n (list_start f j)) (get_or f.lists j []) in
       ap (λ n. of n p) known

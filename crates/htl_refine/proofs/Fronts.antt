@@ -14,10 +14,6 @@ front_there (suc m) [] p x e = not_some x e
 front_there (suc m) (y ∷ xs) zero x e = (e, omega arith)
 front_there (suc m) (y ∷ xs) (suc p) x e = let r = front_there m xs p x e in (r.0, omega (arith, r.1))
 
-pub map_same : {A B : Type 0} (f g : A → B) (xs : List A) → ((q : ℕ) (x : A) → slice_get xs q ≡ Some x → f x ≡ g x) → map f xs ≡ map g xs
-map_same f g [] h = refl
-map_same f g (x ∷ xs) h = ap₂ (λ y ys. y ∷ ys) (h 0 x refl) (map_same f g xs (λ q y e. h (suc q) y e))
-
 pub take_map : {A B : Type 0} (f : A → B) (n : ℕ) (xs : List A) → take n (map f xs) ≡ map f (take n xs)
 take_map f zero xs = refl
 take_map f (suc n) [] = refl
@@ -28,12 +24,6 @@ job_front zero js p h = absurd (omega arith)
 job_front (suc n) [] p h = refl
 job_front (suc n) (j ∷ js) zero h = refl
 job_front (suc n) (j ∷ js) (suc p) h = job_front n js p (omega arith)
-
-pub get_front : (n : ℕ) (xs : List ℕ) (p : ℕ) → p < n → get_or (take n xs) p 0 ≡ get_or xs p 0
-get_front zero xs p h = absurd (omega arith)
-get_front (suc n) [] p h = refl
-get_front (suc n) (x ∷ xs) zero h = refl
-get_front (suc n) (x ∷ xs) (suc p) h = get_front n xs p (omega arith)
 
 pub take_work : (n : ℕ) (js : List Job) (ns : List ℕ) → work (take n js) (take n ns) ≡ take n (work js ns)
 take_work zero js ns = refl
@@ -50,7 +40,3 @@ bit_grow true true m n h l = omega (arith, l)
 bit_grow true false m n h l = absurd (let z : false ≡ true = h refl in cc)
 bit_grow false true m n h l = omega (arith, l)
 bit_grow false false m n h l = omega (arith, l)
-
-pub known_grow : (a b : ℕ) (xs : List Place) → a ≤ b → known_by a xs ≤ known_by b xs
-known_grow a b [] l = omega arith
-known_grow a b (x ∷ xs) l = bit_grow (leb x.at a) (leb x.at b) (known_by a xs) (known_by b xs) (λ e. le-leb x.at b (omega (arith, leb-true x.at a e, l))) (known_grow a b xs l)

@@ -1,6 +1,6 @@
 -- Other lengths of jobs that aren't released yet change the point at which a list begins by these lengths alone.
 use Rattle.std.proofs.Common.{◌≡◌, ℕ, zero, suc, ◌≤◌, ◌<◌, List, [], ◌∷◌, length, get_or, slice_get, take, Some, cond, refl, sym, ap, ap₂, ◌∙◌, arith, inl, inr}
-use Rattle.std.proofs.lemmas.Bool.{lt-ltb}
+use Rattle.std.proofs.lemmas.Bool.{lt-ltb, cases_eq}
 use Rattle.htl_walk.specs.declared.job.Job.{Job}
 use Rattle.htl_walk.specs.declared.schedule.SInstr.{SInstr}
 use Rattle.htl_walk.specs.declared.schedule.SInstr.TheVariants.{Dispatch, Idle, End}
@@ -9,13 +9,14 @@ use Rattle.htl_walk.specs.Paths.{Leg, list_point, walks_from, AreInForm, AreChai
 use Rattle.htl_walk.specs.Refinement.{HaveLengths}
 use Rattle.htl_walk.specs.Walk.{Point, Left, job_at, time_after, work_after, next_point, last_point, first_point, walk_from, work, earlier}
 use Rattle.htl_walk.proofs.Joining.{stays}
-use Rattle.htl_walk.proofs.Steps.{left_same, left_other, apart}
+use Rattle.htl_walk.proofs.Steps.{left_same, left_other}
 use Rattle.htl_walk.proofs.Unreleased.{Alike, alike_walks}
 use Rattle.htl_refine.specs.FrameRuns.{Frame, walks_of}
 use Rattle.htl_refine.specs.ListPlans.{no_leg, leg_at, list_start}
-use Rattle.htl_refine.proofs.LengthsLater.{waits, waited, nothing, last_later, list_alike, begun_alike, path_alike, first_alike}
+use Rattle.htl_refine.proofs.LengthsLater.{waits, waited, nothing, list_alike, begun_alike, path_alike, first_alike}
 use Rattle.htl_refine.proofs.ListCounts.{chain_to}
 use Rattle.htl_refine.proofs.RecordOrder.{times_within}
+use Rattle.htl_walk.proofs.Waiting.{time_rises_to}
 
 -- ---- who isn't released has the work that it had
 
@@ -27,7 +28,7 @@ late_work now (suc w) r until t early late =
 late_left : (jobs : List Job) (t q : ℕ) (i : SInstr) (x : Point) → (next_point jobs i x).time < t → t ≤ (job_at jobs q).release → get_or (next_point jobs i x).left q 0 ≡ get_or x.left q 0
 late_left jobs t q (Idle until) x early late = refl
 late_left jobs t q End x early late = refl
-late_left jobs t q (Dispatch p until) x early late = elim (apart p q) [
+late_left jobs t q (Dispatch p until) x early late = elim (cases_eq p q) [
   | inl e ↦
       ap (λ z. get_or (next_point jobs (Dispatch p until) x).left z 0) (sym e) ∙ left_same x.left p x.time (job_at jobs p).release until
       ∙ late_work x.time (get_or x.left p 0) (job_at jobs p).release until t early (let same : (job_at jobs p).release ≡ (job_at jobs q).release = ap (λ z. (job_at jobs z).release) e in omega (arith, same, late))
@@ -38,7 +39,7 @@ late_left jobs t q (Dispatch p until) x early late = elim (apart p q) [
 late_last : (jobs : List Job) (t q : ℕ) (is : List SInstr) (x : Point) → (last_point jobs is x).time < t → t ≤ (job_at jobs q).release → get_or (last_point jobs is x).left q 0 ≡ get_or x.left q 0
 late_last jobs t q [] x early late = refl
 late_last jobs t q (i ∷ is) x early late =
-    late_last jobs t q is (next_point jobs i x) early late ∙ late_left jobs t q i x (omega (arith, last_later jobs is (next_point jobs i x), early)) late
+    late_last jobs t q is (next_point jobs i x) early late ∙ late_left jobs t q i x (omega (arith, time_rises_to jobs is (next_point jobs i x), early)) late
 
 late_path : (jobs : List Job) (t q : ℕ) (ss : List (List SInstr)) (gs : List Leg) (a h n j : ℕ) (x : Point) → AreInForm ss gs → AreChained a h n gs → j < length gs → (get_or gs j no_leg).from < t → t ≤ (job_at jobs q).release
     → get_or (path_point jobs ss gs j 0 x).left q 0 ≡ get_or x.left q 0

@@ -8,7 +8,7 @@ use Rattle.htl_walk.specs.Paths.{Leg, list_point, AreInForm, AreChained, path_po
 use Rattle.htl_walk.specs.Refinement.{HaveLengths}
 use Rattle.htl_walk.specs.Walk.{Point, job_at, time_after, work_after, next_point, last_point, first_point, work, earlier}
 use Rattle.htl_walk.proofs.Joining.{stays}
-use Rattle.htl_walk.proofs.Steps.{left_same, left_other, apart, either, time_rises}
+use Rattle.htl_walk.proofs.Steps.{left_same, left_other, time_rises}
 use Rattle.htl_walk.proofs.Unreleased.{Alike, alike_walks}
 use Rattle.htl_walk.proofs.Work.{job_there, work_present, present_or_idle}
 use Rattle.htl_refine.specs.FrameRuns.{Frame}
@@ -16,6 +16,8 @@ use Rattle.htl_refine.specs.ListLaws.{LengthsLater}
 use Rattle.htl_refine.specs.ListPlans.{no_leg, list_start}
 use Rattle.htl_refine.proofs.ListCounts.{chain_to}
 use Rattle.htl_refine.proofs.ListWalks.{list_is}
+use Rattle.std.proofs.lemmas.Bool.{cases_eq, cases_lt}
+use Rattle.htl_walk.proofs.Waiting.{time_rises_to}
 
 -- ---- one dispatch of a job that isn't released
 
@@ -54,7 +56,7 @@ module _ (jobs : List Job) (t p until : ℕ) (x y : Point) (a : Alike jobs t x y
       let w = a.released p soon in
       record {
         time = ap₂ (λ n v. time_after n v (job_at jobs p).release until) a.time w;
-        released = λ q b. elim (apart p q) [
+        released = λ q b. elim (cases_eq p q) [
           | inl e ↦ here_x q e ∙ ap₂ (λ n v. work_after n v (job_at jobs p).release until) a.time w ∙ sym (here_y q e)
           | inr n ↦ else_x q n ∙ a.released q b ∙ sym (else_y q n)
         ];
@@ -84,13 +86,13 @@ module _ (jobs : List Job) (t p until : ℕ) (x y : Point) (a : Alike jobs t x y
       }
     where
       all_x : (q : ℕ) → get_or (next_point jobs (Dispatch p until) x).left q 0 ≡ get_or x.left q 0
-      all_x q = elim (apart p q) [ inl e ↦ here_x q e ∙ one ∙ ap (λ z. get_or x.left z 0) e | inr n ↦ else_x q n ]
+      all_x q = elim (cases_eq p q) [ inl e ↦ here_x q e ∙ one ∙ ap (λ z. get_or x.left z 0) e | inr n ↦ else_x q n ]
 
       all_y : (q : ℕ) → get_or (next_point jobs (Dispatch p until) y).left q 0 ≡ get_or y.left q 0
-      all_y q = elim (apart p q) [ inl e ↦ here_y q e ∙ two ∙ ap (λ z. get_or y.left z 0) e | inr n ↦ else_y q n ]
+      all_y q = elim (cases_eq p q) [ inl e ↦ here_y q e ∙ two ∙ ap (λ z. get_or y.left z 0) e | inr n ↦ else_y q n ]
 
   dispatch_alike : (next_point jobs (Dispatch p until) x).time < t → Alike jobs t (next_point jobs (Dispatch p until) x) (next_point jobs (Dispatch p until) y)
-  dispatch_alike early = elim (either (job_at jobs p).release t) [ inl soon ↦ released_alike soon | inr late ↦ by late (a.unreleased p late) ]
+  dispatch_alike early = elim (cases_lt (job_at jobs p).release t) [ inl soon ↦ released_alike soon | inr late ↦ by late (a.unreleased p late) ]
     where
       by : t ≤ (job_at jobs p).release → ((get_or x.left p 0 ≡ 0) × (get_or y.left p 0 ≡ 0)) ⊎ ((0 < get_or x.left p 0) × (0 < get_or y.left p 0))
           → Alike jobs t (next_point jobs (Dispatch p until) x) (next_point jobs (Dispatch p until) y)
@@ -109,14 +111,10 @@ step_alike jobs t (Dispatch p until) x y a early = dispatch_alike jobs t p until
 step_alike jobs t (Idle until) x y a early = record { time = ap (λ n. max n until) a.time; released = a.released; unreleased = a.unreleased }
 step_alike jobs t End x y a early = a
 
-pub last_later : (jobs : List Job) (is : List SInstr) (x : Point) → x.time ≤ (last_point jobs is x).time
-last_later jobs [] x = omega arith
-last_later jobs (i ∷ is) x = omega (arith, time_rises jobs i x, last_later jobs is (next_point jobs i x))
-
 pub list_alike : (jobs : List Job) (t : ℕ) (is : List SInstr) (x y : Point) → Alike jobs t x y → (last_point jobs is x).time < t → Alike jobs t (last_point jobs is x) (last_point jobs is y)
 list_alike jobs t [] x y a early = a
 list_alike jobs t (i ∷ is) x y a early =
-    let soon : (next_point jobs i x).time < t = omega (arith, last_later jobs is (next_point jobs i x), early) in
+    let soon : (next_point jobs i x).time < t = omega (arith, time_rises_to jobs is (next_point jobs i x), early) in
     list_alike jobs t is (next_point jobs i x) (next_point jobs i y) (step_alike jobs t i x y a soon) early
 
 -- ---- the lists

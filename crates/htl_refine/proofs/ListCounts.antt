@@ -113,7 +113,7 @@ ends_alike xs ys d p late = by (finish xs p) refl
         not_done false g = refl
         not_done true g = let r = done_is (suc d) ys p g in absurd (omega (arith, late r.0 r.1, r.2))
 
-count_all : (e : ℕ) (ls : List Left) → ((k : ℕ) (l : Left) → slice_get ls k ≡ Some l → l.at < e) → count_left_before e ls ≡ length ls
+pub count_all : (e : ℕ) (ls : List Left) → ((k : ℕ) (l : Left) → slice_get ls k ≡ Some l → l.at < e) → count_left_before e ls ≡ length ls
 count_all e [] h = refl
 count_all e (l ∷ ls) h = ap (λ b. cond b (suc (count_left_before e ls)) 0) (lt-ltb l.at e (h 0 l refl)) ∙ ap suc (count_all e ls (λ k m g. h (suc k) m g))
 

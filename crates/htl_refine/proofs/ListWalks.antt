@@ -4,18 +4,19 @@ use Rattle.htl_walk.specs.declared.job.Job.{Job}
 use Rattle.htl_walk.specs.declared.schedule.SInstr.{SInstr}
 use Rattle.htl_walk.specs.Paths.{Leg, list_point, walks_from, AreInForm, path_point, AgreeOn, AgreeAt}
 use Rattle.htl_walk.specs.Walk.{Point, walk_from, last_point, first_point, InForm}
-use Rattle.htl_walk.proofs.Finishes.{some_same}
 use Rattle.htl_walk.proofs.Locality.{walk_alike}
 use Rattle.htl_refine.specs.FrameRuns.{Frame, walks_of}
 use Rattle.htl_refine.specs.ListLaws.{ListWalks}
 use Rattle.htl_refine.specs.ListPlans.{no_leg, leg_at, front_of, list_start, list_plan, list_walk}
-use Rattle.htl_refine.proofs.Fronts.{job_front, get_front}
+use Rattle.htl_refine.proofs.Fronts.{job_front}
+use Rattle.htl_base.proofs.Places.{get_taken}
+use Rattle.std.proofs.lemmas.Option.{same_Some}
 
 pub front_agrees : (n : ℕ) (js : List Job) → AgreeOn n (take n js) js
 front_agrees n js = λ p h. job_front n js p h
 
 pub point_agrees : (n : ℕ) (x : Point) → AgreeAt n (front_of n x) x
-point_agrees n x = record { time = refl; left = λ p h. get_front n x.left p h }
+point_agrees n x = record { time = refl; left = λ p h. get_taken n x.left p h }
 
 -- ---- list j of the walk of a path
 
@@ -46,9 +47,9 @@ walk_is f j forms l = get_of (walks_of f) j (list_walk (list_plan f j)) (list_wa
   where
     get_of : {A : Type 0} (xs : List (List A)) (k : ℕ) (y : List A) → slice_get xs k ≡ Some y → get_or xs k [] ≡ y
     get_of [] k y e = absurd (let z : ⊥ = cc in z)
-    get_of (x ∷ xs) zero y e = some_same x y e
+    get_of (x ∷ xs) zero y e = same_Some x y e
     get_of (x ∷ xs) (suc k) y e = get_of xs k y e
 
 -- so it is the walk of the frame from the point at which the list begins
 pub list_is : (f : Frame) (j : ℕ) → AreInForm f.lists f.legs → j < length f.legs → list_walk (list_plan f j) ≡ walk_from f.jobs (get_or f.lists j []) (list_start f j)
-list_is f j forms l = some_same _ _ (sym (list_walks f j forms l) ∙ walk_at f.jobs f.lists f.legs j (first_point f.jobs f.lengths) forms l)
+list_is f j forms l = same_Some _ _ (sym (list_walks f j forms l) ∙ walk_at f.jobs f.lists f.legs j (first_point f.jobs f.lengths) forms l)

@@ -1,6 +1,6 @@
 -- The lists of a run's frame follow one another.
 use Rattle.std.proofs.Common.{◌≡◌, ◌⊎◌, ℕ, zero, suc, ◌+◌, ◌≤◌, ◌<◌, ◌%◌, Bool, true, false, ◌||◌, eqb, List, [], ◌∷◌, length, get_or, map, slice_get, Some, refl, sym, ap, ◌∙◌, arith, inl, inr}
-use Rattle.std.proofs.lemmas.Bool.{eq-eqb}
+use Rattle.std.proofs.lemmas.Bool.{eq-eqb, or_left, or_right}
 use Rattle.std.proofs.lemmas.List.{length-map}
 use Rattle.htl_model.specs.declared.event.Event.{Event}
 use Rattle.htl_model.specs.declared.frame.Place.{Place}
@@ -11,31 +11,26 @@ use Rattle.htl_walk.specs.declared.job.Job.{Job}
 use Rattle.htl_walk.specs.declared.schedule.SInstr.{SInstr}
 use Rattle.htl_walk.specs.PathJobs.{placed_job, legs_of}
 use Rattle.htl_walk.specs.Paths.{Leg, AreInForm}
-use Rattle.htl_walk.proofs.Finishes.{some_same}
 use Rattle.htl_walk.proofs.Starts.{Rises, starts_rise, known_few}
 use Rattle.htl_refine.specs.DerivedPaths.{derived_place}
 use Rattle.htl_refine.specs.FrameRuns.{frame_modes, frame_places, frame_jobs, frame_at}
 use Rattle.htl_refine.specs.ListLaws.{ListsFollow}
 use Rattle.htl_refine.specs.ListPlans.{no_leg}
 use Rattle.htl_refine.specs.Records.{took}
-use Rattle.htl_refine.proofs.Fronts.{known_grow}
-use Rattle.htl_refine.proofs.Members.{mapped}
 use Rattle.htl_refine.proofs.PathDerived.{placed_present}
 use Rattle.htl_refine.proofs.RecordOrder.{not_some}
 use Rattle.htl_refine.proofs.RoundOrder.{round_of, run_of, frame_by_start, begun_known}
 use Rattle.htl_refine.proofs.ServedFrames.{frames_are_served}
+use Rattle.htl_walk.proofs.NodeWalks.{known_rises, starts_order}
+use Rattle.htl_base.proofs.Places.{from_map}
+use Rattle.std.proofs.lemmas.Option.{same_Some}
+use Rattle.htl_base.proofs.Numbers.{cases_le}
 
 pub begins_by : (t : Tables) (us : List ℕ) (j u a : ℕ) → slice_get us j ≡ Some u → a % unit_period t u ≡ 0 → begins (map (unit_period t) us) a ≡ true
 begins_by t [] j u a e g = not_some u e
 begins_by t (v ∷ us) zero u a e g =
-    left (eqb (a % unit_period t v) 0) (begins (map (unit_period t) us) a) (ap (λ z. eqb (a % unit_period t z) 0) (some_same v u e) ∙ eq-eqb (a % unit_period t u) 0 g)
-  where
-    left : (b c : Bool) → b ≡ true → (b || c) ≡ true
-    left b c e = grind arith
-begins_by t (v ∷ us) (suc j) u a e g = right (eqb (a % unit_period t v) 0) (begins (map (unit_period t) us) a) (begins_by t us j u a e g)
-  where
-    right : (b c : Bool) → c ≡ true → (b || c) ≡ true
-    right b c e = grind arith
+    or_left (eqb (a % unit_period t v) 0) (begins (map (unit_period t) us) a) (ap (λ z. eqb (a % unit_period t z) 0) (same_Some v u e) ∙ eq-eqb (a % unit_period t u) 0 g)
+begins_by t (v ∷ us) (suc j) u a e g = or_right (eqb (a % unit_period t v) 0) (begins (map (unit_period t) us) a) (begins_by t us j u a e g)
 
 -- ---- starts
 
@@ -51,23 +46,6 @@ rises_gap ps h (c ∷ []) j x r l a b = absurd (omega arith)
 rises_gap ps h (c ∷ d ∷ later) zero x r l a b = r.2 x a b
 rises_gap ps h (c ∷ d ∷ later) (suc j) x r l a b = rises_gap ps h (d ∷ later) j x r.3 (omega (arith, l)) a b
 
-pub rises_up : (ps : List ℕ) (h : ℕ) (from : List ℕ) (i j : ℕ) → Rises ps h from → i ≤ j → j < length from → get_or from i 0 ≤ get_or from j 0
-rises_up ps h from i zero r l m = let is : i ≡ 0 = omega (arith, l) in ap_le from i 0 is
-  where
-    ap_le : (from : List ℕ) (i j : ℕ) → i ≡ j → get_or from i 0 ≤ get_or from j 0
-    ap_le from i j e = let same : get_or from i 0 ≡ get_or from j 0 = ap (λ z. get_or from z 0) e in omega (arith, same)
-rises_up ps h from i (suc j) r l m = by (order i j l) (λ e. rises_up ps h from i j r e (omega (arith, m)))
-  where
-    order : (i j : ℕ) → i ≤ suc j → (i ≡ suc j) ⊎ (i ≤ j)
-    order i j l = grind arith
-
-    by : (i ≡ suc j) ⊎ (i ≤ j) → (i ≤ j → get_or from i 0 ≤ get_or from j 0) → get_or from i 0 ≤ get_or from (suc j) 0
-    by (inl e) ih = let same : get_or from i 0 ≡ get_or from (suc j) 0 = ap (λ z. get_or from z 0) e in omega (arith, same)
-    by (inr e) ih =
-        let before : get_or from i 0 ≤ get_or from j 0 = ih e in
-        let next : get_or from j 0 < get_or from (suc j) 0 = rises_next ps h from j r m in
-        omega (arith, before, next)
-
 -- ---- legs
 
 pub legs_many : (h : ℕ) (xs : List Place) (from : List ℕ) → length (legs_of h xs from) ≡ length from
@@ -79,7 +57,7 @@ leg_from h xs [] j l = absurd (omega arith)
 leg_from h xs (a ∷ later) zero l = refl
 leg_from h xs (a ∷ later) (suc j) l = leg_from h xs later j (omega (arith, l))
 
-leg_knows : (h : ℕ) (xs : List Place) (from : List ℕ) (j : ℕ) → j < length from → (get_or (legs_of h xs from) j no_leg).known ≡ known_by (get_or from j 0) xs
+pub leg_knows : (h : ℕ) (xs : List Place) (from : List ℕ) (j : ℕ) → j < length from → (get_or (legs_of h xs from) j no_leg).known ≡ known_by (get_or from j 0) xs
 leg_knows h xs [] j l = absurd (omega arith)
 leg_knows h xs (a ∷ later) zero l = refl
 leg_knows h xs (a ∷ later) (suc j) l = leg_knows h xs later j (omega (arith, l))
@@ -93,9 +71,9 @@ released_later t es f j p k l new at here =
     let modes = frame_modes t es f in
     let xs = frame_places t modes in
     let ys = map (derived_place t modes) xs in
-    let y = mapped (placed_job t ys) ys p k at in
+    let y = from_map (placed_job t ys) ys p k at in
     let c = placed_present t ys y.0.at y.0.inv k y.2 here in
-    let x = mapped (derived_place t modes) xs p y.0 y.1 in
+    let x = from_map (derived_place t modes) xs p y.0 y.1 in
     let r = run_of t modes (rounds t) p x.0 x.1 in
     let root = round_of t r.0 r.1 r.2 in
     let begun : begins (root_periods t) r.1.at ≡ true = begins_by t (root_modules t) root.0 r.1.unit r.1.at root.1 root.2 in
@@ -103,14 +81,11 @@ released_later t es f j p k l new at here =
     let second : x.0.at ≡ y.0.at = ap (λ (z : Place). z.at) x.2 in
     let release = ap (λ (z : Job). z.release) c.4 in
     let after : y.0.at ≤ k.release = omega (arith, release) in
-    by (order (get_or (starts t) (suc j) 0) r.1.at) (order' r.1.at (get_or (starts t) j 0)) begun (omega (arith, first, second, after))
+    by (cases_le (get_or (starts t) (suc j) 0) r.1.at) (cases_le' r.1.at (get_or (starts t) j 0)) begun (omega (arith, first, second, after))
     (λ early. omega (arith, new, begun_known (get_or (starts t) j 0) xs p x.0 (frame_by_start t modes) x.1 (omega (arith, early, first))))
   where
-    order : (a b : ℕ) → (a ≤ b) ⊎ (b < a)
-    order a b = grind arith
-
-    order' : (a b : ℕ) → (a ≤ b) ⊎ (b < a)
-    order' a b = grind arith
+    cases_le' : (a b : ℕ) → (a ≤ b) ⊎ (b < a)
+    cases_le' a b = grind arith
 
     by : {a : ℕ} → (get_or (starts t) (suc j) 0 ≤ a) ⊎ (a < get_or (starts t) (suc j) 0) → (a ≤ get_or (starts t) j 0) ⊎ (get_or (starts t) j 0 < a) → begins (root_periods t) a ≡ true → a ≤ k.release
         → (a ≤ get_or (starts t) j 0 → ⊥) → get_or (starts t) (suc j) 0 ≤ k.release
@@ -141,15 +116,15 @@ lists_follow t lists es f j run there =
     let here : j < length from = omega (arith, there) in
     let own = leg_knows h xs from j here in
     let next = leg_knows h xs from (suc j) there in
-    let grows : known_by (get_or from j 0) xs ≤ known_by (get_or from (suc j) 0) xs = known_grow (get_or from j 0) (get_or from (suc j) 0) xs (let z = rises_next (root_periods t) h from j rise there in omega (arith, z)) in
+    let grows : known_by (get_or from j 0) xs ≤ known_by (get_or from (suc j) 0) xs = known_rises (get_or from j 0) (get_or from (suc j) 0) xs (let z = rises_next (root_periods t) h from j rise there in omega (arith, z)) in
     let jobs : length (frame_jobs t modes) ≡ length xs = length-map ys (placed_job t ys) ∙ length-map xs (derived_place t modes) in
     record {
       forms = serving.forms;
       there = omega (arith, many, there);
       some = form_some (frame_at t lists es f).lists (legs_of h xs from) (suc j) serving.forms (omega (arith, many, there));
       before = λ i l.
-          let up = rises_up (root_periods t) h from i j rise (omega (arith, l)) here in
-          omega (arith, leg_knows h xs from i (omega (arith, l, here)), own, known_grow (get_or from i 0) (get_or from j 0) xs up);
+          let up = starts_order (root_periods t) h from i j rise (omega (arith, l)) here in
+          omega (arith, leg_knows h xs from i (omega (arith, l, here)), own, known_rises (get_or from i 0) (get_or from j 0) xs up);
       more = omega (arith, own, next, grows);
       within = omega (arith, next, known_few (get_or from (suc j) 0) xs, jobs);
       lengths = length-map (frame_jobs t modes) (λ (z : Job). took t es z.inv (f + z.release));

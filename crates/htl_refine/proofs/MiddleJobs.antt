@@ -13,6 +13,8 @@ use Rattle.htl_walk.specs.declared.job.Job.{Job}
 use Rattle.htl_walk.specs.Jobs.{is_fed_by, mask}
 use Rattle.htl_walk.specs.PathJobs.{job_in, placed, placed_job, placed_jobs}
 use Rattle.htl_refine.specs.BegunJobs.{nowhere}
+use Rattle.htl_refine.proofs.FramesAgree.{all_false}
+use Rattle.htl_base.proofs.Tests.{and_none}
 
 -- ---- lists
 
@@ -37,12 +39,8 @@ take_both (x ∷ xs) ys zs = ap (λ n. take n (x ∷ (xs ++ (ys ++ zs)))) (let e
 
 -- ---- predecessors are of the same round
 
-none_set : (test : Place → Bool) (ys : List Place) → ((q : ℕ) (y : Place) → slice_get ys q ≡ Some y → test y ≡ false) → mask (map test ys) ≡ 0
-none_set test [] h = refl
-none_set test (y ∷ ys) h = let bit : of_bool (test y) ≡ 0 = ap of_bool (h 0 y refl) in let rest = none_set test ys (λ q z e. h (suc q) z e) in omega (arith, bit, rest)
-
 only_middle : (test : Place → Bool) (bs cs : List Place) → ((q : ℕ) (y : Place) → slice_get cs q ≡ Some y → test y ≡ false) → mask (map test (bs ++ cs)) ≡ mask (map test bs)
-only_middle test [] cs h = none_set test cs h
+only_middle test [] cs h = all_false test cs h
 only_middle test (b ∷ bs) cs h = ap (λ n. of_bool (test b) + 2 * n) (only_middle test bs cs h)
 
 same_mask : (test : Place → Bool) (xs bs cs : List Place) → test nowhere ≡ false → ((q : ℕ) (y : Place) → slice_get xs q ≡ Some y → test y ≡ false) → ((q : ℕ) (y : Place) → slice_get cs q ≡ Some y → test y ≡ false)
@@ -57,11 +55,7 @@ module _ (t : Tables) (xs bs cs : List Place) (a : ℕ) (before : (q : ℕ) (y :
   away b c n = ap (λ e. e && c) (ne_eqb b a n)
 
   idle : (k : ℕ) → (eqb 0 a && is_fed_by t k None) ≡ false
-  idle k = by (eqb 0 a)
-    where
-      by : (b : Bool) → (b && false) ≡ false
-      by true = refl
-      by false = refl
+  idle k = and_none (eqb 0 a)
 
   job_same : (o : Option ℕ) → placed t (xs ++ (bs ++ cs)) a o ≡ placed t (replicate (length xs) nowhere ++ bs) a o
   job_same None = refl

@@ -2,18 +2,13 @@
 use Rattle.std.proofs.Common.{◌≡◌, ℕ, suc, ◌+◌, ◌*◌, ◌/◌, ◌%◌, ◌≤◌, ◌<◌, ap, ◌∙◌, arith}
 use Rattle.std.proofs.lemmas.Nat.{div-mul-add}
 use Rattle.std.proofs.Math.Nat.{mod-eq_of_lt, add-mul-mod_self_left}
+use Rattle.htl_base.proofs.Numbers.{grow_times, one_more_time}
 
 pub digits : (p c l r : ℕ) → p < l → r < c → p * c + r < l * c
 digits p c l r a b =
-    let most : suc p * c ≤ l * c = grow (suc p) l c a in
-    let one : suc p * c ≡ p * c + c = succ p c in
+    let most : suc p * c ≤ l * c = grow_times (suc p) l c a in
+    let one : suc p * c ≡ p * c + c = one_more_time p c in
     omega (arith, most, one, b)
-  where
-    grow : (a b c : ℕ) → a ≤ b → a * c ≤ b * c
-    grow a b c h = grind arith
-
-    succ : (p c : ℕ) → suc p * c ≡ p * c + c
-    succ p c = omega arith
 
 pub regroup : (d l c e q : ℕ) → d * (l * c) + (e * c + q) ≡ (d * l + e) * c + q
 regroup d l c e q = grind arith

@@ -17,11 +17,13 @@ use Rattle.htl_walk.proofs.Starts.{starts_rise}
 use Rattle.htl_refine.specs.BegunJobs.{nowhere, new_places, new_jobs}
 use Rattle.htl_refine.specs.DerivedPaths.{derived_place, begun_mode, round_places, start_places, standing_place}
 use Rattle.htl_refine.specs.FrameRuns.{running_places, frame_places, frame_jobs}
-use Rattle.htl_refine.proofs.AlongPath.{known_append, known_none}
-use Rattle.htl_refine.proofs.ListsFollow.{rises_up, rises_next}
+use Rattle.htl_refine.proofs.AlongPath.{known_none}
+use Rattle.htl_refine.proofs.ListsFollow.{rises_next}
 use Rattle.htl_refine.proofs.RecordOrder.{not_some}
 use Rattle.htl_refine.proofs.RoundOrder.{known_same}
 use Rattle.htl_refine.proofs.MiddleJobs.{flat_split, flat_next, middle_jobs}
+use Rattle.htl_walk.proofs.Nodes.{known_append}
+use Rattle.htl_walk.proofs.NodeWalks.{starts_order}
 
 -- ---- what stands, start by start
 
@@ -134,7 +136,7 @@ module _ (t : Tables) (modes : ℕ → List (Option ℕ)) where
   up i zero less l = absurd (omega (arith, less))
   up i (suc k) less l =
       let rise = starts_rise (root_periods t) (frame_of t) in
-      let a = rises_up (root_periods t) (frame_of t) (starts t) i k rise (omega (arith, less)) (omega (arith, l)) in
+      let a = starts_order (root_periods t) (frame_of t) (starts t) i k rise (omega (arith, less)) (omega (arith, l)) in
       let b = rises_next (root_periods t) (frame_of t) (starts t) k rise l in
       omega (arith, a, b)
 

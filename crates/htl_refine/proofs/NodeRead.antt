@@ -13,34 +13,21 @@ use Rattle.htl_refine.specs.FrameLaws.{NodesRead, NodeSteps, NodesAgree}
 use Rattle.htl_refine.proofs.PathDerived.{AreRootRounds, root_units, rounds_root}
 use Rattle.htl_refine.proofs.PathRead.{below}
 use Rattle.htl_refine.proofs.MixedRadix.{digit, regroup}
+use Rattle.htl_model.proofs.FrameLimits.{choices_append, choices_starts}
 
 -- ---- joined lists of rounds
 
-choices_join : (t : Tables) (xs ys : List Round) → choices t (xs ++ ys) ≡ choices t xs * choices t ys
-choices_join t [] ys = by (choices t ys)
-  where
-    by : (n : ℕ) → n ≡ 1 * n
-    by n = omega arith
-choices_join t (r ∷ xs) ys = ap (λ z. length (modes_of t r.unit) * z) (choices_join t xs ys) ∙ assoc (length (modes_of t r.unit)) (choices t xs) (choices t ys)
-  where
-    assoc : (a b c : ℕ) → a * (b * c) ≡ a * b * c
-    assoc a b c = grind arith
-
-path_join : (t : Tables) (modes : ℕ → List (Option ℕ)) (xs ys : List Round) → path_in t modes (xs ++ ys) ≡ path_in t modes xs * choices t ys + path_in t modes ys
+pub path_join : (t : Tables) (modes : ℕ → List (Option ℕ)) (xs ys : List Round) → path_in t modes (xs ++ ys) ≡ path_in t modes xs * choices t ys + path_in t modes ys
 path_join t modes [] ys = by (choices t ys) (path_in t modes ys)
   where
     by : (c n : ℕ) → n ≡ 0 * c + n
     by c n = omega arith
 path_join t modes (r ∷ xs) ys =
     let e = entry_place t (modes r.at) r.unit in
-    ap₂ (λ z w. e * z + w) (choices_join t xs ys) (path_join t modes xs ys) ∙ grouped e (choices t xs) (choices t ys) (path_in t modes xs) (path_in t modes ys)
+    ap₂ (λ z w. e * z + w) (choices_append t xs ys) (path_join t modes xs ys) ∙ grouped e (choices t xs) (choices t ys) (path_in t modes xs) (path_in t modes ys)
   where
     grouped : (e x y p q : ℕ) → e * (x * y) + (p * y + q) ≡ (e * x + p) * y + q
     grouped e x y p q = grind arith
-
-choices_flat : (t : Tables) (from : List ℕ) → choices t (flat_map (rounds_at t) from) ≡ ways (map (λ a. choices t (rounds_at t a)) from)
-choices_flat t [] = refl
-choices_flat t (a ∷ later) = choices_join t (rounds_at t a) (flat_map (rounds_at t) later) ∙ ap (λ z. choices t (rounds_at t a) * z) (choices_flat t later)
 
 flat_roots : (t : Tables) (from : List ℕ) → AreRootRounds t (flat_map (rounds_at t) from)
 flat_roots t from p r e =
@@ -62,11 +49,11 @@ later_node c d e q j n cs less small ih =
 
 module _ (t : Tables) (modes : ℕ → List (Option ℕ)) (selections : (a : ℕ) → IsSelection t (modes a)) where
   small_of : (later : List ℕ) → path_in t modes (flat_map (rounds_at t) later) < ways (map (λ a. choices t (rounds_at t a)) later)
-  small_of later = let few = below t modes selections (flat_map (rounds_at t) later) (flat_roots t later) in omega (arith, few, choices_flat t later)
+  small_of later = let few = below t modes selections (flat_map (rounds_at t) later) (flat_roots t later) in omega (arith, few, choices_starts t later)
 
   path_of_flat : (a : ℕ) (later : List ℕ) → path_in t modes (flat_map (rounds_at t) (a ∷ later)) ≡ choice_at t modes a * ways (map (λ a. choices t (rounds_at t a)) later) + path_in t modes (flat_map (rounds_at t) later)
   path_of_flat a later =
-      path_join t modes (rounds_at t a) (flat_map (rounds_at t) later) ∙ ap (λ z. choice_at t modes a * z + path_in t modes (flat_map (rounds_at t) later)) (choices_flat t later)
+      path_join t modes (rounds_at t a) (flat_map (rounds_at t) later) ∙ ap (λ z. choice_at t modes a * z + path_in t modes (flat_map (rounds_at t) later)) (choices_starts t later)
 
   read : (from : List ℕ) (d j : ℕ)
       → node_of (map (λ a. choices t (rounds_at t a)) from) (d * ways (map (λ a. choices t (rounds_at t a)) from) + path_in t modes (flat_map (rounds_at t) from)) j ≡ node_read t modes from j

@@ -27,6 +27,8 @@ use Rattle.htl_refine.proofs.FirstRound.{first_round, rounds_first, path_is, pla
 use Rattle.htl_refine.specs.FrameLaws.{OneFrameRecords}
 use Rattle.htl_refine.specs.FrameRecords.{RunningList, lists_from, lists_at, left_in, begun_before, begins_at, in_frame, old_records_by, new_records_by}
 use Rattle.htl_refine.specs.FrameRuns.{frame_modes, path_in, path_of, running_places, frame_places, frame_jobs, Frame, frame_at, walks_of}
+use Rattle.htl_model.proofs.Locality.{up_to_same}
+use Rattle.htl_base.proofs.Numbers.{times_grow}
 
 -- ---- a frame
 
@@ -101,19 +103,12 @@ module _ (t : Tables) (period : ℕ) (lists : List (List SInstr)) (es : List Eve
 
 -- ---- the records
 
-up_to_same : {A : Type 0} (f g : ℕ → List A) (m : ℕ) → ((k : ℕ) → k < m → f k ≡ g k) → up_to f m ≡ up_to g m
-up_to_same f g zero h = refl
-up_to_same f g (suc m) h = ap₂ (λ xs ys. xs ++ ys) (up_to_same f g m (λ k l. h k (omega arith))) (h m (omega arith))
-
 begun_below : (h now k : ℕ) → 0 < h → k < rounds_before h now → k * h + 0 < now
 begun_below h now k some less =
     let whole : h * ((now + h - 1) / h) ≤ now + h - 1 = mul-div-le (now + h - 1) h in
-    let below : h * (suc k) ≤ h * ((now + h - 1) / h) = more h (suc k) ((now + h - 1) / h) (omega arith) in
+    let below : h * (suc k) ≤ h * ((now + h - 1) / h) = times_grow h (suc k) ((now + h - 1) / h) (omega arith) in
     let is : k * h + h ≡ h * (suc k) = grind arith in
     omega (arith, whole, below, is, some)
-  where
-    more : (p a b : ℕ) → a ≤ b → p * a ≤ p * b
-    more p a b h = grind arith
 
 pub one_frame_records : OneFrameRecords
 one_frame_records t period lists es now range one root = (old, new)

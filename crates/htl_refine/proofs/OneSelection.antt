@@ -9,7 +9,6 @@ use Rattle.htl_model.specs.Ranges.{AreInRange}
 use Rattle.htl_model.specs.Selections.{is_root, mode_of_module, modes_of, choices_from, selection_count}
 use Rattle.htl_model.specs.Tables.{Tables}
 use Rattle.htl_model.proofs.SelectionLaws.{modes_some}
-use Rattle.htl_model.proofs.TestLaws.{equal}
 use Rattle.std.proofs.lemmas.Option.{slice_get_within}
 use Rattle.htl_refine.specs.ConcreteJobs.{IsOfSelection}
 use Rattle.htl_refine.specs.Roots.{place_among, entry_place, selection_from, selection_of}
@@ -17,6 +16,7 @@ use Rattle.htl_model.specs.Selected.{entry}
 use Rattle.htl_refine.proofs.MixedRadix.{regroup, digit}
 use Rattle.htl_refine.proofs.Positions.{rootless}
 use Rattle.htl_refine.proofs.RootSelection.{digit_at, roots_some}
+use Rattle.std.proofs.lemmas.Bool.{eq-eqb}
 
 -- a factor of a number above 0 is above 0
 factor : (e c : ℕ) → 0 < e * c → 0 < c
@@ -45,7 +45,7 @@ place_is test k (x ∷ xs) d h = by (test x) d (λ i below. place_is test (suc k
     by : (b : Bool) (i : ℕ) → ((i : ℕ) → i < length (places_from test (suc k) xs) → place_among (get_or (places_from test (suc k) xs) i 0) (places_from test (suc k) xs) ≡ i)
         → i < length (cond b (k ∷ places_from test (suc k) xs) (places_from test (suc k) xs))
         → place_among (get_or (cond b (k ∷ places_from test (suc k) xs) (places_from test (suc k) xs)) i 0) (cond b (k ∷ places_from test (suc k) xs) (places_from test (suc k) xs)) ≡ i
-    by true zero later f = ap (λ c. cond c 0 (suc (place_among k (places_from test (suc k) xs)))) (equal k k refl)
+    by true zero later f = ap (λ c. cond c 0 (suc (place_among k (places_from test (suc k) xs)))) (eq-eqb k k refl)
     by true (suc i) later f =
         let y = get_or (places_from test (suc k) xs) i 0 in
         ap (λ c. cond c 0 (suc (place_among y (places_from test (suc k) xs)))) (other k y (above test (suc k) xs i (omega arith))) ∙ ap suc (later i (omega arith))

@@ -11,9 +11,8 @@ use Rattle.htl_model.specs.Tables.{Tables}
 use Rattle.htl_model.specs.First.{or_else}
 use Rattle.htl_form.specs.Rows.{IsRangeOf, through_all, AreSteps, follows}
 use Rattle.htl_form.proofs.CycleLaws.{leads_same}
-use Rattle.htl_form.proofs.Places.{all_at, filled_at}
+use Rattle.htl_form.proofs.Places.{filled_at}
 use Rattle.htl_form.proofs.RowLaws.{cell_below, way_out, way_in, unfold_follows}
-use Rattle.htl_model.proofs.TestLaws.{agree}
 use Rattle.htl_model.specs.Bits.{has_bit, cell}
 use Rattle.htl_model.specs.PortOrder.{Leads}
 use Rattle.htl_model.proofs.PortChains.{leads_from, leads_within}
@@ -22,6 +21,9 @@ use Rattle.htl_refine.specs.Orders.{AreRowsBelow, ArePlaces, IsPut}
 use Rattle.htl_refine.specs.Refining.{inv_precedes, writer_parent}
 use Rattle.htl_refine.proofs.PrecedenceLaws.{precedes_is, strangers}
 use Rattle.htl_refine.proofs.RefiningLaws.{parent_writer}
+use Rattle.htl_base.proofs.Tests.{same_truth}
+use Rattle.htl_base.proofs.Places.{all_at}
+use Rattle.htl_base.proofs.Numbers.{cases_below_next}
 
 -- ---- closed rows
 
@@ -29,7 +31,7 @@ pub cell_is : (t : Tables) (m base n b a : ℕ) (rows : List ℕ) → IsRangeOf 
     → cell (through_all n rows) b a ≡ inv_precedes t (base + a) (base + b)
 cell_is t m base n b a rows w long steps is_b is_a =
     cell_below rows n b a long (omega arith) ∙ leads_same (cell rows) (follows t base n) n steps n b a (omega arith) is_b is_a
-    ∙ agree (leads_below (follows t base n) n b a) (inv_precedes t (base + a) (base + b))
+    ∙ same_truth (leads_below (follows t base n) n b a) (inv_precedes t (base + a) (base + b))
     (λ h. (precedes_is t (base + a) (base + b)).1 (way_out t base n b a (leads_from (follows t base n) n b a h)))
     (λ h. leads_within (follows t base n) n (λ x y e. (unfold_follows t base n x y e).1) b a (back (way_in t m base n w (base + a) (base + b) ((precedes_is t (base + a) (base + b)).0 h) b is_b refl)))
   where
@@ -65,7 +67,7 @@ pub noted_more : (t : Tables) (m base n : ℕ) (closed rows new_rows places new_
     → ((b a : ℕ) → b < n → a < n → cell closed b a ≡ inv_precedes t (base + a) (base + b))
     → IsPut base n (λ q. get_or closed q 0) rows new_rows → IsPut base n (λ q. q) places new_places
     → AreRowsBelow t m rows places → AreRowsBelow t (m + 1) new_rows new_places
-noted_more t m base n closed rows new_rows places new_places w is put_r put_p before a b x y at_a at_b same less = elim (last y.mode m less) [
+noted_more t m base n closed rows new_rows places new_places w is put_r put_p before a b x y at_a at_b same less = elim (cases_below_next y.mode m less) [
   | inl below ↦
       let off_a = outside t m base n a x w at_a (λ e. omega (arith, e, below, same)) in
       let off_b = outside t m base n b y w at_b (λ e. omega (arith, e, below)) in
@@ -82,9 +84,6 @@ noted_more t m base n closed rows new_rows places new_places w is put_r put_p be
       ∙ is (b - base) (a - base) (omega (arith, in_b.0, in_b.1)) (omega (arith, in_a.0, in_a.1))
       ∙ ap (λ z. inv_precedes t z (base + (b - base))) a_is ∙ ap (λ z. inv_precedes t a z) b_is
 ]
-  where
-    last : (k n : ℕ) → k < n + 1 → (k < n) ⊎ (k ≡ n)
-    last k n h = grind arith
 
 pub places_more : (base n : ℕ) (places new : List ℕ) → n ≤ 128 → IsPut base n (λ q. q) places new → ArePlaces places → ArePlaces new
 places_more base n places new few put before a = elim (order a) [

@@ -9,17 +9,17 @@ use Rattle.htl_model.specs.PeriodRules.{first_mode, asked_period}
 use Rattle.htl_model.specs.Ranges.{AreInRange, IsModeInRange, parent_of}
 use Rattle.htl_model.specs.Selections.{mode_of_module}
 use Rattle.htl_model.specs.Tables.{Tables, mode_period, mode_module}
-use Rattle.htl_form.proofs.Places.{item_at}
-use Rattle.htl_walk.proofs.Finishes.{some_same}
-use Rattle.htl_walk.proofs.Work.{all_at}
 use Rattle.htl_refine.proofs.RecordOrder.{not_some}
+use Rattle.htl_base.proofs.Places.{each_at, item_at}
+use Rattle.htl_walk.proofs.PathReady.{period_at}
+use Rattle.std.proofs.lemmas.Option.{same_Some}
 
 -- the places of the items that pass a test
 pub places_first : {A : Type 0} (p : A → Bool) (q d : ℕ) (xs : List A) (x : A) → slice_get xs d ≡ Some x → p x ≡ true
     → (k j : ℕ) × (slice_get (places_from p q xs) 0 ≡ Some k) × (k ≡ q + j) × (y : A) × (slice_get xs j ≡ Some y) × (p y ≡ true)
 places_first p q d [] x at pass = not_some x at
 places_first {A} p q zero (y ∷ xs) x at pass =
-    let h : p y ≡ true = ap p (some_same _ _ at) ∙ pass in
+    let h : p y ≡ true = ap p (same_Some _ _ at) ∙ pass in
     (q, 0, ap (λ b. slice_get (cond b (q ∷ places_from p (suc q) xs) (places_from p (suc q) xs)) 0) h, omega arith, y, refl, h)
 places_first {A} p q (suc d) (y ∷ xs) x at pass = by_test (p y) refl (places_first p (suc q) d xs x at pass)
   where
@@ -35,9 +35,6 @@ same_or a b h = by_test (eqb a b) refl
     by_test : (c : Bool) → eqb a b ≡ c → a ≡ b
     by_test true e = eqb-true a b e
     by_test false e = absurd (h (λ f. let z : true ≡ false = sym (eq-eqb a b f) ∙ e in cc))
-
-period_of : (t : Tables) (m : ℕ) (x : Mode) → slice_get t.modes m ≡ Some x → mode_period t m ≡ x.period
-period_of t m x e = ap (λ (o : Option Mode). elim o [ Some x ↦ x.period | None ↦ 0 ]) e
 
 unit_of : (t : Tables) (m : ℕ) (x : Mode) → slice_get t.modes m ≡ Some x → mode_module t m ≡ x.«module»
 unit_of t m x e = ap (λ (o : Option Mode). elim o [ Some x ↦ x.«module» | None ↦ 0 ]) e
@@ -59,7 +56,7 @@ module _ (t : Tables) (range : AreInRange t) (kept : KeptApart t 12) where
           unit = sym (unit_of t m x at) ∙ own
 
           told : (p : ℕ) → asked_period t k ≡ Some p → asked_period t k ≡ Some (mode_period t m)
-          told p asked = asked ∙ ap (λ z. Some z) (sym (period_of t m x at ∙ as_asked m p x at (ap (asked_period t) unit ∙ asked)))
+          told p asked = asked ∙ ap (λ z. Some z) (sym (period_at t m x at ∙ as_asked m p x at (ap (asked_period t) unit ∙ asked)))
 
           by_parent : (o : Option ℕ) → parent_of t k ≡ o → asked_period t k ≡ Some (mode_period t m)
           by_parent (Some q) is =
@@ -70,14 +67,14 @@ module _ (t : Tables) (range : AreInRange t) (kept : KeptApart t 12) where
               (ap (λ (o : Option ℕ). elim o [ Some p ↦ Some (mode_period t p) | None ↦ option_map (mode_period t) (first_mode t k) ]) is ∙ ap (option_map (mode_period t)) first.2)
 
   pub same_period : (m q k : ℕ) → m < length t.modes → q < length t.modes → mode_module t m ≡ k → mode_module t q ≡ k → mode_period t m ≡ mode_period t q
-  same_period m q k a b e f = some_same _ _ (sym (period_asked m k a e) ∙ period_asked q k b f)
+  same_period m q k a b e f = same_Some _ _ (sym (period_asked m k a e) ∙ period_asked q k b f)
 
   -- a module that refines a mode has the mode's period
   pub parent_period : (m k q : ℕ) → m < length t.modes → mode_module t m ≡ k → parent_of t k ≡ Some q → mode_period t m ≡ mode_period t q
   parent_period m k q a e parent =
-      some_same _ _ (sym (period_asked m k a e) ∙ ap (λ (o : Option ℕ). elim o [ Some p ↦ Some (mode_period t p) | None ↦ option_map (mode_period t) (first_mode t k) ]) parent)
+      same_Some _ _ (sym (period_asked m k a e) ∙ ap (λ (o : Option ℕ). elim o [ Some p ↦ Some (mode_period t p) | None ↦ option_map (mode_period t) (first_mode t k) ]) parent)
 
   pub some_time : (m : ℕ) → m < length t.modes → 0 < mode_period t m
   some_time m h =
       let x = item_at t.modes m h in
-      omega (arith, period_of t m x.0 x.1, (all_at (IsModeInRange t) t.modes range.modes m x.0 x.1).period.some)
+      omega (arith, period_at t m x.0 x.1, (each_at (IsModeInRange t) t.modes range.modes m x.0 x.1).period.some)

@@ -10,16 +10,13 @@ use Rattle.htl_model.specs.FrameRules.{KeptApart}
 use Rattle.htl_model.specs.Meaning.{state, stay_of, stays_at, stays_to, next_stay, go_on_or_begin, runs, target}
 use Rattle.htl_model.specs.Ranges.{AreInRange, parent_of}
 use Rattle.htl_model.specs.Tables.{Tables, mode_period, mode_module}
-use Rattle.htl_form.proofs.Places.{item_at}
 use Rattle.htl_model.proofs.Stays.{stay_at}
 use Rattle.htl_refine.specs.OwnRounds.{OwnStarts, StaysSince, StaysUntil}
 use Rattle.htl_refine.proofs.OwnPeriods.{same_period, parent_period, some_time}
 use Rattle.htl_refine.proofs.RecordOrder.{not_some}
 use Rattle.htl_refine.proofs.Standing.{Came, began, turned, stayed, is_there, IsStanding, parent_lower, lower_is, standing_at, stood}
-
-zero_down : (p : ℕ) → p * (0 / p) ≡ 0
-zero_down zero = omega arith
-zero_down (suc p) = omega arith
+use Rattle.htl_base.proofs.Places.{item_at}
+use Rattle.htl_base.proofs.Numbers.{cases_up_to, zero_down}
 
 pub runs_is : (t : Tables) (stays : List (Option Stay)) (m : ℕ) → runs t stays m ≡ true → (y : Stay) × (stay_of stays (mode_module t m) ≡ Some y) × (y.mode ≡ m)
 runs_is t stays m e = by_stay (stay_of stays (mode_module t m)) refl e
@@ -82,9 +79,6 @@ turns p n h e =
     let is : suc n ≡ p * (n / p + 1) = grind (arith, e) in
     ap (λ z. p * (z / p)) is ∙ ap (λ z. p * z) (mul-div_cancel_left (n / p + 1) h) ∙ sym is
 
-pub order : (a b : ℕ) → a ≤ b → (a < b) ⊎ (a ≡ b)
-order a b h = grind arith
-
 module _ (t : Tables) (range : AreInRange t) (kept : KeptApart t 12) where
   parent_at : (k : ℕ) (x : Module) → slice_get t.modules k ≡ Some x → parent_of t k ≡ x.parent
   parent_at k x at = ap (λ (o : Option Module). elim o [ Some x ↦ x.parent | None ↦ None ]) at
@@ -139,7 +133,7 @@ module _ (t : Tables) (range : AreInRange t) (kept : KeptApart t 12) where
                   let r = runs_is t (state t es (suc n)).stays m up in
                   let period : mode_period t y.mode ≡ mode_period t m = parent_period t range kept y.mode k m (here.real k y e) (here.own k y e) (parent_at k x at ∙ p) in
                   let began_then : r.0.start ≡ mode_period t r.0.mode * (suc n / mode_period t r.0.mode) = lower (mode_module t m) r.0 (omega (arith, less, h)) r.1 in
-                  elim (order r.0.start (suc n) (here.past (mode_module t m) r.0 r.1)) [
+                  elim (cases_up_to r.0.start (suc n) (here.past (mode_module t m) r.0 r.1)) [
                     | inl q ↦
                         let stood_on : stay_of (state t es n).stays (mode_module t m) ≡ Some r.0 = stood t es (suc n) (mode_module t m) r.0 r.1 q in
                         let ran : runs t (state t es n).stays m ≡ true = ap (λ (o : Option Stay). elim o [ Some x ↦ eqb x.mode m | None ↦ false ]) stood_on ∙ eq-eqb r.0.mode m r.2 in
@@ -154,7 +148,7 @@ module _ (t : Tables) (range : AreInRange t) (kept : KeptApart t 12) where
   since es zero k y e =
       let past : y.start ≤ 0 = (standing_at t range es 0).past k y e in
       ap (λ z. stay_of (state t es z).stays k) (let z : y.start ≡ 0 = omega (arith, past) in z) ∙ e
-  since es (suc n) k y e = by_order (order y.start (suc n) ((standing_at t range es (suc n)).past k y e)) (λ f. since es n k y f)
+  since es (suc n) k y e = by_order (cases_up_to y.start (suc n) ((standing_at t range es (suc n)).past k y e)) (λ f. since es n k y f)
     where
       by_order : (y.start < suc n) ⊎ (y.start ≡ suc n) → (stay_of (state t es n).stays k ≡ Some y → stay_of (state t es y.start).stays k ≡ Some y) → stay_of (state t es y.start).stays k ≡ Some y
       by_order (inl less) ih = ih (stood t es (suc n) k y e less)

@@ -14,8 +14,6 @@ use Rattle.htl_model.specs.SecondWriters.{parent_mode}
 use Rattle.htl_model.specs.Selected.{entry, IsEntry, IsSelection}
 use Rattle.htl_model.specs.Selections.{is_root, inv_of_mode, invs_of}
 use Rattle.htl_model.specs.Tables.{Tables, mode_module}
-use Rattle.htl_model.proofs.TestLaws.{same_number}
-use Rattle.htl_walk.proofs.Finishes.{some_same}
 use Rattle.htl_refine.specs.ConcreteJobs.{running_invs}
 use Rattle.htl_refine.specs.DerivedPaths.{derived_place}
 use Rattle.htl_refine.specs.FramePlaces.{place, standing_places, AreOrdered, PlacesOrdered}
@@ -23,11 +21,14 @@ use Rattle.htl_refine.specs.FrameRuns.{frame_modes, running_places, frame_places
 use Rattle.htl_refine.specs.Records.{modes_at}
 use Rattle.htl_refine.proofs.Chains.{Under, same, under_more, one_top, no_parent}
 use Rattle.htl_refine.proofs.Exact.{chosen_exact_apart}
-use Rattle.htl_refine.proofs.Members.{of_places, mapped}
+use Rattle.htl_refine.proofs.Members.{of_places}
 use Rattle.htl_refine.proofs.Positions.{rootless}
 use Rattle.htl_refine.proofs.RecordOrder.{not_some}
 use Rattle.htl_refine.proofs.RoundOrder.{Sorted, sorted_at, sorted_join, Less, sorted_places, RoundLess, sorted_rounds, round_of, run_of, ByStart, frame_by_start, standing_by_start, begun_known, known_begun, known_same}
 use Rattle.htl_refine.proofs.StateLaws.{states_are_selections}
+use Rattle.htl_base.proofs.Places.{from_map}
+use Rattle.std.proofs.lemmas.Bool.{eqb-true}
+use Rattle.std.proofs.lemmas.Option.{same_Some}
 
 -- ---- places
 
@@ -40,12 +41,12 @@ inv_or x = x.inv
 
 number_of : (k l a b : ℕ) → place k a ≡ place l b → k ≡ l
 unfolding inv_or
-number_of k l a b e = let same : ◌≡◌ {A = Option ℕ} (Some k) (Some l) = ap inv_or e in some_same k l same
+number_of k l a b e = let same : ◌≡◌ {A = Option ℕ} (Some k) (Some l) = ap inv_or e in same_Some k l same
 
 sorted_block : (a : ℕ) (ks : List ℕ) → Sorted Less ks → Sorted PlaceLess (places_of a ks)
 unfolding Sorted Less PlaceLess
 sorted_block a [] s = tt
-sorted_block a (k ∷ ks) s = (λ q y e. by q y (mapped (λ z. place z a) ks q y e), sorted_block a ks s.1)
+sorted_block a (k ∷ ks) s = (λ q y e. by q y (from_map (λ z. place z a) ks q y e), sorted_block a ks s.1)
   where
     by : (q : ℕ) (y : Place) → (z : ℕ) × (slice_get ks q ≡ Some z) × (place z a ≡ y) → (a ≤ y.at) × (place k a ≡ y → ⊥)
     by q y m =
@@ -69,7 +70,7 @@ record IsRootInv (t : Tables) (k u : ℕ) : Type 0 where
   root : parent_mode t inv.mode ≡ None
 
 one_unit : (t : Tables) (k u v : ℕ) → IsRootInv t k u → IsRootInv t k v → u ≡ v
-one_unit t k u v x y = let one : x.inv ≡ y.inv = some_same x.inv y.inv (sym x.at ∙ y.at) in sym x.unit ∙ ap (λ (z : Inv). mode_module t z.mode) one ∙ y.unit
+one_unit t k u v x y = let one : x.inv ≡ y.inv = same_Some x.inv y.inv (sym x.at ∙ y.at) in sym x.unit ∙ ap (λ (z : Inv). mode_module t z.mode) one ∙ y.unit
 
 AreRoots : Tables → (ℕ → List (Option ℕ)) → List Round → Type 0
 AreRoots t modes rs = (q : ℕ) (r : Round) → slice_get rs q ≡ Some r → (j k : ℕ) → slice_get (running_invs t (modes r.at) r.unit) j ≡ Some k → IsRootInv t k r.unit
@@ -86,7 +87,7 @@ sorted_run t modes [] s h = tt
 sorted_run t modes (r ∷ rs) s h =
     sorted_join PlaceLess (places_of r.at (running_invs t (modes r.at) r.unit)) (running_places t modes rs) (sorted_block r.at (running_invs t (modes r.at) r.unit) (sorted_invs t (modes r.at) r.unit))
     (sorted_run t modes rs s.1 (λ q w e j k g. h (suc q) w e j k g))
-    (λ i j x y g k. across i x y (mapped (λ z. place z r.at) (running_invs t (modes r.at) r.unit) i x g) (run_of t modes rs j y k))
+    (λ i j x y g k. across i x y (from_map (λ z. place z r.at) (running_invs t (modes r.at) r.unit) i x g) (run_of t modes rs j y k))
   where
     across : (i : ℕ) (x y : Place) → (z : ℕ) × (slice_get (running_invs t (modes r.at) r.unit) i ≡ Some z) × (place z r.at ≡ x)
         → (q : ℕ) × (w : Round) × (slice_get rs q ≡ Some w) × (j k : ℕ) × (slice_get (running_invs t (modes w.at) w.unit) j ≡ Some k) × (y ≡ place k w.at) → PlaceLess x y
@@ -119,7 +120,7 @@ module _ (t : Tables) (es : List Event) (f : ℕ) (range : AreInRange t) (kept :
       let unit : mode_module t run.0 ≡ u = ap (λ (o : Option Mode). elim o [ Some z ↦ z.«module» | None ↦ 0 ]) mode_at.1 ∙ mode_at.2 in
       let kx = of_places (inv_of_mode run.0) 0 t.invs j k run.2 in
       let inv_at : slice_get t.invs k ≡ Some kx.1 = ap (slice_get t.invs) (let z : k ≡ kx.0 = omega (arith, kx.2) in z) ∙ kx.3 in
-      let mode : kx.1.mode ≡ run.0 = same_number kx.1.mode run.0 kx.4 in
+      let mode : kx.1.mode ≡ run.0 = eqb-true kx.1.mode run.0 kx.4 in
       let is : mode_module t kx.1.mode ≡ u = ap (mode_module t) mode ∙ unit in
       record {
         inv = kx.1;
@@ -154,7 +155,7 @@ module _ (t : Tables) (es : List Event) (f : ℕ) (range : AreInRange t) (kept :
   unfolding AreRoots
   stands_at p i a e =
       let modes = frame_modes t es f in
-      let x = mapped (derived_place t modes) (frame_places t modes) p (place i a) e in
+      let x = from_map (derived_place t modes) (frame_places t modes) p (place i a) e in
       let r = run_of t modes (rounds t) p x.0 x.1 in
       let is : derived_place t modes (place r.4 r.1.at) ≡ place i a = ap (derived_place t modes) (sym r.6) ∙ x.2 in
       let at : r.1.at ≡ a = ap (λ (z : Place). z.at) is in
@@ -169,7 +170,7 @@ module _ (t : Tables) (es : List Event) (f : ℕ) (range : AreInRange t) (kept :
 
   top_is : (k u : ℕ) → IsRootInv t k u → (x : Inv) → slice_get t.invs k ≡ Some x → x.parent ≡ None
   top_is k u r x at =
-      let one : r.inv ≡ x = some_same r.inv x (sym r.at ∙ at) in
+      let one : r.inv ≡ x = same_Some r.inv x (sym r.at ∙ at) in
       no_parent t range kept k x at (subst (λ (z : Inv). parent_mode t z.mode ≡ None) one r.root)
 
   not_twice : (p q i a : ℕ) → p < q → slice_get (standing_places t es f) p ≡ Some (place i a) → slice_get (standing_places t es f) q ≡ Some (place i a) → ⊥

@@ -2,7 +2,7 @@
 use Rattle.std.proofs.Common.{◌≡◌, ◌≢◌, ℕ, zero, suc, ◌+◌, ◌-◌, ◌*◌, ◌/◌, ◌≤◌, ◌<◌, ◌⊎◌, Bool, true, false, cond, eqb, ltb, List, [], ◌∷◌, ◌++◌, length, get_or, map, slice_get, Option, Some, None, refl, sym, ap, ap₂, ◌∙◌, subst, arith, append-nil, inl, inr}
 use Rattle.std.specs.List.{filter}
 use Rattle.std.proofs.lemmas.Bool.{eqb-true, eq-eqb, ne_eqb, lt-ltb, ltb-true}
-use Rattle.std.proofs.lemmas.Option.{slice_get-get_or}
+use Rattle.std.proofs.lemmas.Option.{slice_get-get_or, same_Some}
 use Rattle.std.proofs.Math.Nat.{add-mul-div_left, div-eq_of_lt}
 use Rattle.htl_model.specs.declared.event.Event.{Event}
 use Rattle.htl_model.specs.Frames.{hyper, frame_of, root_periods, starts, node}
@@ -12,7 +12,6 @@ use Rattle.htl_walk.specs.declared.job.Job.{Job}
 use Rattle.htl_walk.specs.declared.schedule.SInstr.{SInstr}
 use Rattle.htl_walk.specs.Paths.{Leg, list_point, walks_from, AreInForm, AreChained, path_point}
 use Rattle.htl_walk.specs.Walk.{Point, Left, walk_from, last_point, first_point}
-use Rattle.htl_walk.proofs.Finishes.{some_same}
 use Rattle.htl_walk.proofs.Starts.{Rises, starts_rise}
 use Rattle.htl_refine.specs.FrameRecords.{RunningList, lists_from, lists_at, left_in, begun_before, begins_at, in_frame, old_records_by, new_records_by}
 use Rattle.htl_refine.specs.FrameRuns.{frame_modes, path_of, frame_places, frame_at, walks_of}
@@ -23,9 +22,12 @@ use Rattle.htl_refine.specs.ServedFrames.{IsServing, IsFeasibleRun}
 use Rattle.htl_refine.proofs.BegunTimes.{start_below}
 use Rattle.htl_refine.proofs.ListCounts.{chain_to}
 use Rattle.htl_refine.proofs.ListWalks.{form_at, list_is}
-use Rattle.htl_refine.proofs.ListsFollow.{rises_next, rises_up, legs_many, leg_from}
-use Rattle.htl_refine.proofs.RecordOrder.{not_some, times_within, chain_ends}
+use Rattle.htl_refine.proofs.ListsFollow.{rises_next, legs_many, leg_from}
+use Rattle.htl_refine.proofs.RecordOrder.{not_some, times_within}
 use Rattle.htl_refine.proofs.ServedFrames.{frames_are_served}
+use Rattle.htl_walk.proofs.Accepted.{past_legs}
+use Rattle.htl_walk.proofs.NodeWalks.{starts_order}
+use Rattle.htl_base.proofs.Numbers.{cases_less_same}
 
 -- ---- lists end to end, of which at most one gives something
 
@@ -41,7 +43,7 @@ joined_one : {A B : Type 0} (g : A → List B) (test : A → Bool) (xs : List A)
     → ((i : ℕ) (y : A) → i ≢ j → slice_get xs i ≡ Some y → test y ≡ true → g y ≡ []) → joined g (filter test xs) ≡ g x
 joined_one g test [] j x at pass h = not_some x at
 joined_one {A} {B} g test (y ∷ ys) zero x at pass h =
-    let same : y ≡ x = some_same y x at in
+    let same : y ≡ x = same_Some y x at in
     let rest : joined g (filter test ys) ≡ [] = joined_none g test ys (λ i z e. h (suc i) z (λ q. omega (arith, q)) e) in
     ap (λ (z : A). joined g (filter test (z ∷ ys))) same
     ∙ ap (λ (b : Bool). joined g (cond b (x ∷ filter test ys) (filter test ys))) pass
@@ -52,7 +54,7 @@ joined_one {A} {B} g test (y ∷ ys) (suc j) x at pass h = by (test y) refl (joi
     by true e ih = ap (λ (zs : List B). zs ++ joined g (filter test ys)) (h 0 y (λ q. omega (arith, q)) refl e) ∙ ih
     by false e ih = ih
 
-up_to_none : {A : Type 0} (g : ℕ → List A) (m : ℕ) → ((k : ℕ) → k < m → g k ≡ []) → up_to g m ≡ []
+pub up_to_none : {A : Type 0} (g : ℕ → List A) (m : ℕ) → ((k : ℕ) → k < m → g k ≡ []) → up_to g m ≡ []
 up_to_none g zero h = refl
 up_to_none g (suc m) h = ap₂ (λ xs ys. xs ++ ys) (up_to_none g m (λ k less. h k (omega (arith, less)))) (h m (omega arith))
 
@@ -102,7 +104,7 @@ leg_order a h n (suc j) (g ∷ gs) c l = leg_order g.to h n j gs c.3 (omega (ari
 
 leg_end : (a h n j : ℕ) (gs : List Leg) → AreChained a h n gs → j < length gs → (get_or gs j no_leg).to ≤ h
 leg_end a h n j [] c l = absurd (omega (arith, l))
-leg_end a h n zero (g ∷ gs) c l = chain_ends g.to h n gs c.3
+leg_end a h n zero (g ∷ gs) c l = past_legs g.to h n gs c.3
 leg_end a h n (suc j) (g ∷ gs) c l = leg_end g.to h n j gs c.3 (omega (arith, l))
 
 legs_order : (a h n i j : ℕ) (gs : List Leg) → AreChained a h n gs → i < j → j < length gs → (get_or gs i no_leg).to ≤ (get_or gs j no_leg).from
@@ -136,9 +138,6 @@ frame_before h i k less =
     grow : (h a b : ℕ) → a ≤ b → a * h ≤ b * h
     grow h a b l = grind arith
 
-three : (i j : ℕ) → (i < j) ⊎ ((i ≡ j) ⊎ (j < i))
-three i j = grind arith
-
 -- ---- in a run
 
 module _ (t : Tables) (lists : List (List SInstr)) (es : List Event) (run : IsFeasibleRun t lists es) where
@@ -169,7 +168,7 @@ module _ (t : Tables) (lists : List (List SInstr)) (es : List Event) (run : IsFe
       let l : i < length p.legs = lists_within (node t (path_of t (frame_modes t es f))) f 0 p.lists p.legs (walks_of p) i y e in
       let many = legs_many (frame_of t) (frame_places t (frame_modes t es f)) (starts t) in
       let few : i < length (starts t) = omega (arith, many, l) in
-      (few, some_same _ _ (sym (there f i few) ∙ e))
+      (few, same_Some _ _ (sym (there f i few) ∙ e))
 
   -- a list leaves nothing after its leg
   times : (f i k : ℕ) (l : Left) → i < length (starts t) → slice_get (list_at t lists es f i).walk k ≡ Some l → l.at ≤ (leg_at (frame_at t lists es f) i).to
@@ -191,12 +190,12 @@ module _ (t : Tables) (lists : List (List SInstr)) (es : List Event) (run : IsFe
   strict i zero less l = absurd (omega (arith, less))
   strict i (suc j) less l =
       let rise : Rises (root_periods t) (frame_of t) (starts t) = starts_rise (root_periods t) (frame_of t) in
-      let up = rises_up (root_periods t) (frame_of t) (starts t) i j rise (omega (arith, less)) (omega (arith, l)) in
+      let up = starts_order (root_periods t) (frame_of t) (starts t) i j rise (omega (arith, less)) (omega (arith, l)) in
       let next = rises_next (root_periods t) (frame_of t) (starts t) j rise l in
       omega (arith, up, next)
 
   one_start : (i j : ℕ) → i < length (starts t) → j < length (starts t) → get_or (starts t) i 0 ≡ get_or (starts t) j 0 → i ≢ j → ⊥
-  one_start i j l m same other = elim (three i j) [
+  one_start i j l m same other = elim (cases_less_same i j) [
     | inl less ↦ let s = strict i j less m in omega (arith, s, same)
     | inr (inl e) ↦ other e
     | inr (inr more) ↦ let s = strict j i more l in omega (arith, s, same)
@@ -213,7 +212,7 @@ module _ (t : Tables) (lists : List (List SInstr)) (es : List Event) (run : IsFe
         (λ i y other at pass.
         let o = only f i y at in
         subst (λ (z : RunningList). g f z ≡ []) o.1
-        (quiet f (list_at t lists es f i) (by i o.0 other (ltb-true (list_at t lists es f i).from now (subst (λ (z : RunningList). ltb z.from now ≡ true) (sym o.1) pass)) (three i j))))
+        (quiet f (list_at t lists es f i) (by i o.0 other (ltb-true (list_at t lists es f i).from now (subst (λ (z : RunningList). ltb z.from now ≡ true) (sym o.1) pass)) (cases_less_same i j))))
       where
         by : (i : ℕ) → i < length (starts t) → i ≢ j → (list_at t lists es f i).from < now → (i < j) ⊎ ((i ≡ j) ⊎ (j < i)) → left_in now f (list_at t lists es f i) ≡ []
         by i few other start (inl less) =

@@ -6,9 +6,12 @@ use Rattle.htl_walk.specs.declared.schedule.SInstr.{SInstr}
 use Rattle.htl_walk.specs.declared.schedule.SInstr.TheVariants.{Dispatch, Idle, End}
 use Rattle.htl_walk.specs.Paths.{Leg, list_point, walks_from, end_to_end, AreInForm, AreChained}
 use Rattle.htl_walk.specs.Walk.{Point, Left, job_at, time_after, next_point, walk_from, last_point, InForm}
-use Rattle.htl_walk.proofs.Finishes.{some_same}
 use Rattle.htl_walk.proofs.Steps.{time_rises}
 use Rattle.htl_refine.specs.RecordCounts.{Rises, count_left_before}
+use Rattle.htl_walk.proofs.Accepted.{past_legs}
+use Rattle.htl_base.proofs.Places.{get_back, within_front}
+use Rattle.std.proofs.lemmas.Option.{same_Some}
+use Rattle.htl_walk.proofs.Joining.{dispatch_stays}
 
 -- nothing is not something
 pub not_some : {A : Type 0} {P : Type 0} (a : A) → ◌≡◌ {A = Option A} None (Some a) → P
@@ -28,20 +31,16 @@ rises_join a b (l ∷ ls) ms h r w s = (r.0, rises_join l.at b ls ms (w 0 l refl
 
 -- ---- a list ends by its bound
 
-step_time : (now w r until period : ℕ) → now ≤ period → until ≤ period → time_after now w r until ≤ period
-step_time now zero r until period a b = a
-step_time now (suc w) r until period a b = omega arith
-
 pub times_within : (jobs : List Job) (count period : ℕ) (is : List SInstr) (x : Point) → InForm count period is → x.time ≤ period → (k : ℕ) (l : Left) → slice_get (walk_from jobs is x) k ≡ Some l → l.at ≤ period
 times_within jobs count period [] x f h k l e = absurd f
-times_within jobs count period (End ∷ []) x f h zero l e = omega (arith, h, ap (λ (z : Left). z.at) (some_same _ _ e))
+times_within jobs count period (End ∷ []) x f h zero l e = omega (arith, h, ap (λ (z : Left). z.at) (same_Some _ _ e))
 times_within jobs count period (End ∷ []) x f h (suc k) l e = absurd (let z : ⊥ = cc in z)
 times_within jobs count period (End ∷ j ∷ is) x f h k l e = absurd f.0
 times_within jobs count period (Dispatch q until ∷ is) x f h zero l e =
-    omega (arith, step_time x.time (get_or x.left q 0) (job_at jobs q).release until period h f.0.1, ap (λ (z : Left). z.at) (some_same _ _ e))
+    omega (arith, dispatch_stays x.time (get_or x.left q 0) (job_at jobs q).release until period h f.0.1, ap (λ (z : Left). z.at) (same_Some _ _ e))
 times_within jobs count period (Dispatch q until ∷ is) x f h (suc k) l e =
-    times_within jobs count period is (next_point jobs (Dispatch q until) x) f.1 (step_time x.time (get_or x.left q 0) (job_at jobs q).release until period h f.0.1) k l e
-times_within jobs count period (Idle until ∷ is) x f h zero l e = omega (arith, h, f.0, ap (λ (z : Left). z.at) (some_same _ _ e))
+    times_within jobs count period is (next_point jobs (Dispatch q until) x) f.1 (dispatch_stays x.time (get_or x.left q 0) (job_at jobs q).release until period h f.0.1) k l e
+times_within jobs count period (Idle until ∷ is) x f h zero l e = omega (arith, h, f.0, ap (λ (z : Left). z.at) (same_Some _ _ e))
 times_within jobs count period (Idle until ∷ is) x f h (suc k) l e = times_within jobs count period is (next_point jobs (Idle until) x) f.1 (omega (arith, h, f.0)) k l e
 
 pub path_rises : (jobs : List Job) (ss : List (List SInstr)) (gs : List Leg) (a h n : ℕ) (x : Point) → AreInForm ss gs → AreChained a h n gs → Rises a (end_to_end (walks_from jobs ss gs x))
@@ -57,20 +56,7 @@ path_rises jobs (s ∷ ss) (g ∷ gs) a h n x f c =
 
 -- ---- one record among those of all lists
 
-pub get_in : {A : Type 0} (xs ys : List A) (k : ℕ) → k < length xs → slice_get (xs ++ ys) k ≡ slice_get xs k
-get_in [] ys k h = absurd (omega arith)
-get_in (x ∷ xs) ys zero h = refl
-get_in (x ∷ xs) ys (suc k) h = get_in xs ys k (omega arith)
-
-pub get_past : {A : Type 0} (xs ys : List A) (k : ℕ) → slice_get (xs ++ ys) (length xs + k) ≡ slice_get ys k
-get_past [] ys k = let z : 0 + k ≡ k = omega arith in ap (slice_get ys) z
-get_past (x ∷ xs) ys k = let z : suc (length xs) + k ≡ suc (length xs + k) = omega arith in ap (slice_get (x ∷ (xs ++ ys))) z ∙ get_past xs ys k
-
 -- ---- nothing is left after the frame
-
-pub chain_ends : (a h n : ℕ) (gs : List Leg) → AreChained a h n gs → a ≤ h
-chain_ends a h n [] c = omega (arith, c)
-chain_ends a h n (g ∷ gs) c = omega (arith, c.0, c.1, chain_ends g.to h n gs c.3)
 
 pub path_within : (jobs : List Job) (ss : List (List SInstr)) (gs : List Leg) (a h n : ℕ) (x : Point) (m : ℕ) (b : Left) → AreInForm ss gs → AreChained a h n gs
     → slice_get (end_to_end (walks_from jobs ss gs x)) m ≡ Some b → b.at ≤ h
@@ -85,7 +71,7 @@ path_within jobs (s ∷ ss) (g ∷ gs) a h n x m b f c e = elim (cases_lt m (len
     here l =
         let y = list_point g.from x in
         let ms = end_to_end (walks_from jobs ss gs (last_point jobs s y)) in
-        let r : b.at ≤ g.to = times_within jobs g.known g.to s y f.0 c.1 m b (sym (get_in (walk_from jobs s y) ms m l) ∙ e) in omega (arith, r, chain_ends g.to h n gs c.3)
+        let r : b.at ≤ g.to = times_within jobs g.known g.to s y f.0 c.1 m b (sym (within_front (walk_from jobs s y) ms m l) ∙ e) in omega (arith, r, past_legs g.to h n gs c.3)
 
     there : length (walk_from jobs s (list_point g.from x)) ≤ m → ((q : ℕ) → slice_get (end_to_end (walks_from jobs ss gs (last_point jobs s (list_point g.from x)))) q ≡ Some b → b.at ≤ h) → b.at ≤ h
     there l ih =
@@ -94,7 +80,7 @@ path_within jobs (s ∷ ss) (g ∷ gs) a h n x m b f c e = elim (cases_lt m (len
         let ms = end_to_end (walks_from jobs ss gs (last_point jobs s y)) in
         let q = m - length ls in
         let is : length ls + q ≡ m = omega (arith, l) in
-        ih q (sym (get_past ls ms q) ∙ ap (slice_get (ls ++ ms)) is ∙ e)
+        ih q (sym (get_back ls ms q) ∙ ap (slice_get (ls ++ ms)) is ∙ e)
 
 -- ---- the records before an offset
 
@@ -105,7 +91,7 @@ past_count a e (m ∷ ls) k l r h g = by_test (ltb m.at e) refl k h g (λ j b c.
   where
     least : (a : ℕ) (ms : List Left) (j : ℕ) (l : Left) → Rises a ms → slice_get ms j ≡ Some l → a ≤ l.at
     least a [] j l r e = not_some l e
-    least a (m ∷ ms) zero l r e = omega (arith, r.0, ap (λ (z : Left). z.at) (some_same _ _ e))
+    least a (m ∷ ms) zero l r e = omega (arith, r.0, ap (λ (z : Left). z.at) (same_Some _ _ e))
     least a (m ∷ ms) (suc j) l r e = omega (arith, r.0, least m.at ms j l r.1 e)
 
     by_test : (b : Bool) → ltb m.at e ≡ b → (j : ℕ) → cond b (suc (count_left_before e ls)) 0 ≤ j → slice_get (m ∷ ls) j ≡ Some l
@@ -116,7 +102,4 @@ past_count a e (m ∷ ls) k l r h g = by_test (ltb m.at e) refl k h g (λ j b c.
 
 -- so a record that is left before is counted
 pub counted : (a e : ℕ) (ls : List Left) (k : ℕ) (l : Left) → Rises a ls → slice_get ls k ≡ Some l → l.at < e → k < count_left_before e ls
-counted a e ls k l r g h = elim (either k (count_left_before e ls)) [ inl b ↦ b | inr b ↦ absurd (omega (arith, h, past_count a e ls k l r b g)) ]
-  where
-    either : (a b : ℕ) → (a < b) ⊎ (b ≤ a)
-    either a b = grind arith
+counted a e ls k l r g h = elim (cases_lt k (count_left_before e ls)) [ inl b ↦ b | inr b ↦ absurd (omega (arith, h, past_count a e ls k l r b g)) ]

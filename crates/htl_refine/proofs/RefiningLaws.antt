@@ -1,4 +1,4 @@
--- The tests of the rules on refinement find exactly what the words say.
+-- The tests of the rules not-true refinement find exactly what the words say.
 use Rattle.std.proofs.Common.{◌≡◌, ◌≢◌, ◌≤◌, ◌<◌, ◌⊎◌, ℕ, Bool, true, false, not, ◌&&◌, ◌||◌, cond, eqb, ltb, length, Option, Some, None, refl, sym, ◌∙◌, ap, subst, arith, inl, inr}
 use Rattle.std.specs.Prelude.{slice_get}
 use Rattle.std.specs.Bool.{Decides}
@@ -16,68 +16,59 @@ use Rattle.htl_model.specs.RefinementRules.{IsRefined, StandsUnrefined, IsAbstra
 use Rattle.htl_model.specs.SecondWriters.{parent_mode}
 use Rattle.htl_model.specs.First.{or_else}
 use Rattle.htl_model.specs.Found.{unless}
-use Rattle.htl_form.proofs.AbstractLaws.{some_place, place_some}
 use Rattle.htl_form.proofs.EndLaws.{finds_or_else}
 use Rattle.htl_form.proofs.Finding.{Finds, finds_nothing, finds_unless}
 use Rattle.htl_model.proofs.FirstLaws.{none_at, found_at, to_none, to_found}
-use Rattle.htl_form.proofs.PartLaws.{none_some, taken}
-use Rattle.htl_model.proofs.TestLaws.{both, equal, same_number, not_both}
-use Rattle.std.proofs.lemmas.Option.{slice_get_within}
+use Rattle.htl_form.proofs.PartLaws.{taken}
+use Rattle.std.proofs.lemmas.Option.{slice_get_within, none-some}
 use Rattle.htl_model.specs.Selected.{is_at}
 use Rattle.htl_refine.specs.Refining.{refines, is_refined, place_fault, is_abstract_at, parent_fault_by, parent_fault, clashes, clash_before, first_clash, told_clash, shared_fault_by, shared_fault, unless_more, unless_less, excess, excess_at, excess_by, excess_fault, writers_parent, writer_parent, inv_precedes, order_fault_by, order_fault}
 use Rattle.htl_refine.proofs.Kept.{one_writer}
 use Rattle.htl_refine.proofs.PrecedenceLaws.{precedes_is}
 use Rattle.htl_refine.proofs.SelectedLaws.{at_number, number_at}
-
-off : (b : Bool) → (b ≡ true → ⊥) → b ≡ false
-off true h = absurd (h refl)
-off false h = refl
+use Rattle.std.proofs.lemmas.Bool.{and_parts, eq-eqb, eqb-true, false_from_ne_true, not-true, or_parts, le-ltb, lt-ltb, or_right}
+use Rattle.htl_form.proofs.AbstractLaws.{goes}
+use Rattle.htl_base.proofs.Tests.{true_not_false, eqb_apart}
+use Rattle.std.proofs.lemmas.Map.Keys.{any_passes_from_place}
+use Rattle.htl_base.proofs.Places.{some_place}
 
 -- ---- 13
 
 refined_is : (t : Tables) (m : ℕ) → Decides (is_refined t m) (IsRefined t m)
 refined_is t m = (
   λ h. let p = some_place (refines m) t.modules h in record { number = p.0; «module» = p.1; at = p.2; refines = at_number p.1.parent m p.3 },
-  λ r. place_some (refines m) t.modules r.number r.«module» r.at (number_at r.«module».parent m r.refines),
+  λ r. any_passes_from_place (refines m) t.modules r.number r.«module» r.at (number_at r.«module».parent m r.refines),
 )
-
-neither : (a b : Bool) → (a || b) ≡ false → (a ≡ false) × (b ≡ false)
-neither true b h = cc
-neither false b h = (refl, h)
 
 pub place_is : (t : Tables) (i : Inv) → Finds (place_fault t i) (StandsUnrefined t i)
 place_is t i =
     finds_unless (is_concrete t i || is_refined t i.mode) 0 1 (StandsUnrefined t i)
-    (λ e. (let two = neither (is_concrete t i) (is_refined t i.mode) e in (refl, refl, two.0, λ r. not_both (is_refined t i.mode) ((refined_is t i.mode).1 r) two.1)))
-    (λ h n p. (fold p.2 (off (is_refined t i.mode) (λ e. p.3 ((refined_is t i.mode).0 e))), p.0, p.1))
+    (λ e. (let two = or_parts (is_concrete t i) (is_refined t i.mode) e in (refl, refl, two.0, λ r. true_not_false (is_refined t i.mode) ((refined_is t i.mode).1 r) two.1)))
+    (λ h n p. (fold p.2 (false_from_ne_true (is_refined t i.mode) (λ e. p.3 ((refined_is t i.mode).0 e))), p.0, p.1))
   where
     fold : is_concrete t i ≡ false → is_refined t i.mode ≡ false → (is_concrete t i || is_refined t i.mode) ≡ false
     fold a b = ap (λ c. c || is_refined t i.mode) a ∙ b
 
 -- ---- 14
 
-on : (b : Bool) → not b ≡ true → b ≡ false
-on true h = cc
-on false h = refl
-
 abstract_is : (t : Tables) (m p : ℕ) → Decides (is_abstract_at t m (slice_get t.invs p)) (IsAbstractIn t m p)
 abstract_is t m p = by (slice_get t.invs p) refl
   where
     by : (o : Option Inv) → slice_get t.invs p ≡ o → Decides (is_abstract_at t m o) (IsAbstractIn t m p)
     by (Some y) e = (
-      λ h. let two = both (not (is_concrete t y)) (eqb y.mode m) h in record { parent = y; at = e; abstract = on (is_concrete t y) two.0; mode = same_number y.mode m two.1 },
+      λ h. let two = and_parts (not (is_concrete t y)) (eqb y.mode m) h in record { parent = y; at = e; abstract = not-true (is_concrete t y) two.0; mode = eqb-true y.mode m two.1 },
       λ a.
           let item : Some y ≡ Some a.parent = sym e ∙ a.at in
           let is : a.parent ≡ y = cc in
-          ap (λ b. not b && eqb y.mode m) (subst (λ (z : Inv). is_concrete t z ≡ false) is a.abstract) ∙ equal y.mode m (subst (λ (z : Inv). z.mode ≡ m) is a.mode),
+          ap (λ b. not b && eqb y.mode m) (subst (λ (z : Inv). is_concrete t z ≡ false) is a.abstract) ∙ eq-eqb y.mode m (subst (λ (z : Inv). z.mode ≡ m) is a.mode),
     )
-    by None e = (λ h. cc, λ a. absurd (none_some a.parent (sym e ∙ a.at)))
+    by None e = (λ h. cc, λ a. absurd (none-some a.parent (sym e ∙ a.at)))
 
 parent_by_is : (t : Tables) (o q : Option ℕ) → Finds (parent_fault_by t o q) (ParentFault t o q)
 parent_by_is t (Some m) (Some p) =
     finds_unless (is_abstract_at t m (slice_get t.invs p)) 2 1 (ParentFault t (Some m) (Some p))
-    (λ e. (refl, (refl, λ a. not_both (is_abstract_at t m (slice_get t.invs p)) ((abstract_is t m p).1 a) e)))
-    (λ h n b. (off (is_abstract_at t m (slice_get t.invs p)) (λ e. b.1.1 ((abstract_is t m p).0 e)), b.1.0, b.0))
+    (λ e. (refl, (refl, λ a. true_not_false (is_abstract_at t m (slice_get t.invs p)) ((abstract_is t m p).1 a) e)))
+    (λ h n b. (false_from_ne_true (is_abstract_at t m (slice_get t.invs p)) (λ e. b.1.1 ((abstract_is t m p).0 e)), b.1.0, b.0))
 parent_by_is t (Some m) None = finds_unless false 0 1 (ParentFault t (Some m) None) (λ e. (refl, refl)) (λ h n b. (refl, b.1, b.0))
 parent_by_is t None (Some p) = finds_unless false 2 0 (ParentFault t None (Some p)) (λ e. (refl, refl)) (λ h n b. (refl, b.1, b.0))
 parent_by_is t None None = finds_nothing
@@ -95,8 +86,8 @@ module _ (t : Tables) (k : ℕ) (i : Inv) (p : ℕ) where
   clash_shares : (l : ℕ) (x : Inv) (y : ℕ) → slice_get t.invs l ≡ Some x → clash_before t k i p l x ≡ Some y → (l ≡ y) × SharesParent t k i p l
   clash_shares l x y at e =
       let c = taken (ltb l k && clashes t i p x) (Some l) y e in
-      let two = both (ltb l k) (clashes t i p x) c.0 in
-      let three = both (is_at x.parent p) _ two.1 in
+      let two = and_parts (ltb l k) (clashes t i p x) c.0 in
+      let three = and_parts (is_at x.parent p) _ two.1 in
       let number : l ≡ y = (let same = c.1 in cc) in (
         number,
         record {
@@ -105,42 +96,32 @@ module _ (t : Tables) (k : ℕ) (i : Inv) (p : ℕ) where
           at = at;
           parent = at_number x.parent p three.0;
           clash = elim (either_clash (eqb (mode_module t x.mode) (mode_module t i.mode)) (eqb x.mode i.mode) three.1) [
-            | inl h ↦ inl (apart (mode_module t x.mode) (mode_module t i.mode) h)
-            | inr h ↦ inr (same_number x.mode i.mode h)
+            | inl h ↦ inl (eqb_apart (mode_module t x.mode) (mode_module t i.mode) h)
+            | inr h ↦ inr (eqb-true x.mode i.mode h)
           ];
         },
       )
-    where
-      apart : (a b : ℕ) → eqb a b ≡ false → a ≢ b
-      apart a b h = grind (arith, nat_tests)
 
   shares_clash : (l : ℕ) (s : SharesParent t k i p l) → clash_before t k i p l s.other ≡ Some l
   shares_clash l s =
       ap (λ b. cond b (Some l) None)
-      (ap (λ b. b && clashes t i p s.other) (less l k s.earlier)
+      (ap (λ b. b && clashes t i p s.other) (lt-ltb l k s.earlier)
       ∙ ap (λ b. b && (not (eqb (mode_module t s.other.mode) (mode_module t i.mode)) || eqb s.other.mode i.mode)) (number_at s.other.parent p s.parent)
       ∙ by s.clash)
     where
-      less : (a b : ℕ) → a < b → ltb a b ≡ true
-      less a b h = grind (arith, nat_tests)
-
       differ : (a b : ℕ) (c : Bool) → a ≢ b → (not (eqb a b) || c) ≡ true
       differ a b c h = grind (arith, nat_tests)
-
-      right : (a b : Bool) → b ≡ true → (a || b) ≡ true
-      right true b h = refl
-      right false b h = h
 
       by : (mode_module t s.other.mode ≢ mode_module t i.mode) ⊎ (s.other.mode ≡ i.mode)
           → (not (eqb (mode_module t s.other.mode) (mode_module t i.mode)) || eqb s.other.mode i.mode) ≡ true
       by (inl h) = differ (mode_module t s.other.mode) (mode_module t i.mode) (eqb s.other.mode i.mode) h
-      by (inr h) = right (not (eqb (mode_module t s.other.mode) (mode_module t i.mode))) (eqb s.other.mode i.mode) (equal s.other.mode i.mode h)
+      by (inr h) = or_right (not (eqb (mode_module t s.other.mode) (mode_module t i.mode))) (eqb s.other.mode i.mode) (eq-eqb s.other.mode i.mode h)
 
   told : (o : Option ℕ) (h n : ℕ) → told_clash p o ≡ Some (h, n) → (o ≡ Some h) × (p ≡ n)
   told (Some l) h n e =
       let pair : ◌≡◌ {A = ℕ × ℕ} (l, p) (h, n) = cc in
       (ap (λ (q : ℕ × ℕ). Some q.0) pair, ap (λ (q : ℕ × ℕ). q.1) pair)
-  told None h n e = absurd (none_some (h, n) e)
+  told None h n e = absurd (none-some (h, n) e)
 
   some_inner : (l h : ℕ) → l ≡ h → ◌≡◌ {A = Option ℕ} (Some l) (Some h)
   some_inner l h e = ap (λ (x : ℕ). Some x) e
@@ -149,7 +130,7 @@ module _ (t : Tables) (k : ℕ) (i : Inv) (p : ℕ) where
   first_is l s least = by (first_clash t k i p) refl
     where
       by : (o : Option ℕ) → first_clash t k i p ≡ o → first_clash t k i p ≡ Some l
-      by None e = absurd (none_some l (sym (none_at (clash_before t k i p) t.invs e l s.other s.at) ∙ shares_clash l s))
+      by None e = absurd (none-some l (sym (none_at (clash_before t k i p) t.invs e l s.other s.at) ∙ shares_clash l s))
       by (Some y) e =
           let g = found_at (clash_before t k i p) t.invs y e in
           let c = clash_shares g.place g.item y g.at g.gives in
@@ -157,7 +138,7 @@ module _ (t : Tables) (k : ℕ) (i : Inv) (p : ℕ) where
           elim order [
             | inl less ↦ absurd (least y less (subst (SharesParent t k i p) c.0 c.1))
             | inr (inl same) ↦ e ∙ some_inner y l same
-            | inr (inr more) ↦ absurd (none_some l (sym (g.before l s.other (omega (arith, c.0)) s.at) ∙ shares_clash l s))
+            | inr (inr more) ↦ absurd (none-some l (sym (g.before l s.other (omega (arith, c.0)) s.at) ∙ shares_clash l s))
           ]
         where
           cases : (y l : ℕ) → (y < l) ⊎ ((y ≡ l) ⊎ (l < y))
@@ -168,7 +149,7 @@ module _ (t : Tables) (k : ℕ) (i : Inv) (p : ℕ) where
       let g = found_at (clash_before t k i p) t.invs h e in
       let c = clash_shares g.place g.item h g.at g.gives in (
         subst (SharesParent t k i p) c.0 c.1,
-        λ l less s. none_some l (sym (g.before l s.other (omega (arith, c.0)) s.at) ∙ shares_clash l s),
+        λ l less s. none-some l (sym (g.before l s.other (omega (arith, c.0)) s.at) ∙ shares_clash l s),
       )
 
   -- of those that share the parent wrongly there is a first
@@ -176,7 +157,7 @@ module _ (t : Tables) (k : ℕ) (i : Inv) (p : ℕ) where
   first_sharing l s = by (first_clash t k i p) refl
     where
       by : (o : Option ℕ) → first_clash t k i p ≡ o → (h : ℕ) × SharesParent t k i p h × ((q : ℕ) → q < h → SharesParent t k i p q → ⊥)
-      by None e = absurd (none_some l (sym (none_at (clash_before t k i p) t.invs e l s.other s.at) ∙ shares_clash l s))
+      by None e = absurd (none-some l (sym (none_at (clash_before t k i p) t.invs e l s.other s.at) ∙ shares_clash l s))
       by (Some h) e = let f = shares_found h e in (h, f.0, f.1)
 
 shared_by_is : (t : Tables) (k : ℕ) (i : Inv) (o : Option ℕ) → i.parent ≡ o → Finds (shared_fault_by t k i o) (SecondChild t k i)
@@ -194,7 +175,7 @@ shared_by_is t k i (Some p) is =
           ap (told_clash p) first ∙ ap (λ (q : ℕ). Some (h, q)) (sym same);
     }
 shared_by_is t k i None is =
-    record { says = λ h n e. absurd (none_some (h, n) e); finds = λ h n c. absurd (none_some n (sym is ∙ c.parent)) }
+    record { says = λ h n e. absurd (none-some (h, n) e); finds = λ h n c. absurd (none-some n (sym is ∙ c.parent)) }
 
 pub shared_is : (t : Tables) (k : ℕ) (i : Inv) → Finds (shared_fault t k i) (SecondChild t k i)
 shared_is t k i = shared_by_is t k i i.parent refl
@@ -221,7 +202,7 @@ no_more : (x y : ℕ) → unless_more x y ≡ None → x ≤ y
 no_more x y e = by (ltb y x) refl e
   where
     by : (b : Bool) → ltb y x ≡ b → unless (not b) x y ≡ None → x ≤ y
-    by true h f = absurd (none_some (x, y) (sym f))
+    by true h f = absurd (none-some (x, y) (sym f))
     by false h f = grind (arith, nat_tests)
 
 more_none : (x y : ℕ) → x ≤ y → unless_more x y ≡ None
@@ -234,14 +215,11 @@ no_less : (x y : ℕ) → unless_less x y ≡ None → y ≤ x
 no_less x y e = by (ltb x y) refl e
   where
     by : (b : Bool) → ltb x y ≡ b → unless (not b) x y ≡ None → y ≤ x
-    by true h f = absurd (none_some (x, y) (sym f))
+    by true h f = absurd (none-some (x, y) (sym f))
     by false h f = grind (arith, nat_tests)
 
 less_none : (x y : ℕ) → y ≤ x → unless_less x y ≡ None
-less_none x y h = ap (λ b. unless (not b) x y) (not_less x y h)
-  where
-    not_less : (x y : ℕ) → y ≤ x → ltb x y ≡ false
-    not_less x y h = grind (arith, nat_tests)
+less_none x y h = ap (λ b. unless (not b) x y) (le-ltb x y h)
 
 module _ (t : Tables) (i y : Inv) where
   abbrev Later : ℕ → ℕ → Type 0
@@ -294,23 +272,19 @@ excess_by_is t i (Some p) is = by (slice_get t.invs p) refl
         }
     by None at =
         record {
-          says = λ h n e. absurd (none_some (h, n) e);
+          says = λ h n e. absurd (none-some (h, n) e);
           finds = λ h n x.
               let number : Some x.0 ≡ Some p = sym x.1 ∙ is in
               let same : x.0 ≡ p = cc in
-              absurd (none_some x.2 (sym at ∙ ap (slice_get t.invs) (sym same) ∙ x.3));
+              absurd (none-some x.2 (sym at ∙ ap (slice_get t.invs) (sym same) ∙ x.3));
         }
 excess_by_is t i None is =
-    record { says = λ h n e. absurd (none_some (h, n) e); finds = λ h n x. absurd (none_some x.0 (sym is ∙ x.1)) }
+    record { says = λ h n e. absurd (none-some (h, n) e); finds = λ h n x. absurd (none-some x.0 (sym is ∙ x.1)) }
 
 pub exceeds_is : (t : Tables) (i : Inv) → Finds (excess_fault t i) (Exceeds t i)
 exceeds_is t i = excess_by_is t i i.parent refl
 
 -- ---- 16, the order of ports
-
-pub goes : (p : ℕ) (e : End) → is_port p e ≡ true → e ≡ E.Port p
-goes p (E.Comm c n) h = cc
-goes p (E.Port q) h = let same : q ≡ p = same_number q p h in ap E.Port same
 
 parent_found : (t : Tables) (p l a : ℕ) → writers_parent p (slice_get t.invs l) ≡ Some a → IsWriterOf t p a
 parent_found t p l a e = by (slice_get t.invs l) refl e
@@ -320,12 +294,12 @@ parent_found t p l a e = by (slice_get t.invs l) refl e
         let two = taken (list_any (is_port p) x.writes) x.parent a f in
         let o = some_place (is_port p) x.writes two.0 in
         record { number = l; writer = x; at = at; place = o.0; writes = o.2 ∙ ap (λ (e : End). Some e) (goes p o.1 o.3); parent = two.1 }
-    by None at f = absurd (none_some a f)
+    by None at f = absurd (none-some a f)
 
 writer_found : (t : Tables) (p a : ℕ) (w : IsWriterOf t p a) → writers_parent p (slice_get t.invs w.number) ≡ Some a
 writer_found t p a w =
     ap (writers_parent p) w.at
-    ∙ ap (λ b. cond b w.writer.parent None) (place_some (is_port p) w.writer.writes w.place (E.Port p) w.writes (equal p p refl))
+    ∙ ap (λ b. cond b w.writer.parent None) (any_passes_from_place (is_port p) w.writer.writes w.place (E.Port p) w.writes (eq-eqb p p refl))
     ∙ w.parent
 
 -- where ports have one writer, the parent that is found is the writer's
@@ -336,7 +310,7 @@ writer_parent_is t last p a range kept few w = by (writer_parent t p) refl
     f l = writers_parent p (slice_get t.invs l)
 
     by : (o : Option ℕ) → writer_parent t p ≡ o → writer_parent t p ≡ Some a
-    by None e = absurd (none_some a (sym (to_none f (length t.invs) e w.number (slice_get_within t.invs w.number w.writer w.at)) ∙ writer_found t p a w))
+    by None e = absurd (none-some a (sym (to_none f (length t.invs) e w.number (slice_get_within t.invs w.number w.writer w.at)) ∙ writer_found t p a w))
     by (Some b) e =
         let g = to_found f (length t.invs) b e in
         let v = parent_found t p g.0 b g.2 in
@@ -356,13 +330,13 @@ order_is t last i (E.Port p) range kept few = by (writer_parent t p) i.parent re
     by : (o q : Option ℕ) → writer_parent t p ≡ o → i.parent ≡ q → Finds (order_fault_by t o q) (Unordered t i (E.Port p))
     by (Some a) (Some b) w is =
         finds_unless (inv_precedes t a b) a b (Unordered t i (E.Port p))
-        (λ e. (is, parent_writer t p a w, λ l. not_both (inv_precedes t a b) ((precedes_is t a b).1 l) e))
+        (λ e. (is, parent_writer t p a w, λ l. true_not_false (inv_precedes t a b) ((precedes_is t a b).1 l) e))
         (λ h n u.
         let writer : Some a ≡ Some h = sym w ∙ writer_parent_is t last p h range kept few u.1 in
         let h_is : h ≡ a = cc in
         let parent : Some b ≡ Some n = sym is ∙ u.0 in
         let n_is : n ≡ b = cc in
-        (off (inv_precedes t a b) (λ e. u.2 (subst (λ x. Leads (feeds t) x n) (sym h_is) (subst (λ y. Leads (feeds t) a y) (sym n_is) ((precedes_is t a b).0 e)))), h_is, n_is))
-    by (Some a) None w is = record { says = λ h n e. absurd (none_some (h, n) e); finds = λ h n u. absurd (none_some n (sym is ∙ u.0)) }
+        (false_from_ne_true (inv_precedes t a b) (λ e. u.2 (subst (λ x. Leads (feeds t) x n) (sym h_is) (subst (λ y. Leads (feeds t) a y) (sym n_is) ((precedes_is t a b).0 e)))), h_is, n_is))
+    by (Some a) None w is = record { says = λ h n e. absurd (none-some (h, n) e); finds = λ h n u. absurd (none-some n (sym is ∙ u.0)) }
     by None q w is =
-        record { says = λ h n e. absurd (none_some (h, n) e); finds = λ h n u. absurd (none_some h (sym w ∙ writer_parent_is t last p h range kept few u.1)) }
+        record { says = λ h n e. absurd (none-some (h, n) e); finds = λ h n u. absurd (none-some h (sym w ∙ writer_parent_is t last p h range kept few u.1)) }

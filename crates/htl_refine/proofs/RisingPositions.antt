@@ -3,7 +3,7 @@ use Rattle.std.proofs.Common.{◌≡◌, ◌<◌, ◌≤◌, ◌⊎◌, ℕ, suc
 use Rattle.std.specs.Prelude.{slice_get}
 use Rattle.std.specs.List.{flat_map}
 use Rattle.std.proofs.lemmas.List.{get_or-map, length-map}
-use Rattle.std.proofs.lemmas.Option.{slice_get_within, get_or_from_slice_get}
+use Rattle.std.proofs.lemmas.Option.{slice_get_within, get_or_from_slice_get, none-some}
 use Rattle.htl_model.specs.declared.parts.Inv.{Inv}
 use Rattle.htl_model.specs.declared.parts.Mode.{Mode}
 use Rattle.htl_model.specs.declared.parts.Module.{Module}
@@ -12,12 +12,11 @@ use Rattle.htl_model.specs.Ranges.{AreInRange}
 use Rattle.htl_model.specs.Selected.{entry, IsSelection, IsEntry, IsModeOf}
 use Rattle.htl_model.specs.Selections.{is_root, root_modules, inv_of_mode, invs_of}
 use Rattle.htl_model.specs.Tables.{Tables}
-use Rattle.htl_form.proofs.PartLaws.{none_some}
 use Rattle.htl_model.proofs.StartLaws.{modes_rise}
-use Rattle.htl_model.proofs.TestLaws.{same_number}
 use Rattle.htl_refine.specs.ConcreteJobs.{running_invs, running_positions}
 use Rattle.htl_refine.proofs.Members.{of_joined, of_flat, of_places}
 use Rattle.htl_refine.proofs.Positions.{rootless}
+use Rattle.std.proofs.lemmas.Bool.{eqb-true, cases_lt}
 
 -- ---- lists that rise
 
@@ -31,7 +30,7 @@ AreRising [] = Unit {0}
 AreRising (x ∷ xs) = ((a : ℕ) → Has xs a → x < a) × AreRising xs
 
 nothing_in : (a : ℕ) → Has [] a → ⊥
-nothing_in a h = none_some a h.1
+nothing_in a h = none-some a h.1
 
 pub joined_rise : (xs ys : List ℕ) → AreRising xs → AreRising ys → ((a b : ℕ) → Has xs a → Has ys b → a < b) → AreRising (xs ++ ys)
 joined_rise [] ys p q cross = q
@@ -110,7 +109,7 @@ module _ (t : Tables) (modes : List (Option ℕ)) (range : AreInRange t) (s : Is
             own = right.0;
             inv = inv.1;
             at = subst (λ n. slice_get t.invs n ≡ Some inv.1) place inv.3;
-            of_mode = same_number inv.1.mode m inv.4;
+            of_mode = eqb-true inv.1.mode m inv.4;
           }
       by None e i = absurd (nothing_in k i)
 
@@ -124,14 +123,11 @@ module _ (t : Tables) (modes : List (Option ℕ)) (range : AreInRange t) (s : Is
           by (Some m) = places_rise (inv_of_mode m) 0 t.invs
           by None = tt
 
-      order : (a b : ℕ) → (a < b) ⊎ (b ≤ a)
-      order a b = grind arith
-
       cross : (u v a b : ℕ) → Has (root_modules t) u → Has (root_modules t) v → u < v → Has (running_invs t modes u) a → Has (running_invs t modes v) b → a < b
       cross u v a b in_u in_v less in_a in_b =
           let x = running_at u a in_u in_a in
           let y = running_at v b in_v in_b in
-          elim (order a b) [
+          elim (cases_lt a b) [
             | inl below ↦ below
             | inr over ↦
                 let rise : y.inv.mode ≤ x.inv.mode = modes_rise t b a y.inv x.inv range y.at x.at over in

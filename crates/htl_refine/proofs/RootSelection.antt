@@ -8,22 +8,22 @@ use Rattle.htl_model.proofs.SelectionLaws.{no_modules}
 use Rattle.htl_model.specs.Broken.{KeepsLimits}
 use Rattle.htl_model.specs.Selections.{is_root, root_modules, mode_of_module, modes_of, choices_from, selection_count, positions}
 use Rattle.htl_model.specs.Tables.{Tables}
-use Rattle.htl_form.proofs.PartLaws.{none_some}
-use Rattle.htl_model.proofs.TestLaws.{equal, same_number}
 use Rattle.htl_refine.specs.ConcreteJobs.{running_invs, running_positions, IsOfSelection}
 use Rattle.htl_refine.specs.Roots.{place_among, entry_place, selection_from, selection_of}
 use Rattle.htl_model.specs.Selected.{entry, IsSelection, IsEntry, IsModeOf}
 use Rattle.htl_refine.proofs.Members.{at_place}
 use Rattle.htl_refine.proofs.MixedRadix.{digits, regroup, digit}
 use Rattle.htl_refine.proofs.Positions.{rootless, root_is, same_positions}
+use Rattle.std.proofs.lemmas.Bool.{eq-eqb, eqb-true}
+use Rattle.std.proofs.lemmas.Option.{none-some}
 
 -- ---- a place in a list
 
 pub place_found : (m : ℕ) (xs : List ℕ) (r : ℕ) → slice_get xs r ≡ Some m → (place_among m xs < length xs) × (get_or xs (place_among m xs) 0 ≡ m)
-place_found m [] r e = absurd (none_some m e)
+place_found m [] r e = absurd (none-some m e)
 place_found m (x ∷ xs) zero e =
     let same : x ≡ m = cc in
-    here (eqb x m) (equal x m same) same
+    here (eqb x m) (eq-eqb x m same) same
   where
     here : (b : Bool) → b ≡ true → x ≡ m → (cond b 0 (suc (place_among m xs)) < length (x ∷ xs)) × (get_or (x ∷ xs) (cond b 0 (suc (place_among m xs))) 0 ≡ m)
     here true p q = (omega arith, q)
@@ -32,7 +32,7 @@ place_found m (x ∷ xs) (suc r) e = by (eqb x m) refl (place_found m xs r e)
   where
     by : (b : Bool) → eqb x m ≡ b → (place_among m xs < length xs) × (get_or xs (place_among m xs) 0 ≡ m)
         → (cond b 0 (suc (place_among m xs)) < length (x ∷ xs)) × (get_or (x ∷ xs) (cond b 0 (suc (place_among m xs))) 0 ≡ m)
-    by true p later = (omega arith, same_number x m p)
+    by true p later = (omega arith, eqb-true x m p)
     by false p later = (omega (arith, later.0), later.1)
 
 -- what comes before the last digits of a number
@@ -74,7 +74,7 @@ module _ (t : Tables) (modes : List (Option ℕ)) where
   -- whatever comes before these modules
   pub digit_is : (k d : ℕ) (xs : List Module) → Fits k xs → (j : ℕ) (x : Module) → slice_get xs j ≡ Some x → is_root x ≡ true
       → digit_at (d * choices_from t k xs + selection_from t modes k xs) (k + j) xs j ≡ entry_place t modes (k + j)
-  digit_is k d [] h j x at root = absurd (none_some x at)
+  digit_is k d [] h j x at root = absurd (none-some x at)
   digit_is k d (y ∷ ys) h zero x at root =
       let same : y ≡ x = cc in
       let test : is_root y ≡ true = ap is_root same ∙ root in
@@ -110,7 +110,7 @@ module _ (t : Tables) (modes : List (Option ℕ)) where
     root_place u x at root =
         let m = root_entry u x at root in
         let own = m.2 in
-        let r = at_place (mode_of_module u) t.modes m.0 own.0 own.1 (equal own.0.«module» u own.2) in
+        let r = at_place (mode_of_module u) t.modes m.0 own.0 own.1 (eq-eqb own.0.«module» u own.2) in
         let place = place_found m.0 (modes_of t u) r.0 r.1 in
         let is : entry_place t modes u ≡ place_among m.0 (modes_of t u) = ap (λ (o : Option ℕ). elim o [ Some n ↦ place_among n (modes_of t u) | None ↦ 0 ]) m.1 in (
           omega (arith, is, place.0),

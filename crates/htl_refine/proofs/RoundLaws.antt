@@ -2,7 +2,7 @@
 use Rattle.std.proofs.Common.{◌≡◌, ◌≤◌, ◌<◌, ℕ, ◌+◌, Bool, true, false, ◌&&◌, cond, eqb, leb, List, [], ◌∷◌, length, get_or, map, Option, Some, None, refl, sym, ◌∙◌, ap, subst, arith}
 use Rattle.std.specs.Prelude.{slice_get}
 use Rattle.std.specs.List.{flat_map}
-use Rattle.std.proofs.lemmas.Option.{get_or_from_slice_get}
+use Rattle.std.proofs.lemmas.Option.{get_or_from_slice_get, none-some}
 use Rattle.htl_model.specs.declared.event.Event.{Event}
 use Rattle.htl_model.specs.declared.event.Event.TheVariants as V
 use Rattle.htl_model.specs.declared.parts.Inv.{Inv}
@@ -14,9 +14,6 @@ use Rattle.htl_model.specs.Broken.{KeptTo}
 use Rattle.htl_model.specs.Ranges.{AreInRange, IsInvInRange, IsTaskInRange}
 use Rattle.htl_model.specs.Selections.{is_root, selection_count}
 use Rattle.htl_model.specs.Tables.{Tables, task_worst}
-use Rattle.htl_form.proofs.PartLaws.{none_some}
-use Rattle.htl_form.proofs.Places.{all_at}
-use Rattle.htl_model.proofs.TestLaws.{same_number}
 use Rattle.htl_walk.specs.declared.job.Job.{Job}
 use Rattle.htl_walk.specs.declared.schedule.SInstr.{SInstr}
 use Rattle.htl_walk.specs.Jobs.{abstract_jobs, jobs_standing}
@@ -29,12 +26,13 @@ use Rattle.htl_refine.specs.ConcreteJobs.{running_invs, running_positions, concr
 use Rattle.htl_refine.specs.DerivedPaths.{derived_place, derived_jobs}
 use Rattle.htl_refine.specs.Records.{last_took, inv_worst, took, lengths_of, AreTookWithin, modes_at, round_at}
 use Rattle.htl_refine.specs.Roots.{selection_of}
-use Rattle.htl_refine.proofs.Members.{mapped, map_at}
 use Rattle.htl_refine.proofs.FirstRound.{concrete_are}
 use Rattle.htl_refine.proofs.Inherit.{inheritance}
 use Rattle.htl_refine.proofs.PathDerived.{placed_present}
 use Rattle.htl_refine.proofs.RootSelection.{below_count, is_of_selection}
 use Rattle.htl_refine.proofs.StateLaws.{states_are_selections}
+use Rattle.htl_base.proofs.Places.{all_at, from_map, get_mapped}
+use Rattle.std.proofs.lemmas.Bool.{eqb-true}
 
 pub took_within : (t : Tables) (i u r x : ℕ) (es : List Event) → AreTookWithin t es → 1 ≤ x → x ≤ inv_worst t i → (1 ≤ last_took i u r x es) × (last_took i u r x es ≤ inv_worst t i)
 took_within t i u r x [] h a b = (a, b)
@@ -45,7 +43,7 @@ took_within t i u r x (V.Took j n ∷ es) h a b = by (eqb i j) (leb r u) refl (�
   where
     by : (p q : Bool) → eqb i j ≡ p → ((y : ℕ) → 1 ≤ y → y ≤ inv_worst t i → (1 ≤ last_took i u r y es) × (last_took i u r y es ≤ inv_worst t i))
         → (1 ≤ last_took i u r (cond (p && q) n x) es) × (last_took i u r (cond (p && q) n x) es ≤ inv_worst t i)
-    by true true e later = let same : inv_worst t j ≡ inv_worst t i = ap (inv_worst t) (sym (same_number i j e)) in later n h.0.0 (omega (arith, same, h.0.1))
+    by true true e later = let same : inv_worst t j ≡ inv_worst t i = ap (inv_worst t) (sym (eqb-true i j e)) in later n h.0.0 (omega (arith, same, h.0.1))
     by true false e later = later x a b
     by false q e later = later x a b
 
@@ -65,14 +63,14 @@ module _ (t : Tables) (modes : ℕ → List (Option ℕ)) (es : List Event) (f :
   length_is p j at here =
       let ys = map (derived_place t modes) xs in
       let js = derived_jobs t modes xs in
-      let y = mapped (placed_job t ys) ys p j at in
+      let y = from_map (placed_job t ys) ys p j at in
       let c = placed_present t ys y.0.at y.0.inv j y.2 here in
       let inv : j.inv ≡ c.0 = sym (ap (λ (z : Job). z.inv) c.4) in
       let most : j.worst ≡ task_worst t c.1.task = sym (ap (λ (z : Job). z.worst) c.4) in
       let w = worst_some t j.inv c.1 range (ap (slice_get t.invs) inv ∙ c.3) in
       let r = took_within t j.inv (f + j.release) 0 (inv_worst t j.inv) es within w.0 (omega arith) in
       let g = λ (z : Job). took t es z.inv (f + z.release) in
-      let is : get_or (lengths_of t es f js) p 0 ≡ g j = get_or_from_slice_get (map g js) p (g j) 0 (map_at g js p j at) in
+      let is : get_or (lengths_of t es f js) p 0 ≡ g j = get_or_from_slice_get (map g js) p (g j) 0 (get_mapped g js p j at) in
       (omega (arith, is, r.0), omega (arith, is, r.1, w.1, most))
 
   pub have_lengths : HaveLengths (derived_jobs t modes xs) (lengths_of t es f (derived_jobs t modes xs))
@@ -88,7 +86,7 @@ no_jobs t modes none =
     ap (λ ps. jobs_standing t (map (chosen t modes) ps)) positions
 
 none_meet : (jobs : List Job) (ns : List ℕ) (s : List SInstr) → jobs ≡ [] → Meets jobs ns s
-none_meet jobs ns s none p j at here = absurd (none_some j (sym (ap (λ js. slice_get js p) none) ∙ at))
+none_meet jobs ns s none p j at here = absurd (none-some j (sym (ap (λ js. slice_get js p) none) ∙ at))
 
 pub rounds_meet : (t : Tables) (schedules : List (List SInstr)) (es : List Event) (start period : ℕ) → AreInRange t → KeptTo t 16 → AreTookWithin t es
     → ((sel : ℕ) → sel < selection_count t → ScheduleIsAccepted (abstract_jobs t sel) period (get_or schedules sel []))

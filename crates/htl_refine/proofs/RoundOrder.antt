@@ -1,7 +1,7 @@
 -- The starts, rounds and positions of a frame are in order.
 use Rattle.std.proofs.Common.{◌≡◌, ◌<◌, ◌≤◌, ◌⊎◌, ℕ, zero, suc, ◌+◌, ◌%◌, Bool, true, false, cond, eqb, leb, List, [], ◌∷◌, ◌++◌, map, slice_get, Option, Some, refl, sym, ◌∙◌, ap, subst, arith, inl, inr}
 use Rattle.std.specs.List.{flat_map}
-use Rattle.std.proofs.lemmas.Bool.{cases_lt, eqb-true, le-leb, leb-true}
+use Rattle.std.proofs.lemmas.Bool.{cases_lt, eqb-true, le-leb, leb-true, leb-false}
 use Rattle.htl_model.specs.declared.frame.Place.{Place}
 use Rattle.htl_model.specs.declared.frame.Round.{Round}
 use Rattle.htl_model.specs.Frames.{unit_period, root_periods, frame_of, begins, starts_below, starts, rounds_of, rounds_at, rounds, places_of, known_by}
@@ -9,15 +9,16 @@ use Rattle.htl_model.specs.Functions.{of_bool}
 use Rattle.htl_model.specs.Lists.{places_from}
 use Rattle.htl_model.specs.Selections.{is_root, root_modules}
 use Rattle.htl_model.specs.Tables.{Tables}
-use Rattle.htl_walk.proofs.Finishes.{some_same}
 use Rattle.htl_refine.specs.ConcreteJobs.{running_invs}
 use Rattle.htl_refine.specs.DerivedPaths.{derived_place}
 use Rattle.htl_refine.specs.FramePlaces.{place}
 use Rattle.htl_refine.specs.FrameRuns.{running_places, frame_places}
 use Rattle.htl_refine.proofs.AlongPath.{known_none}
 use Rattle.htl_refine.proofs.BegunTimes.{start_below}
-use Rattle.htl_refine.proofs.Members.{of_joined, of_flat, of_places, mapped}
+use Rattle.htl_refine.proofs.Members.{of_joined, of_flat, of_places}
 use Rattle.htl_refine.proofs.RecordOrder.{not_some}
+use Rattle.htl_base.proofs.Places.{from_map}
+use Rattle.std.proofs.lemmas.Option.{same_Some}
 
 -- ---- lists in order
 
@@ -29,7 +30,7 @@ pub sorted_at : {A : Type 0} (R : A → A → Type 0) (xs : List A) (p q : ℕ) 
 unfolding Sorted
 sorted_at R [] p q x y s l a b = not_some x a
 sorted_at R (z ∷ zs) p zero x y s l a b = absurd (omega arith)
-sorted_at R (z ∷ zs) zero (suc q) x y s l a b = subst (λ w. R w y) (some_same z x a) (s.0 q y b)
+sorted_at R (z ∷ zs) zero (suc q) x y s l a b = subst (λ w. R w y) (same_Some z x a) (s.0 q y b)
 sorted_at R (z ∷ zs) (suc p) (suc q) x y s l a b = sorted_at R zs p q x y s.1 (omega arith) a b
 
 pub sorted_join : {A : Type 0} (R : A → A → Type 0) (xs ys : List A) → Sorted R xs → Sorted R ys → ((i j : ℕ) (x y : A) → slice_get xs i ≡ Some x → slice_get ys j ≡ Some y → R x y)
@@ -71,7 +72,7 @@ of_rounds t a (u ∷ us) q r e = by (eqb (a % unit_period t u) 0) refl q e (λ i
         → ((i : ℕ) → slice_get (rounds_of t a us) i ≡ Some r → (j : ℕ) × (slice_get us j ≡ Some r.unit) × (r.at ≡ a) × (a % unit_period t r.unit ≡ 0))
         → (j : ℕ) × (slice_get (u ∷ us) j ≡ Some r.unit) × (r.at ≡ a) × (a % unit_period t r.unit ≡ 0)
     by true f zero g ih =
-        let same : ◌≡◌ {A = Round} (record { at = a; unit = u }) r = some_same _ _ g in
+        let same : ◌≡◌ {A = Round} (record { at = a; unit = u }) r = same_Some _ _ g in
         let unit : u ≡ r.unit = ap (λ (z : Round). z.unit) same in
         (0, ap (λ z. Some z) unit, sym (ap (λ (z : Round). z.at) same), ap (λ z. a % unit_period t z) (sym unit) ∙ eqb-true (a % unit_period t u) 0 f)
     by true f (suc i) g ih = let m = ih i g in (suc m.0, m.1, m.2, m.3)
@@ -91,7 +92,7 @@ run_of t modes (r ∷ rs) p x e = by (of_joined (places_of r.at (running_invs t 
     by : (slice_get (places_of r.at (running_invs t (modes r.at) r.unit)) p ≡ Some x) ⊎ ((i : ℕ) × (slice_get (running_places t modes rs) i ≡ Some x))
         → ((i : ℕ) → slice_get (running_places t modes rs) i ≡ Some x → (q : ℕ) × (s : Round) × (slice_get rs q ≡ Some s) × (j k : ℕ) × (slice_get (running_invs t (modes s.at) s.unit) j ≡ Some k) × (x ≡ place k s.at))
         → (q : ℕ) × (s : Round) × (slice_get (r ∷ rs) q ≡ Some s) × (j k : ℕ) × (slice_get (running_invs t (modes s.at) s.unit) j ≡ Some k) × (x ≡ place k s.at)
-    by (inl g) ih = let m = mapped (λ k. place k r.at) (running_invs t (modes r.at) r.unit) p x g in (0, r, refl, p, m.0, m.1, sym m.2)
+    by (inl g) ih = let m = from_map (λ k. place k r.at) (running_invs t (modes r.at) r.unit) p x g in (0, r, refl, p, m.0, m.1, sym m.2)
     by (inr g) ih = let m = ih g.0 g.1 in (suc m.0, m.1, m.2, m.3, m.4, m.5, m.6)
 
 -- ---- starts and rounds
@@ -108,7 +109,7 @@ sorted_starts ps (suc h) =
     one false = tt
 
     is_it : (b : Bool) (j y : ℕ) → slice_get (cond b (h ∷ []) []) j ≡ Some y → y ≡ h
-    is_it true zero y e = sym (some_same h y e)
+    is_it true zero y e = sym (same_Some h y e)
     is_it true (suc j) y e = not_some y e
     is_it false j y e = not_some y e
 
@@ -147,7 +148,7 @@ least_first r s (inr l) = omega (arith, l.0)
 
 -- those of one round
 block_at : (a : ℕ) (ks : List ℕ) (q : ℕ) (y : Place) → slice_get (places_of a ks) q ≡ Some y → a ≡ y.at
-block_at a ks q y e = ap (λ (w : Place). w.at) (mapped (λ k. place k a) ks q y e).2
+block_at a ks q y e = ap (λ (w : Place). w.at) (from_map (λ k. place k a) ks q y e).2
 
 block_by_start : (a : ℕ) (ks : List ℕ) → Sorted ByStart (places_of a ks)
 unfolding Sorted ByStart
@@ -173,20 +174,17 @@ frame_by_start t modes = running_by_start t modes (rounds t) (sorted_rounds t)
 pub standing_by_start : (t : Tables) (modes : ℕ → List (Option ℕ)) (xs : List Place) → Sorted ByStart xs → Sorted ByStart (map (derived_place t modes) xs)
 unfolding Sorted ByStart
 standing_by_start t modes [] s = tt
-standing_by_start t modes (x ∷ xs) s = (λ q y e. by q y (mapped (derived_place t modes) xs q y e), standing_by_start t modes xs s.1)
+standing_by_start t modes (x ∷ xs) s = (λ q y e. by q y (from_map (derived_place t modes) xs q y e), standing_by_start t modes xs s.1)
   where
     by : (q : ℕ) (y : Place) → (z : Place) × (slice_get xs q ≡ Some z) × (derived_place t modes z ≡ y) → x.at ≤ y.at
     by q y m = let at : m.0.at ≡ y.at = ap (λ (w : Place). w.at) m.2 in omega (arith, at, s.0 q m.0 m.1)
 
 -- ---- those that have begun
 
-beyond : (a d : ℕ) → leb a d ≡ false → d < a
-beyond a d e = elim (cases_lt d a) [ inl c ↦ c | inr c ↦ absurd (let f : true ≡ false = sym (le-leb a d c) ∙ e in cc) ]
-
 pub begun_known : (d : ℕ) (xs : List Place) (p : ℕ) (x : Place) → Sorted ByStart xs → slice_get xs p ≡ Some x → x.at ≤ d → p < known_by d xs
 unfolding Sorted ByStart
 begun_known d [] p x s e l = not_some x e
-begun_known d (z ∷ zs) zero x s e l = let is : z.at ≡ x.at = ap (λ (w : Place). w.at) (some_same z x e) in rw (le-leb z.at d (omega (arith, is, l))) (omega arith)
+begun_known d (z ∷ zs) zero x s e l = let is : z.at ≡ x.at = ap (λ (w : Place). w.at) (same_Some z x e) in rw (le-leb z.at d (omega (arith, is, l))) (omega arith)
 begun_known d (z ∷ zs) (suc p) x s e l = let first : z.at ≤ x.at = s.0 p x e in rw (le-leb z.at d (omega (arith, first, l))) (omega (arith, begun_known d zs p x s.1 e l))
 
 pub known_begun : (d : ℕ) (xs : List Place) (p : ℕ) (x : Place) → Sorted ByStart xs → slice_get xs p ≡ Some x → p < known_by d xs → x.at ≤ d
@@ -197,9 +195,9 @@ known_begun d (z ∷ zs) p x s e l =
   where
     by : (b : Bool) → leb z.at d ≡ b → (p : ℕ) → slice_get (z ∷ zs) p ≡ Some x → p < of_bool b + known_by d zs → ((q : ℕ) → slice_get zs q ≡ Some x → q < known_by d zs → x.at ≤ d)
         → (d < z.at → known_by d zs ≡ 0) → x.at ≤ d
-    by true f zero g r ih none = let is : z.at ≡ x.at = ap (λ (w : Place). w.at) (some_same z x g) in omega (arith, is, leb-true z.at d f)
+    by true f zero g r ih none = let is : z.at ≡ x.at = ap (λ (w : Place). w.at) (same_Some z x g) in omega (arith, is, leb-true z.at d f)
     by true f (suc q) g r ih none = ih q g (omega (arith, r))
-    by false f q g r ih none = absurd (omega (arith, r, none (beyond z.at d f)))
+    by false f q g r ih none = absurd (omega (arith, r, none (leb-false z.at d f)))
 
 pub known_same : (t : Tables) (modes : ℕ → List (Option ℕ)) (d : ℕ) (xs : List Place) → known_by d (map (derived_place t modes) xs) ≡ known_by d xs
 known_same t modes d [] = refl

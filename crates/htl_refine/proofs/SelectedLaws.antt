@@ -6,15 +6,15 @@ use Rattle.std.proofs.lemmas.Bool.Decides.{Decides-and, Decides-not}
 use Rattle.htl_model.specs.declared.parts.Mode.{Mode}
 use Rattle.htl_model.specs.declared.parts.Module.{Module}
 use Rattle.htl_model.specs.Tables.{Tables, mode_module}
-use Rattle.htl_model.proofs.TestLaws.{both, equal, same_number}
 use Rattle.htl_model.specs.Selected.{entry, is_at, Runs, is_running, IsModeOf, is_mode_of, IsActive, is_active, IsEntry, is_entry, are_entries, IsSelection, is_selection}
+use Rattle.std.proofs.lemmas.Bool.{and_parts, eq-eqb, eqb-true}
 
 pub at_number : (o : Option ℕ) (n : ℕ) → is_at o n ≡ true → o ≡ Some n
-at_number (Some x) n h = ap (λ (y : ℕ). Some y) (same_number x n h)
+at_number (Some x) n h = ap (λ (y : ℕ). Some y) (eqb-true x n h)
 at_number None n h = cc
 
 pub number_at : (o : Option ℕ) (n : ℕ) → o ≡ Some n → is_at o n ≡ true
-number_at (Some x) n h = let same : x ≡ n = cc in equal x n same
+number_at (Some x) n h = let same : x ≡ n = cc in eq-eqb x n same
 number_at None n h = cc
 
 pub running_is : (t : Tables) (modes : List (Option ℕ)) (m : ℕ) → Decides (is_running t modes m) (Runs t modes m)
@@ -24,7 +24,7 @@ pub mode_of_is : (t : Tables) (u m : ℕ) → Decides (is_mode_of t u m) (IsMode
 mode_of_is t u m = by (slice_get t.modes m) refl
   where
     by : (o : Option Mode) → slice_get t.modes m ≡ o → Decides (elim o [ Some x ↦ eqb x.«module» u | None ↦ false ]) (IsModeOf t u m)
-    by (Some x) e = (λ h. (x, e, same_number x.«module» u h), λ y. (let is : Some x ≡ Some y.0 = sym e ∙ y.1 in let same : x ≡ y.0 = cc in equal x.«module» u (ap (λ (z : Mode). z.«module») same ∙ y.2)))
+    by (Some x) e = (λ h. (x, e, eqb-true x.«module» u h), λ y. (let is : Some x ≡ Some y.0 = sym e ∙ y.1 in let same : x ≡ y.0 = cc in eq-eqb x.«module» u (ap (λ (z : Mode). z.«module») same ∙ y.2)))
     by None e = (λ h. cc, λ y. absurd (let no : ◌≡◌ {A = Option Mode} None (Some y.0) = sym e ∙ y.1 in cc))
 
 pub active_is : (t : Tables) (modes : List (Option ℕ)) (p : Option ℕ) → Decides (is_active t modes p) (IsActive t modes p)
@@ -41,10 +41,10 @@ entries_at t modes u [] h j x at = cc
 entries_at t modes u (y ∷ ys) h zero x at =
     let same : y ≡ x = cc in
     let zero_add : u ≡ u + 0 = omega arith in
-    subst (λ n. is_entry t modes n x.parent (entry modes n) ≡ true) zero_add (subst (λ (z : Module). is_entry t modes u z.parent (entry modes u) ≡ true) same (both _ _ h).0)
+    subst (λ n. is_entry t modes n x.parent (entry modes n) ≡ true) zero_add (subst (λ (z : Module). is_entry t modes u z.parent (entry modes u) ≡ true) same (and_parts _ _ h).0)
 entries_at t modes u (y ∷ ys) h (suc j) x at =
     let next : suc u + j ≡ u + suc j = omega arith in
-    subst (λ n. is_entry t modes n x.parent (entry modes n) ≡ true) next (entries_at t modes (suc u) ys (both _ _ h).1 j x at)
+    subst (λ n. is_entry t modes n x.parent (entry modes n) ≡ true) next (entries_at t modes (suc u) ys (and_parts _ _ h).1 j x at)
 
 entries_all : (t : Tables) (modes : List (Option ℕ)) (u : ℕ) (xs : List Module)
     → ((j : ℕ) (x : Module) → slice_get xs j ≡ Some x → is_entry t modes (u + j) x.parent (entry modes (u + j)) ≡ true) → are_entries t modes u xs ≡ true
@@ -57,16 +57,16 @@ entries_all t modes u (y ∷ ys) h =
 pub selection_is : (t : Tables) (modes : List (Option ℕ)) → Decides (is_selection t modes) (IsSelection t modes)
 selection_is t modes = (
   λ h.
-      let parts = both (eqb (length modes) (length t.modules)) (are_entries t modes 0 t.modules) h in
+      let parts = and_parts (eqb (length modes) (length t.modules)) (are_entries t modes 0 t.modules) h in
       record {
-        same = same_number (length modes) (length t.modules) parts.0;
+        same = eqb-true (length modes) (length t.modules) parts.0;
         each = λ u x at.
             let zero_add : 0 + u ≡ u = omega arith in
             (entry_is t modes u x.parent (entry modes u)).0
             (subst (λ n. is_entry t modes n x.parent (entry modes n) ≡ true) zero_add (entries_at t modes 0 t.modules parts.1 u x at));
       },
   λ s.
-      rw (equal (length modes) (length t.modules) s.same)
+      rw (eq-eqb (length modes) (length t.modules) s.same)
       (entries_all t modes 0 t.modules (λ u x at.
       let zero_add : u ≡ 0 + u = omega arith in
       subst (λ n. is_entry t modes n x.parent (entry modes n) ≡ true) zero_add ((entry_is t modes u x.parent (entry modes u)).1 (s.each u x at)))),

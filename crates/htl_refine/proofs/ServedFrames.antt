@@ -27,7 +27,7 @@ use Rattle.htl_refine.proofs.StateLaws.{states_are_selections}
 
 -- ---- frames
 
-paths_are : (t : Tables) → 0 < length (root_modules t) → paths t ≡ choices t (rounds t)
+pub paths_are : (t : Tables) → 0 < length (root_modules t) → paths t ≡ choices t (rounds t)
 paths_are t some = by (root_modules t) some (choices t (rounds t))
   where
     by : (us : List ℕ) → 0 < length us → (n : ℕ) → elim us as (λ _. ℕ) [ [] ↦ 0 | v ∷ vs ↦ n ] ≡ n

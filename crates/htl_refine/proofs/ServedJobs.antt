@@ -1,21 +1,22 @@
 -- A frame whose lists meet serves each job once, in its window, in slices that are its own.
 use Rattle.std.proofs.Common.{◌≡◌, ℕ, zero, suc, ◌-◌, ◌*◌, ◌≤◌, ◌<◌, ◌⊎◌, Bool, true, false, cond, ◌&&◌, ◌||◌, eqb, is_some, List, [], ◌∷◌, length, take, Option, Some, None, refl, sym, ap, ◌∙◌, arith, inl, inr}
-use Rattle.std.proofs.lemmas.Bool.{eq-eqb}
+use Rattle.std.proofs.lemmas.Bool.{eq-eqb, or_right}
 use Rattle.htl_walk.specs.declared.job.Job.{Job}
 use Rattle.htl_walk.specs.declared.schedule.SInstr.{SInstr}
 use Rattle.htl_walk.specs.Paths.{Leg, walks_from, end_to_end, AreInForm}
 use Rattle.htl_walk.specs.Walk.{Point, Left, first_point, is_position, finish}
-use Rattle.htl_walk.proofs.Finishes.{some_same}
 use Rattle.htl_walk.proofs.Joining.{joined, show_joined}
 use Rattle.htl_walk.proofs.Work.{work_present}
 use Rattle.htl_refine.specs.FrameRuns.{Frame, walk_of}
 use Rattle.htl_refine.specs.RecordCounts.{done_by}
 use Rattle.htl_refine.specs.ServedFrames.{IsServing, FramesServe}
 use Rattle.htl_refine.specs.ServedJobs.{spent, Finishes, Serves}
-use Rattle.htl_refine.proofs.FinishingRecords.{done_more, finish_record, finishing}
+use Rattle.htl_refine.proofs.FinishingRecords.{finish_record, finishing, finish_more}
 use Rattle.htl_refine.proofs.RecordOrder.{not_some, path_rises, path_within, counted}
 use Rattle.htl_refine.proofs.SliceOrder.{path_apart}
 use Rattle.htl_refine.proofs.SliceSums.{spent_is}
+use Rattle.htl_base.proofs.Numbers.{cases_less_more}
+use Rattle.std.proofs.lemmas.Option.{same_Some}
 
 -- ---- once
 
@@ -30,19 +31,13 @@ done_stays (l ∷ ls) (suc k) (suc m) p h e = by_test (is_position l.position p 
     by_test true g ih = refl
     by_test false g ih = ih g
 
-order : (a b : ℕ) → (a < b) ⊎ ((b < a) ⊎ (a ≡ b))
-order a b = grind arith
-
 -- after the record the job is done
 done_after : (ls : List Left) (p k f : ℕ) → Finishes ls p k f → done_by ls (suc k) p ≡ true
-done_after ls p k f r = done_more ls k p r.0 r.1 ∙ or_right (done_by ls k p) (is_position r.0.position p && r.0.finished) (here r.0.position r.0.finished r.2 r.3)
+done_after ls p k f r = finish_more ls k p r.0 r.1 ∙ or_right (done_by ls k p) (is_position r.0.position p && r.0.finished) (here r.0.position r.0.finished r.2 r.3)
   where
-    or_right : (a b : Bool) → b ≡ true → (a || b) ≡ true
-    or_right a b e = grind arith
-
     here : (o : Option ℕ) (b : Bool) → o ≡ Some p → b ≡ true → (is_position o p && b) ≡ true
     here None b e f = not_some p e
-    here (Some q) b e f = let same : q ≡ p = some_same _ _ e in all_true (eqb q p) b (eq-eqb q p same) f
+    here (Some q) b e f = let same : q ≡ p = same_Some _ _ e in all_true (eqb q p) b (eq-eqb q p same) f
       where
         all_true : (a b : Bool) → a ≡ true → b ≡ true → (a && b) ≡ true
         all_true a b e f = grind arith
@@ -56,7 +51,7 @@ module _ (jobs : List Job) (ss : List (List SInstr)) (gs : List Leg) (x : Point)
       let z : true ≡ false = sym done ∙ open_yet in cc
 
   pub finish_once : (k m d e : ℕ) → Finishes (end_to_end (walks_from jobs ss gs x)) p k d → Finishes (end_to_end (walks_from jobs ss gs x)) p m e → k ≡ m
-  finish_once k m d e a b = elim (order k m) [ inl h ↦ absurd (not_before k m d e h a b) | inr (inl h) ↦ absurd (not_before m k e d h b a) | inr (inr z) ↦ z ]
+  finish_once k m d e a b = elim (cases_less_more k m) [ inl h ↦ absurd (not_before k m d e h a b) | inr (inl h) ↦ absurd (not_before m k e d h b a) | inr (inr z) ↦ z ]
 
 pub frame_serves : (f : Frame) (h : ℕ) → IsServing f h → Serves f.jobs f.lengths (walk_of f)
 frame_serves f h serving =

@@ -6,10 +6,11 @@ use Rattle.htl_walk.specs.declared.schedule.SInstr.{SInstr}
 use Rattle.htl_walk.specs.declared.schedule.SInstr.TheVariants.{Dispatch, Idle, End}
 use Rattle.htl_walk.specs.Paths.{Leg, list_point, walks_from, end_to_end, AreInForm, AreChained}
 use Rattle.htl_walk.specs.Walk.{Point, Left, job_at, dispatch_begins, slice_between, next_point, walk_from, last_point, slice_of}
-use Rattle.htl_walk.proofs.Finishes.{some_same}
 use Rattle.htl_walk.proofs.Steps.{time_rises}
 use Rattle.htl_refine.specs.ServedJobs.{SlicesAreApart}
-use Rattle.htl_refine.proofs.RecordOrder.{not_some, times_within, get_in, get_past}
+use Rattle.htl_refine.proofs.RecordOrder.{not_some, times_within}
+use Rattle.htl_base.proofs.Places.{get_back, within_front}
+use Rattle.std.proofs.lemmas.Option.{same_Some}
 
 -- ---- in one list
 
@@ -29,20 +30,20 @@ slice_inside jobs (Dispatch p h) x s e = by_work (get_or x.left p 0) e
         by_room : (b : Bool) → ◌≡◌ {A = Option (ℕ × ℕ)} (elim b [ true ↦ Some (dispatch_begins x.time (job_at jobs p).release h, y.time) | false ↦ None ]) (Some s) → (x.time ≤ s.0) × (s.1 ≡ y.time)
         by_room false e = not_some s e
         by_room true e =
-            let same : ◌≡◌ {A = ℕ × ℕ} (dispatch_begins x.time (job_at jobs p).release h, y.time) s = some_same _ _ e in
+            let same : ◌≡◌ {A = ℕ × ℕ} (dispatch_begins x.time (job_at jobs p).release h, y.time) s = same_Some _ _ e in
             let first : dispatch_begins x.time (job_at jobs p).release h ≡ s.0 = ap (λ (z : ℕ × ℕ). z.0) same in
             (omega arith, sym (ap (λ (z : ℕ × ℕ). z.1) same))
 
 pub slice_from : (jobs : List Job) (is : List SInstr) (x : Point) (m : ℕ) (b : Left) (u : ℕ × ℕ) → slice_get (walk_from jobs is x) m ≡ Some b → b.slice ≡ Some u → x.time ≤ u.0
 slice_from jobs [] x m b u e f = not_some b e
-slice_from jobs (i ∷ is) x zero b u e f = (slice_inside jobs i x u (ap (λ (z : Left). z.slice) (some_same _ _ e) ∙ f)).0
+slice_from jobs (i ∷ is) x zero b u e f = (slice_inside jobs i x u (ap (λ (z : Left). z.slice) (same_Some _ _ e) ∙ f)).0
 slice_from jobs (i ∷ is) x (suc m) b u e f = let r : (next_point jobs i x).time ≤ u.0 = slice_from jobs is (next_point jobs i x) m b u e f in omega (arith, r, time_rises jobs i x)
 
 pub slices_apart : (jobs : List Job) (is : List SInstr) (x : Point) → SlicesAreApart (walk_from jobs is x)
 slices_apart jobs [] x k m a b s u h e f g d = not_some a e
 slices_apart jobs (i ∷ is) x k zero a b s u h e f g d = absurd (omega arith)
 slices_apart jobs (i ∷ is) x zero (suc m) a b s u h e f g d =
-    let r = slice_inside jobs i x s (ap (λ (z : Left). z.slice) (some_same _ _ e) ∙ g) in
+    let r = slice_inside jobs i x s (ap (λ (z : Left). z.slice) (same_Some _ _ e) ∙ g) in
     let later : (next_point jobs i x).time ≤ u.0 = slice_from jobs is (next_point jobs i x) m b u f d in
     omega (arith, r.1)
 slices_apart jobs (i ∷ is) x (suc k) (suc m) a b s u h e f g d = slices_apart jobs is (next_point jobs i x) k m a b s u (omega arith) e f g d
@@ -50,7 +51,7 @@ slices_apart jobs (i ∷ is) x (suc k) (suc m) a b s u h e f g d = slices_apart 
 -- a slice ends with its record
 slice_to : (jobs : List Job) (is : List SInstr) (x : Point) (k : ℕ) (a : Left) (s : ℕ × ℕ) → slice_get (walk_from jobs is x) k ≡ Some a → a.slice ≡ Some s → s.1 ≡ a.at
 slice_to jobs [] x k a s e g = not_some a e
-slice_to jobs (i ∷ is) x zero a s e g = (slice_inside jobs i x s (ap (λ (z : Left). z.slice) (some_same _ _ e) ∙ g)).1 ∙ ap (λ (z : Left). z.at) (some_same _ _ e)
+slice_to jobs (i ∷ is) x zero a s e g = (slice_inside jobs i x s (ap (λ (z : Left). z.slice) (same_Some _ _ e) ∙ g)).1 ∙ ap (λ (z : Left). z.at) (same_Some _ _ e)
 slice_to jobs (i ∷ is) x (suc k) a s e g = slice_to jobs is (next_point jobs i x) k a s e g
 
 -- ---- in all lists
@@ -69,7 +70,7 @@ path_from jobs (s ∷ ss) (g ∷ gs) a h n x m b u f c e d = elim (cases_lt m (l
     here l =
         let y = list_point g.from x in
         let ms = end_to_end (walks_from jobs ss gs (last_point jobs s y)) in
-        let r : g.from ≤ u.0 = slice_from jobs s y m b u (sym (get_in (walk_from jobs s y) ms m l) ∙ e) d in omega (arith, r, c.0)
+        let r : g.from ≤ u.0 = slice_from jobs s y m b u (sym (within_front (walk_from jobs s y) ms m l) ∙ e) d in omega (arith, r, c.0)
 
     there : length (walk_from jobs s (list_point g.from x)) ≤ m → ((q : ℕ) → slice_get (end_to_end (walks_from jobs ss gs (last_point jobs s (list_point g.from x)))) q ≡ Some b → g.to ≤ u.0) → a ≤ u.0
     there l ih =
@@ -78,7 +79,7 @@ path_from jobs (s ∷ ss) (g ∷ gs) a h n x m b u f c e d = elim (cases_lt m (l
         let ms = end_to_end (walks_from jobs ss gs (last_point jobs s y)) in
         let q = m - length ls in
         let is : length ls + q ≡ m = omega (arith, l) in
-        let r : g.to ≤ u.0 = ih q (sym (get_past ls ms q) ∙ ap (slice_get (ls ++ ms)) is ∙ e) in omega (arith, r, c.0, c.1)
+        let r : g.to ≤ u.0 = ih q (sym (get_back ls ms q) ∙ ap (slice_get (ls ++ ms)) is ∙ e) in omega (arith, r, c.0, c.1)
 
 pub path_apart : (jobs : List Job) (ss : List (List SInstr)) (gs : List Leg) (a h n : ℕ) (x : Point) → AreInForm ss gs → AreChained a h n gs → SlicesAreApart (end_to_end (walks_from jobs ss gs x))
 path_apart jobs [] gs a h n x f c k m p q s u l e g d i = not_some p e
@@ -97,7 +98,7 @@ path_apart jobs (t ∷ ss) (v ∷ gs) a h n x f c k m p q s u l e g d z =
         let y = list_point v.from x in
         let ls = walk_from jobs t y in
         let ms = end_to_end (walks_from jobs ss gs (last_point jobs t y)) in
-        slices_apart jobs t y k m p q s u l (sym (get_in ls ms k (omega (arith, l, b))) ∙ e) (sym (get_in ls ms m b) ∙ g) d z
+        slices_apart jobs t y k m p q s u l (sym (within_front ls ms k (omega (arith, l, b))) ∙ e) (sym (within_front ls ms m b) ∙ g) d z
 
     across : k < length (walk_from jobs t (list_point v.from x)) → length (walk_from jobs t (list_point v.from x)) ≤ m → s.1 ≤ u.0
     across b' b =
@@ -106,10 +107,10 @@ path_apart jobs (t ∷ ss) (v ∷ gs) a h n x f c k m p q s u l e g d z =
         let ms = end_to_end (walks_from jobs ss gs (last_point jobs t y)) in
         let r = m - length ls in
         let is : length ls + r ≡ m = omega (arith, b) in
-        let at : slice_get ls k ≡ Some p = sym (get_in ls ms k b') ∙ e in
+        let at : slice_get ls k ≡ Some p = sym (within_front ls ms k b') ∙ e in
         let ends : s.1 ≡ p.at = slice_to jobs t y k p s at d in
         let early : p.at ≤ v.to = times_within jobs v.known v.to t y f.0 c.1 k p at in
-        let late : v.to ≤ u.0 = path_from jobs ss gs v.to h n (last_point jobs t y) r q u f.1 c.3 (sym (get_past ls ms r) ∙ ap (slice_get (ls ++ ms)) is ∙ g) z in
+        let late : v.to ≤ u.0 = path_from jobs ss gs v.to h n (last_point jobs t y) r q u f.1 c.3 (sym (get_back ls ms r) ∙ ap (slice_get (ls ++ ms)) is ∙ g) z in
         omega (arith, ends, early, late)
 
     later : length (walk_from jobs t (list_point v.from x)) ≤ k → length (walk_from jobs t (list_point v.from x)) ≤ m
@@ -123,4 +124,4 @@ path_apart jobs (t ∷ ss) (v ∷ gs) a h n x f c k m p q s u l e g d z =
         let r = m - length ls in
         let isj : length ls + j ≡ k = omega (arith, b') in
         let isr : length ls + r ≡ m = omega (arith, b) in
-        ih j r (omega (arith, l, isj, isr)) (sym (get_past ls ms j) ∙ ap (slice_get (ls ++ ms)) isj ∙ e) (sym (get_past ls ms r) ∙ ap (slice_get (ls ++ ms)) isr ∙ g)
+        ih j r (omega (arith, l, isj, isr)) (sym (get_back ls ms j) ∙ ap (slice_get (ls ++ ms)) isj ∙ e) (sym (get_back ls ms r) ∙ ap (slice_get (ls ++ ms)) isr ∙ g)

@@ -1,12 +1,12 @@
 -- The slices of a job that finishes add up to its work.
 use Rattle.std.proofs.Common.{◌≡◌, ◌≢◌, ℕ, zero, suc, ◌+◌, ◌≤◌, ◌<◌, ◌⊎◌, Bool, true, false, cond, eqb, ltb, List, [], ◌∷◌, get_or, Some, None, refl, sym, ap, ◌∙◌, arith, inl, inr}
-use Rattle.std.proofs.lemmas.Bool.{eq-eqb, ne_eqb, ltb-true, ltb-false}
+use Rattle.std.proofs.lemmas.Bool.{eq-eqb, ne_eqb, ltb-true, ltb-false, cases_eq}
 use Rattle.htl_walk.specs.declared.job.Job.{Job}
 use Rattle.htl_walk.specs.declared.schedule.SInstr.{SInstr}
 use Rattle.htl_walk.specs.declared.schedule.SInstr.TheVariants.{Dispatch, Idle, End}
 use Rattle.htl_walk.specs.Walk.{Point, job_at, dispatch_begins, time_after, work_after, slice_between, slice_onto, next_point, walk_from, last_point, finish, slices}
 use Rattle.htl_walk.proofs.Acceptance.{no_finish}
-use Rattle.htl_walk.proofs.Steps.{left_other, left_same, apart}
+use Rattle.htl_walk.proofs.Steps.{left_other, left_same}
 use Rattle.htl_refine.specs.ServedJobs.{spent}
 use Rattle.htl_refine.proofs.RecordOrder.{not_some}
 
@@ -24,7 +24,7 @@ adds_up : (jobs : List Job) (is : List SInstr) (x : Point) (p : ℕ) → spent (
 adds_up jobs [] x p = omega arith
 adds_up jobs (Idle h ∷ is) x p = adds_up jobs is (next_point jobs (Idle h) x) p
 adds_up jobs (End ∷ is) x p = adds_up jobs is x p
-adds_up jobs (Dispatch q h ∷ is) x p = by_position (apart q p) (adds_up jobs is (next_point jobs (Dispatch q h) x) p)
+adds_up jobs (Dispatch q h ∷ is) x p = by_position (cases_eq q p) (adds_up jobs is (next_point jobs (Dispatch q h) x) p)
   where
     y : Point
     y = next_point jobs (Dispatch q h) x

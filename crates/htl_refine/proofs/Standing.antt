@@ -1,7 +1,7 @@
 -- Where a module is, by where it was: the laws that every instant keeps.
 use Rattle.std.proofs.Common.{◌≡◌, ◌≢◌, ℕ, zero, suc, ◌+◌, ◌≤◌, ◌<◌, Bool, true, false, eqb, List, [], length, slice_get, Option, Some, None, IfSome, ℤ, refl, sym, ap, ◌∙◌, subst, arith, ◌⊎◌, inl, inr}
-use Rattle.std.proofs.lemmas.Bool.{eqb-true, eqb-false}
-use Rattle.std.proofs.lemmas.Option.{slice_get_within, slice_get_past}
+use Rattle.std.proofs.lemmas.Bool.{eqb-true, eqb-false, cases_lt}
+use Rattle.std.proofs.lemmas.Option.{slice_get_within, slice_get_past, same_Some}
 use Rattle.htl_model.specs.declared.event.Event.{Event}
 use Rattle.htl_model.specs.declared.parts.Mode.{Mode}
 use Rattle.htl_model.specs.declared.parts.Module.{Module}
@@ -10,10 +10,9 @@ use Rattle.htl_model.specs.Meaning.{state, before, stay_of, stays_at, stays_to, 
 use Rattle.htl_model.specs.Ranges.{AreInRange, IsModeThat, parent_of}
 use Rattle.htl_model.specs.Selected.{IsModeOf}
 use Rattle.htl_model.specs.Tables.{Tables, mode_period, mode_module}
-use Rattle.htl_model.proofs.Stays.{stay_at}
-use Rattle.htl_walk.proofs.Finishes.{some_same}
+use Rattle.htl_model.proofs.Stays.{stay_at, length-stays_to}
 use Rattle.htl_refine.proofs.RecordOrder.{not_some}
-use Rattle.htl_refine.proofs.StateLaws.{IsOwn, length-stays, state_own}
+use Rattle.htl_refine.proofs.StateLaws.{IsOwn, state_own}
 
 -- how a module came to where it is, from where it was
 pub data Came (t : Tables) (v : List ℤ) (now : ℕ) (x : Module) (old : Option Stay) (y : Stay) : Type 0 where
@@ -22,13 +21,13 @@ pub data Came (t : Tables) (v : List ℤ) (now : ℕ) (x : Module) (old : Option
   stayed : (z : Stay) → old ≡ Some z → now ≢ z.start + mode_period t z.mode → y ≡ z → Came t v now x old y
 
 came : (t : Tables) (v : List ℤ) (now : ℕ) (x : Module) (old : Option Stay) (y : Stay) → go_on_or_begin t v now x old ≡ Some y → Came t v now x old y
-came t v now x None y e = began refl (sym (some_same _ _ e))
+came t v now x None y e = began refl (sym (same_Some _ _ e))
 came t v now x (Some z) y e = by_end (eqb now (z.start + mode_period t z.mode)) refl e
   where
     by_end : (b : Bool) → eqb now (z.start + mode_period t z.mode) ≡ b
         → ◌≡◌ {A = Option Stay} (elim b [ true ↦ Some (record { mode = target t v z.mode; start = now }) | false ↦ Some z ]) (Some y) → Came t v now x (Some z) y
-    by_end true h e = turned z refl (eqb-true now (z.start + mode_period t z.mode) h) (sym (some_same _ _ e))
-    by_end false h e = stayed z refl (eqb-false now (z.start + mode_period t z.mode) h) (sym (some_same _ _ e))
+    by_end true h e = turned z refl (eqb-true now (z.start + mode_period t z.mode) h) (sym (same_Some _ _ e))
+    by_end false h e = stayed z refl (eqb-false now (z.start + mode_period t z.mode) h) (sym (same_Some _ _ e))
 
 -- where module k is, as the module x of the tables; with the mode that it refines running
 pub record IsThere (t : Tables) (v : List ℤ) (now : ℕ) (old : List (Option Stay)) (k : ℕ) (y : Stay) : Type 0 where
@@ -42,15 +41,12 @@ opened o = elim o [ Some x ↦ x | None ↦ None ]
 
 pub known_unit : (t : Tables) (v : List ℤ) (now : ℕ) (old : List (Option Stay)) (k : ℕ) (y : Stay) → stay_of (stays_at t v now old) k ≡ Some y → k < length t.modules
 unfolding opened
-known_unit t v now old k y e = by_length (below k (length t.modules))
+known_unit t v now old k y e = by_length (cases_lt k (length t.modules))
   where
-    below : (a b : ℕ) → (a < b) ⊎ (b ≤ a)
-    below a b = grind arith
-
     by_length : (k < length t.modules) ⊎ (length t.modules ≤ k) → k < length t.modules
     by_length (inl h) = h
     by_length (inr h) =
-        not_some y (sym (ap opened (slice_get_past (stays_at t v now old) k (omega (arith, length-stays t v now old (length t.modules))))) ∙ e)
+        not_some y (sym (ap opened (slice_get_past (stays_at t v now old) k (omega (arith, length-stays_to t v now old (length t.modules))))) ∙ e)
 
 pub is_there : (t : Tables) (v : List ℤ) (now : ℕ) (old : List (Option Stay)) (k : ℕ) (y : Stay) → stay_of (stays_at t v now old) k ≡ Some y → IsThere t v now old k y
 is_there t v now old k y e =
@@ -68,7 +64,7 @@ is_there t v now old k y e =
               unit = x;
               at = at;
               came = came t v now x (stay_of old k) y e;
-              parent = λ q f. subst (λ z. runs t (stays_to t v now old k) z ≡ true) (some_same _ _ (sym is ∙ f)) r;
+              parent = λ q f. subst (λ z. runs t (stays_to t v now old k) z ≡ true) (same_Some _ _ (sym is ∙ f)) r;
             }
         by_run false r e = not_some y e
 

@@ -2,7 +2,7 @@
 use Rattle.std.proofs.Common.{◌≡◌, ℕ, zero, suc, ◌+◌, ◌<◌, Bool, true, false, ◌&&◌, cond, eqb, List, [], ◌∷◌, length, map, Option, Some, None, IfSome, ℤ, refl, sym, ◌∙◌, ap, subst, arith, length-append}
 use Rattle.std.specs.Prelude.{slice_get, option_map}
 use Rattle.std.proofs.lemmas.List.{length-map}
-use Rattle.std.proofs.lemmas.Option.{slice_get_within}
+use Rattle.std.proofs.lemmas.Option.{slice_get_within, none-some}
 use Rattle.htl_model.specs.declared.event.Event.{Event}
 use Rattle.htl_model.specs.declared.parts.Mode.{Mode}
 use Rattle.htl_model.specs.declared.parts.Module.{Module}
@@ -12,16 +12,12 @@ use Rattle.htl_model.specs.Meaning.{state, module_stay, stay_of, stays_to, next_
 use Rattle.htl_model.specs.Ranges.{AreInRange, IsModeThat, IsSwitchInRange}
 use Rattle.htl_model.specs.Selected.{entry, is_at, is_running, IsModeOf, is_active, IsEntry, IsSelection}
 use Rattle.htl_model.specs.Tables.{Tables, mode_module, mode_period}
-use Rattle.htl_model.proofs.Stays.{stay_at}
-use Rattle.htl_form.proofs.PartLaws.{none_some}
-use Rattle.htl_form.proofs.Places.{all_at, item_at}
-use Rattle.htl_model.proofs.TestLaws.{both, same_number, not_both}
+use Rattle.htl_model.proofs.Stays.{stay_at, length-stays_to}
 use Rattle.htl_refine.specs.Records.{modes_at}
 use Rattle.htl_refine.proofs.SelectedLaws.{active_is}
-
-pub length-stays : (t : Tables) (v : List ℤ) (now : ℕ) (old : List (Option Stay)) (k : ℕ) → length (stays_to t v now old k) ≡ k
-length-stays t v now old zero = refl
-length-stays t v now old (suc k) = length-append (stays_to t v now old k) (next_stay_at t v now (stays_to t v now old k) k (stay_of old k) ∷ []) ∙ omega (arith, length-stays t v now old k)
+use Rattle.htl_base.proofs.Places.{all_at, item_at}
+use Rattle.std.proofs.lemmas.Bool.{and_parts, eqb-true}
+use Rattle.htl_base.proofs.Tests.{true_not_false}
 
 abbrev pub mode_in : Option Stay → Option ℕ
 mode_in o = option_map (λ (y : Stay). y.mode) o
@@ -44,7 +40,7 @@ module _ (t : Tables) (range : AreInRange t) where
     where
       by : (b : Bool) → (eqb w.mode m && switch_holds t v k w) ≡ b → IsModeOf t u (target_from t v m (suc k) ws) → IsModeOf t u (cond b w.target (target_from t v m (suc k) ws))
       by true e later =
-          let here : w.mode ≡ m = same_number w.mode m (both (eqb w.mode m) (switch_holds t v k w) e).0 in
+          let here : w.mode ≡ m = eqb-true w.mode m (and_parts (eqb w.mode m) (switch_holds t v k w) e).0 in
           let that : IsModeThat t (λ owner. owner ≡ mode_module t w.mode) w.target = (each 0 w refl).target in
           let owner : mode_module t m ≡ own.0.«module» = ap (λ (o : Option Mode). elim o [ Some y ↦ y.«module» | None ↦ 0 ]) own.1 in
           (that.0, that.1, that.2 ∙ ap (mode_module t) here ∙ owner ∙ own.2)
@@ -71,10 +67,10 @@ module _ (t : Tables) (range : AreInRange t) where
         let same : z ≡ h.0 = cc in
         let own : IsModeOf t u z.mode = subst (λ (w : Stay). IsModeOf t u w.mode) (sym same) h.2 in
         (own, (own, (active_is t modes p).0 e))
-    active p None e h = absurd (none_some h.0 h.1)
+    active p None e h = absurd (none-some h.0 h.1)
 
     inactive : (p : Option ℕ) → is_active t modes p ≡ false → IsRight p None
-    inactive p e = (tt, λ a. not_both (is_active t modes p) ((active_is t modes p).1 a) e)
+    inactive p e = (tt, λ a. true_not_false (is_active t modes p) ((active_is t modes p).1 a) e)
 
     right : (old : Option Stay) → IsOwn u old → ((m : ℕ) → x.parent ≡ Some m → runs t lower m ≡ is_running t modes m) → IsRight x.parent (next_stay t v now lower x old)
     right old own agree = by x.parent refl
@@ -131,7 +127,7 @@ module _ (t : Tables) (range : AreInRange t) where
     selection : IsSelection t (map (λ (o : Option Stay). mode_in o) stays)
     unfolding stays
     selection = record {
-      same = length-map stays (λ (o : Option Stay). mode_in o) ∙ length-stays t v now old (length t.modules);
+      same = length-map stays (λ (o : Option Stay). mode_in o) ∙ length-stays_to t v now old (length t.modules);
       each = λ u x at. subst (IsEntry t (map (λ (o : Option Stay). mode_in o) stays) u x.parent) (sym (entry_is stays u)) (stay_right u x at).1;
     }
 

@@ -11,7 +11,9 @@ use Rattle.htl_refine.specs.FrameRuns.{frame_modes, frame_places, frame_jobs, fr
 use Rattle.htl_refine.specs.Records.{took, lengths_of}
 use Rattle.htl_refine.proofs.AlongPath.{legs_within}
 use Rattle.htl_refine.proofs.FramesAgree.{frames_agree}
-use Rattle.htl_refine.proofs.Fronts.{front_there, map_same, take_map, job_front, get_front, take_work, known_grow}
+use Rattle.htl_refine.proofs.Fronts.{front_there, take_map, job_front, take_work}
+use Rattle.htl_base.proofs.Places.{get_taken, map_same}
+use Rattle.htl_walk.proofs.NodeWalks.{known_rises}
 
 -- ---- the first lists
 
@@ -44,5 +46,5 @@ walks_agree t lists es fs f d k range alike form takes =
     sym (take_work m ps (lengths_of t es f ps)) ∙ ap₂ work is.jobs lengths ∙ take_work m qs (lengths_of t fs f qs) in
     fronts_alike (frame_at t lists es f) (frame_at t lists fs f) k m
     (λ p l. sym (job_front m ps p l) ∙ ap (λ js. job_at js p) is.jobs ∙ job_front m qs p l)
-    (record { time = refl; left = λ p l. sym (get_front m (work ps (lengths_of t es f ps)) p l) ∙ ap (λ ws. get_or ws p 0) left ∙ get_front m (work qs (lengths_of t fs f qs)) p l })
-    form (legs_within (frame_of t) m k xs (starts t) (λ j a l at. known_grow a d xs (omega (arith, get_or_from_slice_get (starts t) j a 0 at, alike.lists j l)))) is.lists is.legs
+    (record { time = refl; left = λ p l. sym (get_taken m (work ps (lengths_of t es f ps)) p l) ∙ ap (λ ws. get_or ws p 0) left ∙ get_taken m (work qs (lengths_of t fs f qs)) p l })
+    form (legs_within (frame_of t) m k xs (starts t) (λ j a l at. known_rises a d xs (omega (arith, get_or_from_slice_get (starts t) j a 0 at, alike.lists j l)))) is.lists is.legs

@@ -4,16 +4,17 @@ use Rattle.htl_walk.specs.declared.job.Job.{Job}
 use Rattle.htl_walk.specs.declared.schedule.SInstr.{SInstr}
 use Rattle.htl_walk.specs.Paths.{Leg, list_point, walks_from, end_to_end, AreInForm, path_point}
 use Rattle.htl_walk.specs.Walk.{Point, Left, next_point, left_by, walk_from, last_point, first_point, is_position, finish}
-use Rattle.htl_walk.proofs.Finishes.{some_same, ends, finish_now, finish_later}
+use Rattle.htl_walk.proofs.Finishes.{ends, finish_now, finish_later}
 use Rattle.htl_refine.specs.FrameRuns.{walks_of}
 use Rattle.htl_refine.specs.ListLaws.{WorkDone}
 use Rattle.htl_refine.specs.ListPlans.{leg_at, list_start, list_plan, list_walk, records_before}
 use Rattle.htl_refine.specs.RecordCounts.{done_by}
 use Rattle.htl_refine.proofs.FinishingRecords.{done_past}
-use Rattle.htl_refine.proofs.Fronts.{get_front}
 use Rattle.htl_refine.proofs.ListCounts.{done_front}
 use Rattle.htl_refine.proofs.ListWalks.{list_walks}
 use Rattle.htl_refine.proofs.RecordOrder.{not_some}
+use Rattle.htl_base.proofs.Places.{get_taken}
+use Rattle.std.proofs.lemmas.Option.{same_Some}
 
 -- ---- one list
 
@@ -40,7 +41,7 @@ walk_take jobs (i ∷ is) x (suc k) = ap (λ z. left_by jobs i x (next_point job
 
 split_at : (ws : List (List Left)) (j : ℕ) (x : List Left) → slice_get ws j ≡ Some x → (b : List Left) × (end_to_end ws ≡ end_to_end (take j ws) ++ (x ++ b))
 split_at [] j x e = not_some x e
-split_at (w ∷ ws) zero x e = (end_to_end ws, ap (λ z. z ++ end_to_end ws) (some_same _ _ e))
+split_at (w ∷ ws) zero x e = (end_to_end ws, ap (λ z. z ++ end_to_end ws) (same_Some _ _ e))
 split_at (w ∷ ws) (suc j) x e =
     let r = split_at ws j x e in
     (r.0, ap (λ z. w ++ z) r.1 ∙ sym (append_assoc w (end_to_end (take j ws)) (x ++ r.0)))
@@ -50,7 +51,7 @@ take_in xs ys zero h = refl
 take_in [] ys (suc k) h = absurd (omega arith)
 take_in (x ∷ xs) ys (suc k) h = ap (λ z. x ∷ z) (take_in xs ys k (omega arith))
 
-length-walk : (jobs : List Job) (is : List SInstr) (x : Point) → length (walk_from jobs is x) ≡ length is
+pub length-walk : (jobs : List Job) (is : List SInstr) (x : Point) → length (walk_from jobs is x) ≡ length is
 length-walk jobs [] x = refl
 length-walk jobs (i ∷ is) x = ap suc (length-walk jobs is (next_point jobs i x))
 
@@ -121,6 +122,6 @@ work_done f h j k p serving l few long some none =
         ∙ ap (λ zs. is_some (finish zs p)) (take_in ls cut.0 k (omega (arith, long, length-walk (list_plan f j).jobs (list_plan f j).schedule (list_plan f j).first)))
         ∙ ap is_some r.1
     by (inr zero_left) None e =
-        let before : get_or (list_start f j).left p 0 ≡ 0 = sym (get_front (leg_at f j).known (list_start f j).left p few) ∙ zero_left in
+        let before : get_or (list_start f j).left p 0 ≡ 0 = sym (get_taken (leg_at f j).known (list_start f j).left p few) ∙ zero_left in
         let r = path_done f.jobs f.lists f.legs j p (first_point f.jobs f.lengths) serving.forms l some before in
         not_some r.0 (sym e ∙ r.1)

@@ -90,20 +90,14 @@ far_too_late = refl
 negative_instant : script_of sample (codes "at -1\n") ≡ Bad 1 kind.Form []
 negative_instant = refl
 
-space_behind : script_of sample (codes "at 1 \n") ≡ Bad 1 kind.Form []
+pub space_behind : script_of sample (codes "at 1 \n") ≡ Bad 1 kind.Form []
 space_behind = refl
-
-two_spaces : script_of sample (codes "at  1\n") ≡ Bad 1 kind.Form []
-two_spaces = refl
 
 tab : script_of sample (codes "at\t1\n") ≡ Bad 1 kind.Form []
 tab = refl
 
 carriage_return : script_of sample (codes "at 1\r\n") ≡ Bad 1 kind.Form []
 carriage_return = refl
-
-space_before : script_of sample (codes " at 1\n") ≡ Bad 1 kind.Form []
-space_before = refl
 
 empty_name : script_of sample (codes "sense  1\n") ≡ Bad 1 kind.Form []
 empty_name = refl

@@ -13,6 +13,8 @@ use Rattle.std.proofs.lemmas.Map.Text.{is_eq-slice_cmp}
 use Rattle.std.proofs.lemmas.Slice.Eq.{bytes_eq-Decides}
 use Rattle.std.proofs.lemmas.Option.{same_Some}
 use Rattle.htl_script.specs.Orders.{AreRising, AreOrdered, IsPlace, compared}
+use Rattle.std.proofs.lemmas.Bool.{cases_lt}
+use Rattle.htl_base.proofs.Numbers.{cases_below_next}
 
 there : (o : Option (List ℕ)) → IsSome o → (a : List ℕ) × (o ≡ Some a)
 there (Some a) h = (a, refl)
@@ -213,22 +215,16 @@ module _ (name : ℕ → Option (List ℕ)) (count : ℕ) (xs text : List ℕ) (
   old_found : (n : ℕ) (a : List ℕ) → n < count → name n ≡ Some a → Found n a
   old_found n a h e =
       let w = o.whole n a h e in
-      elim (order w.0 p) [
+      elim (cases_lt w.0 p) [
         | inl l ↦ (w.0, omega (arith, len, w.1), ap name (before_is w.0 l) ∙ w.2, omega (arith, before_is w.0 l, w.3))
         | inr l ↦ (suc w.0, omega (arith, len, w.1), ap name (behind_is (suc w.0) w.0 refl l) ∙ w.2, omega (arith, behind_is (suc w.0) w.0 refl l, w.3))
       ]
-    where
-      order : (i p : ℕ) → (i < p) ⊎ (p ≤ i)
-      order i p = grind arith
 
   whole : (n : ℕ) (a : List ℕ) → n < count + 1 → name n ≡ Some a → Found n a
-  whole n a h e = elim (order n count h) [
+  whole n a h e = elim (cases_below_next n count h) [
     | inl l ↦ old_found n a l e
     | inr same ↦ (p, omega (arith, len, place.0), ap name (at_is p refl ∙ sym same) ∙ e, omega (arith, at_is p refl))
   ]
-    where
-      order : (n k : ℕ) → n < k + 1 → (n < k) ⊎ (n ≡ k)
-      order n k h = grind arith
 
   pub ordered_put : AreOrdered name (count + 1) (put xs p count)
   ordered_put = record { rising = record { named = named; rising = rising }; below = below_more; whole = whole }
@@ -269,10 +265,7 @@ module _ (name : ℕ → Option (List ℕ)) (count : ℕ) (xs text : List ℕ) (
   none_named p at q less e =
       let w = o.whole q text less e in
       let tied : compared name xs text w.0 ≡ Some Equal = compared_is name xs text w.0 text w.2 ∙ ap (λ x. Some x) (tied_itself nat_list_cmp_total text) in
-      elim (order w.0 p) [
+      elim (cases_lt w.0 p) [
         | inl l ↦ let z : Some Equal ≡ Some Less = sym tied ∙ at.1 w.0 l in cc
         | inr l ↦ let z : Some Equal ≡ Some Greater = sym tied ∙ at.2 w.0 l w.1 in cc
       ]
-    where
-      order : (i p : ℕ) → (i < p) ⊎ (p ≤ i)
-      order i p = grind arith

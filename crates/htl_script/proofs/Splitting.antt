@@ -77,7 +77,7 @@ lines_of-begun line b later plain other =
 
 -- ---- how a line is judged by its size
 
-size_at_least : (x : ScriptLine) → length x.text ≤ size_of x
+pub size_at_least : (x : ScriptLine) → length x.text ≤ size_of x
 size_at_least x = sized x.fed
   where
     sized : (fed : Bool) → length x.text ≤ length x.text + (if fed then 1 else 0)
@@ -92,7 +92,7 @@ judged-limit t start n past x at short long =
     and_from _ _ (le-leb start 1073741824 (omega (arith, at))) (lt-ltb 1073741824 (start + min 256 size) (omega (arith, at, short, long))) in
     ap (λ (b : Bool). cond b (Err kind.Size) (cond (is_long x) (Err kind.Long) (judged_text t past x.text))) over
 
-within_limit : (start : ℕ) (x : ScriptLine) → start + min 256 (size_of x) ≤ 1073741824 → is_past_limit start x ≡ false
+pub within_limit : (start : ℕ) (x : ScriptLine) → start + min 256 (size_of x) ≤ 1073741824 → is_past_limit start x ≡ false
 within_limit start x below = and_right _ _ (le-ltb 1073741824 (start + min 256 (size_of x)) below)
 
 judged-long : (t : Tables) (start : ℕ) (past : Past) (x : ScriptLine) → start + 256 ≤ 1073741824 → 256 ≤ length x.text

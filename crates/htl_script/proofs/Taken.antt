@@ -4,14 +4,7 @@ use Rattle.std.specs.Io.KnownBytes.{prepend_known}
 use Rattle.htl_script.specs.Reading.{LosesFront}
 use Rattle.htl_script.specs.Readers.{Here}
 use Rattle.htl_script.specs.Streaming.{Ahead, Pending, GivesByte, LosesPiece, at_start, taken_of}
-
-pub prepend_known-nil : (known : Option (List ℕ)) → prepend_known [] known ≡ known
-prepend_known-nil None = refl
-prepend_known-nil (Some xs) = refl
-
-pub prepend_known-append : (known : Option (List ℕ)) (xs ys : List ℕ) → prepend_known (xs ++ ys) known ≡ prepend_known xs (prepend_known ys known)
-prepend_known-append None xs ys = refl
-prepend_known-append (Some zs) xs ys = ap Some (append_assoc xs ys zs)
+use Rattle.htl_base.proofs.Places.{prepend_known-append, prepend_known-nil}
 
 -- nothing
 pub taken_none : {T E : Type 0} (a : Ahead) (known : Option (List ℕ)) (x : T) → LosesPiece {T = T} {E = E} a a known known (Ok x)

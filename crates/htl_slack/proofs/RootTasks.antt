@@ -13,16 +13,11 @@ use Rattle.htl_model.specs.Ranges.{AreInRange, IsInvInRange, IsModeInRange, IsTa
 use Rattle.htl_model.specs.Selections.{is_root}
 use Rattle.htl_model.specs.Tables.{Tables, mode_module, mode_period, task_worst}
 use Rattle.htl_walk.proofs.PathReady.{IsRootAt, as_unit}
-use Rattle.htl_walk.proofs.Steps.{either}
-use Rattle.htl_walk.proofs.Work.{all_at}
 use Rattle.htl_slack.specs.RootTasks.{IsRootTask, task_module, limit_of, is_root_at, calls}
+use Rattle.htl_base.proofs.Places.{each_at}
+use Rattle.std.proofs.lemmas.Bool.{and_parts, cases_lt}
 
 -- ---- the test
-
-both : (a b : Bool) → (a && b) ≡ true → (a ≡ true) × (b ≡ true)
-both true true e = (refl, refl)
-both true false e = absurd (cc)
-both false b e = absurd (cc)
 
 no_parent : (o : Option ℕ) → elim o as (λ _. Bool) [ Some p ↦ false | None ↦ true ] ≡ true → o ≡ None
 no_parent None e = refl
@@ -56,7 +51,7 @@ calling t task (j ∷ js) (suc k) i at h = by (calls t task j) (calling t task j
 pub found : (t : Tables) (task : ℕ) → list_any (calls t task) t.invs ≡ true → IsRootTask t task
 found t task e =
     let r = called t task t.invs e in
-    let h = both (eqb r.1.task task) (is_root_at t (mode_module t r.1.mode)) r.3 in
+    let h = and_parts (eqb r.1.task task) (is_root_at t (mode_module t r.1.mode)) r.3 in
     let owner = root_owner t (mode_module t r.1.mode) h.1 in
     record { number = r.0; inv = r.1; at = r.2; invoked = eqb-true r.1.task task h.0; owner = owner.0; owned = owner.1; root = owner.2 }
 
@@ -70,7 +65,7 @@ finding t task h =
 
 module _ (t : Tables) (task : ℕ) (r : AreInRange t) (h : IsRootTask t task) where
   in_range : IsInvInRange t h.inv
-  in_range = all_at (IsInvInRange t) t.invs r.invs h.number h.inv h.at
+  in_range = each_at (IsInvInRange t) t.invs r.invs h.number h.inv h.at
 
   task_at : slice_get t.tasks task ≡ Some in_range.task.0
   task_at = ap (slice_get t.tasks) (sym h.invoked) ∙ in_range.task.1
@@ -82,7 +77,7 @@ module _ (t : Tables) (task : ℕ) (r : AreInRange t) (h : IsRootTask t task) wh
   worst_is = ap (λ (o : Option Task). elim o as (λ _. ℕ) [ Some x ↦ x.worst | None ↦ 0 ]) task_at
 
   pub own_span : IsSpan (task_worst t task)
-  own_span = subst IsSpan (sym worst_is) (all_at (IsTaskInRange t) t.tasks r.tasks task in_range.task.0 task_at).worst
+  own_span = subst IsSpan (sym worst_is) (each_at (IsTaskInRange t) t.tasks r.tasks task in_range.task.0 task_at).worst
 
   module_is : task_module t task ≡ mode_module t h.inv.mode
   module_is = ap (λ (o : Option Task). elim o as (λ _. ℕ) [ Some x ↦ x.«module» | None ↦ 0 ]) task_at ∙ in_range.task.2
@@ -102,7 +97,7 @@ module _ (t : Tables) (task : ℕ) (r : AreInRange t) (h : IsRootTask t task) wh
   pub own_within : KeptApart t 12 → task_worst t task ≤ limit_of t task
   own_within kept =
       let site : Site = record { mode = h.inv.mode; inv = Some h.number; part = Itself } in
-      elim (either (limit_of t task) (task_worst t task)) [
+      elim (cases_lt (limit_of t task) (task_worst t task)) [
         | inl long ↦
             absurd (kept WorstCases site (task_worst t task) (limit_of t task) (omega arith) (λ e. omega (arith, e))
             (mode_at.0, mode_at.1, (h.inv, h.at, refl, (ap (task_worst t) (sym h.invoked), sym (period_is kept), long))))
@@ -111,6 +106,6 @@ module _ (t : Tables) (task : ℕ) (r : AreInRange t) (h : IsRootTask t task) wh
 
   pub limit_small : KeptApart t 12 → limit_of t task ≤ 1000000
   limit_small kept =
-      let mode : IsModeInRange t mode_at.0 = all_at (IsModeInRange t) t.modes r.modes h.inv.mode mode_at.0 mode_at.1 in
+      let mode : IsModeInRange t mode_at.0 = each_at (IsModeInRange t) t.modes r.modes h.inv.mode mode_at.0 mode_at.1 in
       let is : mode_period t h.inv.mode ≡ mode_at.0.period = ap (λ (o : Option Mode). elim o as (λ _. ℕ) [ Some x ↦ x.period | None ↦ 0 ]) mode_at.1 in
       omega (arith, mode.period.most, is, period_is kept)

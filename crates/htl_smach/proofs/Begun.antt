@@ -6,18 +6,13 @@ use Rattle.htl_walk.specs.declared.job.Job.{Job}
 use Rattle.htl_walk.specs.Walk.{job_at}
 use Rattle.htl_smach.specs.States.{IsPut, HaveBegun, AreStates}
 use Rattle.htl_smach.specs.declared.position_states.PositionStates.{PositionStates}
-
-equal : (q p : ℕ) → q ≡ p → eqb q p ≡ true
-equal q p e = grind (arith, nat_tests)
-
-unequal : (q p : ℕ) → (q ≡ p → ⊥) → eqb q p ≡ false
-unequal q p n = grind (arith, nat_tests)
+use Rattle.std.proofs.lemmas.Bool.{eq-eqb, ne_eqb}
 
 pub same_bit : (old new p : ℕ) (b : Bool) → IsPut old new p b → (q : ℕ) → q ≡ p → has_bit new q ≡ b
-same_bit old new p b put q e = put q ∙ ap (λ x. cond x b (has_bit old q)) (equal q p e)
+same_bit old new p b put q e = put q ∙ ap (λ x. cond x b (has_bit old q)) (eq-eqb q p e)
 
 pub other_bit : (old new p : ℕ) (b : Bool) → IsPut old new p b → (q : ℕ) → (q ≡ p → ⊥) → has_bit new q ≡ has_bit old q
-other_bit old new p b put q n = put q ∙ ap (λ x. cond x b (has_bit old q)) (unequal q p n)
+other_bit old new p b put q n = put q ∙ ap (λ x. cond x b (has_bit old q)) (ne_eqb q p n)
 
 -- none has begun yet
 pub none_begun : (x : PositionStates) (first : ℕ) (jobs : List Job) → HaveBegun x x first 0 jobs

@@ -7,6 +7,7 @@ use Rattle.std.proofs.Math.ListN.{length-set}
 use Rattle.htl_model.specs.Bits.{has_bit}
 use Rattle.htl_smach.specs.States.{flags_from, flags, IsPut}
 use Rattle.htl_smach.proofs.Joined.{get_left, get_right}
+use Rattle.htl_base.proofs.Places.{none_marked}
 
 length-from : (row k n : ℕ) → length (flags_from row k n) ≡ n
 length-from row k zero = refl
@@ -43,11 +44,6 @@ flags_put n old new p below put =
     by_place : (q : ℕ) → q < n → cond (eqb q p) true (has_bit old q) ≡ get_or (set (flags n old) p true) q false
     by_place q h = by_test q (eqb q p) refl h
 
-none_at : (k p : ℕ) → get_or (replicate k false) p false ≡ false
-none_at zero p = refl
-none_at (suc k) zero = refl
-none_at (suc k) (suc p) = none_at k p
-
 pub flags_more : (n k old new : ℕ) → ((q : ℕ) → q < n → has_bit new q ≡ has_bit old q) → ((j : ℕ) → j < k → has_bit new (n + j) ≡ false)
     → flags (n + k) new ≡ flags n old ++ replicate k false
 flags_more n k old new before none =
@@ -60,5 +56,5 @@ flags_more n k old new before none =
           let is : n + j ≡ p = omega arith in
           let isf : length (flags n old) + j ≡ p = omega (arith, length-flags n old) in
           ap (has_bit new) (sym is) ∙ none j (omega arith)
-          ∙ sym (ap (λ q. get_or (flags n old ++ replicate k false) q false) (sym isf) ∙ get_right (flags n old) (replicate k false) j false ∙ none_at k j)
+          ∙ sym (ap (λ q. get_or (flags n old ++ replicate k false) q false) (sym isf) ∙ get_right (flags n old) (replicate k false) j false ∙ none_marked k j)
     ])

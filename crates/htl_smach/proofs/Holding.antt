@@ -1,11 +1,10 @@
 -- The fields of a machine and its round.
 use Rattle.std.proofs.Common.{◌≡◌, ℕ, zero, suc, ◌+◌, ◌-◌, ◌≤◌, ◌<◌, Bool, true, false, cond, not, List, [], ◌∷◌, ◌++◌, length, get_or, set, take, replicate, Option, Some, None, IfSome, refl, sym, ap, ap₂, ◌∙◌, arith, inl, inr, ltb, eqb, add-one, get_or-set_same, get_or-set_other}
-use Rattle.std.proofs.lemmas.Bool.{cases_lt}
+use Rattle.std.proofs.lemmas.Bool.{cases_lt, cases_eq}
 use Rattle.std.proofs.lemmas.Bool.Decides.{nat_tests}
 use Rattle.std.proofs.lemmas.List.{length-take, ext_get_or, get_or-take}
 use Rattle.htl_walk.proofs.Work.{job_there, work_present}
 use Rattle.std.proofs.Math.ListN.{length-set}
-use Rattle.htl_walk.proofs.Steps.{apart}
 use Rattle.std.proofs.Math.Seq.{take-set-lt, take-append_seam}
 use Rattle.htl_model.specs.Bits.{has_bit}
 use Rattle.htl_walk.specs.declared.job.Job.{Job}
@@ -22,6 +21,8 @@ use Rattle.htl_smach.specs.Steps.{put_work, point_of}
 use Rattle.htl_smach.proofs.Flags.{flag_at, length-flags, flags_put, flags_more}
 use Rattle.htl_smach.proofs.Joined.{job_left, job_right, get_left, get_right, behind, job_taken}
 use Rattle.htl_smach.proofs.RoundRecords.{with_length, with_release, absent_idle}
+use Rattle.htl_walk.proofs.CodeWalk.{work_length}
+use Rattle.htl_smach.proofs.Finishing.{none_left}
 
 pub below_count : {X : Type 0} (n : ℕ) (xs : List X) (p : ℕ) → p < length (take n xs) → p < n
 below_count n xs p h = omega (arith, length-take n xs)
@@ -60,12 +61,6 @@ holds_left m n y x len e same h =
     ∙ ap₂ (λ (k : ℕ) (ws : List ℕ). record (inside_round m) { running = ltb k len; place = k; point = record { time = x.time; left = ws } })
     (add-one m.place) (take-put_work m.count m.left x.position x.rest h)
 
--- the work that was filled in, position by position
-pub length-work : (js : List Job) (ns : List ℕ) → length (work js ns) ≡ length js
-length-work [] ns = refl
-length-work (j ∷ js) [] = ap suc (length-work js [])
-length-work (j ∷ js) (n ∷ ns) = ap suc (length-work js ns)
-
 pub work_at : (js : List Job) (ns : List ℕ) (p : ℕ) (d : Job) → p < length js → p < length ns → get_or (work js ns) p 0 ≡ cond (get_or js p d).present (get_or ns p 0) 0
 work_at [] ns p d h k = absurd (omega arith)
 work_at (j ∷ js) [] p d h k = absurd (omega arith)
@@ -74,12 +69,12 @@ work_at (j ∷ js) (n ∷ ns) (suc p) d h k = work_at js ns p d (omega arith) (o
 
 pub work_filled : (js : List Job) (ns left : List ℕ) → length left ≡ length js → ((q : ℕ) → q < length js → get_or left q 0 ≡ get_or (work js ns) q 0) → left ≡ work js ns
 work_filled js ns left same each =
-    ext_get_or 0 left (work js ns) (same ∙ sym (length-work js ns)) (λ q h. each q (omega arith))
+    ext_get_or 0 left (work js ns) (same ∙ sym (work_length js ns)) (λ q h. each q (omega arith))
 
 pub work_more : (js : List Job) (ns left : List ℕ) (p x : ℕ) → p < length left → ((q : ℕ) → q < p → get_or left q 0 ≡ get_or (work js ns) q 0)
     → x ≡ get_or (work js ns) p 0 → (q : ℕ) → q < p + 1 → get_or (set left p x) q 0 ≡ get_or (work js ns) q 0
 work_more js ns left p x below old new q h =
-    elim (apart q p) [
+    elim (cases_eq q p) [
       | inl e ↦
           ap (λ k. get_or (set left p x) k 0) e ∙ get_or-set_same left p x 0 below ∙ new ∙ ap (λ k. get_or (work js ns) k 0) (sym e)
       | inr d ↦ get_or-set_other left p q x 0 d ∙ old q (omega arith)
@@ -93,9 +88,6 @@ work_absent js ns p d h k e = work_at js ns p d h (omega arith) ∙ ap (λ b. co
 
 some_work : (n : ℕ) → 1 ≤ n → eqb n 0 ≡ false
 some_work n h = grind (arith, nat_tests)
-
-no_work : (n : ℕ) → n ≡ 0 → eqb n 0 ≡ true
-no_work n h = grind (arith, nat_tests)
 
 pub holds_state : (m : Inside) (p : ℕ) → AreStates m.states m.count m.jobs m.left → p < m.count → state_in m.states p ≡ state_of (inside_round m) p
 holds_state m p are below =
@@ -121,7 +113,7 @@ module _ (m : Inside) (x : PositionStates) (jobs js more_jobs : List Job) (lengt
   all_left = take m.count m.left ++ (ws ++ more_work)
 
   left_is : take (m.count + length jobs) all_left ≡ take m.count m.left ++ work jobs lengths
-  left_is = behind m.count (length jobs) m.left ws more_work (work jobs lengths) d ws_is (length-work jobs lengths)
+  left_is = behind m.count (length jobs) m.left ws more_work (work jobs lengths) d ws_is (work_length jobs lengths)
 
   pub holds_added : (offset : ℕ) (firsts : List ℕ) → take (m.count + length jobs) firsts ≡ take (m.count + length jobs) all_left
       → inside_round (record {
@@ -178,7 +170,7 @@ module _ (m : Inside) (x : PositionStates) (jobs js more_jobs : List Job) (lengt
       none true k e =
           let has : 1 ≤ get_or lengths k 0 = least k (job_at jobs k) (job_there jobs k e) e in
           sym (some_work (get_or (work jobs lengths) k 0) (omega (arith, has, work_present jobs lengths k (job_at jobs k) (job_there jobs k e) e)))
-      none false k e = sym (no_work (get_or (work jobs lengths) k 0) (absent_idle jobs lengths k e))
+      none false k e = sym (none_left (get_or (work jobs lengths) k 0) (absent_idle jobs lengths k e))
 
       done : (p : ℕ) → p < m.count + length jobs → has_bit x.done p ≡ eqb (get_or all_left p 0) 0
       done p h = elim (cases_lt p m.count) [
@@ -189,7 +181,7 @@ module _ (m : Inside) (x : PositionStates) (jobs js more_jobs : List Job) (lengt
             let k = p - m.count in
             let is : m.count + k ≡ p = omega arith in
             let isl : length (take m.count m.left) + k ≡ p = omega (arith, left_long) in
-            let long : length ws ≡ length jobs = ap length ws_is ∙ length-work jobs lengths in
+            let long : length ws ≡ length jobs = ap length ws_is ∙ work_length jobs lengths in
             ap (has_bit x.done) (sym is) ∙ begun.done k (omega arith) ∙ none (job_at jobs k).present k refl
             ∙ ap (λ w. eqb w 0) (ap (λ (z : List ℕ). get_or z k 0) (sym ws_is) ∙ sym (get_left ws more_work k 0 (omega (arith, long))) ∙ sym (get_right (take m.count m.left) (ws ++ more_work) k 0)
             ∙ ap (λ q. get_or all_left q 0) isl)
@@ -202,7 +194,7 @@ pub are_set : (m : Inside) (p n : ℕ) (ys : List ℕ) → m.count ≤ length m.
     → AreStates m.states m.count m.jobs (set (take m.count m.left) p n ++ ys)
 are_set m p n ys long are below busy some = record {
   present = are.present;
-  done = λ q h. elim (apart q p) [
+  done = λ q h. elim (cases_eq q p) [
     | inl e ↦ ap (has_bit m.states.done) e ∙ busy ∙ sym (ap (λ w. eqb w 0) (at_front q h ∙ ap (λ k. get_or (set (take m.count m.left) p n) k 0) e ∙ get_or-set_same (take m.count m.left) p n 0 (omega (arith, length-take m.count m.left))) ∙ some_work n some)
     | inr d ↦ are.done q h ∙ ap (λ w. eqb w 0) (sym (at_front q h ∙ get_or-set_other (take m.count m.left) p q n 0 d ∙ get_or-take m.count m.left q 0 h))
   ];

@@ -1,6 +1,6 @@
 -- The answers of a machine that goes through the lists of a path are the records of the path's walk.
 use Rattle.std.proofs.Common.{◌≡◌, ℕ, zero, suc, ◌+◌, ◌-◌, ◌≤◌, ◌<◌, Bool, true, false, cond, ◌&&◌, eqb, ltb, List, [], ◌∷◌, ◌++◌, length, get_or, take, drop, map, Option, Some, None, is_some, refl, sym, ap, ◌∙◌, subst, arith, inl, inr, append_assoc, append-nil}
-use Rattle.std.proofs.lemmas.Bool.{cases_lt}
+use Rattle.std.proofs.lemmas.Bool.{cases_lt, ltb-false}
 use Rattle.std.proofs.lemmas.Bool.Decides.{nat_tests}
 use Rattle.std.proofs.lemmas.List.{length-append, length-drop, length-map, length-take-le, take_all}
 use Rattle.htl_walk.specs.declared.job.Job.{Job}
@@ -11,24 +11,20 @@ use Rattle.htl_walk.specs.Walk.{Point, job_at, walk_from, last_point, first_poin
 use Rattle.htl_walk.proofs.Acceptance.{left_falls_to}
 use Rattle.htl_walk.proofs.GoingOn.{untouched, same_length}
 use Rattle.htl_walk.proofs.Locality.{walk_alike}
-use Rattle.htl_walk.proofs.Steps.{either}
 use Rattle.htl_walk.proofs.Work.{job_there, work_present}
 use Rattle.htl_smach.specs.declared.left.Left.{Left}
 use Rattle.htl_smach.specs.Order.{after_all}
 use Rattle.htl_smach.specs.PathRuns.{PathRun, no_leg, leg_at, list_at, untils_at, list_begun, list_answers, answers_before, IsOver, told_path, IsPath, PathRecords, FinishedBefore}
 use Rattle.htl_smach.specs.Rounds.{Round, told_from, walk_records, next_left, after}
 use Rattle.htl_smach.proofs.Answering.{records_in_order}
-use Rattle.htl_smach.proofs.Finishing.{finished_where_none, never_finished}
+use Rattle.htl_smach.proofs.Finishing.{finished_where_none, never_finished, none_left}
 use Rattle.htl_smach.proofs.Joined.{get_left, get_right, job_taken}
 use Rattle.htl_smach.proofs.RoundRecords.{absent_idle}
+use Rattle.htl_base.proofs.Places.{front_more}
+use Rattle.htl_walk.proofs.CodeWalk.{work_length}
+use Rattle.htl_base.proofs.Tests.{eqb_some}
 
 -- ---- lists
-
-front_more : {A : Type 0} (n m : ℕ) (xs : List A) → n ≤ m → take n xs ++ drop n (take m xs) ≡ take m xs
-front_more zero m xs h = refl
-front_more (suc n) zero xs h = absurd (omega arith)
-front_more (suc n) (suc m) [] h = refl
-front_more (suc n) (suc m) (x ∷ xs) h = ap (λ ys. x ∷ ys) (front_more n m xs (omega arith))
 
 more_joined : {A : Type 0} (xs : List (List A)) (j : ℕ) → j < length xs → end_to_end (take (suc j) xs) ≡ end_to_end (take j xs) ++ get_or xs j []
 more_joined [] j h = absurd (omega arith)
@@ -39,11 +35,6 @@ told_get : (start : ℕ) (ws : List (List walks.Left)) (j : ℕ) → get_or (map
 told_get start [] j = refl
 told_get start (w ∷ ws) zero = refl
 told_get start (w ∷ ws) (suc j) = told_get start ws j
-
-length-work : (js : List Job) (ns : List ℕ) → length (work js ns) ≡ length js
-length-work [] ns = refl
-length-work (j ∷ js) [] = ap suc (length-work js [])
-length-work (j ∷ js) (n ∷ ns) = ap suc (length-work js ns)
 
 -- the work of the positions from n on to m
 work_part : (n m q : ℕ) (js : List Job) (ns : List ℕ) → length ns ≡ length js → n + q < m → get_or (work (drop n (take m js)) (drop n (take m ns))) q 0 ≡ get_or (work js ns) (n + q) 0
@@ -132,10 +123,7 @@ module _ (s : List SInstr) where
 
   walking_after : (r : Round) (o : Option Left) → IsWalking s r → IsWalking s (after r s o)
   walking_after r None w = w
-  walking_after r (Some l) w = record { point = refl; past = λ e. not_below (suc r.place) (length s) e }
-    where
-      not_below : (a b : ℕ) → ltb a b ≡ false → b ≤ a
-      not_below a b e = grind (arith, nat_tests)
+  walking_after r (Some l) w = record { point = refl; past = λ e. ltb-false (suc r.place) (length s) e }
 
   walking_all : (r : Round) (untils : List ℕ) → IsWalking s r → IsWalking s (after_all r s untils)
   walking_all r [] w = w
@@ -217,7 +205,7 @@ module _ (u : PathRun) (is : IsPath u) where
               work_part 0 m p u.jobs u.lengths is.lengths (omega (arith, h)) ∙ ap (λ i. get_or (work u.jobs u.lengths) i 0) (let z : 0 + p ≡ p = omega arith in z)
               ∙ sym (ap (λ (x : Point). get_or x.left p 0) (first_is l));
         };
-        long = length-work (take m u.jobs) (take m u.lengths) ∙ length-take-le m u.jobs (knows 0 l);
+        long = work_length (take m u.jobs) (take m u.lengths) ∙ length-take-le m u.jobs (knows 0 l);
       }
   begins (suc j) l over =
       let b = list_begun u j in
@@ -255,7 +243,7 @@ module _ (u : PathRun) (is : IsPath u) where
                 ∙ sym (fresh (suc j) p l (λ i less. let few = known_more i j (omega (arith, less)) (omega (arith, l)) in omega (arith, few, k)))
           ];
         };
-        long = omega (arith, length-append r.point.left ws, some, length-work js (drop n (take m u.lengths)), length-drop n (take m u.jobs), all, is.more j l);
+        long = omega (arith, length-append r.point.left ws, some, work_length js (drop n (take m u.lengths)), length-drop n (take m u.jobs), all, is.more j l);
       }
 
   -- the records of list j
@@ -318,12 +306,6 @@ finish_behind (l ∷ xs) ys p e = by (is_position l.position p && l.finished) e 
     by true e later = cc
     by false e later = later e
 
-idle : (n : ℕ) → n ≡ 0 → eqb n 0 ≡ true
-idle n h = grind (arith, nat_tests)
-
-working : (n : ℕ) → 0 < n → eqb n 0 ≡ false
-working n h = grind (arith, nat_tests)
-
 module _ (u : PathRun) (is : IsPath u) (p : ℕ) where
   abbrev finished_in : ℕ → Bool
   finished_in j = is_some (finish (end_to_end (take j (walk_path u.jobs u.lengths u.lists u.legs))) p)
@@ -339,7 +321,7 @@ module _ (u : PathRun) (is : IsPath u) (p : ℕ) where
   left_next j l = ap (λ (x : Point). get_or x.left p 0) (next_is u is j l)
 
   with_work : 0 < get_or (work u.jobs u.lengths) p 0 → (j : ℕ) → j < length u.legs → eqb (get_or (x_at u is j).left p 0) 0 ≡ finished_in j
-  with_work some zero l = ap (λ (x : Point). eqb (get_or x.left p 0) 0) (first_is u is l) ∙ working (get_or (work u.jobs u.lengths) p 0) some
+  with_work some zero l = ap (λ (x : Point). eqb (get_or x.left p 0) 0) (first_is u is l) ∙ eqb_some (get_or (work u.jobs u.lengths) p 0) some
   with_work some (suc j) l =
       let s = list_at u j in
       let x = x_at u is j in
@@ -347,11 +329,11 @@ module _ (u : PathRun) (is : IsPath u) (p : ℕ) where
       let before = end_to_end (take j (walk_path u.jobs u.lengths u.lists u.legs)) in
       let ih = with_work some j (omega (arith, l)) in
       ap (λ n. eqb n 0) (left_next j l)
-      ∙ elim (either 0 (get_or x.left p 0)) [
-        | inl more ↦ finished_where_none u.jobs s x p more ∙ sym (ap is_some (finish_behind before ws p (sym ih ∙ working (get_or x.left p 0) more)))
+      ∙ elim (cases_lt 0 (get_or x.left p 0)) [
+        | inl more ↦ finished_where_none u.jobs s x p more ∙ sym (ap is_some (finish_behind before ws p (sym ih ∙ eqb_some (get_or x.left p 0) more)))
         | inr none ↦
-            idle (get_or (last_point u.jobs s x).left p 0) (omega (arith, none, left_falls_to u.jobs s x p))
-            ∙ sym (finish_front before ws p (sym ih ∙ idle (get_or x.left p 0) (omega (arith, none))))
+            none_left (get_or (last_point u.jobs s x).left p 0) (omega (arith, none, left_falls_to u.jobs s x p))
+            ∙ sym (finish_front before ws p (sym ih ∙ none_left (get_or x.left p 0) (omega (arith, none))))
       ]
       ∙ sym (ap (λ ls. is_some (finish ls p)) (in_next j l))
 

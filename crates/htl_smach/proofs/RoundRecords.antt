@@ -6,15 +6,17 @@ use Rattle.htl_walk.specs.declared.schedule.SInstr.{SInstr}
 use Rattle.htl_walk.specs.Walk as walks
 use Rattle.htl_walk.specs.Walk.{Point, job_at, next_point, left_by, walk_from, last_point, first_point, work, finish}
 use Rattle.htl_walk.specs.Refinement.{HaveLengths, AreWithinWorst}
-use Rattle.htl_walk.proofs.Steps.{left_falls, apart, either}
+use Rattle.htl_walk.proofs.Steps.{left_falls}
 use Rattle.htl_walk.proofs.Acceptance.{point_step, left_falls_to}
-use Rattle.htl_walk.proofs.Finishes.{some_same}
 use Rattle.htl_walk.proofs.Work.{job_there, job_is, work_present, work_some}
 use Rattle.htl_smach.specs.declared.left.Left.{Left}
 use Rattle.htl_smach.specs.declared.state.PosState.TheVariants.{Pending, Ready, Done}
 use Rattle.htl_smach.specs.Rounds.{Round, round_begun, told, told_from, walk_records, given, left_until, next_left, moved, state_by, state_of, finish_so_far, was_finished, IsFinishedSoFar, Stands, IsTold}
 use Rattle.htl_smach.proofs.Lengths.{with_work, SameWalk, same_walk, some_below}
 use Rattle.htl_smach.proofs.Finishing.{walk-take, finished_where_none, never_finished}
+use Rattle.std.proofs.lemmas.Bool.{cases_eq, cases_lt, le-leb, lt-leb}
+use Rattle.std.proofs.lemmas.Option.{same_Some}
+use Rattle.htl_base.proofs.Tests.{eqb_some}
 
 -- ---- the records as a list
 
@@ -28,7 +30,7 @@ told_at : (start m k : ℕ) (jobs : List Job) (s : List SInstr) (x : Point) (i :
     ≡ Some (told start (m + k) (left_by jobs i (last_point jobs (take k s) x) (next_point jobs i (last_point jobs (take k s) x))))
 told_at start m k jobs [] x i e = cc
 told_at start m zero jobs (j ∷ is) x i e =
-    ap₂ (λ (n : ℕ) (z : SInstr). Some (told start n (left_by jobs z x (next_point jobs z x)))) (let z : m ≡ m + 0 = omega arith in z) (some_same _ _ e)
+    ap₂ (λ (n : ℕ) (z : SInstr). Some (told start n (left_by jobs z x (next_point jobs z x)))) (let z : m ≡ m + 0 = omega arith in z) (same_Some _ _ e)
 told_at start m (suc k) jobs (j ∷ is) x i e =
     told_at start (suc m) k jobs is (next_point jobs j x) i e
     ∙ ap (λ n. Some (told start n (left_by jobs i (last_point jobs (take k is) (next_point jobs j x)) (next_point jobs i (last_point jobs (take k is) (next_point jobs j x)))))) (let z : suc m + k ≡ m + suc k = omega arith in z)
@@ -46,7 +48,7 @@ length-told start m jobs (j ∷ is) x = ap suc (length-told start (suc m) jobs i
 -- one more element of a front
 pub take_more_get : {X : Type 0} (xs : List X) (k : ℕ) (x : X) → slice_get xs k ≡ Some x → take (suc k) xs ≡ take k xs ++ x ∷ []
 take_more_get [] k x e = cc
-take_more_get (y ∷ xs) zero x e = ap (λ z. z ∷ []) (some_same _ _ e)
+take_more_get (y ∷ xs) zero x e = ap (λ z. z ∷ []) (same_Some _ _ e)
 take_more_get (y ∷ xs) (suc k) x e = ap (λ z. y ∷ z) (take_more_get xs k x e)
 
 -- ---- the states
@@ -83,7 +85,7 @@ pending_below r p e = job_below r.jobs p (pending_is r p e).present
 -- what isn't present has no work
 pub absent_idle : (js : List Job) (ns : List ℕ) (p : ℕ) → (job_at js p).present ≡ false → get_or (work js ns) p 0 ≡ 0
 absent_idle js ns p e =
-    elim (either 0 (get_or (work js ns) p 0)) [
+    elim (cases_lt 0 (get_or (work js ns) p 0)) [
       | inl some ↦ let here : (job_at js p).present ≡ true = work_some js ns p some in absurd (let z : ⊥ = cc in z)
       | inr none ↦ omega arith
     ]
@@ -134,7 +136,7 @@ set_lengths : (jobs : List Job) (lengths : List ℕ) (p n : ℕ) (P : ℕ → Jo
     → P n (job_at jobs p)
     → (q : ℕ) (j : Job) → slice_get jobs q ≡ Some j → j.present ≡ true → P (get_or (set lengths p n) q 0) j
 set_lengths jobs lengths p n P below old new q j at here =
-    elim (apart q p) [
+    elim (cases_eq q p) [
       | inl e ↦
           let same : job_at jobs p ≡ j = ap (job_at jobs) (sym e) ∙ job_is jobs q j at in
           let is : n ≡ get_or (set lengths p n) q 0 = sym (ap (λ m. get_or (set lengths p n) m 0) e ∙ get_or-set_same lengths p n 0 below) in
@@ -176,7 +178,7 @@ module _ (r : Round) (s : List SInstr) (p n : ℕ) (st : Stands r s) (pending : 
   stands_set =
       record {
         point = sym (same.point ∙ ap (with_work p n) (sym st.point));
-        work = λ q some. elim (apart q p) [
+        work = λ q some. elim (cases_eq q p) [
           | inl e ↦ ap (λ m. (job_at r.jobs m).present) e ∙ is.present
           | inr d ↦ st.work q (omega (arith, some, get_or-set_other r.first.left p q n 0 d))
         ];
@@ -187,7 +189,7 @@ module _ (r : Round) (s : List SInstr) (p n : ℕ) (st : Stands r s) (pending : 
     where
       was : (q : ℕ) → state_of (with_length r p n) q ≡ Pending → state_of r q ≡ Pending
       was q z =
-          elim (apart q p) [
+          elim (cases_eq q p) [
             | inl e ↦ subst (λ (m : ℕ). state_of r m ≡ Pending) (sym e) pending
             | inr d ↦
                 let now : IsPending (with_length r p n) q = pending_is (with_length r p n) q z in
@@ -202,7 +204,7 @@ with_release r p = record r { released = set r.released p true }
 pub pending_released : (r : Round) (p q : ℕ) → state_of r p ≡ Pending → state_of (with_release r p) q ≡ Pending → state_of r q ≡ Pending
 pending_released r p q here z =
     let now : IsPending (with_release r p) q = pending_is (with_release r p) q z in
-    elim (apart q p) [
+    elim (cases_eq q p) [
       | inl e ↦ subst (λ (m : ℕ). state_of r m ≡ Pending) (sym e) here
       | inr d ↦
           is_pending r q (record { present = now.present; left = now.left; told = sym (get_or-set_other r.released p q true false d) ∙ now.told })
@@ -241,7 +243,7 @@ idle_done a false c o e n = absurd (let z : ⊥ = cc in z)
 -- a position is done exactly where an instruction left so far finished it
 pub done_is : (r : Round) (s : List SInstr) (p : ℕ) → Stands r s → (state_of r p ≡ Done) ↔ IsFinishedSoFar r s p
 done_is r s p st =
-    elim (either 0 (get_or r.first.left p 0)) [ inl some ↦ working some | inr none ↦ idle (omega arith) ]
+    elim (cases_lt 0 (get_or r.first.left p 0)) [ inl some ↦ working some | inr none ↦ idle (omega arith) ]
   where
     present : Bool
     present = (job_at r.jobs p).present
@@ -251,9 +253,6 @@ done_is r s p st =
 
     front : finish (walk_from r.jobs (take r.place s) r.first) p ≡ finish_so_far r s p
     front = ap (λ (z : List walks.Left). finish z p) (sym (walk-take r.jobs s r.first r.place))
-
-    some_work : (n : ℕ) → 0 < n → eqb n 0 ≡ false
-    some_work n h = grind (arith, nat_tests)
 
     no_work : (n : ℕ) → n ≡ 0 → eqb n 0 ≡ true
     no_work n h = grind (arith, nat_tests)
@@ -265,7 +264,7 @@ done_is r s p st =
         (ap (λ (z : Point). eqb (get_or z.left p 0) 0) st.point ∙ finished_where_none r.jobs (take r.place s) r.first p some ∙ ap is_some front) in
         let e : present ≡ true = st.work p some in
         let here : state_of r p ≡ state_by true (eqb (get_or r.point.left p 0) 0) told_so = ap (λ b. state_by b (eqb (get_or r.point.left p 0) 0) told_so) e in
-        let never : was_finished r p ≡ false = ap₂ (λ a b. a && b) e (some_work (get_or r.first.left p 0) some) in (
+        let never : was_finished r p ≡ false = ap₂ (λ a b. a && b) e (eqb_some (get_or r.first.left p 0) some) in (
           λ h. inr (d.0 (sym here ∙ h)),
           λ z. elim z [ inl f ↦ absurd (let w : ⊥ = cc in w) | inr f ↦ here ∙ d.1 f ],
         )
@@ -282,16 +281,13 @@ done_is r s p st =
 pub none_before : (r : Round) (s : List SInstr) (p : ℕ) → Stands r s → r.first ≡ first_point r.jobs r.lengths → was_finished r p ≡ false
 none_before r s p st first = by_present (job_at r.jobs p).present refl
   where
-    some_work : (n : ℕ) → 0 < n → eqb n 0 ≡ false
-    some_work n h = grind (arith, nat_tests)
-
     by_present : (b : Bool) → (job_at r.jobs p).present ≡ b → (b && eqb (get_or r.first.left p 0) 0) ≡ false
     by_present false e = refl
     by_present true e =
         let its : 1 ≤ get_or r.lengths p 0 = st.lengths p (job_at r.jobs p) (job_there r.jobs p e) e in
         let work_is : get_or r.first.left p 0 ≡ get_or (work r.jobs r.lengths) p 0 = ap (λ (z : Point). get_or z.left p 0) first in
         let length_is : get_or (work r.jobs r.lengths) p 0 ≡ get_or r.lengths p 0 = work_present r.jobs r.lengths p (job_at r.jobs p) (job_there r.jobs p e) e in
-        some_work (get_or r.first.left p 0) (omega (arith, its, work_is, length_is))
+        eqb_some (get_or r.first.left p 0) (omega (arith, its, work_is, length_is))
 
 -- ---- what a call answers
 
@@ -310,11 +306,8 @@ next_is r s until i st e = ap (λ (o : Option Left). cond r.running (left_until 
 pub none_late : (r : Round) (s : List SInstr) (until : ℕ) (i : SInstr) → Stands r s → slice_get s r.place ≡ Some i
     → until < r.start + (next_point r.jobs i r.point).time → None ≡ next_left r s until
 none_late r s until i st e late =
-    sym (next_is r s until i st e ∙ ap (λ (b : Bool). cond r.running (cond b (Some (told r.start r.place (left_by r.jobs i r.point (next_point r.jobs i r.point)))) None) None) (above _ _ late) ∙ by_test r.running)
+    sym (next_is r s until i st e ∙ ap (λ (b : Bool). cond r.running (cond b (Some (told r.start r.place (left_by r.jobs i r.point (next_point r.jobs i r.point)))) None) None) (lt-leb _ _ late) ∙ by_test r.running)
   where
-    above : (a b : ℕ) → b < a → leb a b ≡ false
-    above a b h = grind (arith, nat_tests)
-
     by_test : (b : Bool) → ◌≡◌ {A = Option Left} (cond b None None) None
     by_test true = refl
     by_test false = refl
@@ -324,10 +317,7 @@ pub some_left : (r : Round) (s : List SInstr) (until : ℕ) (i : SInstr) → Sta
     → Some (told r.start r.place (left_by r.jobs i r.point (next_point r.jobs i r.point))) ≡ next_left r s until
 some_left r s until i st e here early =
     let l = told r.start r.place (left_by r.jobs i r.point (next_point r.jobs i r.point)) in
-    sym (next_is r s until i st e ∙ ap (λ (b : Bool). cond b (left_until until (Some l)) None) here ∙ ap (λ (b : Bool). cond b (Some l) None) (within _ _ early))
-  where
-    within : (a b : ℕ) → a ≤ b → leb a b ≡ true
-    within a b h = grind (arith, nat_tests)
+    sym (next_is r s until i st e ∙ ap (λ (b : Bool). cond b (left_until until (Some l)) None) here ∙ ap (λ (b : Bool). cond b (Some l) None) (le-leb _ _ early))
 
 pub moved_is : (r : Round) (s : List SInstr) (i : SInstr) → Stands r s → slice_get s r.place ≡ Some i
     → record r { running = ltb (suc r.place) (length s); place = suc r.place; point = next_point r.jobs i r.point } ≡ moved r s

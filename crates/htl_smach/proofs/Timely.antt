@@ -11,15 +11,10 @@ use Rattle.htl_smach.specs.declared.left.Left.{Left}
 use Rattle.htl_smach.specs.Rounds.{told, told_from, walk_records, left_until}
 use Rattle.htl_smach.specs.Order.{left_by_then, RecordsOfLengths, NoneLeftOut}
 use Rattle.htl_smach.proofs.RoundRecords.{next_record_is}
+use Rattle.std.proofs.lemmas.Bool.{le-leb, leb-false, lt-leb}
 
 pub records_of_lengths : RecordsOfLengths
 records_of_lengths r s st first = ap (λ (x : Point). told_from r.start 0 (walk_from r.jobs s x)) first
-
-in_time : (a until : ℕ) → a ≤ until → leb a until ≡ true
-in_time a until h = grind (arith, nat_tests)
-
-too_late : (a until : ℕ) → until < a → leb a until ≡ false
-too_late a until h = grind (arith, nat_tests)
 
 -- what begins too late is left too late
 all_late : (start m until : ℕ) (jobs : List Job) (s : List SInstr) (x : Point) → until < start + x.time → left_by_then until (told_from start m (walk_from jobs s x)) ≡ []
@@ -28,7 +23,7 @@ all_late start m until jobs (i ∷ is) x h =
     let y = next_point jobs i x in
     let rises : x.time ≤ y.time = time_rises jobs i x in
     let ls : List Left = left_by_then until (told_from start (suc m) (walk_from jobs is y)) in
-    ap (λ b. cond b (told start m (left_by jobs i x y) ∷ ls) ls) (too_late (start + y.time) until (omega arith)) ∙ all_late start (suc m) until jobs is y (omega arith)
+    ap (λ b. cond b (told start m (left_by jobs i x y) ∷ ls) ls) (lt-leb (start + y.time) until (omega arith)) ∙ all_late start (suc m) until jobs is y (omega arith)
 
 -- the next instruction of the list, if there is one, is left after `until`
 abbrev NextIsLate : ℕ → ℕ → List Job → List SInstr → Point → ℕ → Type 0
@@ -42,21 +37,18 @@ front_is start m until jobs (i ∷ is) x zero by next =
     let y = next_point jobs i x in
     let late : until < start + y.time = next i refl in
     let ls : List Left = left_by_then until (told_from start (suc m) (walk_from jobs is y)) in
-    sym (ap (λ b. cond b (told start m (left_by jobs i x y) ∷ ls) ls) (too_late (start + y.time) until late) ∙ all_late start (suc m) until jobs is y late)
+    sym (ap (λ b. cond b (told start m (left_by jobs i x y) ∷ ls) ls) (lt-leb (start + y.time) until late) ∙ all_late start (suc m) until jobs is y late)
 front_is start m until jobs (i ∷ is) x (suc k) by next =
     let y = next_point jobs i x in
     let rises : y.time ≤ (last_point jobs (take k is) y).time = time_rises_to jobs (take k is) y in
     let ls : List Left = left_by_then until (told_from start (suc m) (walk_from jobs is y)) in
     ap (λ zs. told start m (left_by jobs i x y) ∷ zs) (front_is start (suc m) until jobs is y k by (λ j e. next j e))
-    ∙ sym (ap (λ b. cond b (told start m (left_by jobs i x y) ∷ ls) ls) (in_time (start + y.time) until (omega arith)))
+    ∙ sym (ap (λ b. cond b (told start m (left_by jobs i x y) ∷ ls) ls) (le-leb (start + y.time) until (omega arith)))
 
--- an instruction that isn't answered is left later
+-- an instruction that isn't answered is left leb-false
 not_answered : (b : Bool) (l : Left) → cond b (Some l) None ≡ None → b ≡ false
 not_answered true l e = cc
 not_answered false l e = refl
-
-later : (a until : ℕ) → leb a until ≡ false → until < a
-later a until e = grind (arith, nat_tests)
 
 pub none_left_out : NoneLeftOut
 none_left_out r s until st whole by none =
@@ -68,5 +60,5 @@ none_left_out r s until st whole by none =
         let l : Left = told r.start r.place (left_by r.jobs i r.point y) in
         let e : cond (leb (r.start + y.time) until) (Some l) None ≡ None =
         sym (ap (λ o. left_until until o) (next_record_is r s st i at)) ∙ sym (ap (λ b. cond b (left_until until (slice_get (walk_records r s) r.place)) None) here) ∙ none in
-        subst (λ (x : Point). until < r.start + (next_point r.jobs i x).time) st.point (later (r.start + y.time) until (not_answered (leb (r.start + y.time) until) l e))
+        subst (λ (x : Point). until < r.start + (next_point r.jobs i x).time) st.point (leb-false (r.start + y.time) until (not_answered (leb (r.start + y.time) until) l e))
     next false here i at = elim (slice_get_cases s r.place).1 [ inl c ↦ absurd (let past : length s ≤ r.place = whole here in let below : r.place < length s = c.1 in omega arith) | inr c ↦ absurd (let no : Some i ≡ None = sym at ∙ c.1 in cc) ]

@@ -87,7 +87,7 @@ number-none text is large =
     small : nat_lt (digits_value 10 text) (2 ^ 63) ≡ false
     small = grind (arith, nat_tests, large)
 
-letter-digit : (b : ℕ) → is_letter b ≡ true → is_ascii_digit b ≡ false
+pub letter-digit : (b : ℕ) → is_letter b ≡ true → is_ascii_digit b ≡ false
 letter-digit b e = grind (arith, nat_tests, e)
 
 pub identifier-number : (text : List ℕ) → is_identifier text ≡ true → is_numeral text ≡ false

@@ -21,6 +21,7 @@ use Rattle.htl_text.specs.declared.token.Sign.{Sign as ASign}
 use Rattle.htl_text.specs.declared.token.Token.{Token}
 use Rattle.htl_text.specs.declared.token.Token.TheVariants.{Ident, Number, Word, Sign}
 use Rattle.htl_text.specs.declared.token.Word.{Word as AWord}
+use Rattle.htl_text.proofs.FirstFault.{letter-digit}
 
 -- a table has no text that passes a test which no spelling passes
 pub look_up-unlike : {T : Type 0} (q : List ℕ → Bool) (text : List ℕ) → q text ≡ true → (es : List (List ℕ × T)) → list_all (λ (e : List ℕ × T). not (q e.0)) es ≡ true → look_up es text ≡ None
@@ -45,9 +46,6 @@ begins_with_letter text = is_letter (slice_index text 0)
 
 abbrev begins_with_digit : List ℕ → Bool
 begins_with_digit text = is_ascii_digit (slice_index text 0)
-
-letter-no-digit : (b : ℕ) → is_letter b ≡ true → is_ascii_digit b ≡ false
-letter-no-digit b e = grind (arith, nat_tests, e)
 
 letter-word-byte : (b : ℕ) → is_letter b ≡ true → is_word_byte b ≡ true
 letter-word-byte b e = grind (arith, nat_tests, e)
@@ -89,14 +87,14 @@ word-front (b ∷ bs) letter =
     let text = b ∷ bs in
     let one : prefix_len is_word_byte text ≡ 1 + prefix_len is_word_byte bs = ap (λ (c : Bool). cond c (1 + prefix_len is_word_byte bs) 0) (letter-word-byte b letter) in
     let name : name_len text ≡ prefix_len is_word_byte text = ap (λ (c : Bool). cond c (prefix_len is_word_byte text) 0) letter in
-    let number : number_len text ≡ 0 = ap (λ (c : Bool). cond c (1 + prefix_len is_ascii_digit bs) 0) (letter-no-digit b letter) in
+    let number : number_len text ≡ 0 = ap (λ (c : Bool). cond c (1 + prefix_len is_ascii_digit bs) 0) (letter-digit b letter) in
     let sign : sign_len text ≡ 0 = sign_len-none text (look_up-unlike begins_with_letter (take 2 text) letter signs refl) (look_up-unlike begins_with_letter (take 1 text) letter signs refl) in
     let some : 0 < prefix_len is_word_byte text = omega (arith, one) in
     let word = first-taken text (prefix_len is_word_byte text) some in
     record {
       some = some;
       longest = omega (arith, name, number, sign);
-      no_number = no-numeral (take (prefix_len is_word_byte text) text) (ap is_ascii_digit word ∙ letter-no-digit b letter);
+      no_number = no-numeral (take (prefix_len is_word_byte text) text) (ap is_ascii_digit word ∙ letter-digit b letter);
       no_sign = look_up-unlike begins_with_letter (take (prefix_len is_word_byte text) text) (ap is_letter word ∙ letter) signs refl;
       identifier = subst (λ (n : ℕ). is_identifier (take n text) ≡ true) name (name-taken text (omega (arith, name, some)));
       long = length-prefix_len is_word_byte text;

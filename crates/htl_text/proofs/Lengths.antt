@@ -12,20 +12,13 @@ use Rattle.std.proofs.lemmas.Bool.Decides.{nat_tests}
 use Rattle.htl_base.specs.Names.{is_letter, is_word_byte, is_identifier}
 use Rattle.htl_text.specs.Texts.{look_up, words, word_of, signs, sign_of, is_numeral, is_token}
 use Rattle.htl_text.specs.Scanning.{name_len, number_len, sign_len, token_len}
-
-both : (a b : Bool) → (a && b) ≡ true → (a ≡ true) × (b ≡ true)
-both true b e = (refl, e)
-both false b e = absurd cc
-
-either : (a b : Bool) → (a || b) ≡ true → (a ≡ true) ⊎ (b ≡ true)
-either true b e = inl refl
-either false b e = inr e
+use Rattle.std.proofs.lemmas.Bool.{and_parts, or_cases}
 
 prefix-most : (p : ℕ → Bool) (k : ℕ) (bs : List ℕ) → k ≤ length bs → list_all p (take k bs) ≡ true → k ≤ prefix_len p bs
 prefix-most p zero bs fits all = omega arith
 prefix-most p (suc k) [] fits all = absurd (omega (arith, fits))
 prefix-most p (suc k) (b ∷ bs) fits all =
-    let one = both (p b) (list_all p (take k bs)) all in
+    let one = and_parts (p b) (list_all p (take k bs)) all in
     let more = prefix-most p k bs (omega (arith, fits)) one.1 in
     subst (λ (c : Bool). suc k ≤ cond c (1 + prefix_len p bs) 0) (sym one.0) (omega (arith, more))
 
@@ -43,13 +36,13 @@ prefix-all p (b ∷ bs) = by (prefix-all p bs) (p b) refl
 pub look_up-short : {T : Type 0} (n : ℕ) (es : List (List ℕ × T)) (text : List ℕ) → list_all (λ (e : List ℕ × T). nat_le (length e.0) n) es ≡ true
     → is_some (look_up es text) ≡ true → length text ≤ n
 look_up-short {T} n [] text all found = absurd cc
-look_up-short {T} n (e ∷ es) text all found = by (bytes_eq e.0 text) refl (λ f. look_up-short n es text (both _ _ all).1 f) found
+look_up-short {T} n (e ∷ es) text all found = by (bytes_eq e.0 text) refl (λ f. look_up-short n es text (and_parts _ _ all).1 f) found
   where
     by : (c : Bool) → bytes_eq e.0 text ≡ c → (is_some (look_up es text) ≡ true → length text ≤ n)
         → is_some (option_map (λ (x : List ℕ × T). x.1) (cond c (Some e) (find (λ (x : List ℕ × T). bytes_eq x.0 text) es))) ≡ true → length text ≤ n
     by true same later f =
         let is : e.0 ≡ text = (bytes_eq-Decides e.0 text).0 same in
-        let short : nat_le (length e.0) n ≡ true = (both (nat_le (length e.0) n) (list_all (λ (x : List ℕ × T). nat_le (length x.0) n) es) all).0 in
+        let short : nat_le (length e.0) n ≡ true = (and_parts (nat_le (length e.0) n) (list_all (λ (x : List ℕ × T). nat_le (length x.0) n) es) all).0 in
         subst (λ (t : List ℕ). length t ≤ n) is (grind (arith, nat_tests, short))
     by false same later f = later f
 
@@ -64,12 +57,12 @@ name-most : (k : ℕ) (bs : List ℕ) → k ≤ length bs → is_identifier (tak
 name-most zero bs fits is = omega arith
 name-most (suc k) [] fits is = absurd (omega (arith, fits))
 name-most (suc k) (b ∷ bs) fits is =
-    let parts = both (is_letter b) (list_all is_word_byte (take (suc k) (b ∷ bs))) is in
+    let parts = and_parts (is_letter b) (list_all is_word_byte (take (suc k) (b ∷ bs))) is in
     let most = prefix-most is_word_byte (suc k) (b ∷ bs) fits parts.1 in
     subst (λ (c : Bool). suc k ≤ cond c (prefix_len is_word_byte (b ∷ bs)) 0) (sym parts.0) most
 
 number-most : (k : ℕ) (bs : List ℕ) → k ≤ length bs → is_numeral (take k bs) ≡ true → k ≤ number_len bs
-number-most k bs fits is = prefix-most is_ascii_digit k bs fits (both _ _ is).1
+number-most k bs fits is = prefix-most is_ascii_digit k bs fits (and_parts _ _ is).1
 
 sign-most : (k : ℕ) (bs : List ℕ) → k ≤ length bs → is_some (sign_of (take k bs)) ≡ true → k ≤ sign_len bs
 sign-most k bs fits is = by k fits is (let le : length (take k bs) ≤ 2 = sign-short (take k bs) is in let n = length-take-le k bs fits in omega (arith, le, n))
@@ -90,14 +83,14 @@ sign-most k bs fits is = by k fits is (let le : length (take k bs) ≤ 2 = sign-
     by (suc (suc (suc k))) fits is le = absurd (omega (arith, le))
 
 pub token-most : (k : ℕ) (bs : List ℕ) → k ≤ length bs → is_token (take k bs) ≡ true → k ≤ token_len bs
-token-most k bs fits is = by (either (is_identifier (take k bs) || is_numeral (take k bs)) (is_some (sign_of (take k bs))) is)
+token-most k bs fits is = by (or_cases (is_identifier (take k bs) || is_numeral (take k bs)) (is_some (sign_of (take k bs))) is)
   where
     first : (is_identifier (take k bs) ≡ true) ⊎ (is_numeral (take k bs) ≡ true) → k ≤ token_len bs
     first (inl e) = let n = name-most k bs fits e in omega (arith, n)
     first (inr e) = let n = number-most k bs fits e in omega (arith, n)
 
     by : ((is_identifier (take k bs) || is_numeral (take k bs)) ≡ true) ⊎ (is_some (sign_of (take k bs)) ≡ true) → k ≤ token_len bs
-    by (inl e) = first (either (is_identifier (take k bs)) (is_numeral (take k bs)) e)
+    by (inl e) = first (or_cases (is_identifier (take k bs)) (is_numeral (take k bs)) e)
     by (inr e) = let n = sign-most k bs fits e in omega (arith, n)
 
 or-left : (a b c : Bool) → a ≡ true → (a || b || c) ≡ true

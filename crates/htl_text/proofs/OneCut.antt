@@ -14,6 +14,7 @@ use Rattle.htl_text.specs.Scanning.{skip, token_len}
 use Rattle.htl_text.proofs.Lengths.{token-most, token-taken, token_len-fits}
 use Rattle.htl_text.proofs.Skipping.{IsSolid}
 use Rattle.htl_text.specs.declared.token.Token.{Token}
+use Rattle.htl_base.proofs.Numbers.{cases_le}
 
 -- a gap is passed whole
 pub gap-skip : {from to : Bool} {gap : List ℕ} → Gap from to gap → (rest : List ℕ) → skip from (gap ++ rest) ≡ skip to rest
@@ -96,11 +97,8 @@ span-solid (b ∷ bs) left s = (visible (is_blank b) refl, comment bs s)
 
 -- its length is that of the longest token
 pub span-len : (text left : List ℕ) → IsSpan text left → token_len (text ++ left) ≡ length text
-span-len text left s = by (order (token_len (text ++ left)) (length text)) least
+span-len text left s = by (cases_le (token_len (text ++ left)) (length text)) least
   where
-    order : (m n : ℕ) → (m ≤ n) ⊎ (n < m)
-    order m n = grind arith
-
     least : length text ≤ token_len (text ++ left)
     least = token-most (length text) (text ++ left) (let n = length-append text left in omega (arith, n)) (rw (take-append_seam text left) s.token)
 

@@ -15,7 +15,7 @@ use Rattle.htl_text.specs.PrintedBytes.{word_text, sign_text, token_text, separa
 use Rattle.htl_text.specs.Texts.{is_token, is_numeral, token_of, words, word_of, signs, sign_of, number_of, or_else, look_up}
 use Rattle.htl_text.specs.Spans.{Gap, none, blank, IsSpan, Cuts, Tokens, is_blank}
 use Rattle.htl_text.proofs.FirstFault.{identifier-number}
-use Rattle.htl_text.proofs.Numbers.{own}
+use Rattle.htl_text.proofs.Numbers.{own, digits_of_number}
 use Rattle.htl_text.proofs.OneCut.{and-false}
 use Rattle.htl_text.proofs.Writing.{printed_bytes-cons, printed_bytes-nil}
 use Rattle.htl_text.specs.declared.token.Token.{Token}
@@ -24,20 +24,17 @@ use Rattle.htl_text.specs.declared.token.Word.{Word as AWord}
 use Rattle.htl_text.specs.declared.token.Word.TheVariants as word
 use Rattle.htl_text.specs.declared.token.Sign.{Sign as ASign}
 use Rattle.htl_text.specs.declared.token.Sign.TheVariants as sign
-
-both : (a b : Bool) → (a && b) ≡ true → (a ≡ true) × (b ≡ true)
-both true b e = (refl, e)
-both false b e = absurd cc
+use Rattle.std.proofs.lemmas.Bool.{and_parts, not-true}
 
 -- what all spellings of a table have, a text has that is found there
 look_up-kept : {T : Type 0} (q : List ℕ → Bool) (es : List (List ℕ × T)) (text : List ℕ) → list_all (λ (e : List ℕ × T). q e.0) es ≡ true → is_some (look_up es text) ≡ true
     → q text ≡ true
 look_up-kept {T} q [] text all found = absurd cc
-look_up-kept {T} q (e ∷ es) text all found = by (bytes_eq e.0 text) refl (λ f. look_up-kept q es text (both (q e.0) (list_all (λ (x : List ℕ × T). q x.0) es) all).1 f) found
+look_up-kept {T} q (e ∷ es) text all found = by (bytes_eq e.0 text) refl (λ f. look_up-kept q es text (and_parts (q e.0) (list_all (λ (x : List ℕ × T). q x.0) es) all).1 f) found
   where
     by : (c : Bool) → bytes_eq e.0 text ≡ c → (is_some (look_up es text) ≡ true → q text ≡ true)
         → is_some (option_map (λ (x : List ℕ × T). x.1) (cond c (Some e) (find (λ (x : List ℕ × T). bytes_eq x.0 text) es))) ≡ true → q text ≡ true
-    by true same later f = subst (λ (t : List ℕ). q t ≡ true) ((bytes_eq-Decides e.0 text).0 same) (both (q e.0) (list_all (λ (x : List ℕ × T). q x.0) es) all).0
+    by true same later f = subst (λ (t : List ℕ). q t ≡ true) ((bytes_eq-Decides e.0 text).0 same) (and_parts (q e.0) (list_all (λ (x : List ℕ × T). q x.0) es) all).0
     by false same later f = later f
 
 not-found : {T : Type 0} (o : Option T) (b : Bool) → b ≡ false → (is_some o ≡ true → b ≡ true) → o ≡ None
@@ -50,7 +47,7 @@ is_solid b = not (is_blank b)
 all-more : (p q : ℕ → Bool) → ((b : ℕ) → p b ≡ true → q b ≡ true) → (bs : List ℕ) → list_all p bs ≡ true → list_all q bs ≡ true
 all-more p q more [] all = refl
 all-more p q more (b ∷ bs) all =
-    let parts = both (p b) (list_all p bs) all in
+    let parts = and_parts (p b) (list_all p bs) all in
     ap (λ (c : Bool). c && list_all q bs) (more b parts.0) ∙ all-more p q more bs parts.1
 
 word-solid : (b : ℕ) → is_word_byte b ≡ true → is_solid b ≡ true
@@ -60,10 +57,7 @@ digit-solid : (b : ℕ) → is_ascii_digit b ≡ true → is_solid b ≡ true
 digit-solid b e = grind (arith, nat_tests, e)
 
 identifier-all : (bs : List ℕ) → is_identifier bs ≡ true → list_all is_word_byte bs ≡ true
-identifier-all bs e = (both _ (list_all is_word_byte bs) e).1
-
-number-all : (bs : List ℕ) → is_numeral bs ≡ true → list_all is_ascii_digit bs ≡ true
-number-all bs e = (both (nat_lt 0 (length bs)) (list_all is_ascii_digit bs) e).1
+identifier-all bs e = (and_parts _ (list_all is_word_byte bs) e).1
 
 -- no token holds a blank
 token-solid : (bs : List ℕ) → is_token bs ≡ true → list_all is_solid bs ≡ true
@@ -71,7 +65,7 @@ token-solid bs is = by (is_identifier bs) refl (is_numeral bs) refl is
   where
     by : (i : Bool) → is_identifier bs ≡ i → (n : Bool) → is_numeral bs ≡ n → (i || n || is_some (sign_of bs)) ≡ true → list_all is_solid bs ≡ true
     by true e n f is = all-more is_word_byte is_solid word-solid bs (identifier-all bs e)
-    by false e true f is = all-more is_ascii_digit is_solid digit-solid bs (number-all bs f)
+    by false e true f is = all-more is_ascii_digit is_solid digit-solid bs (digits_of_number bs f)
     by false e false f is = look_up-kept (list_all is_solid) signs bs refl is
 
 blank-found : (xs ys : List ℕ) (b : ℕ) → is_blank b ≡ true → list_all is_solid (xs ++ b ∷ ys) ≡ false
@@ -115,8 +109,8 @@ sign-again s = (refl, refl)
 -- a name is found in neither table
 name-again : (n : List ℕ) → is_name n ≡ true → (is_token n ≡ true) × (token_of n ≡ Some (Ident n))
 name-again n is =
-    let outer = both (nat_lt (length n) 49 && is_identifier n) (not (is_reserved n)) is in
-    let inner = both (nat_lt (length n) 49) (is_identifier n) outer.0 in
+    let outer = and_parts (nat_lt (length n) 49 && is_identifier n) (not (is_reserved n)) is in
+    let inner = and_parts (nat_lt (length n) 49) (is_identifier n) outer.0 in
     let no_word : word_of n ≡ None = not-listed words n (not-true (is_reserved n) outer.1) in
     let no_sign : sign_of n ≡ None = not-found (sign_of n) (not (is_identifier n)) (ap not inner.1) (look_up-kept (λ (bs : List ℕ). not (is_identifier bs)) signs n refl) in (
       ap (λ (b : Bool). b || is_numeral n || is_some (sign_of n)) inner.1,
@@ -127,10 +121,6 @@ name-again n is =
   where
     other : Option AWord → Option ASign → Bool → Option Token
     other w s b = or_else (option_map Word w) (or_else (option_map Sign s) (cond b (Some (Ident n)) None))
-
-    not-true : (b : Bool) → not b ≡ true → b ≡ false
-    not-true false e = refl
-    not-true true e = absurd cc
 
     not-listed : {T : Type 0} (es : List (List ℕ × T)) (text : List ℕ) → list_any (bytes_eq text) (map (λ (e : List ℕ × T). e.0) es) ≡ false → look_up es text ≡ None
     not-listed {T} es text e = not-found (look_up es text) (list_any (bytes_eq text) (map (λ (e : List ℕ × T). e.0) es)) e (listed es text)

@@ -35,6 +35,8 @@ use Rattle.htl_compile.specs.Sources.{IsTablesOf}
 use Rattle.htl_machine.specs.Calls.{IsSensorValue}
 use Rattle.htl_model.specs.Tables.{Tables}
 use Rattle.htl_compile.specs.BulkTree.{bulk_tree, bulk_bytes, bulk_sensor, bulk_comm, bulk_module, bulk_mode, scaling_task, copying_task, scaling_invoke, copying_invoke, one_before}
+use Rattle.std.proofs.lemmas.Bool.{and_parts}
+use Rattle.htl_base.proofs.Numbers.{cases_below}
 
 -- ---- the names
 
@@ -43,19 +45,11 @@ abbrev passes : (ℕ → Bool) → ℕ → Bool
 passes p zero = true
 passes p (suc n) = p n && passes p n
 
-both : (a b : Bool) → (a && b) ≡ true → (a ≡ true) × (b ≡ true)
-both true true e = (refl, refl)
-both true false e = absurd (let z : ⊥ = cc in z)
-both false b e = absurd (let z : ⊥ = cc in z)
-
-last_or_below : (k n : ℕ) → k < suc n → (k < n) ⊎ (k ≡ n)
-last_or_below k n h = grind arith
-
 passed : (p : ℕ → Bool) (n k : ℕ) → passes p n ≡ true → k < n → p k ≡ true
 passed p zero k e h = absurd (omega (arith, h))
 passed p (suc n) k e h =
-    let parts = both (p n) (passes p n) e in
-    elim (last_or_below k n h) [ inl less ↦ passed p n k parts.1 less | inr is ↦ ap p is ∙ parts.0 ]
+    let parts = and_parts (p n) (passes p n) e in
+    elim (cases_below k n h) [ inl less ↦ passed p n k parts.1 less | inr is ↦ ap p is ∙ parts.0 ]
 
 abbrev digits : ℕ → List ℕ
 digits k = cond (ltb k 10) ((48 + k % 10) ∷ []) ((48 + k / 10) ∷ (48 + k % 10) ∷ [])

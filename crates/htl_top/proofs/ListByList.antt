@@ -27,6 +27,7 @@ use Rattle.htl_walk.specs.declared.job.Job.{Job}
 use Rattle.htl_walk.specs.declared.schedule.SInstr.{SInstr}
 use Rattle.htl_walk.specs.declared.schedule.SInstr.TheVariants.{Dispatch}
 use Rattle.htl_walk.specs.declared.schedule.Schedule.{Schedule}
+use Rattle.htl_walk.proofs.Walked.{known_more}
 
 -- ---- one list more
 
@@ -72,13 +73,6 @@ leg_few : (h : ℕ) (xs : List Place) (as' : List ℕ) (j : ℕ) → (get_or (le
 leg_few h xs [] j = omega arith
 leg_few h xs (a ∷ later) zero = known_few a xs
 leg_few h xs (a ∷ later) (suc j) = leg_few h xs later j
-
-known_more : (n m : ℕ) (i : SInstr) → n ≤ m → IsKnown n i → IsKnown m i
-known_more n m i l k = by i k
-  where
-    by : (i : SInstr) → IsKnown n i → IsKnown m i
-    by (Dispatch p until) k = omega (arith, k, l)
-    by _ k = k
 
 module _ (o : Object) (accepted : IsAccepted o) (path j : ℕ) (below : path < paths o.tables) (there : j < length (starts o.tables)) where
   -- its instructions dispatch positions that there are

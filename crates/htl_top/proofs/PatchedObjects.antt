@@ -29,9 +29,7 @@ use Rattle.htl_top.specs.PatchStops.{new_tables, unpatched_as}
 use Rattle.htl_top.specs.ErrorLines.{SpeaksOf}
 use Rattle.htl_top.specs.declared.outcome.Outcome.{Outcome}
 use Rattle.htl_top.specs.declared.outcome.Outcome.TheVariants.{Done, Usage, Source, IllFormed, Unschedulable, Platform, Task, Log, Patch, Object as Refused, Script, Shelf, Read, Write, Memory}
-
-one_bad_field : (b : Option Malformed) (m n : Malformed) → b ≡ Some m → b ≡ Some n → m ≡ n
-one_bad_field b m n p q = let both : ◌≡◌ {A = Option Malformed} (Some m) (Some n) = sym p ∙ q in cc
+use Rattle.htl_load.proofs.OneAnswer.{one_bad_field}
 
 -- the bytes of an accepted object were written
 pub IsObjectPut-written : (o same : Object) (bytes slice : List ℕ) (old new : Option (List ℕ)) (before now : ℕ) (outcome : Outcome) → same ≡ o → IsAccepted same → IsObject same

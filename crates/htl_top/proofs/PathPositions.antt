@@ -14,6 +14,7 @@ use Rattle.htl_model.specs.Tables.{Tables}
 use Rattle.htl_model.specs.declared.frame.Place.{Place}
 use Rattle.htl_model.specs.declared.frame.Round.{Round}
 use Rattle.htl_top.specs.Checked.{most_positions_below}
+use Rattle.htl_base.proofs.Numbers.{grow_times}
 
 -- ---- paths through some rounds
 
@@ -84,12 +85,9 @@ module _ (t : Tables) where
         omega (arith, placed_count r.at (mode_in t (d * c + q) r rs) (places_in t (d * c + q) rs), here, rest),
       )
     where
-      grow : (a b c : ℕ) → a ≤ b → a * c ≤ b * c
-      grow a b c h = grind arith
-
       digits : (d c l q : ℕ) → d < l → q < c → d * c + q < l * c
       digits d c l q a b =
-          let most : suc d * c ≤ l * c = grow (suc d) l c a in
+          let most : suc d * c ≤ l * c = grow_times (suc d) l c a in
           let one : suc d * c ≡ d * c + c = omega arith in
           omega (arith, most, one, b)
 

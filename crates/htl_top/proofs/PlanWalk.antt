@@ -54,10 +54,6 @@ nothing_left jobs instrs k x e = ap (λ (is : List SInstr). walk_from jobs is x)
 pub last_reached : (jobs : List Job) (instrs : List SInstr) (k : ℕ) (x : Point) → k ≡ length instrs → last_point jobs (drop k instrs) x ≡ x
 last_reached jobs instrs k x e = ap (λ (is : List SInstr). last_point jobs is x) (drop_all k instrs (omega (arith, e)))
 
-pub length-walk : (jobs : List Job) (is : List SInstr) (x : Point) → length (walk_from jobs is x) ≡ length is
-length-walk jobs [] x = refl
-length-walk jobs (i ∷ is) x = ap suc (length-walk jobs is (next_point jobs i x))
-
 -- ---- a text by another name, with another answer
 
 pub Puts-same : {T S E : Type 0} (old new : Option (List ℕ)) (before now : ℕ) (text other : List ℕ) (u : S) (v : T) → text ≡ other

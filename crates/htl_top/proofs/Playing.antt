@@ -23,6 +23,7 @@ use Rattle.htl_script.specs.Judging.{past_after, past_after_all, past_of}
 use Rattle.htl_script.specs.declared.judge.Past.{Past}
 use Rattle.htl_top.specs.Playing.{HaveNoEnd, IsNext, text_more}
 use Rattle.htl_top.specs.Texts.{text_to, text_before_fault}
+use Rattle.htl_machine.proofs.Passing.{up_to_more}
 
 -- ---- what comes next
 
@@ -71,12 +72,6 @@ pub took_within : (t : Tables) (es : List Event) → AreEvents t None es → Are
 took_within t es are = took_behind t None es are
 
 -- ---- what is written
-
--- a list that is joined in two parts
-up_to_more : {A : Type 0} (f : ℕ → List A) (k j : ℕ) → up_to f (k + j) ≡ up_to f k ++ up_to (λ n. f (k + n)) j
-up_to_more f k zero = ap (up_to f) (let z : k + 0 ≡ k = omega arith in z) ∙ sym (append-nil (up_to f k))
-up_to_more f k (suc j) =
-    ap (up_to f) (let z : k + suc j ≡ suc (k + j) = omega arith in z) ∙ ap (λ z. z ++ f (k + j)) (up_to_more f k j) ∙ append_assoc (up_to f k) (up_to (λ n. f (k + n)) j) (f (k + j))
 
 module _ (o : Object) (show : Shown) (accepted : IsAccepted o) where
   -- the instants between two readings

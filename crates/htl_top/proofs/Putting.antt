@@ -5,14 +5,6 @@ use Rattle.htl_edge.specs.Content.{AppendsPrefix, Puts}
 use Rattle.htl_edge.proofs.Puts.{append_known-start}
 use Rattle.htl_top.specs.Answers.{Tells}
 
--- nothing is to be written
-pub Puts-none : {T E : Type 0} (old : Option (List ℕ)) (before : ℕ) (text : List ℕ) (u : T) → text ≡ [] → Puts {T = T} {E = E} old old before before text (Ok u)
-Puts-none old before text u e = record {
-  whole = append_known-start old ∙ ap (append_known old) (sym e);
-  part = tt;
-  cause = record { later = omega arith; kept = refl; refused = tt };
-}
-
 -- what was put is told
 pub Tells-put : {T E : Type 0} (old new : Option (List ℕ)) (before now : ℕ) (text line : List ℕ) (result : Result T E) → text ≡ line → Puts old new before now text result
     → Tells old new before now line

@@ -8,7 +8,6 @@ use Rattle.htl_console.specs.declared.shown.Shown.TheVariants.{Nothing}
 use Rattle.htl_ecode.specs.declared.ecode.ECode.{ECode}
 use Rattle.htl_edge.proofs.Puts.{append_known-start}
 use Rattle.htl_edge.specs.Content.{Puts}
-use Rattle.htl_machine.proofs.InstantRecords.{up_to_none}
 use Rattle.htl_machine.specs.Calls.{Seen, Follows, IsSameRun, text_between}
 use Rattle.htl_machine.specs.Follows.{reading_of}
 use Rattle.htl_machine.specs.Lines.{record_lines, list_lines, old_lines, new_lines, lines}
@@ -26,6 +25,7 @@ use Rattle.htl_walk.specs.Walk.{Left}
 use Rattle.htl_walk.specs.declared.job.Job.{Job}
 use Rattle.htl_walk.specs.declared.schedule.SInstr.{SInstr}
 use Rattle.htl_top.specs.Bulk.{readings_of, round_readings}
+use Rattle.htl_refine.proofs.RecordLists.{up_to_none}
 
 -- ---- nothing is shown
 

@@ -5,13 +5,11 @@ use Rattle.std.specs.List.{position_from}
 use Rattle.std.specs.Str.{bytes_eq}
 use Rattle.std.proofs.Math.ListN.{get_or-append}
 use Rattle.std.proofs.lemmas.Bool.Decides.{nat_tests}
-use Rattle.std.proofs.lemmas.Option.{slice_get_within}
+use Rattle.std.proofs.lemmas.Option.{slice_get_within, none-some}
 use Rattle.htl_model.specs.declared.parts.Mode.{Mode}
 use Rattle.htl_model.specs.declared.parts.Module.{Module}
 use Rattle.htl_model.specs.Ranges.{AreInRange, IsModeThat, parent_of}
 use Rattle.htl_model.specs.Tables.{Tables, mode_module}
-use Rattle.htl_form.proofs.PartLaws.{none_some}
-use Rattle.htl_model.proofs.TestLaws.{both, same_number}
 use Rattle.htl_model.specs.Selected.{entry, IsActive, is_active, IsModeOf, IsEntry, IsSelection}
 use Rattle.htl_refine.proofs.SelectedLaws.{active_is}
 use Rattle.htl_script.specs.declared.fault.ScriptKind.{ScriptKind}
@@ -19,6 +17,7 @@ use Rattle.htl_script.specs.Lines.{ScriptLine, lines_of, size_of, is_past_limit,
 use Rattle.htl_script.specs.Statements.{fields_of}
 use Rattle.htl_script.specs.declared.fault.ScriptKind.TheVariants as kind
 use Rattle.htl_top.specs.SelectionInput.{Whole, Bad, named_by, unit_of, is_mode, mode_of, some_mode, mode_told, is_next, entered_as, entered_in, entered, judged_text, judged, listed, ended, input_of_lines, input_of}
+use Rattle.std.proofs.lemmas.Bool.{and_parts, eqb-true}
 
 -- the entries of the modules so far are right, and no more than there are modules
 record AreEntries (t : Tables) (modes : List (Option ℕ)) : Type 0 where
@@ -27,7 +26,7 @@ record AreEntries (t : Tables) (modes : List (Option ℕ)) : Type 0 where
 
 -- what is found at a place
 found_from : {A : Type 0} (test : A → Bool) (k : ℕ) (xs : List A) (m : ℕ) → position_from test k xs ≡ Some m → (j : ℕ) × (x : A) × (m ≡ k + j) × (slice_get xs j ≡ Some x) × (test x ≡ true)
-found_from test k [] m e = absurd (none_some m e)
+found_from test k [] m e = absurd (none-some m e)
 found_from {A} test k (x ∷ xs) m e = by (test x) refl (found_from test (k + 1) xs m) e
   where
     by : (b : Bool) → test x ≡ b → (position_from test (k + 1) xs ≡ Some m → (j : ℕ) × (y : A) × (m ≡ k + 1 + j) × (slice_get xs j ≡ Some y) × (test y ≡ true))
@@ -73,7 +72,7 @@ module _ (t : Tables) (range : AreInRange t) where
   mode_is : (u m : ℕ) (name : List ℕ) → mode_of t u name ≡ Some m → IsModeOf t u m
   mode_is u m name e =
       let p = found_by (is_mode u name) t.modes m e in
-      (p.0, p.1, same_number p.0.«module» u (both (eqb p.0.«module» u) _ p.2).0)
+      (p.0, p.1, eqb-true p.0.«module» u (and_parts (eqb p.0.«module» u) _ p.2).0)
 
   told_mode : (u m : ℕ) (name : List ℕ) → mode_told t u name ≡ Some (Some m) → IsModeOf t u m
   told_mode u m name e = by (bytes_eq name (codes "-")) (mode_of t u name) refl e
@@ -90,13 +89,13 @@ module _ (t : Tables) (range : AreInRange t) where
   next_entry : (modes : List (Option ℕ)) (u : ℕ) (name : List ℕ) (e : Option ℕ) (x : Module) → slice_get t.modules u ≡ Some x → mode_told t u name ≡ Some e → is_next t modes u e ≡ true
       → (u ≡ length modes) × IsEntry t modes u x.parent e
   next_entry modes u name (Some m) x at told next =
-      let two = both (eqb u (length modes)) _ next in
+      let two = and_parts (eqb u (length modes)) _ next in
       let parent : parent_of t u ≡ x.parent = ap (λ (o : Option Module). elim o [ Some y ↦ y.parent | None ↦ None ]) at in
-      (same_number u (length modes) two.0, (told_mode u m name told, subst (IsActive t modes) parent ((active_is t modes (parent_of t u)).0 two.1)))
+      (eqb-true u (length modes) two.0, (told_mode u m name told, subst (IsActive t modes) parent ((active_is t modes (parent_of t u)).0 two.1)))
   next_entry modes u name None x at told next =
-      let two = both (eqb u (length modes)) _ next in
+      let two = and_parts (eqb u (length modes)) _ next in
       let parent : parent_of t u ≡ x.parent = ap (λ (o : Option Module). elim o [ Some y ↦ y.parent | None ↦ None ]) at in
-      (same_number u (length modes) two.0, λ a. off (is_active t modes (parent_of t u)) two.1 ((active_is t modes (parent_of t u)).1 (subst (IsActive t modes) (sym parent) a)))
+      (eqb-true u (length modes) two.0, λ a. off (is_active t modes (parent_of t u)) two.1 ((active_is t modes (parent_of t u)).1 (subst (IsActive t modes) (sym parent) a)))
     where
       off : (b : Bool) → not b ≡ true → b ≡ true → ⊥
       off true p q = cc
@@ -116,7 +115,7 @@ module _ (t : Tables) (range : AreInRange t) where
               subst (IsEntry t (modes ++ e ∷ []) v x.parent) (sym (same_entry modes (e ∷ []) v before))
               (entry_on modes (e ∷ []) v v x.parent (entry modes v) (omega arith) (lower v x at) (right.each v x at before))
           | inr here ↦
-              let is_u : u ≡ length modes = same_number u (length modes) (both (eqb u (length modes)) _ next).0 in
+              let is_u : u ≡ length modes = eqb-true u (length modes) (and_parts (eqb u (length modes)) _ next).0 in
               let v_is : v ≡ u = omega (arith, here, is_u) in
               let n = next_entry modes u name e x (ap (slice_get t.modules) (sym v_is) ∙ at) told next in
               let own : entry (modes ++ e ∷ []) v ≡ e = ap (entry (modes ++ e ∷ [])) here ∙ last_entry modes e in
@@ -188,7 +187,7 @@ module _ (t : Tables) (range : AreInRange t) where
       by : (b : Bool) → eqb (length modes) (length t.modules) ≡ b → cond b (Whole modes) (Bad line kind.NoEnd) ≡ Whole all → (length all ≡ length t.modules) × AreEntries t all
       by true e f =
           let is : modes ≡ all = cc in
-          (subst (λ z. length z ≡ length t.modules) is (same_number (length modes) (length t.modules) e), subst (AreEntries t) is right)
+          (subst (λ z. length z ≡ length t.modules) is (eqb-true (length modes) (length t.modules) e), subst (AreEntries t) is right)
       by false e f = cc
 
   lines_right : (line start : ℕ) (modes all : List (Option ℕ)) (xs : List ScriptLine) → AreEntries t modes → input_of_lines t line start modes xs ≡ Whole all → (length all ≡ length t.modules) × AreEntries t all

@@ -6,18 +6,11 @@ use Rattle.htl_model.specs.Tables.{Tables}
 use Rattle.htl_script.specs.declared.fault.ScriptKind.{ScriptKind}
 use Rattle.htl_script.specs.declared.fault.ScriptKind.TheVariants as kind
 use Rattle.htl_script.specs.Lines.{ScriptLine, is_line_feed, lines_of, size_of, is_past_limit, is_long}
-use Rattle.htl_script.proofs.Splitting.{lines_of-fed, lines_of-last, lines_of-begun}
+use Rattle.htl_script.proofs.Splitting.{lines_of-fed, lines_of-last, lines_of-begun, size_at_least, within_limit}
 use Rattle.htl_top.specs.SelectionInput.{Bad, judged_text, judged, listed, input_of_lines}
 use Rattle.htl_top.specs.SelectionReaders.{Place, IsPlace, rest_of, next_line, selection_answered}
 
 -- ---- how a line is judged by its size
-
-size_at_least : (x : ScriptLine) → length x.text ≤ size_of x
-size_at_least x = sized x.fed
-  where
-    sized : (fed : Bool) → length x.text ≤ length x.text + (if fed then 1 else 0)
-    sized true = omega arith
-    sized false = omega arith
 
 judged-limit : (t : Tables) (start n : ℕ) (modes : List (Option ℕ)) (x : ScriptLine) → start + n ≡ 1073741824 → n ≤ 255 → n + 1 ≤ size_of x → judged t start modes x ≡ Err kind.Size
 judged-limit t start n modes x at short long =
@@ -25,9 +18,6 @@ judged-limit t start n modes x at short long =
     let over : is_past_limit start x ≡ true =
     and_from _ _ (le-leb start 1073741824 (omega (arith, at))) (lt-ltb 1073741824 (start + min 256 size) (omega (arith, at, short, long))) in
     ap (λ (b : Bool). cond b (Err kind.Size) (cond (is_long x) (Err kind.Long) (judged_text t modes x.text))) over
-
-within_limit : (start : ℕ) (x : ScriptLine) → start + min 256 (size_of x) ≤ 1073741824 → is_past_limit start x ≡ false
-within_limit start x below = and_right _ _ (le-ltb 1073741824 (start + min 256 (size_of x)) below)
 
 judged-long : (t : Tables) (start : ℕ) (modes : List (Option ℕ)) (x : ScriptLine) → start + 256 ≤ 1073741824 → 256 ≤ length x.text → judged t start modes x ≡ Err kind.Long
 judged-long t start modes x below long =

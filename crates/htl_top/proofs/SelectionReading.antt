@@ -18,6 +18,7 @@ use Rattle.htl_top.specs.declared.selection.ScriptStop.TheVariants as stop
 use Rattle.htl_top.specs.SelectionInput.{Input, Whole, Bad, ended, input_of_lines, input_of}
 use Rattle.htl_top.specs.SelectionReaders.{Place, rest_of, first_place, Takes, Finishes, IsAnswer}
 use Rattle.htl_top.proofs.SelectionEntries.{whole_right}
+use Rattle.htl_base.proofs.Places.{prepend_known-append, prepend_known-nil}
 
 -- ---- bytes
 
@@ -53,14 +54,6 @@ end_whole t p modes none all done =
 
 -- ---- what a source gave
 
-prepend-nil : (known : Option (List ℕ)) → prepend_known [] known ≡ known
-prepend-nil None = refl
-prepend-nil (Some xs) = refl
-
-prepend-append : (known : Option (List ℕ)) (xs ys : List ℕ) → prepend_known (xs ++ ys) known ≡ prepend_known xs (prepend_known ys known)
-prepend-append None xs ys = refl
-prepend-append (Some zs) xs ys = ap (λ (l : List ℕ). Some l) (append_assoc xs ys zs)
-
 -- a front of the source's rest was taken
 pub record IsReading (t : Tables) (now : Place) (entries : List (Option ℕ)) (known rest : Option (List ℕ)) : Type 0 where
   pub taken : List ℕ
@@ -70,7 +63,7 @@ pub record IsReading (t : Tables) (now : Place) (entries : List (Option ℕ)) (k
 
 pub reading_start : (t : Tables) (now : Place) (modes : List (Option ℕ)) (known : Option (List ℕ)) → now ≡ first_place → IsReading t now modes known known
 reading_start t now modes known at =
-    record { taken = []; counted = sym (ap (λ (p : Place). p.start + length p.line) at); told = prepend-nil known; follows = λ later. ap (λ (p : Place). rest_of t p modes later) (sym at) }
+    record { taken = []; counted = sym (ap (λ (p : Place). p.start + length p.line) at); told = prepend_known-nil known; follows = λ later. ap (λ (p : Place). rest_of t p modes later) (sym at) }
 
 pub reading_step : (t : Tables) (now next : Place) (entries newer : List (Option ℕ)) (known rest left : Option (List ℕ)) (piece : List ℕ) → IsReading t now entries known rest
     → prepend_known piece left ≡ rest → next.start + length next.line ≡ now.start + length now.line + length piece
@@ -79,7 +72,7 @@ reading_step t now next entries newer known rest left piece reading gave counts 
     record {
       taken = reading.taken ++ piece;
       counted = omega (arith, length-append reading.taken piece, reading.counted, counts);
-      told = prepend-append left reading.taken piece ∙ ap (prepend_known reading.taken) gave ∙ reading.told;
+      told = prepend_known-append left reading.taken piece ∙ ap (prepend_known reading.taken) gave ∙ reading.told;
       follows = λ later. ap (input_of t) (append_assoc reading.taken piece later) ∙ reading.follows (piece ++ later) ∙ took later;
     }
 
@@ -102,7 +95,7 @@ pub answer_stop : (t : Tables) (now : Place) (entries : List (Option ℕ)) (know
     → prepend_known piece left ≡ rest → ((later : List ℕ) → rest_of t now entries (piece ++ later) ≡ Bad f.line f.kind) → OfScript known (λ bytes. input_of t bytes ≡ Bad f.line f.kind)
 answer_stop t now entries known rest left piece f reading gave stopped = (
   (reading.taken ++ piece) ++ left_of left,
-  all_bytes (reading.taken ++ piece) left known (prepend-append left reading.taken piece ∙ ap (prepend_known reading.taken) gave ∙ reading.told),
+  all_bytes (reading.taken ++ piece) left known (prepend_known-append left reading.taken piece ∙ ap (prepend_known reading.taken) gave ∙ reading.told),
   ap (input_of t) (append_assoc reading.taken piece (left_of left)) ∙ reading.follows (piece ++ left_of left) ∙ stopped (left_of left),
 )
 
@@ -134,7 +127,7 @@ answer_finished T t now entries newer known rest (Err stop.Read) reading at_end 
 -- nothing is left
 pub nothing_left : (t : Tables) (now : Place) (entries : List (Option ℕ)) (known rest left : Option (List ℕ)) → IsReading t now entries known rest → IsAtEnd rest → prepend_known [] left ≡ rest
     → left ≡ none_left known
-nothing_left t now entries known rest left reading at_end gave = sym (prepend-nil left) ∙ gave ∙ by_rest rest at_end ∙ ap none_left reading.told
+nothing_left t now entries known rest left reading at_end gave = sym (prepend_known-nil left) ∙ gave ∙ by_rest rest at_end ∙ ap none_left reading.told
   where
     by_rest : (rest : Option (List ℕ)) → IsAtEnd rest → rest ≡ none_left (prepend_known reading.taken rest)
     by_rest None e = refl
@@ -146,7 +139,7 @@ pub loses_piece : (t : Tables) (now : Place) (entries : List (Option ℕ)) (know
 loses_piece t now entries known rest left piece reading few gave short = (
   reading.taken ++ piece,
   omega (arith, length-append reading.taken piece, reading.counted, few, short),
-  prepend-append left reading.taken piece ∙ ap (prepend_known reading.taken) gave ∙ reading.told,
+  prepend_known-append left reading.taken piece ∙ ap (prepend_known reading.taken) gave ∙ reading.told,
 )
 
 pub loses_same : (t : Tables) (now : Place) (entries : List (Option ℕ)) (known rest left : Option (List ℕ)) → IsReading t now entries known rest

@@ -16,15 +16,10 @@ use Rattle.htl_top.specs.Slacked.{HasSlack, IsRootNamed, NamesNoTask, IsSlacked,
 use Rattle.htl_top.specs.Words.{Command, Go, Compile, CompileWith, Run, Check, Plan, Show, Bulk, Slack, Audit, Patch}
 use Rattle.htl_top.specs.declared.outcome.Outcome.{Outcome}
 use Rattle.htl_top.specs.declared.outcome.Outcome.TheVariants.{Done, Usage, Task, Write, Memory}
+use Rattle.htl_top.proofs.Calling.{done_memory, write_memory}
 
 task_usage : Task ≡ Usage → ⊥
 task_usage e = cc
-
-done_memory : Done ≡ Memory → ⊥
-done_memory e = cc
-
-write_memory : Write ≡ Memory → ⊥
-write_memory e = cc
 
 module _ (shelf : Files) (old new : Streams) where
   asks : (command : Option Command) (name owner task : List ℕ) (outcome : Outcome) → command ≡ Some (Slack name owner task) → IsCall command shelf old new outcome

@@ -16,6 +16,7 @@ use Rattle.htl_top.specs.Objects.{IsOnObject, IsAcceptedFile}
 use Rattle.htl_top.specs.Slacked.{IsNamed, IsRootNamed, NamesNoTask, has_names, IsSlackTold, IsSlacked, IsSlackOnObject}
 use Rattle.htl_top.specs.declared.outcome.Outcome.{Outcome}
 use Rattle.htl_top.specs.declared.outcome.Outcome.TheVariants.{Done, Usage, Source, IllFormed, Unschedulable, Platform, Task, Log, Patch, Object as Refused, Script, Shelf, Read, Write, Memory}
+use Rattle.htl_base.proofs.Numbers.{cases_below}
 
 -- ---- the names
 
@@ -50,11 +51,8 @@ pub NoneBelow-start : (t : Tables) (owner name : List ℕ) → NoneBelow t owner
 NoneBelow-start t owner name task less is = omega (arith, less)
 
 pub NoneBelow-step : (t : Tables) (owner name : List ℕ) (k n : ℕ) → n ≡ suc k → NoneBelow t owner name k → (IsRootNamed t owner name k → ⊥) → NoneBelow t owner name n
-NoneBelow-step t owner name k n next below here task less is = by (upto task k (omega (arith, less, next)))
+NoneBelow-step t owner name k n next below here task less is = by (cases_below task k (omega (arith, less, next)))
   where
-    upto : (m n : ℕ) → m < suc n → (m < n) ⊎ (m ≡ n)
-    upto m n h = grind arith
-
     by : (task < k) ⊎ (task ≡ k) → ⊥
     by (inl l) = below task l is
     by (inr e) = here (subst (λ (j : ℕ). IsRootNamed t owner name j) e is)

@@ -14,8 +14,7 @@ use Rattle.htl_model.proofs.FrameLimits.{limits_kept}
 use Rattle.htl_refine.specs.BegunJobs.{new_jobs}
 use Rattle.htl_refine.specs.DerivedPaths.{derived_place}
 use Rattle.htl_refine.specs.FrameRuns.{frame_jobs, frame_places, path_of, running_places}
-use Rattle.htl_refine.proofs.Fronts.{known_grow}
-use Rattle.htl_refine.proofs.ListsFollow.{rises_next, rises_up}
+use Rattle.htl_refine.proofs.ListsFollow.{rises_next}
 use Rattle.htl_refine.proofs.Members.{of_flat}
 use Rattle.htl_refine.proofs.NewJobs.{first_jobs, next_jobs}
 use Rattle.htl_refine.proofs.PathRead.{paths_read}
@@ -23,9 +22,8 @@ use Rattle.htl_refine.proofs.RoundOrder.{of_rounds, run_of}
 use Rattle.htl_walk.specs.declared.job.Job.{Job}
 use Rattle.htl_walk.specs.PathJobs.{placed_job}
 use Rattle.htl_walk.proofs.Starts.{known_few, starts_rise}
-
-behind_front : {A : Type 0} (n m : ℕ) (xs : List A) → n ≤ m → take n xs ++ drop n (take m xs) ≡ take m xs
-behind_front n m xs l = ap (λ ys. ys ++ drop n (take m xs)) (sym (take-take n m xs l)) ∙ take-append-drop n (take m xs)
+use Rattle.htl_base.proofs.Places.{front_more, take_all}
+use Rattle.htl_walk.proofs.NodeWalks.{known_rises, starts_order}
 
 all_begun : (a : ℕ) (xs : List Place) → ((p : ℕ) (x : Place) → slice_get xs p ≡ Some x → x.at ≤ a) → known_by a xs ≡ length xs
 all_begun a [] h = refl
@@ -57,7 +55,7 @@ module _ (t : Tables) (modes : List (Option ℕ)) where
   begun_rises zero l = omega arith
   begun_rises (suc j) l =
       let up = rises_next (root_periods t) (frame_of t) (starts t) j (starts_rise (root_periods t) (frame_of t)) l in
-      known_grow (get_or (starts t) j 0) (get_or (starts t) (suc j) 0) all_places (omega (arith, up))
+      known_rises (get_or (starts t) j 0) (get_or (starts t) (suc j) 0) all_places (omega (arith, up))
 
   -- those that begin at start j
   new_there : (j : ℕ) → j < length (starts t) → drop (begun_before j) (take (begun_before (suc j)) all_jobs) ≡ new_jobs t modes (get_or (starts t) j 0) (begun_before j)
@@ -69,7 +67,7 @@ module _ (t : Tables) (modes : List (Option ℕ)) where
     new_here =
         ap (λ m. take m all_jobs ++ new_jobs t modes (get_or (starts t) j 0) m) before
         ∙ ap (λ (js : List Job). take (begun_before j) all_jobs ++ js) (sym (new_there j there))
-        ∙ behind_front (begun_before j) (begun_before (suc j)) all_jobs (begun_rises j there)
+        ∙ front_more (begun_before j) (begun_before (suc j)) all_jobs (begun_rises j there)
 
     -- with them so many have begun
     pub more_begun : n + length (new_jobs t modes (get_or (starts t) j 0) n) ≡ begun_before (suc j)
@@ -92,7 +90,7 @@ module _ (t : Tables) (modes : List (Option ℕ)) where
         let m = of_flat (rounds_at t) (starts t) r.0 r.1 r.2 in
         let o = of_rounds t m.1 (root_modules t) m.3 r.1 m.4 in
         let inside = slice_get_within (starts t) m.0 m.1 m.2 in
-        let up = rises_up (root_periods t) (frame_of t) (starts t) m.0 last (starts_rise (root_periods t) (frame_of t)) (omega (arith, is, inside)) (omega (arith, is)) in
+        let up = starts_order (root_periods t) (frame_of t) (starts t) m.0 last (starts_rise (root_periods t) (frame_of t)) (omega (arith, is, inside)) (omega (arith, is)) in
         let here = ap (λ (y : Place). y.at) r.6 in
         omega (arith, here, o.2, get_or_from_slice_get (starts t) m.0 m.1 0 m.2, up)
 
@@ -107,11 +105,7 @@ module _ (t : Tables) (modes : List (Option ℕ)) where
   pub jobs_all : (n end : ℕ) (out : List Job) → n ≡ length (starts t) → end ≡ begun_before n → take end out ≡ take end all_jobs → (take end out ≡ all_jobs) × (end ≡ length all_jobs)
   jobs_all n end out e last front =
       let whole : end ≡ length all_jobs = omega (arith, last, begun_all n e, job_count) in
-      (front ∙ ap (λ m. take m all_jobs) whole ∙ take_all_of all_jobs, whole)
-    where
-      take_all_of : {A : Type 0} (xs : List A) → take (length xs) xs ≡ xs
-      take_all_of [] = refl
-      take_all_of (x ∷ xs) = ap (λ ys. x ∷ ys) (take_all_of xs)
+      (front ∙ ap (λ m. take m all_jobs) whole ∙ take_all all_jobs, whole)
 
   -- ---- there is room
 

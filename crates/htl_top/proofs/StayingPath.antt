@@ -11,23 +11,13 @@ use Rattle.htl_model.specs.Ranges.{AreInRange}
 use Rattle.htl_model.specs.Selected.{IsSelection}
 use Rattle.htl_model.specs.Tables.{Tables}
 use Rattle.htl_model.proofs.FrameLimits.{choices_append, choices_some, limits_kept, rounds_have}
-use Rattle.htl_model.proofs.FrameSteps.{product_some}
 use Rattle.htl_refine.specs.BegunJobs.{choice_of}
 use Rattle.htl_refine.specs.FrameRuns.{path_in, path_of}
 use Rattle.htl_refine.specs.Roots.{entry_place}
 use Rattle.htl_refine.proofs.PathRead.{paths_read}
-
-path_join : (t : Tables) (modes : ℕ → List (Option ℕ)) (xs ys : List Round) → path_in t modes (xs ++ ys) ≡ path_in t modes xs * choices t ys + path_in t modes ys
-path_join t modes [] ys = by (choices t ys) (path_in t modes ys)
-  where
-    by : (c n : ℕ) → n ≡ 0 * c + n
-    by c n = omega arith
-path_join t modes (r ∷ xs) ys =
-    let e = entry_place t (modes r.at) r.unit in
-    ap₂ (λ z w. e * z + w) (choices_append t xs ys) (path_join t modes xs ys) ∙ regroup e (choices t xs) (choices t ys) (path_in t modes xs) (path_in t modes ys)
-  where
-    regroup : (e x y p q : ℕ) → e * (x * y) + (p * y + q) ≡ (e * x + p) * y + q
-    regroup e x y p q = grind arith
+use Rattle.htl_refine.proofs.NodeRead.{path_join}
+use Rattle.htl_base.proofs.Numbers.{product_parts}
+use Rattle.htl_base.proofs.Places.{get_taken}
 
 module _ (t : Tables) (modes : List (Option ℕ)) where
   abbrev always : ℕ → List (Option ℕ)
@@ -79,7 +69,7 @@ module _ (t : Tables) (modes : List (Option ℕ)) where
         ap (λ (as' : List ℕ). choices t (flat_map (rounds_at t) as')) (sym (take-append-drop j (starts t)))
         ∙ ap (choices t) (flat_map-append (rounds_at t) (take j (starts t)) (drop j (starts t)))
         ∙ choices_append t (flat_map (rounds_at t) (take j (starts t))) (later_rounds j) in
-        (product_some (choices t (flat_map (rounds_at t) (take j (starts t)))) (choices t (later_rounds j)) (subst (λ n. 0 < n) all (choices_some t (rounds t) (rounds_have t range)))).1
+        (product_parts (choices t (flat_map (rounds_at t) (take j (starts t)))) (choices t (later_rounds j)) (subst (λ n. 0 < n) all (choices_some t (rounds t) (rounds_have t range)))).1
 
     -- the number so far is no greater than the whole
     pub path_small : (path j : ℕ) → path_from path j ≡ path_of t always → path < 1024
@@ -94,14 +84,8 @@ module _ (t : Tables) (modes : List (Option ℕ)) where
 
 -- ---- reading a frame
 
-taken : (n : ℕ) (xs : List ℕ) (p : ℕ) → p < n → get_or (take n xs) p 0 ≡ get_or xs p 0
-taken zero xs p l = absurd (omega (arith, l))
-taken (suc n) [] p l = refl
-taken (suc n) (x ∷ xs) zero l = refl
-taken (suc n) (x ∷ xs) (suc p) l = taken n xs p (omega (arith, l))
-
 -- the choices at a start
 pub radix_read : (t : Tables) (f : Frame) (j : ℕ) → IsFrame t f → j < length (starts t) → get_or f.radices j 0 ≡ choices t (rounds_at t (get_or (starts t) j 0))
 radix_read t f j s l =
-    sym (taken f.count f.radices j (omega (arith, s.count, l))) ∙ ap (λ xs. get_or xs j 0) s.radices
+    sym (get_taken f.count f.radices j (omega (arith, s.count, l))) ∙ ap (λ xs. get_or xs j 0) s.radices
     ∙ get_or-map (λ (a : ℕ). choices t (rounds_at t a)) (starts t) j 0 0 l

@@ -25,12 +25,12 @@ use Rattle.htl_script.specs.declared.judge.Past.{Past}
 use Rattle.htl_script.proofs.Behind.{behind-nil, behind-append, events_of-behind, script_of-rest}
 use Rattle.htl_script.proofs.Fitting.{script-events, whole-script, AreEvents-front}
 use Rattle.htl_script.proofs.Streaming.{gives_more, given_script, told_of}
-use Rattle.htl_script.proofs.Taken.{prepend_known-nil}
 use Rattle.htl_top.specs.Bulk.{totals_text}
 use Rattle.htl_top.specs.Playing.{HaveNoEnd, IsBehind, IsNext, IsPlaying, IsTold, text_more}
 use Rattle.htl_top.specs.Runs.{IsCutRun, IsFaultyRun}
 use Rattle.htl_top.specs.Texts.{text_before_fault, text_of_script}
 use Rattle.htl_top.proofs.Playing.{end_after, next, past_more, text_end, text_ended, text_next, text_open, took_within}
+use Rattle.htl_base.proofs.Places.{prepend_known-nil}
 
 -- ---- events behind others
 

@@ -1,7 +1,7 @@
 -- What the first miss has to do with being accepted.
 use Rattle.std.proofs.Common.{◌≡◌, ℕ, zero, suc, ◌-◌, ◌≤◌, ◌<◌, true, List, [], ◌∷◌, length, get_or, slice_get, take, Option, Some, None, refl, sym, ap, ◌∙◌, subst, arith, ◌⊎◌, inl, inr, add-one}
 use Rattle.std.specs.List.{All}
-use Rattle.std.proofs.lemmas.Option.{slice_get_within, slice_get_past}
+use Rattle.std.proofs.lemmas.Option.{slice_get_within, slice_get_past, same_Some}
 use Rattle.std.proofs.lemmas.List.{take_all}
 use Rattle.htl_walk.specs.declared.job.Job.{Job}
 use Rattle.htl_walk.specs.declared.miss.Miss.{Miss}
@@ -12,10 +12,12 @@ use Rattle.htl_walk.specs.Jobs.{precedes}
 use Rattle.htl_walk.specs.Walk.{Point, job_at, next_point, last_point, walk_from, walk, work, first_point, finish, DoneBy, InOrder, AreDone, InForm, ScheduleIsAccepted, worst_cases}
 use Rattle.htl_walk.specs.Misses.{DepartsBy, DepartsAt, IsFirstDeparture, worst_point, IsCleanBefore, IsFirstMiss}
 use Rattle.htl_walk.specs.Refinement.{HasWork}
-use Rattle.htl_walk.proofs.Steps.{left_falls, either}
-use Rattle.htl_walk.proofs.Finishes.{some_same, finish_now, finish_later}
-use Rattle.htl_walk.proofs.Work.{job_there, all_at, work_present, work_some, worst_at}
+use Rattle.htl_walk.proofs.Steps.{left_falls}
+use Rattle.htl_walk.proofs.Finishes.{finish_now, finish_later}
+use Rattle.htl_walk.proofs.Work.{job_there, work_present, work_some, worst_at}
 use Rattle.htl_walk.proofs.Predecessors.{meets_by_finishes}
+use Rattle.htl_base.proofs.Places.{each_at}
+use Rattle.std.proofs.lemmas.Bool.{cases_lt}
 
 -- ---- the form
 
@@ -60,12 +62,12 @@ module _ (count period : ℕ) where
 
   is_step_dispatch : (p until : ℕ) → ((count ≤ p) ⊎ (period < until) → ⊥) → (p < count) × (until ≤ period)
   is_step_dispatch p until n = (
-    elim (either p count) [ inl a ↦ a | inr a ↦ absurd (n (inl a)) ],
-    elim (either period until) [ inl a ↦ absurd (n (inr a)) | inr a ↦ a ],
+    elim (cases_lt p count) [ inl a ↦ a | inr a ↦ absurd (n (inl a)) ],
+    elim (cases_lt period until) [ inl a ↦ absurd (n (inr a)) | inr a ↦ a ],
   )
 
   is_step_idle : (until : ℕ) → (period < until → ⊥) → until ≤ period
-  is_step_idle until n = elim (either period until) [ inl a ↦ absurd (n a) | inr a ↦ a ]
+  is_step_idle until n = elim (cases_lt period until) [ inl a ↦ absurd (n a) | inr a ↦ a ]
 
   ends_shifted : (i j : SInstr) (is : List SInstr) → slice_get (i ∷ j ∷ is) (length (i ∷ j ∷ is) - 1) ≡ Some End → slice_get (j ∷ is) (length (j ∷ is) - 1) ≡ Some End
   ends_shifted i j is e = let back : length (i ∷ j ∷ is) - 1 ≡ suc (length (j ∷ is) - 1) = omega arith in sym (ap (slice_get (i ∷ j ∷ is)) back) ∙ e
@@ -97,7 +99,7 @@ departs_at_length count period s none open_end =
 pub point_step : (jobs : List Job) (s : List SInstr) (k : ℕ) (x : Point) (i : SInstr) → slice_get s k ≡ Some i
     → last_point jobs (take (suc k) s) x ≡ next_point jobs i (last_point jobs (take k s) x)
 point_step jobs [] k x i e = cc
-point_step jobs (j ∷ is) zero x i e = ap (λ i. next_point jobs i x) (some_same _ _ e)
+point_step jobs (j ∷ is) zero x i e = ap (λ i. next_point jobs i x) (same_Some _ _ e)
 point_step jobs (j ∷ is) (suc k) x i e = point_step jobs is k (next_point jobs j x) i e
 
 -- the work left falls along the walk
@@ -162,7 +164,7 @@ refused jobs period s (miss.Late p f w) h a =
     let met = a.meets p (job_at jobs p) (job_there jobs p here) here in
     let told : finish (walk jobs (worst_cases jobs) s) p ≡ Some (last_point jobs (take (suc k) s) x).time =
     finish_at jobs s x k p _ late.dispatches.1 late.left (subst (λ n. get_or (worst_point jobs s n).left p 0 ≡ 0) (add-one k) late.done) in
-    let same : met.finishes.0 ≡ (last_point jobs (take (suc k) s) x).time = some_same _ _ (sym met.finishes.1 ∙ told) in
+    let same : met.finishes.0 ≡ (last_point jobs (take (suc k) s) x).time = same_Some _ _ (sym met.finishes.1 ∙ told) in
     let at : f ≡ (last_point jobs (take (suc k) s) x).time = subst (λ n. f ≡ (worst_point jobs s n).time) (add-one k) late.at in
     omega (arith, met.finishes.2, late.late)
 refused jobs period s (miss.Unfinished p left) h a =
@@ -179,7 +181,7 @@ pub accepted : (jobs : List Job) (period : ℕ) (s : List SInstr) → All HasWor
 accepted jobs period s all form clean done =
     let x = first_point jobs (worst_cases jobs) in
     let order : InOrder jobs s x =
-    in_order jobs s x (λ k p until q at e. elim (either 0 (get_or (last_point jobs (take k s) x).left q 0)) [
+    in_order jobs s x (λ k p until q at e. elim (cases_lt 0 (get_or (last_point jobs (take k s) x).left q 0)) [
       | inl h ↦ absurd (clean.early k p q (slice_get_within s k (Dispatch p until) at) (record { dispatches = (until, at); waits = e; left = h }))
       | inr h ↦ omega arith
     ]) in
@@ -189,7 +191,7 @@ accepted jobs period s all form clean done =
       meets = meets_by_finishes jobs (worst_cases jobs) s order
           (λ p here.
           let there : slice_get jobs p ≡ Some (job_at jobs p) = job_there jobs p here in
-          let w = all_at HasWork jobs all p (job_at jobs p) there in
+          let w = each_at HasWork jobs all p (job_at jobs p) there in
           let e : get_or (work jobs (worst_cases jobs)) p 0 ≡ get_or (worst_cases jobs) p 0 = work_present jobs (worst_cases jobs) p (job_at jobs p) there here in
           omega (arith, e, worst_at jobs p (job_at jobs p) there, w.worst))
           (λ p here. done p (slice_get_within jobs p (job_at jobs p) (job_there jobs p here)));

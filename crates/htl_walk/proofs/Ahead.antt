@@ -4,7 +4,8 @@ use Rattle.htl_walk.specs.declared.job.Job.{Job}
 use Rattle.htl_walk.specs.declared.schedule.SInstr.{SInstr}
 use Rattle.htl_walk.specs.declared.schedule.SInstr.TheVariants.{Dispatch, Idle, End}
 use Rattle.htl_walk.specs.Walk.{Point, job_at, work_after, next_point, last_point}
-use Rattle.htl_walk.proofs.Steps.{work_below_running, time_below, apart, left_same, left_other, left_falls}
+use Rattle.htl_walk.proofs.Steps.{work_below_running, time_below, left_same, left_other, left_falls}
+use Rattle.std.proofs.lemmas.Bool.{cases_eq}
 
 pub record Ahead (js ks : List Job) (x y : Point) : Type 0 where
   pub time : x.time ≤ y.time
@@ -13,7 +14,7 @@ pub record Ahead (js ks : List Job) (x y : Point) : Type 0 where
 
 ahead_left : (js ks : List Job) (i : SInstr) (x y : Point) → Ahead js ks x y → (q : ℕ) → get_or (next_point js i x).left q 0 ≤ get_or (next_point ks i y).left q 0
 ahead_left js ks (Dispatch p h) x y a q =
-    elim (apart p q) [
+    elim (cases_eq p q) [
       | inl e ↦
           subst (λ z. get_or (next_point js (Dispatch p h) x).left z 0 ≤ get_or (next_point ks (Dispatch p h) y).left z 0) e
           (rw (left_same x.left p x.time (job_at js p).release h, left_same y.left p y.time (job_at ks p).release h)

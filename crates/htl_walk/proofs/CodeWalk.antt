@@ -22,14 +22,10 @@ use Rattle.htl_walk.specs.FrameLaws.{start_at}
 use Rattle.htl_walk.specs.Feasible.{AreFeasible}
 use Rattle.htl_walk.proofs.GoingOn.{same_length}
 use Rattle.htl_walk.proofs.NodeWalks.{unwalked, shared_clean, shared_saved, first_failing}
+use Rattle.std.proofs.lemmas.Grind.{same_number_lists}
+use Rattle.htl_base.proofs.Places.{get_taken}
 
 -- ---- reading the starts
-
-taken : (n : ℕ) (xs : List ℕ) (p : ℕ) → p < n → get_or (take n xs) p 0 ≡ get_or xs p 0
-taken zero xs p l = absurd (omega (arith, l))
-taken (suc n) [] p l = refl
-taken (suc n) (x ∷ xs) zero l = refl
-taken (suc n) (x ∷ xs) (suc p) l = taken n xs p (omega (arith, l))
 
 taken_length : (n : ℕ) (xs : List ℕ) → n ≤ length xs → length (take n xs) ≡ n
 taken_length zero xs l = refl
@@ -49,11 +45,11 @@ next_front (x ∷ xs) h (suc j) l = next_front xs h j (omega (arith, l))
 
 pub start_read : (t : Tables) (f : Frame) (j : ℕ) → IsFrame t f → j < length (starts t) → get_or f.starts j 0 ≡ get_or (starts t) j 0
 start_read t f j s l =
-    sym (taken (f.count + 1) f.starts j (omega (arith, s.count, l))) ∙ ap (λ xs. get_or xs j 0) s.starts ∙ start_front (starts t) (frame_of t) j l
+    sym (get_taken (f.count + 1) f.starts j (omega (arith, s.count, l))) ∙ ap (λ xs. get_or xs j 0) s.starts ∙ start_front (starts t) (frame_of t) j l
 
 pub end_read : (t : Tables) (f : Frame) (j : ℕ) → IsFrame t f → j < length (starts t) → get_or f.starts (j + 1) 0 ≡ next_of (frame_of t) (drop (suc j) (starts t))
 end_read t f j s l =
-    sym (taken (f.count + 1) f.starts (j + 1) (omega (arith, s.count, l))) ∙ ap (λ xs. get_or xs (j + 1) 0) s.starts ∙ ap (λ n. get_or (starts t ++ frame_of t ∷ []) n 0) (add-one j)
+    sym (get_taken (f.count + 1) f.starts (j + 1) (omega (arith, s.count, l))) ∙ ap (λ xs. get_or xs (j + 1) 0) s.starts ∙ ap (λ n. get_or (starts t ++ frame_of t ∷ []) n 0) (add-one j)
     ∙ next_front (starts t) (frame_of t) j l
 
 pub list_read : (lists : List Schedule) (d : Schedule) (n : ℕ) → n < length lists → (get_or lists n d).instrs ≡ get_or (instrs_of lists) n []
@@ -126,7 +122,7 @@ saved_more t lists path j states row left room saved rows is few i p l b = elim 
 
 -- ---- the lengths of what is left
 
-work_length : (js : List Job) (ns : List ℕ) → length (work js ns) ≡ length js
+pub work_length : (js : List Job) (ns : List ℕ) → length (work js ns) ≡ length js
 work_length [] ns = refl
 work_length (j ∷ js) [] = ap suc (work_length js [])
 work_length (j ∷ js) (n ∷ ns) = ap suc (work_length js ns)
@@ -136,12 +132,6 @@ reached_length t lists path zero = work_length (path_jobs t path) (worst_cases (
 reached_length t lists path (suc j) =
     same_length (path_jobs t path) (list_at t lists path j) (list_point (get_or (starts t) j 0) (reached t lists path j)) ∙ reached_length t lists path j
 
-list_same : (xs ys : List ℕ) → length xs ≡ length ys → ((k : ℕ) → k < length xs → get_or xs k 0 ≡ get_or ys k 0) → xs ≡ ys
-list_same [] [] e h = refl
-list_same [] (y ∷ ys) e h = absurd (omega (arith, e))
-list_same (x ∷ xs) [] e h = absurd (omega (arith, e))
-list_same (x ∷ xs) (y ∷ ys) e h = ap (λ z. z ∷ xs) (h 0 (omega arith)) ∙ ap (λ zs. y ∷ zs) (list_same xs ys (omega (arith, e)) (λ k l. h (suc k) (omega (arith, l))))
-
 -- ---- resuming
 
 module _ (t : Tables) (lists : List (List SInstr)) (ready : AreWalkable t) where
@@ -149,9 +139,9 @@ module _ (t : Tables) (lists : List (List SInstr)) (ready : AreWalkable t) where
       → take (length jobs) left ≡ (reached t lists path 0).left
   resumed_first path saved left jobs h js r len =
       let n : length (take (length jobs) left) ≡ length jobs = taken_length (length jobs) left len in
-      list_same (take (length jobs) left) (reached t lists path 0).left (n ∙ ap (λ (xs : List Job). length xs) js ∙ sym (reached_length t lists path 0))
+      same_number_lists (take (length jobs) left) (reached t lists path 0).left (n ∙ ap (λ (xs : List Job). length xs) js ∙ sym (reached_length t lists path 0))
       (λ k l.
-      taken (length jobs) left k (omega (arith, l, n)) ∙ (r k (omega (arith, l, n))).1 (omega arith) ∙ ap (λ (xs : List Job). (get_or xs k absent_job).worst) js
+      get_taken (length jobs) left k (omega (arith, l, n)) ∙ (r k (omega (arith, l, n))).1 (omega arith) ∙ ap (λ (xs : List Job). (get_or xs k absent_job).worst) js
       ∙ sym (unwalked t lists ready path 0 k h (omega arith) (λ i e. absurd (omega (arith, e))) (λ i e. absurd (omega (arith, e)))))
 
   pub resumed_later : (path d known : ℕ) (states : List (List ℕ)) (left : List ℕ) (jobs : List Job) → path < paths t → d < length (starts t) → jobs ≡ path_jobs t path
@@ -159,9 +149,9 @@ module _ (t : Tables) (lists : List (List SInstr)) (ready : AreWalkable t) where
       → take (length jobs) left ≡ (reached t lists path (suc d)).left
   resumed_later path d known states left jobs h l js is c saved r len =
       let n : length (take (length jobs) left) ≡ length jobs = taken_length (length jobs) left len in
-      list_same (take (length jobs) left) (reached t lists path (suc d)).left (n ∙ ap (λ (xs : List Job). length xs) js ∙ sym (reached_length t lists path (suc d)))
+      same_number_lists (take (length jobs) left) (reached t lists path (suc d)).left (n ∙ ap (λ (xs : List Job). length xs) js ∙ sym (reached_length t lists path (suc d)))
       (λ k b.
-      taken (length jobs) left k (omega (arith, b, n)) ∙ elim (cases_lt k known) [
+      get_taken (length jobs) left k (omega (arith, b, n)) ∙ elim (cases_lt k known) [
         | inl a ↦ (r k (omega (arith, b, n))).0 a ∙ saved d k (omega arith) (omega (arith, a, is))
         | inr a ↦
             (r k (omega (arith, b, n))).1 a ∙ ap (λ (xs : List Job). (get_or xs k absent_job).worst) js

@@ -9,12 +9,14 @@ use Rattle.htl_walk.specs.Walk.{Point, job_at, next_point, point_at, walk_from, 
 use Rattle.htl_model.specs.PortOrder.{direct, through}
 use Rattle.htl_walk.specs.Refinement.{LeadsTo, RefinesJob, Refines, HasWork, HaveLengths, AreWithinWorst}
 use Rattle.htl_walk.specs.Laws.{Dominance}
-use Rattle.htl_walk.proofs.Steps.{apart, either, left_falls, left_other}
+use Rattle.htl_walk.proofs.Steps.{left_falls, left_other}
 use Rattle.htl_walk.proofs.Ahead.{Ahead, ahead_next, ahead_last}
 use Rattle.htl_walk.proofs.Finishes.{finish_ahead}
 use Rattle.htl_walk.proofs.Slices.{slices_start, slices_other, slices_within}
-use Rattle.htl_walk.proofs.Work.{job_there, job_is, job_cases, absent_precedes, all_at, worst_at, work_present, work_some}
+use Rattle.htl_walk.proofs.Work.{job_there, job_is, job_cases, absent_precedes, worst_at, work_present, work_some}
 use Rattle.htl_walk.proofs.Predecessors.{Settled, settled_back}
+use Rattle.htl_base.proofs.Places.{each_at}
+use Rattle.std.proofs.lemmas.Bool.{cases_eq, cases_lt}
 
 -- where some work of a position is done, its predecessors are done
 abbrev pub IsOrderly : List Job → Point → Type 0
@@ -22,7 +24,7 @@ IsOrderly ks y = (r q : ℕ) → get_or y.left r 0 < (job_at ks r).worst → pre
 
 orderly_next : (ks : List Job) (i : SInstr) (is : List SInstr) (y : Point) → IsOrderly ks y → InOrder ks (i ∷ is) y → IsOrderly ks (next_point ks i y)
 orderly_next ks (Dispatch p h) is y o d r q a b =
-    elim (apart p r) [
+    elim (cases_eq p r) [
       | inl e ↦
           let z : get_or y.left q 0 ≡ 0 = d.0 q (subst (λ k. precedes q (job_at ks k) ≡ true) (sym e) b) in
           omega (arith, left_falls ks (Dispatch p h) y q)
@@ -45,7 +47,7 @@ module _ (ks : List Job) (busy : (q r : ℕ) → precedes q (job_at ks r) ≡ tr
       → slice_get (slices (walk_from js is x) p) 0 ≡ Some s → Settled js is x q s.0
   chain_settled js [] x y p q s a u o b e = cc
   chain_settled js (Dispatch r h ∷ is) x y p q s a u o b e =
-      elim (apart r p) [
+      elim (cases_eq r p) [
         | inl z ↦
             let done : get_or y.left q 0 ≡ 0 = all_done y q p u (subst (λ k. AreDone ks (job_at ks k) y) z o.0) b in
             inl (omega (arith, a.left q))
@@ -102,14 +104,14 @@ meets js ks ns period s l a p j at there =
 module _ (js ks : List Job) (ns : List ℕ) (all : All HasWork ks) (refined : Refines js ks) (least : HaveLengths js ns) (most : AreWithinWorst js ns) where
   busy_at : (q r : ℕ) → precedes q (job_at ks r) ≡ true → 0 < (job_at ks r).worst
   busy_at q r e = elim (job_cases ks r) [
-    | inl h ↦ let w = all_at HasWork ks all r (job_at ks r) h in omega (arith, w.worst)
+    | inl h ↦ let w = each_at HasWork ks all r (job_at ks r) h in omega (arith, w.worst)
     | inr h ↦ absurd (let f : true ≡ false = sym e ∙ ap (precedes q) h ∙ absent_precedes q in cc)
   ]
 
   full_at : (p : ℕ) → (job_at ks p).worst ≤ get_or (work ks (worst_cases ks)) p 0
   full_at p = elim (job_cases ks p) [
     | inl h ↦
-        let w = all_at HasWork ks all p (job_at ks p) h in
+        let w = each_at HasWork ks all p (job_at ks p) h in
         let e : get_or (work ks (worst_cases ks)) p 0 ≡ get_or (worst_cases ks) p 0 = work_present ks (worst_cases ks) p (job_at ks p) h w.present in
         omega (arith, e, worst_at ks p (job_at ks p) h)
     | inr h ↦ omega (arith, ap (λ j. j.worst) h)
@@ -119,7 +121,7 @@ module _ (js ks : List Job) (ns : List ℕ) (all : All HasWork ks) (refined : Re
   refined_at p e = refined.each p (job_at js p) (job_there js p e) e
 
   lengths_at : (p : ℕ) → get_or (work js ns) p 0 ≤ get_or (work ks (worst_cases ks)) p 0
-  lengths_at p = elim (either 0 (get_or (work js ns) p 0)) [
+  lengths_at p = elim (cases_lt 0 (get_or (work js ns) p 0)) [
     | inl h ↦
         let e : (job_at js p).present ≡ true = work_some js ns p h in
         let r = refined_at p e in

@@ -12,7 +12,7 @@ use Rattle.htl_model.proofs.FrameRules.{first_own}
 use Rattle.htl_model.proofs.SelectionLaws.{root_period_is, place_passes_0}
 use Rattle.htl_walk.specs.EqualPeriods.{AllHave, RootsHaveOnePeriod, HasOnePeriod}
 use Rattle.htl_walk.proofs.PathReady.{IsRootAt, module_below, period_at, as_unit}
-use Rattle.htl_walk.proofs.Work.{all_at}
+use Rattle.htl_base.proofs.Places.{each_at}
 
 -- ---- a list of modules of one period
 
@@ -65,7 +65,7 @@ module _ (t : Tables) (r : AreInRange t) (kept : KeptApart t 12) where
       let is : Some (mode_period t m) ≡ root_period t = root_period_is t u (mode_period t m) r e refl in
       let round : round_length t ≡ mode_period t f.0 = sym (ap (λ (o : Option ℕ). elim o as (λ _. ℕ) [ Some q ↦ q | None ↦ 0 ]) is) ∙ ap (mode_period t) first in
       let unit = as_unit t u f.0 f.1 r kept root f.3 f.4 in
-      let span = (all_at (IsModeInRange t) t.modes r.modes f.0 f.1 f.3).period in
+      let span = (each_at (IsModeInRange t) t.modes r.modes f.0 f.1 f.3).period in
       let period = period_at t f.0 f.1 f.3 in
       (round ∙ unit, omega (arith, round, period, span.some), omega (arith, round, period, span.most))
 

@@ -1,12 +1,13 @@
 -- When a position finishes.
 use Rattle.std.proofs.Common.{◌≡◌, ℕ, zero, suc, ◌≤◌, ◌<◌, Bool, true, false, cond, ◌&&◌, eqb, List, [], ◌∷◌, get_or, Some, refl, sym, ap, ◌∙◌, subst, arith, ◌⊎◌, inl, inr}
-use Rattle.std.proofs.lemmas.Bool.{eq-eqb, ne_eqb}
+use Rattle.std.proofs.lemmas.Bool.{eq-eqb, ne_eqb, and_from, and_left, and_right, cases_eq}
 use Rattle.htl_walk.specs.declared.job.Job.{Job}
 use Rattle.htl_walk.specs.declared.schedule.SInstr.{SInstr}
 use Rattle.htl_walk.specs.declared.schedule.SInstr.TheVariants.{Dispatch, Idle, End}
 use Rattle.htl_walk.specs.Walk.{Point, job_at, finishes_by, work_after, next_point, walk_from, finish, DoneBy}
-use Rattle.htl_walk.proofs.Steps.{apart, left_other, time_rises}
+use Rattle.htl_walk.proofs.Steps.{left_other, time_rises}
 use Rattle.htl_walk.proofs.Ahead.{Ahead, ahead_next}
+use Rattle.std.proofs.lemmas.Option.{same_Some}
 
 finishes_yes : (a b : ℕ) → 0 < a → b ≡ 0 → finishes_by a b ≡ true
 finishes_yes zero b h e = absurd (omega arith)
@@ -23,24 +24,15 @@ ends zero b = inr (inl refl)
 ends (suc a) zero = inl (omega arith, refl)
 ends (suc a) (suc b) = inr (inr (omega arith))
 
-both : (a b : Bool) → a ≡ true → b ≡ true → (a && b) ≡ true
-both a b h k = grind arith
-
-not_first : (a b : Bool) → a ≡ false → (a && b) ≡ false
-not_first a b h = grind arith
-
-not_second : (a b : Bool) → b ≡ false → (a && b) ≡ false
-not_second a b h = grind arith
-
 pub finish_now : (jobs : List Job) (i : SInstr) (is : List SInstr) (x : Point) (p : ℕ) →
     0 < get_or x.left p 0 → get_or (next_point jobs i x).left p 0 ≡ 0 → finish (walk_from jobs (i ∷ is) x) p ≡ Some (next_point jobs i x).time
 finish_now jobs (Dispatch r h) is x p a e =
-    elim (apart r p) [
+    elim (cases_eq r p) [
       | inl q ↦
           let y = next_point jobs (Dispatch r h) x in
           let rest = finish (walk_from jobs is y) p in
           ap (λ b. cond b (Some y.time) rest)
-          (both (eqb r p) (finishes_by (get_or x.left r 0) (get_or y.left r 0)) (eq-eqb r p q)
+          (and_from (eqb r p) (finishes_by (get_or x.left r 0) (get_or y.left r 0)) (eq-eqb r p q)
           (subst (λ z. finishes_by (get_or x.left z 0) (get_or y.left z 0) ≡ true) (sym q) (finishes_yes _ _ a e)))
       | inr n ↦ absurd (omega (arith, left_other x.left r p (work_after x.time (get_or x.left r 0) (job_at jobs r).release h) n))
     ]
@@ -54,16 +46,13 @@ finish_later jobs (Dispatch r h) is x p c =
     let rest = finish (walk_from jobs is y) p in
     let test = finishes_by (get_or x.left r 0) (get_or y.left r 0) in
     let fact : (eqb r p && test) ≡ false =
-    elim (apart r p) [
-      | inl q ↦ not_second (eqb r p) test (subst (λ z. finishes_by (get_or x.left z 0) (get_or y.left z 0) ≡ false) (sym q) (finishes_no _ _ c))
-      | inr n ↦ not_first (eqb r p) test (ne_eqb r p n)
+    elim (cases_eq r p) [
+      | inl q ↦ and_right (eqb r p) test (subst (λ z. finishes_by (get_or x.left z 0) (get_or y.left z 0) ≡ false) (sym q) (finishes_no _ _ c))
+      | inr n ↦ and_left (eqb r p) test (ne_eqb r p n)
     ] in
     ap (λ b. cond b (Some y.time) rest) fact
 finish_later jobs (Idle h) is x p c = refl
 finish_later jobs End is x p c = refl
-
-pub some_same : {A : Type 0} (a b : A) → Some a ≡ Some b → a ≡ b
-some_same a b e = cc
 
 pub finish_after : (jobs : List Job) (is : List SInstr) (x : Point) (p f : ℕ) → finish (walk_from jobs is x) p ≡ Some f → x.time ≤ f
 finish_after jobs [] x p f e = cc
@@ -71,7 +60,7 @@ finish_after jobs (i ∷ is) x p f e =
     let y = next_point jobs i x in
     let t : x.time ≤ y.time = time_rises jobs i x in
     elim (ends (get_or x.left p 0) (get_or y.left p 0)) [
-      | inl q ↦ let s : y.time ≡ f = some_same _ _ (sym (finish_now jobs i is x p q.0 q.1) ∙ e) in omega arith
+      | inl q ↦ let s : y.time ≡ f = same_Some _ _ (sym (finish_now jobs i is x p q.0 q.1) ∙ e) in omega arith
       | inr c ↦ let s : y.time ≤ f = finish_after jobs is y p f (sym (finish_later jobs i is x p c) ∙ e) in omega arith
     ]
 
@@ -86,7 +75,7 @@ finish_ahead js ks (i ∷ is) x y p t a w d =
       | inl q ↦
           let bound : y'.time ≤ d.0 =
           elim (ends (get_or y.left p 0) (get_or y'.left p 0)) [
-            | inl r ↦ let s : y'.time ≡ d.0 = some_same _ _ (sym (finish_now ks i is y p r.0 r.1) ∙ d.1) in omega arith
+            | inl r ↦ let s : y'.time ≡ d.0 = same_Some _ _ (sym (finish_now ks i is y p r.0 r.1) ∙ d.1) in omega arith
             | inr c ↦ finish_after ks is y' p d.0 (sym (finish_later ks i is y p c) ∙ d.1)
           ] in
           let ahead : x'.time ≤ y'.time = n.time in

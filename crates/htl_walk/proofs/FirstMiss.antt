@@ -10,13 +10,7 @@ use Rattle.htl_walk.specs.Walk.{job_at, InForm}
 use Rattle.htl_walk.specs.Misses.{worst_point, DispatchesAt, IsTooEarly, IsFirstDeparture, IsFirstBefore, IsFirstLate, IsFirstUnfinished, IsFirstMiss}
 use Rattle.htl_walk.specs.Laws.{OneFirstMiss}
 use Rattle.htl_walk.proofs.Acceptance.{departs_nowhere}
-
--- numbers of which neither is below the other
-equal : (a b : ℕ) → (a < b → ⊥) → (b < a → ⊥) → a ≡ b
-equal a b m n = elim (order a b) [ inl h ↦ absurd (m h) | inr (inl h) ↦ absurd (n h) | inr (inr h) ↦ h ]
-  where
-    order : (a b : ℕ) → (a < b) ⊎ ((b < a) ⊎ (a ≡ b))
-    order a b = grind arith
+use Rattle.htl_base.proofs.Numbers.{same_from_neither}
 
 module _ (jobs : List Job) (s : List SInstr) where
   same_position : (k l p q : ℕ) → k ≡ l → DispatchesAt s k p → DispatchesAt s l q → p ≡ q
@@ -31,21 +25,21 @@ module _ (jobs : List Job) (s : List SInstr) where
 
   before_before : (p q k p' q' k' : ℕ) → IsFirstBefore jobs s p q k → IsFirstBefore jobs s p' q' k' → ◌≡◌ {A = Miss} (miss.Before p q k) (miss.Before p' q' k')
   before_before p q k p' q' k' a b =
-      let place : k ≡ k' = equal k k' (λ h. b.clean.early k p q h a.here) (λ h. a.clean.early k' p' q' h b.here) in
+      let place : k ≡ k' = same_from_neither k k' (λ h. b.clean.early k p q h a.here) (λ h. a.clean.early k' p' q' h b.here) in
       let position : p ≡ p' = same_position k k' p p' place a.here.dispatches b.here.dispatches in
       let lowest : q ≡ q' =
-      equal q q' (λ h. b.lowest q h (early_at k k' p p' q place position a.here)) (λ h. a.lowest q' h (early_at k' k p' p q' (sym place) (sym position) b.here)) in
+      same_from_neither q q' (λ h. b.lowest q h (early_at k k' p p' q place position a.here)) (λ h. a.lowest q' h (early_at k' k p' p q' (sym place) (sym position) b.here)) in
       cc
 
   before_late : (p q k p' f w : ℕ) → IsFirstBefore jobs s p q k → IsFirstLate jobs s p' f w → ⊥
   before_late p q k p' f w a b =
-      let place : k ≡ b.place = equal k b.place (λ h. b.clean.early k p q h a.here) (λ h. a.clean.late b.place p' f h b.here) in
+      let place : k ≡ b.place = same_from_neither k b.place (λ h. b.clean.early k p q h a.here) (λ h. a.clean.late b.place p' f h b.here) in
       let position : p ≡ p' = same_position k b.place p p' place a.here.dispatches b.here.dispatches in
       b.ready q (early_at k b.place p p' q place position a.here)
 
   late_late : (p f w p' f' w' : ℕ) → IsFirstLate jobs s p f w → IsFirstLate jobs s p' f' w' → ◌≡◌ {A = Miss} (miss.Late p f w) (miss.Late p' f' w')
   late_late p f w p' f' w' a b =
-      let place : a.place ≡ b.place = equal a.place b.place (λ h. b.clean.late a.place p f h a.here) (λ h. a.clean.late b.place p' f' h b.here) in
+      let place : a.place ≡ b.place = same_from_neither a.place b.place (λ h. b.clean.late a.place p f h a.here) (λ h. a.clean.late b.place p' f' h b.here) in
       let position : p ≡ p' = same_position a.place b.place p p' place a.here.dispatches b.here.dispatches in
       let finish : f ≡ f' = a.here.at ∙ ap (λ k. (worst_point jobs s (k + 1)).time) place ∙ sym b.here.at in
       let end : w ≡ w' = a.end ∙ ap (λ p. (job_at jobs p).end) position ∙ sym b.end in
@@ -53,7 +47,7 @@ module _ (jobs : List Job) (s : List SInstr) where
 
   unfinished_unfinished : (p n p' n' : ℕ) → IsFirstUnfinished jobs s p n → IsFirstUnfinished jobs s p' n' → ◌≡◌ {A = Miss} (miss.Unfinished p n) (miss.Unfinished p' n')
   unfinished_unfinished p n p' n' a b =
-      let position : p ≡ p' = equal p p' (λ h. let z = b.lowest p h in omega (arith, a.is, a.some)) (λ h. let z = a.lowest p' h in omega (arith, b.is, b.some)) in
+      let position : p ≡ p' = same_from_neither p p' (λ h. let z = b.lowest p h in omega (arith, a.is, a.some)) (λ h. let z = a.lowest p' h in omega (arith, b.is, b.some)) in
       let left : n ≡ n' = a.is ∙ ap (λ p. get_or (worst_point jobs s (length s)).left p 0) position ∙ sym b.is in
       cc
 
@@ -64,7 +58,7 @@ one_first_miss jobs period s m n a b = cases m n a b
     in_form k f d = departs_nowhere (length jobs) period s k f d.here
 
     cases : (m n : Miss) → IsFirstMiss jobs period s m → IsFirstMiss jobs period s n → m ≡ n
-    cases (miss.Order k) (miss.Order l) a b = let same : k ≡ l = equal k l (λ h. b.first k h a.here) (λ h. a.first l h b.here) in ap miss.Order same
+    cases (miss.Order k) (miss.Order l) a b = let same : k ≡ l = same_from_neither k l (λ h. b.first k h a.here) (λ h. a.first l h b.here) in ap miss.Order same
     cases (miss.Order k) (miss.Before p q l) a b = absurd (in_form k b.0 a)
     cases (miss.Order k) (miss.Late p f w) a b = absurd (in_form k b.0 a)
     cases (miss.Order k) (miss.Unfinished p n) a b = absurd (in_form k b.0 a)

@@ -1,7 +1,7 @@
 -- The worst-case walk, followed instruction by instruction.
 use Rattle.std.proofs.Common.{◌≡◌, ℕ, zero, suc, ◌≤◌, ◌<◌, List, [], ◌∷◌, length, get_or, slice_get, Some, refl, sym, ap, ◌∙◌, subst, arith, inl, inr}
 use Rattle.std.specs.List.{All}
-use Rattle.std.proofs.lemmas.Option.{slice_get-get_or}
+use Rattle.std.proofs.lemmas.Option.{slice_get-get_or, same_Some}
 use Rattle.std.proofs.lemmas.List.{ext_get_or}
 use Rattle.htl_walk.specs.declared.job.Job.{Job}
 use Rattle.htl_walk.specs.declared.miss.Miss.{Miss}
@@ -12,13 +12,15 @@ use Rattle.htl_walk.specs.Walk.{Point, job_at, next_point, walk, work, work_afte
 use Rattle.htl_walk.specs.Misses.{worst_point, IsCleanBefore, IsFirstMiss}
 use Rattle.htl_walk.specs.Following.{IsKnown, IsInTime, IsFollowed, IsMissAt}
 use Rattle.htl_walk.specs.Refinement.{HasWork}
-use Rattle.htl_walk.proofs.Steps.{either, apart, left_other}
-use Rattle.htl_walk.proofs.Finishes.{some_same}
-use Rattle.htl_walk.proofs.Work.{all_at, work_present, worst_at}
+use Rattle.htl_walk.proofs.Steps.{left_other}
+use Rattle.htl_walk.proofs.Work.{work_present, worst_at}
 use Rattle.htl_walk.proofs.Acceptance.{point_step, finish_at, accepted}
 use Rattle.htl_walk.proofs.ListMiss.{clean_to, clean_of, before_to, late_miss_to}
 use Rattle.htl_walk.proofs.Walked as walked
 use Rattle.htl_walk.proofs.Walked.{IsWalked, walked_more}
+use Rattle.htl_base.proofs.Places.{each_at}
+use Rattle.std.proofs.lemmas.Bool.{cases_eq, cases_lt}
+use Rattle.htl_walk.proofs.CodeWalk.{work_length}
 
 -- the walk was followed up to instruction k, to this point and these finish offsets
 pub record IsFollowedTo (jobs : List Job) (s : List SInstr) (k : ℕ) (x : Point) (finishes : List ℕ) : Type 0 where
@@ -31,7 +33,7 @@ pub work_at : (jobs : List Job) → All HasWork jobs → (p : ℕ) → p < lengt
 work_at jobs all p h =
     let at : slice_get jobs p ≡ Some (get_or jobs p (job_at jobs p)) = slice_get-get_or jobs p (job_at jobs p) h in
     let j = get_or jobs p (job_at jobs p) in
-    let w : HasWork j = all_at HasWork jobs all p j at in
+    let w : HasWork j = each_at HasWork jobs all p j at in
     omega (arith, work_present jobs (worst_cases jobs) p j at w.present, worst_at jobs p j at, w.worst)
 
 pub followed_none : (jobs : List Job) (s : List SInstr) (finishes : List ℕ) → All HasWork jobs → IsFollowedTo jobs s 0 (first_point jobs (worst_cases jobs)) finishes
@@ -65,11 +67,11 @@ module _ (jobs : List Job) (s : List SInstr) (k : ℕ) (i : SInstr) (at : slice_
       record {
         point = after;
         clean = clean_more x y fs gs f d;
-        done = λ p h none. elim (either 0 (get_or x.left p 0)) [
+        done = λ p h none. elim (cases_lt 0 (get_or x.left p 0)) [
           | inl some ↦ finished_now x y f.point after p some none ∙ ap Some (sym (d.finishes.finished p h some none))
           | inr idle ↦ let z : get_or x.left p 0 ≡ 0 = omega arith in f.done p h z ∙ ap Some (sym (d.finishes.others p (inl z)))
         ];
-        in_time = λ p h none. elim (either 0 (get_or x.left p 0)) [
+        in_time = λ p h none. elim (cases_lt 0 (get_or x.left p 0)) [
           | inl some ↦
               omega (arith, d.finishes.finished p h some none, finished_in_time i d.in_time d.next p some none)
           | inr idle ↦ let z : get_or x.left p 0 ≡ 0 = omega arith in omega (arith, f.in_time p h z, d.finishes.others p (inl z))
@@ -78,7 +80,7 @@ module _ (jobs : List Job) (s : List SInstr) (k : ℕ) (i : SInstr) (at : slice_
     where
       finished_in_time : (i : SInstr) → IsInTime jobs i x y → y ≡ next_point jobs i x → (p : ℕ) → 0 < get_or x.left p 0 → get_or y.left p 0 ≡ 0 → y.time ≤ (job_at jobs p).end
       finished_in_time (Dispatch r until) time e p some none =
-          elim (apart r p) [
+          elim (cases_eq r p) [
             | inl same ↦
                 subst (λ n. y.time ≤ (job_at jobs n).end) same (time (subst (λ n. 0 < get_or x.left n 0) (sym same) some) (subst (λ n. get_or y.left n 0 ≡ 0) (sym same) none))
             | inr other ↦
@@ -118,25 +120,20 @@ followed_all jobs period s x fs all form f none =
 
 pub known_at : (count period : ℕ) (s : List SInstr) (k : ℕ) (i : SInstr) → InForm count period s → slice_get s k ≡ Some i → IsKnown count i
 known_at count period [] k i f e = cc
-known_at count period (End ∷ []) zero i f e = subst (IsKnown count) (some_same _ _ e) tt
+known_at count period (End ∷ []) zero i f e = subst (IsKnown count) (same_Some _ _ e) tt
 known_at count period (End ∷ []) (suc k) i f e = cc
 known_at count period (End ∷ j ∷ is) k i f e = absurd f.0
-known_at count period (Dispatch p until ∷ is) zero i f e = subst (IsKnown count) (some_same _ _ e) f.0.0
+known_at count period (Dispatch p until ∷ is) zero i f e = subst (IsKnown count) (same_Some _ _ e) f.0.0
 known_at count period (Dispatch p until ∷ is) (suc k) i f e = known_at count period is k i f.1 e
-known_at count period (Idle until ∷ is) zero i f e = subst (IsKnown count) (some_same _ _ e) tt
+known_at count period (Idle until ∷ is) zero i f e = subst (IsKnown count) (same_Some _ _ e) tt
 known_at count period (Idle until ∷ is) (suc k) i f e = known_at count period is k i f.1 e
-
-length-work : (jobs : List Job) (ns : List ℕ) → length (work jobs ns) ≡ length jobs
-length-work [] ns = refl
-length-work (j ∷ js) [] = ap suc (length-work js [])
-length-work (j ∷ js) (n ∷ ns) = ap suc (length-work js ns)
 
 pub worst_filled : (jobs : List Job) (left : List ℕ) → All HasWork jobs → length left ≡ length jobs → ((q : ℕ) → q < length jobs → get_or left q 0 ≡ get_or (worst_cases jobs) q 0)
     → left ≡ work jobs (worst_cases jobs)
 worst_filled jobs left all same each =
-    ext_get_or 0 left (work jobs (worst_cases jobs)) (same ∙ sym (length-work jobs (worst_cases jobs)))
+    ext_get_or 0 left (work jobs (worst_cases jobs)) (same ∙ sym (work_length jobs (worst_cases jobs)))
     (λ q h.
     let below : q < length jobs = omega arith in
     let at : slice_get jobs q ≡ Some (get_or jobs q (job_at jobs q)) = slice_get-get_or jobs q (job_at jobs q) below in
-    let w : HasWork (get_or jobs q (job_at jobs q)) = all_at HasWork jobs all q (get_or jobs q (job_at jobs q)) at in
+    let w : HasWork (get_or jobs q (job_at jobs q)) = each_at HasWork jobs all q (get_or jobs q (job_at jobs q)) at in
     each q below ∙ sym (work_present jobs (worst_cases jobs) q (get_or jobs q (job_at jobs q)) at w.present))

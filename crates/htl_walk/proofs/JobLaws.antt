@@ -13,13 +13,13 @@ use Rattle.htl_walk.specs.declared.job.Job.{Job}
 use Rattle.htl_walk.specs.Jobs.{absent_job, job_of, abstract_jobs, mask, precedes, is_fed_by}
 use Rattle.htl_walk.specs.Refinement.{HasWork}
 use Rattle.htl_walk.proofs.Masks.{mask_bit, get_mapped}
-use Rattle.htl_walk.proofs.Work.{all_at}
+use Rattle.htl_base.proofs.Places.{each_at}
 
-worst_some : (t : Tables) (i : Inv) (k : ℕ) → AreInRange t → slice_get t.invs k ≡ Some i → 1 ≤ task_worst t i.task
+pub worst_some : (t : Tables) (i : Inv) (k : ℕ) → AreInRange t → slice_get t.invs k ≡ Some i → 1 ≤ task_worst t i.task
 worst_some t i k r at =
-    let inv : IsInvInRange t i = all_at (IsInvInRange t) t.invs r.invs k i at in
+    let inv : IsInvInRange t i = each_at (IsInvInRange t) t.invs r.invs k i at in
     let task : Task = inv.task.0 in
-    let range : IsTaskInRange t task = all_at (IsTaskInRange t) t.tasks r.tasks i.task task inv.task.1 in
+    let range : IsTaskInRange t task = each_at (IsTaskInRange t) t.tasks r.tasks i.task task inv.task.1 in
     let worst : task_worst t i.task ≡ task.worst = ap (λ (o : Option Task). elim o [ Some x ↦ x.worst | None ↦ 0 ]) inv.task.1 in
     omega (arith, range.worst.some)
 

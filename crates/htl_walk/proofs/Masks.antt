@@ -19,7 +19,8 @@ use Rattle.htl_model.proofs.PortTableLaws.{row_of_reads, row_of_none}
 use Rattle.htl_walk.specs.declared.job.Job.{Job}
 use Rattle.htl_walk.specs.Jobs.{is_fed_by, mask, absent_job, job_of}
 use Rattle.htl_walk.specs.Writers.{inv_of, reads_of, AreWriters, job_with}
-use Rattle.htl_walk.proofs.Steps.{either}
+use Rattle.std.proofs.lemmas.Bool.{cases_lt}
+use Rattle.htl_base.proofs.Tests.{and_none}
 
 -- ---- the bits of a mask
 
@@ -27,7 +28,7 @@ low_bit : (b : Bool) (m : ℕ) → eqb ((of_bool b + 2 * m) % 2) 1 ≡ b
 low_bit true m = let e : (1 + 2 * m) % 2 ≡ 1 = omega arith in ap (λ n. eqb n 1) e
 low_bit false m = let e : (0 + 2 * m) % 2 ≡ 0 = omega arith in ap (λ n. eqb n 1) e
 
-halved : (b : Bool) (m : ℕ) → (of_bool b + 2 * m) / 2 ≡ m
+pub halved : (b : Bool) (m : ℕ) → (of_bool b + 2 * m) / 2 ≡ m
 halved true m = omega arith
 halved false m = omega arith
 
@@ -54,20 +55,16 @@ get_mapped f (x ∷ xs) d (suc q) e = get_mapped f xs d q e
 -- all positions were noted
 pub writers_all : (t : Tables) (standing : List (Option ℕ)) (n : ℕ) (table : List ℕ) → n ≡ length standing
     → ((p r : ℕ) → p < length table → cell table p r ≡ (ltb r n && writes_to (inv_of t (get_or standing r None)) p)) → AreWriters t standing table
-writers_all t standing n table is says p r within = says p r within ∙ elim (either r n) [
+writers_all t standing n table is says p r within = says p r within ∙ elim (cases_lt r n) [
   | inl less ↦ here (ltb r n) (writes_to (inv_of t (get_or standing r None)) p) (grind (arith, nat_tests))
   | inr past ↦
       let none : get_or standing r None ≡ None = get_or_past standing r None (omega arith) in
-      ap (λ o. ltb r n && writes_to (inv_of t o) p) none ∙ no_right (ltb r n) ∙ sym (ap (λ o. writes_to (inv_of t o) p) none)
+      ap (λ o. ltb r n && writes_to (inv_of t o) p) none ∙ and_none (ltb r n) ∙ sym (ap (λ o. writes_to (inv_of t o) p) none)
 ]
   where
     here : (a b : Bool) → a ≡ true → (a && b) ≡ b
     here true b e = refl
     here false b e = cc
-
-    no_right : (a : Bool) → (a && false) ≡ false
-    no_right true = refl
-    no_right false = refl
 
 abbrev made : Tables → ℕ → Inv → ℕ → Job
 made t k i preds = record { present = true; inv = k; release = release t i; end = window_end t i; worst = task_worst t i.task; preds = preds }

@@ -8,8 +8,10 @@ use Rattle.htl_model.specs.Frames.{frame_of, root_periods, unit_period, rounds_a
 use Rattle.htl_model.specs.Tables.{Tables}
 use Rattle.htl_model.specs.declared.frame.Round.{Round}
 use Rattle.htl_walk.specs.FrameLaws.{start_at, start_end_at, NodesDiffer, NodesReached, ModesStay}
-use Rattle.htl_walk.proofs.Nodes.{places_same, product_some, node_below, paths_are, leg_at, rises_drop, mode_append, rounds_to, rounds_behind, cut_rounds, choices_behind, same_choices}
+use Rattle.htl_walk.proofs.Nodes.{places_same, node_below, leg_at, rises_drop, mode_append, rounds_to, rounds_behind, cut_rounds, choices_behind, same_choices}
 use Rattle.htl_walk.proofs.Starts.{Rises, starts_rise, LaterRounds, rounds_later}
+use Rattle.htl_model.proofs.FrameBuild.{paths_ways}
+use Rattle.htl_base.proofs.Numbers.{product_parts}
 
 -- ---- nodes of different starts
 
@@ -17,17 +19,17 @@ pub depth_same : (cs : List ℕ) (p q j i : ℕ) → 0 < ways cs → j < length 
 depth_same [] p q j i h l k e = absurd (omega (arith, l))
 depth_same (c ∷ cs) p q zero zero h l k e = refl
 depth_same (c ∷ cs) p q zero (suc i) h l k e =
-    let some = product_some c (ways cs) h in
+    let some = product_parts c (ways cs) h in
     let n = suc (nodes_of cs) in
     let inner : suc (node_of cs q i) < n = omega (arith, node_below cs q i some.1 (omega (arith, k))) in
     absurd (omega (arith, (places_same (p / ways cs % c) (q / ways cs % c) n 0 (suc (node_of cs q i)) (omega arith) inner (omega (arith, e))).1))
 depth_same (c ∷ cs) p q (suc j) zero h l k e =
-    let some = product_some c (ways cs) h in
+    let some = product_parts c (ways cs) h in
     let n = suc (nodes_of cs) in
     let inner : suc (node_of cs p j) < n = omega (arith, node_below cs p j some.1 (omega (arith, l))) in
     absurd (omega (arith, (places_same (p / ways cs % c) (q / ways cs % c) n (suc (node_of cs p j)) 0 inner (omega arith) (omega (arith, e))).1))
 depth_same (c ∷ cs) p q (suc j) (suc i) h l k e =
-    let some = product_some c (ways cs) h in
+    let some = product_parts c (ways cs) h in
     let n = suc (nodes_of cs) in
     let a : suc (node_of cs p j) < n = omega (arith, node_below cs p j some.1 (omega (arith, l))) in
     let b : suc (node_of cs q i) < n = omega (arith, node_below cs q i some.1 (omega (arith, k))) in
@@ -36,7 +38,7 @@ depth_same (c ∷ cs) p q (suc j) (suc i) h l k e =
 pub node_depth : (t : Tables) (p q j i : ℕ) → p < paths t → j < length (starts t) → i < length (starts t) → node t p j ≡ node t q i → j ≡ i
 node_depth t p q j i h l k e =
     let n = length-map (starts t) (λ (a : ℕ). choices t (rounds_at t a)) in
-    depth_same (radices t) p q j i (omega (arith, h, paths_are t p h)) (omega (arith, l, n)) (omega (arith, k, n)) e
+    depth_same (radices t) p q j i (omega (arith, h, paths_ways t p h)) (omega (arith, l, n)) (omega (arith, k, n)) e
 
 -- ---- the modes of a path
 
@@ -114,7 +116,7 @@ node_low (c ∷ cs) d x j h = by j (λ i. node_low cs (d * c) x i some.1)
     w = ways cs
 
     some : (0 < c) × (0 < w)
-    some = product_some c w h
+    some = product_parts c w h
 
     moved : d * (c * w) + x ≡ d * c * w + x
     moved = ap (λ n. n + x) (sym (mul_assoc d c w))
@@ -143,7 +145,7 @@ node_found (c ∷ cs) n h l = by (n % m) refl (λ k b. node_found cs k some.1 b)
     d = n / m
 
     some : (0 < c) × (0 < w)
-    some = product_some c w h
+    some = product_parts c w h
 
     whole : n ≡ d * m + n % m
     whole = omega (arith, div-add-mod n m, mul_comm m (n / m))
@@ -175,6 +177,6 @@ node_found (c ∷ cs) n h l = by (n % m) refl (λ k b. node_found cs k some.1 b)
 
 pub nodes_reached : NodesReached
 nodes_reached t n some l =
-    let is : paths t ≡ ways (radices t) = paths_are t 0 some in
+    let is : paths t ≡ ways (radices t) = paths_ways t 0 some in
     let f = node_found (radices t) n (omega (arith, is, some)) l in
     (f.0, f.1, omega (arith, f.2, is), omega (arith, f.3, length-map (starts t) (λ (a : ℕ). choices t (rounds_at t a))), f.4)

@@ -29,6 +29,7 @@ use Rattle.htl_walk.proofs.GoingOn.{untouched}
 use Rattle.htl_walk.proofs.OneMiss.{path_refused}
 use Rattle.htl_walk.proofs.Starts.{Rises, starts_rise, LaterPlaces, Stands, no_place, path_later, later_stands, job_is, placed_is, mask_bit, legs_follow}
 use Rattle.htl_walk.proofs.Nodes.{nodes_share, some_root}
+use Rattle.htl_base.proofs.Places.{marked_within}
 
 -- ---- lists by place
 
@@ -94,7 +95,7 @@ bit_rises x a b l = elim (cases_Bool (leb x a)) [
   | inr e ↦ omega (arith, ap of_bool e)
 ]
 
-known_rises : (a b : ℕ) (xs : List Place) → a ≤ b → known_by a xs ≤ known_by b xs
+pub known_rises : (a b : ℕ) (xs : List Place) → a ≤ b → known_by a xs ≤ known_by b xs
 known_rises a b [] l = omega arith
 known_rises a b (x ∷ xs) l = omega (arith, bit_rises x.at a b l, known_rises a b xs l)
 
@@ -103,16 +104,13 @@ first_least ps h a later zero r l = omega arith
 first_least ps h a [] (suc j) r l = absurd (omega (arith, l))
 first_least ps h a (b ∷ later) (suc j) r l = omega (arith, r.1, first_least ps h b later j r.3 (omega (arith, l)))
 
-starts_order : (ps : List ℕ) (h : ℕ) (xs : List ℕ) (i j : ℕ) → Rises ps h xs → i ≤ j → j < length xs → get_or xs i 0 ≤ get_or xs j 0
+pub starts_order : (ps : List ℕ) (h : ℕ) (xs : List ℕ) (i j : ℕ) → Rises ps h xs → i ≤ j → j < length xs → get_or xs i 0 ≤ get_or xs j 0
 starts_order ps h [] i j r o l = absurd (omega (arith, l))
 starts_order ps h (a ∷ later) zero j r o l = first_least ps h a later j r l
 starts_order ps h (a ∷ later) (suc i) zero r o l = absurd (omega (arith, o))
 starts_order ps h (a ∷ later) (suc i) (suc j) r o l = starts_order ps h later i j r.3 (omega (arith, o)) (omega (arith, l))
 
 -- ---- predecessors are positions
-
-no_bit : (bs : List Bool) (q : ℕ) → get_or bs q false ≡ true → q < length bs
-no_bit bs q e = elim (cases_lt q (length bs)) [ inl l ↦ l | inr l ↦ absurd (let no : false ≡ true = sym (get_or_past bs q false l) ∙ e in cc) ]
 
 absent_waits : (q : ℕ) → precedes q absent_job ≡ true → ⊥
 absent_waits q e = let no : false ≡ true = sym (absent_precedes q) ∙ e in cc
@@ -124,7 +122,7 @@ waits_for t xs p q l e = elim (cases_lt p (length xs)) [
       let test = λ (y : Place). eqb y.at (get_or xs p no_place).at && is_fed_by t s.0 y.inv in
       let bit : get_or (map test xs) q false ≡ true =
       sym (mask_bit (map test xs) q) ∙ sym (ap (precedes q) (job_is t (root_periods t) 0 xs l p k ∙ placed_is t xs (get_or xs p no_place) s)) ∙ e in
-      (omega (arith, no_bit (map test xs) q bit, length-map xs test), k)
+      (omega (arith, marked_within (map test xs) q bit, length-map xs test), k)
   | inr k ↦
       let past : get_or (placed_jobs t xs) p absent_job ≡ absent_job = get_or_past (placed_jobs t xs) p absent_job (omega (arith, k, length-map xs (placed_job t xs))) in
       absurd (absent_waits q (sym (ap (precedes q) past) ∙ e))

@@ -2,7 +2,7 @@
 use Rattle.std.proofs.Common.{◌≡◌, ℕ, zero, suc, ◌+◌, ◌*◌, ◌%◌, ◌/◌, ◌≤◌, ◌<◌, min, Bool, true, false, cond, eqb, eqb-true, List, [], ◌∷◌, ◌++◌, length, get_or, slice_get, Option, Some, None, option_map, refl, sym, ap, ◌∙◌, subst, arith, inl, inr}
 use Rattle.std.specs.List.{flat_map}
 use Rattle.std.proofs.Math.Nat.{mul-le-mul_right, div-add-mod}
-use Rattle.std.proofs.lemmas.Bool.{cases_lt}
+use Rattle.std.proofs.lemmas.Bool.{cases_lt, cases_eq}
 use Rattle.std.proofs.lemmas.List.{length-map}
 use Rattle.std.proofs.lemmas.Option.{slice_get_cases, slice_get-get_or}
 use Rattle.htl_model.specs.declared.frame.Place.{Place}
@@ -28,26 +28,21 @@ use Rattle.htl_walk.specs.declared.job.Job.{Job}
 use Rattle.htl_walk.specs.PathJobs.{placed_job, path_jobs}
 use Rattle.htl_walk.specs.WellFormed.{IsWellFormed}
 use Rattle.htl_walk.specs.NodeWalks.{AreWalkable}
-use Rattle.htl_walk.proofs.Steps.{either, apart}
-use Rattle.htl_walk.proofs.Work.{all_at}
 use Rattle.htl_walk.proofs.Nodes.{some_root}
 use Rattle.htl_walk.proofs.Starts.{Rises, starts_rise, no_place, Stands, placed_is, get_map}
+use Rattle.htl_base.proofs.Places.{each_at}
+use Rattle.htl_model.proofs.PortChains.{mode_there}
 
 -- ---- windows
 
 inv_site : Inv → ℕ → Part → Site
 inv_site i k p = record { mode = i.mode; inv = Some k; part = p }
 
-mode_there : (t : Tables) (k : ℕ) (i : Inv) → AreInRange t → slice_get t.invs k ≡ Some i → (x : Mode) × (slice_get t.modes i.mode ≡ Some x)
-mode_there t k i r at =
-    let inv : IsInvInRange t i = all_at (IsInvInRange t) t.invs r.invs k i at in
-    elim (slice_get_cases t.modes i.mode).1 [ inl c ↦ (c.0, c.2) | inr c ↦ absurd (omega (arith, c.0, inv.owner)) ]
-
 pub window_some : (t : Tables) (k : ℕ) (i : Inv) → AreInRange t → KeptApart t 12 → slice_get t.invs k ≡ Some i → release t i < window_end t i
 unfolding inv_site
 window_some t k i r kept at =
     let x = mode_there t k i r at in
-    elim (either (release t i) (window_end t i)) [
+    elim (cases_lt (release t i) (window_end t i)) [
       | inl less ↦ less
       | inr empty ↦ absurd (kept Windows (inv_site i k Itself) (release t i) (window_end t i) (omega arith) (λ e. omega (arith, e)) (x.0, x.1, (i, at, refl, (refl, refl, empty))))
     ]
@@ -66,7 +61,7 @@ write_within : (t : Tables) (k : ℕ) (i : Inv) → AreInRange t → KeptApart t
 unfolding inv_site
 write_within t k i r kept at j c n end =
     let x = mode_there t k i r at in
-    elim (either (mode_period t i.mode) (n * comm_period t c)) [
+    elim (cases_lt (mode_period t i.mode) (n * comm_period t c)) [
       | inl late ↦
           absurd (kept Offsets (inv_site i k (Output j)) (n * comm_period t c) (mode_period t i.mode) (omega arith) (λ e. omega (arith, e)) (x.0, x.1, (i, at, refl, (E.Comm c n, end, (refl, refl, inr late)))))
       | inr within ↦ within
@@ -79,14 +74,14 @@ window_within t k i r kept at = least_within t (mode_period t i.mode) i.writes (
 pub window_small : (t : Tables) (k : ℕ) (i : Inv) → AreInRange t → KeptApart t 12 → slice_get t.invs k ≡ Some i → (release t i < window_end t i) × (window_end t i ≤ 1000000)
 window_small t k i r kept at =
     let x = mode_there t k i r at in
-    let range : IsModeInRange t x.0 = all_at (IsModeInRange t) t.modes r.modes i.mode x.0 x.1 in
+    let range : IsModeInRange t x.0 = each_at (IsModeInRange t) t.modes r.modes i.mode x.0 x.1 in
     let is : mode_period t i.mode ≡ x.0.period = ap (λ (o : Option Mode). elim o as (λ _. ℕ) [ Some y ↦ y.period | None ↦ 0 ]) x.1 in
     (window_some t k i r kept at, omega (arith, window_within t k i r kept at, is, range.period.most))
 
 pub worst_span : (t : Tables) (k : ℕ) (i : Inv) → AreInRange t → slice_get t.invs k ≡ Some i → IsSpan (task_worst t i.task)
 worst_span t k i r at =
-    let inv : IsInvInRange t i = all_at (IsInvInRange t) t.invs r.invs k i at in
-    let range : IsTaskInRange t inv.task.0 = all_at (IsTaskInRange t) t.tasks r.tasks i.task inv.task.0 inv.task.1 in
+    let inv : IsInvInRange t i = each_at (IsInvInRange t) t.invs r.invs k i at in
+    let range : IsTaskInRange t inv.task.0 = each_at (IsTaskInRange t) t.tasks r.tasks i.task inv.task.0 inv.task.1 in
     let is : task_worst t i.task ≡ inv.task.0.worst = ap (λ (o : Option Task). elim o [ Some y ↦ y.worst | None ↦ 0 ]) inv.task.1 in
     subst IsSpan (sym is) range.worst
 
@@ -117,7 +112,7 @@ as_first t u m x r kept root at own =
     let first_is : first_mode t u ≡ Some first = slice_get-get_or (modes_of t u) 0 0 (modes_some t u r (module_below t u root)) in
     let asked : asked_period t u ≡ Some (mode_period t first) =
     ap (λ (o : Option ℕ). elim o as (λ _. Option ℕ) [ Some p ↦ Some (mode_period t p) | None ↦ option_map (mode_period t) (first_mode t u) ]) (orphan t u root) ∙ ap (option_map (mode_period t)) first_is in
-    elim (apart x.period (mode_period t first)) [
+    elim (cases_eq x.period (mode_period t first)) [
       | inl same ↦ period_at t m x at ∙ same
       | inr differs ↦
           absurd (kept ModulePeriod (record { mode = m; inv = None; part = Itself }) x.period (mode_period t first) (omega arith) (λ e. omega (arith, e)) (x, at, (refl, ap (asked_period t) own ∙ asked, differs)))

@@ -3,7 +3,7 @@ use Rattle.std.proofs.Common.{◌≡◌, ◌≢◌, ℕ, ◌*◌, ◌%◌, ◌^�
 use Rattle.std.specs.Int.{bit_at, bit_not, w128}
 use Rattle.std.specs.Int.Bits.{bit_and}
 use Rattle.std.specs.List.{All}
-use Rattle.std.proofs.lemmas.Bool.{lt-ltb, le-ltb, ltb-false}
+use Rattle.std.proofs.lemmas.Bool.{lt-ltb, le-ltb, ltb-false, cases_lt}
 use Rattle.std.proofs.lemmas.Bool.Decides.{nat_tests}
 use Rattle.std.proofs.lemmas.List.{get_or_past}
 use Rattle.std.proofs.lemmas.Nat.{and_le_r}
@@ -14,23 +14,18 @@ use Rattle.htl_walk.specs.Following.{ArePending}
 use Rattle.htl_walk.specs.Refinement.{HasWork}
 use Rattle.htl_walk.specs.Walk.{work, worst_cases}
 use Rattle.htl_walk.proofs.Following.{work_at}
+use Rattle.htl_walk.proofs.Placing.{has_bit_and}
 
 pub none_left : (row : ℕ) (left : List ℕ) (q : ℕ) → ArePending row left → has_bit row q ≡ false → get_or left q 0 ≡ 0
 none_left row left q are e = let none = ltb-false 0 (get_or left q 0) (sym (are q) ∙ e) in omega (arith, none)
 
--- ---- the lowest bit of both
-
-both : (a b q : ℕ) → has_bit (bit_and a b) q ≡ (has_bit a q && has_bit b q)
-both a b q = ap (λ x. eqb x 1) (bit_at_and a b q) ∙ least (bit_at a q) (bit_at b q) (bit_at-lt a q) (bit_at-lt b q)
-  where
-    least : (x y : ℕ) → x < 2 → y < 2 → eqb (min x y) 1 ≡ (eqb x 1 && eqb y 1)
-    least x y h k = grind (arith, nat_tests)
+-- ---- the lowest bit of has_bit_and
 
 pub both_fit : (a b : ℕ) → b < 2 ^ 128 → bit_and a b < 2 ^ 128
 both_fit a b h = omega (arith, and_le_r a b)
 
 pub both_set : (a b q : ℕ) → bit_at (bit_and a b) q ≡ 1 → (has_bit a q ≡ true) × (has_bit b q ≡ true)
-both_set a b q e = by (has_bit a q) (has_bit b q) refl refl (sym (both a b q) ∙ ap (λ x. eqb x 1) e)
+both_set a b q e = by (has_bit a q) (has_bit b q) refl refl (sym (has_bit_and a b q) ∙ ap (λ x. eqb x 1) e)
   where
     by : (x y : Bool) → has_bit a q ≡ x → has_bit b q ≡ y → (has_bit a q && has_bit b q) ≡ true → (has_bit a q ≡ true) × (has_bit b q ≡ true)
     by true true f g h = (f, g)
@@ -38,16 +33,13 @@ both_set a b q e = by (has_bit a q) (has_bit b q) refl refl (sym (both a b q) �
     by false y f g h = cc
 
 pub not_both : (a b q : ℕ) → bit_at (bit_and a b) q ≡ 0 → has_bit a q ≡ true → has_bit b q ≡ false
-not_both a b q e f = by (has_bit b q) refl (sym (both a b q) ∙ ap (λ x. eqb x 1) e)
+not_both a b q e f = by (has_bit b q) refl (sym (has_bit_and a b q) ∙ ap (λ x. eqb x 1) e)
   where
     by : (y : Bool) → has_bit b q ≡ y → (has_bit a q && has_bit b q) ≡ false → has_bit b q ≡ false
     by true g h = cc
     by false g h = g
 
 -- ---- a bit cleared
-
-order : (a b : ℕ) → (a < b) ⊎ (b ≤ a)
-order a b = grind arith
 
 pub cleared : (row p q : ℕ) → p < 128 → row < 2 ^ 128 → has_bit (bit_and row (bit_not w128 (1 * 2 ^ p % 2 ^ 128))) q ≡ cond (eqb q p) false (has_bit row q)
 cleared row p q room most = by (eqb q p) refl
@@ -61,7 +53,7 @@ cleared row p q room most = by (eqb q p) refl
         ap (λ x. has_bit (bit_and row (bit_not w128 (1 * 2 ^ p % 2 ^ 128))) x) is ∙ ap (λ x. eqb x 1) (bit_at_clear_same w128 row p room)
     by false e =
         let apart : q ≢ p = grind (arith, nat_tests) in
-        elim (order q 128) [
+        elim (cases_lt q 128) [
           | inl h ↦ ap (λ x. eqb x 1) (bit_at_clear_other w128 row p room q h apart)
           | inr h ↦
               ap (λ x. eqb x 1) (bit_at_and row (bit_not w128 (1 * 2 ^ p % 2 ^ 128)) q ∙ ap (λ x. min x (bit_at (bit_not w128 (1 * 2 ^ p % 2 ^ 128)) q)) (bit_at_above row 128 q most h) ∙ none _)
@@ -90,7 +82,7 @@ not_kept row p q left new none e = e ∙ ap (λ b. cond (eqb q p) b (has_bit row
 
 pub pending_first : (jobs : List Job) (row n : ℕ) (left : List ℕ) → All HasWork jobs → left ≡ work jobs (worst_cases jobs) → length left ≡ length jobs → n ≡ length jobs
     → ((q : ℕ) → has_bit row q ≡ ltb q n) → ArePending row left
-pending_first jobs row n left all is len count bits q = elim (order q n) [
+pending_first jobs row n left all is len count bits q = elim (cases_lt q n) [
   | inl h ↦
       let some = work_at jobs all q (omega arith) in
       bits q ∙ lt-ltb q n h ∙ sym (lt-ltb 0 (get_or left q 0) (omega (arith, some, ap (λ (z : List ℕ). get_or z q 0) is)))

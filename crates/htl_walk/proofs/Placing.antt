@@ -31,7 +31,7 @@ both_bits (suc zero) (suc zero) l m = refl
 both_bits (suc (suc a)) b l m = absurd (omega (arith, l))
 both_bits a (suc (suc b)) l m = absurd (omega (arith, m))
 
-has_bit_and : (a b q : ℕ) → has_bit (bit_and a b) q ≡ (has_bit a q && has_bit b q)
+pub has_bit_and : (a b q : ℕ) → has_bit (bit_and a b) q ≡ (has_bit a q && has_bit b q)
 has_bit_and a b q = ap (λ n. eqb n 1) (bit_at_and a b q) ∙ both_bits (bit_at a q) (bit_at b q) (omega arith) (omega arith)
 
 tests : (f : Option ℕ → Bool) (a : ℕ) (xs : List Place) (q : ℕ)

@@ -5,11 +5,11 @@ use Rattle.htl_walk.specs.declared.schedule.SInstr.{SInstr}
 use Rattle.htl_walk.specs.declared.schedule.SInstr.TheVariants.{Dispatch, Idle, End}
 use Rattle.htl_walk.specs.Jobs.{precedes}
 use Rattle.htl_walk.specs.Walk.{Point, job_at, IsMet, Meets, next_point, walk_from, walk, work, first_point, slices, DoneBy, InOrder}
-use Rattle.htl_walk.proofs.Steps.{apart}
 use Rattle.htl_walk.proofs.Ahead.{Ahead, ahead_next}
 use Rattle.htl_walk.proofs.Finishes.{ends, finish_now, finish_later}
 use Rattle.htl_walk.proofs.Slices.{slices_other, slices_start, slices_within}
 use Rattle.htl_walk.proofs.Work.{job_is}
+use Rattle.std.proofs.lemmas.Bool.{cases_eq}
 
 -- q has nothing left, or finishes by the time s.0
 abbrev pub Settled : List Job → List SInstr → Point → ℕ → ℕ → Type 0
@@ -27,7 +27,7 @@ pub preds_settled : (js ks : List Job) (is : List SInstr) (x y : Point) (p q : �
     → slice_get (slices (walk_from js is x) p) 0 ≡ Some s → Settled js is x q s.0
 preds_settled js ks [] x y p q s a o b e = cc
 preds_settled js ks (Dispatch r h ∷ is) x y p q s a o b e =
-    elim (apart r p) [
+    elim (cases_eq r p) [
       | inl z ↦
           let done : get_or y.left q 0 ≡ 0 = o.0 q (subst (λ k. precedes q (job_at ks k) ≡ true) (sym z) b) in
           inl (omega (arith, a.left q))

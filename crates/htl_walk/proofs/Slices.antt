@@ -1,12 +1,13 @@
 -- The slices in which a position runs.
 use Rattle.std.proofs.Common.{◌≡◌, ◌≢◌, ℕ, zero, suc, ◌≤◌, ◌<◌, max, Bool, true, false, cond, ltb, List, [], ◌∷◌, get_or, slice_get, Some, None, refl, sym, ap, ◌∙◌, subst, arith, inl, inr}
-use Rattle.std.proofs.lemmas.Bool.{eq-eqb, ne_eqb, ltb-true}
+use Rattle.std.proofs.lemmas.Bool.{eq-eqb, ne_eqb, ltb-true, cases_eq}
 use Rattle.htl_walk.specs.declared.job.Job.{Job}
 use Rattle.htl_walk.specs.declared.schedule.SInstr.{SInstr}
 use Rattle.htl_walk.specs.declared.schedule.SInstr.TheVariants.{Dispatch, Idle, End}
 use Rattle.htl_walk.specs.Walk.{Point, job_at, dispatch_begins, slice_between, slice_onto, AllWithin, next_point, walk_from, finish, slices, DoneBy}
-use Rattle.htl_walk.proofs.Steps.{apart, left_falls, time_rises}
-use Rattle.htl_walk.proofs.Finishes.{ends, some_same, finish_now, finish_later, finish_after}
+use Rattle.htl_walk.proofs.Steps.{left_falls, time_rises}
+use Rattle.htl_walk.proofs.Finishes.{ends, finish_now, finish_later, finish_after}
+use Rattle.std.proofs.lemmas.Option.{same_Some}
 
 slice_fits : (from until w to r t : ℕ) (ss : List (ℕ × ℕ)) → (from < until → r ≤ from) → to ≤ t → AllWithin r t ss → AllWithin r t (slice_onto (slice_between from until w to) ss)
 slice_fits from until zero to r t ss a b h = h
@@ -22,7 +23,7 @@ no_slices jobs (Dispatch r h ∷ is) x p e =
     let y = next_point jobs (Dispatch r h) x in
     let rest : slices (walk_from jobs is y) p ≡ [] = no_slices jobs is y p (omega (arith, left_falls jobs (Dispatch r h) x p)) in
     let from = dispatch_begins x.time (job_at jobs r).release h in
-    elim (apart r p) [
+    elim (cases_eq r p) [
       | inl q ↦
           let none : slice_between from h (get_or x.left r 0) y.time ≡ None =
           ap (λ w. slice_between from h w y.time) (ap (λ z. get_or x.left z 0) q ∙ e) in
@@ -58,7 +59,7 @@ slices_within jobs (i ∷ is) x p t d =
     let y = next_point jobs i x in
     elim (ends (get_or x.left p 0) (get_or y.left p 0)) [
       | inl q ↦
-          let s : y.time ≡ d.0 = some_same _ _ (sym (finish_now jobs i is x p q.0 q.1) ∙ d.1) in
+          let s : y.time ≡ d.0 = same_Some _ _ (sym (finish_now jobs i is x p q.0 q.1) ∙ d.1) in
           onto i refl (omega (arith, d.2)) (rw (no_slices jobs is y p q.1) tt)
       | inr c ↦
           let e : finish (walk_from jobs is y) p ≡ Some d.0 = sym (finish_later jobs i is x p c) ∙ d.1 in
@@ -68,7 +69,7 @@ slices_within jobs (i ∷ is) x p t d =
   where
     onto : (k : SInstr) → k ≡ i → (next_point jobs k x).time ≤ t → AllWithin (job_at jobs p).release t (slices (walk_from jobs is (next_point jobs k x)) p) → AllWithin (job_at jobs p).release t (slices (walk_from jobs (k ∷ is) x) p)
     onto (Dispatch r h) e b s =
-        elim (apart r p) [
+        elim (cases_eq r p) [
           | inl q ↦
               rw (slices_dispatch jobs r h is x p q)
               (slice_fits (dispatch_begins x.time (job_at jobs r).release h) h (get_or x.left r 0) (next_point jobs (Dispatch r h) x).time (job_at jobs p).release t _
@@ -84,7 +85,7 @@ head_onto from until zero to ss s a h k e = k e
 head_onto from until (suc w) to ss s a h k e = go (ltb from until) e
   where
     go : (c : Bool) → slice_get (slice_onto (elim c [ true ↦ Some (from, to) | false ↦ None ]) ss) 0 ≡ Some s → a ≤ s.0
-    go true e = let q : from ≡ s.0 = ap (λ z. z.0) (some_same _ _ e) in omega arith
+    go true e = let q : from ≡ s.0 = ap (λ z. z.0) (same_Some _ _ e) in omega arith
     go false e = k e
 
 pub slices_start : (jobs : List Job) (is : List SInstr) (x : Point) (p : ℕ) (s : ℕ × ℕ) → slice_get (slices (walk_from jobs is x) p) 0 ≡ Some s → x.time ≤ s.0
@@ -92,7 +93,7 @@ slices_start jobs [] x p s e = cc
 slices_start jobs (Dispatch r h ∷ is) x p s e =
     let y = next_point jobs (Dispatch r h) x in
     let t : x.time ≤ y.time = time_rises jobs (Dispatch r h) x in
-    elim (apart r p) [
+    elim (cases_eq r p) [
       | inl q ↦
           head_onto (dispatch_begins x.time (job_at jobs r).release h) h (get_or x.left r 0) y.time (slices (walk_from jobs is y) p) s x.time (omega arith)
           (λ k. let u : y.time ≤ s.0 = slices_start jobs is y p s k in omega arith)

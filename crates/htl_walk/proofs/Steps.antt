@@ -6,6 +6,7 @@ use Rattle.htl_walk.specs.declared.job.Job.{Job}
 use Rattle.htl_walk.specs.declared.schedule.SInstr.{SInstr}
 use Rattle.htl_walk.specs.declared.schedule.SInstr.TheVariants.{Dispatch, Idle, End}
 use Rattle.htl_walk.specs.Walk.{Point, job_at, dispatch_begins, time_after, work_after, next_point}
+use Rattle.std.proofs.lemmas.Bool.{cases_eq, cases_lt}
 
 work_below : (a b w v r s h : ℕ) → a ≤ b → w ≤ v → r ≤ s → work_after a w r h ≤ work_after b v s h
 work_below a b w v r s h p q l = omega arith
@@ -17,7 +18,7 @@ pub work_below_running : (a b w v r s h : ℕ) → a ≤ b → w ≤ v → (0 < 
 work_below_running a b zero v r s h p q l = omega arith
 work_below_running a b (suc w) v r s h p q l = work_below a b (suc w) v r s h p q (l (omega arith))
 
-time_passes : (a w r h : ℕ) → a ≤ time_after a w r h
+pub time_passes : (a w r h : ℕ) → a ≤ time_after a w r h
 time_passes a zero r h = omega arith
 time_passes a (suc w) r h = omega arith
 
@@ -26,18 +27,12 @@ time_below a b zero v r s h p q l = let e : b ≤ time_after b v s h = time_pass
 time_below a b (suc w) zero r s h p q l = absurd (omega arith)
 time_below a b (suc w) (suc v) r s h p q l = time_below_running a b (suc w) (suc v) r s h p q (l (omega arith))
 
-pub apart : (p q : ℕ) → (p ≡ q) ⊎ (p ≢ q)
-apart p q = grind arith
-
-pub either : (a b : ℕ) → (a < b) ⊎ (b ≤ a)
-either a b = grind arith
-
 zero-sub : (n : ℕ) → 0 - n ≡ 0
 zero-sub n = omega arith
 
 pub left_same : (l : List ℕ) (p now r h : ℕ) → get_or (set l p (work_after now (get_or l p 0) r h)) p 0 ≡ work_after now (get_or l p 0) r h
 left_same l p now r h =
-    elim (either p (length l)) [
+    elim (cases_lt p (length l)) [
       | inl q ↦ get_or-set_same l p (work_after now (get_or l p 0) r h) 0 q
       | inr q ↦
           get_or_past (set l p (work_after now (get_or l p 0) r h)) p 0 (simp length-set q)
@@ -50,7 +45,7 @@ left_other l p q v n = get_or-set_other l p q v 0 (λ e. n (sym e))
 -- the work left of q after an instruction is no more than before
 pub left_falls : (jobs : List Job) (i : SInstr) (x : Point) (q : ℕ) → get_or (next_point jobs i x).left q 0 ≤ get_or x.left q 0
 left_falls jobs (Dispatch p h) x q =
-    elim (apart p q) [
+    elim (cases_eq p q) [
       | inl e ↦
           subst (λ z. get_or (next_point jobs (Dispatch p h) x).left z 0 ≤ get_or x.left z 0) e
           (omega (arith, left_same x.left p x.time (job_at jobs p).release h))

@@ -1,6 +1,6 @@
 -- Records before t do not depend on the lengths of jobs that are released at t or later.
 use Rattle.std.proofs.Common.{◌≡◌, ◌≢◌, ℕ, zero, suc, ◌≤◌, ◌<◌, max, true, false, cond, ltb, List, [], ◌∷◌, get_or, None, refl, sym, ap, ap₂, ◌∙◌, subst, arith, ◌⊎◌, inl, inr}
-use Rattle.std.proofs.lemmas.Bool.{le-ltb}
+use Rattle.std.proofs.lemmas.Bool.{le-ltb, cases_eq, cases_lt}
 use Rattle.htl_walk.specs.declared.job.Job.{Job}
 use Rattle.htl_walk.specs.declared.schedule.SInstr.{SInstr}
 use Rattle.htl_walk.specs.declared.schedule.SInstr.TheVariants.{Dispatch, Idle, End}
@@ -8,7 +8,7 @@ use Rattle.htl_walk.specs.Walk.{Point, job_at, dispatch_begins, time_after, work
 use Rattle.htl_walk.specs.Refinement.{HaveLengths}
 use Rattle.htl_walk.specs.Laws.{AgreeBefore, UnreleasedLengths}
 use Rattle.htl_walk.proofs.Work.{job_there, work_present, present_or_idle}
-use Rattle.htl_walk.proofs.Steps.{left_same, left_other, left_falls, time_rises, apart, either}
+use Rattle.htl_walk.proofs.Steps.{left_same, left_other, left_falls, time_rises}
 use Rattle.htl_walk.proofs.Waiting.{told_same, waited, told_waits, time_waits, work_waits}
 
 -- the same for what is released before t, and for what isn't no more than whether anything is left
@@ -73,12 +73,12 @@ module _ (jobs : List Job) (t p h : ℕ) (x y : Point) (a : Alike jobs t x y) wh
       record {
         time = e;
         released = λ q k.
-            elim (apart p q) [
+            elim (cases_eq p q) [
               | inl z ↦ subst (λ m. get_or (next_point jobs (Dispatch p h) x).left m 0 ≡ get_or (next_point jobs (Dispatch p h) y).left m 0) z (f (subst (λ m. (job_at jobs m).release < t) (sym z) k))
               | inr n ↦ other_x q n ∙ a.released q k ∙ sym (other_y q n)
             ];
         unreleased = λ q k.
-            elim (apart p q) [
+            elim (cases_eq p q) [
               | inl z ↦ subst (λ m. Rest (get_or (next_point jobs (Dispatch p h) x).left m 0) (get_or (next_point jobs (Dispatch p h) y).left m 0)) z (g (subst (λ m. t ≤ (job_at jobs m).release) (sym z) k))
               | inr n ↦ subst (λ m. Rest m (get_or (next_point jobs (Dispatch p h) y).left q 0)) (sym (other_x q n)) (subst (λ m. Rest (get_or x.left q 0) m) (sym (other_y q n)) (a.unreleased q k))
             ];
@@ -119,13 +119,13 @@ step jobs t (Idle h) x y a =
 step jobs t End x y a =
     inl (record { told = ap (λ n. record { at = n; position = None; slice = None; finished = false }) a.time; alike = a })
 step jobs t (Dispatch p h) x y a =
-    elim (either (job_at jobs p).release t) [
+    elim (cases_lt (job_at jobs p).release t) [
       | inl q ↦ inl (same_work jobs t p h x y a (a.released p q) (λ k. absurd (omega arith)))
       | inr q ↦
           elim (a.unreleased p q) [
             | inl z ↦ inl (same_work jobs t p h x y a (z.0 ∙ sym z.1) (λ _. z.0))
             | inr z ↦
-                elim (either (dispatch_begins x.time (job_at jobs p).release h) h) [
+                elim (cases_lt (dispatch_begins x.time (job_at jobs p).release h) h) [
                   | inl u ↦ inr (record { one = is_late x.time (get_or x.left p 0) (job_at jobs p).release h t q u z.0; two = is_late y.time (get_or y.left p 0) (job_at jobs p).release h t q (omega (arith, a.time)) z.1 })
                   | inr u ↦ inl (waits jobs t p h x y a q u z.0 z.1)
                 ]

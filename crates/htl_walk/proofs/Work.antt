@@ -1,14 +1,13 @@
 -- The job and the work at a position.
-use Rattle.std.proofs.lemmas.Option.{slice_get_within, get_or_from_slice_get}
+use Rattle.std.proofs.lemmas.Option.{slice_get_within, get_or_from_slice_get, same_Some}
 use Rattle.std.specs.List.{All}
 use Rattle.htl_model.proofs.BitLaws.{has_no_bit}
 use Rattle.htl_walk.specs.Jobs.{absent_job}
-use Rattle.htl_walk.proofs.Steps.{either}
-use Rattle.htl_walk.proofs.Finishes.{some_same}
 use Rattle.std.proofs.Common.{◌≡◌, ℕ, zero, suc, ◌<◌, Bool, true, false, cond, List, [], ◌∷◌, get_or, slice_get, Some, refl, ap, ◌∙◌, subst, arith, ◌⊎◌, inl, inr}
 use Rattle.htl_walk.specs.declared.job.Job.{Job}
 use Rattle.htl_walk.specs.Jobs.{precedes}
 use Rattle.htl_walk.specs.Walk.{job_at, worst_cases, work}
+use Rattle.std.proofs.lemmas.Bool.{cases_lt}
 
 pub job_there : (ks : List Job) (p : ℕ) → (job_at ks p).present ≡ true → slice_get ks p ≡ Some (job_at ks p)
 job_there [] p e = cc
@@ -17,7 +16,7 @@ job_there (k ∷ ks) (suc p) e = job_there ks p e
 
 pub job_is : (js : List Job) (p : ℕ) (j : Job) → slice_get js p ≡ Some j → job_at js p ≡ j
 job_is [] p j e = cc
-job_is (k ∷ ks) zero j e = some_same _ _ e
+job_is (k ∷ ks) zero j e = same_Some _ _ e
 job_is (k ∷ ks) (suc p) j e = job_is ks p j e
 
 -- a job stands at the position, or none does
@@ -29,15 +28,12 @@ job_cases (k ∷ ks) (suc p) = job_cases ks p
 pub absent_precedes : (q : ℕ) → precedes q absent_job ≡ false
 absent_precedes q = has_no_bit q
 
-pub all_at : {A : Type 0} (P : A → Type 0) (xs : List A) → All P xs → (p : ℕ) (x : A) → slice_get xs p ≡ Some x → P x
-all_at P xs all p x e = subst P (get_or_from_slice_get xs p x x e) (all p x (slice_get_within xs p x e))
-
 -- the work of a present job is its length
 pub work_present : (js : List Job) (ns : List ℕ) (p : ℕ) (j : Job) → slice_get js p ≡ Some j → j.present ≡ true → get_or (work js ns) p 0 ≡ get_or ns p 0
 work_present [] ns p j e f = cc
 work_present (k ∷ js) [] zero j e f = refl
 work_present (k ∷ js) [] (suc p) j e f = work_present js [] p j e f
-work_present (k ∷ js) (n ∷ ns) zero j e f = ap (λ b. cond b n 0) (ap (λ x. x.present) (some_same _ _ e) ∙ f)
+work_present (k ∷ js) (n ∷ ns) zero j e f = ap (λ b. cond b n 0) (ap (λ x. x.present) (same_Some _ _ e) ∙ f)
 work_present (k ∷ js) (n ∷ ns) (suc p) j e f = work_present js ns p j e f
 
 no_length : (p : ℕ) → get_or {A = ℕ} [] p 0 ≡ 0
@@ -57,12 +53,12 @@ work_some (k ∷ js) (n ∷ ns) zero h = go k.present refl
 work_some (k ∷ js) (n ∷ ns) (suc p) h = work_some js ns p h
 
 pub present_or_idle : (js : List Job) (ns : List ℕ) (p : ℕ) → ((job_at js p).present ≡ true) ⊎ (get_or (work js ns) p 0 ≡ 0)
-present_or_idle js ns p = elim (either 0 (get_or (work js ns) p 0)) [
+present_or_idle js ns p = elim (cases_lt 0 (get_or (work js ns) p 0)) [
   | inl h ↦ inl (work_some js ns p h)
   | inr h ↦ inr (omega arith)
 ]
 
 pub worst_at : (ks : List Job) (p : ℕ) (k : Job) → slice_get ks p ≡ Some k → get_or (worst_cases ks) p 0 ≡ k.worst
 worst_at [] p k e = cc
-worst_at (j ∷ ks) zero k e = ap (λ x. x.worst) (some_same _ _ e)
+worst_at (j ∷ ks) zero k e = ap (λ x. x.worst) (same_Some _ _ e)
 worst_at (j ∷ ks) (suc p) k e = worst_at ks p k e

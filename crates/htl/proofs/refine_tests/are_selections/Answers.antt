@@ -2,15 +2,15 @@ use Rattle.std.proofs.Common.{◌≡◌, ◌∙◌, ℕ, ◌<◌, ◌+◌, List,
 use Rattle.std.proofs.lemmas.Option.{get_or_from_slice_get, slice_get-get_or}
 use Rattle.htl_model.specs.Selected.{IsSelection}
 use Rattle.htl_model.specs.Tables.{Tables}
-use Rattle.htl_model.proofs.TestLaws.{last}
 use Rattle.htl_refine.specs.declared.selection.Selection.{Selection}
 use Rattle.htl.proofs.refine_tests.are_selections.Goals as goal
+use Rattle.htl_base.proofs.Numbers.{cases_below}
 
 -- selections up to a place, and one more
 one_more : (t : Tables) (sels : List Selection) (k : ℕ) (x : Selection) → k < length sels → x ≡ get_or sels k x → IsSelection t x.modes
     → ((n : ℕ) (d : Selection) → n < k → IsSelection t (get_or sels n d).modes) → (n : ℕ) (d : Selection) → n < k + 1 → IsSelection t (get_or sels n d).modes
 one_more t sels k x within at is before n d less =
-    elim (last n k (omega (arith, less))) [
+    elim (cases_below n k (omega (arith, less))) [
       | inl below ↦ before n d below
       | inr same ↦
           subst (λ z. IsSelection t (get_or sels z d).modes) (sym same)

@@ -3,16 +3,16 @@ use Rattle.std.proofs.lemmas.Option.{slice_get_within}
 use Rattle.htl_walk.specs.declared.job.Job.{Job}
 use Rattle.htl_walk.specs.Jobs.{absent_job}
 use Rattle.htl_walk.specs.Walk.{job_at}
-use Rattle.htl_walk.proofs.Steps.{apart}
 use Rattle.htl_walk.proofs.Work.{job_is}
 use Rattle.htl_smach.proofs.Joined.{job_at_is}
 use Rattle.htl.proofs.smach_tests.in_range.Goals as goal
+use Rattle.std.proofs.lemmas.Bool.{cases_eq}
 
 pub loop-p-preserved : goal.loop-p-preserved
 loop-p-preserved c = λ q h.
     let js = c.args.jobs.now in
     let p = c.loop-p.p in
-    elim (apart q p) [
+    elim (cases_eq q p) [
       | inl e ↦
           subst (λ (k : ℕ). (1 ≤ get_or c.args.lengths.now k 0) × (get_or c.args.lengths.now k 0 ≤ (job_at js k).worst)) (sym e)
           (omega arith, omega (arith, ap (λ (j : Job). j.worst) (job_at_is js p absent_job c.loop-p-test.true), c.if-lengths-p.false))

@@ -1,10 +1,9 @@
 use Rattle.std.proofs.Common.{true, false, refl, ◌≡◌, ◌∙◌, Ok, Err, List, eqb, ap, rules}
-use Rattle.std.proofs.lemmas.Bool.{eq-eqb}
+use Rattle.std.proofs.lemmas.Bool.{eq-eqb, ne_eqb}
 use Rattle.htl_model.specs.Lists.{joined, numbered}
 use Rattle.htl_ecode.specs.declared.instr.EInstr.{EInstr}
 use Rattle.htl_espell.specs.Checks.{next_of}
 use Rattle.htl_espell.specs.Parts.{release_wants}
-use Rattle.htl_espell.proofs.Jumping.{apart}
 use Rattle.htl_espell.proofs.Chaining.{calls_read}
 use Rattle.htl_espell.proofs.calls.need_calls.Goals as goal
 
@@ -18,7 +17,7 @@ returns-else-block-eq-WRITES-clause-read c =
     let block = c.args.block.now in
     c.need_releases.ensures.read
     ∙ ap (λ (z : List EInstr). next_of z c.in_ok-place.place (joined (release_wants block.t.now block.run.mode block.offset) (numbered 0 block.t.now.invs))) c.in_ok-place.ensures.same
-    ∙ calls_read c.args.code.now block.t.now block.run.mode block.phase block.offset c.args.at (Ok c.in_ok-place.place) false (apart block.phase 1 c.if-block-eq-WRITES.false) c.in_ok-place.ensures.read
+    ∙ calls_read c.args.code.now block.t.now block.run.mode block.phase block.offset c.args.at (Ok c.in_ok-place.place) false (ne_eqb block.phase 1 c.if-block-eq-WRITES.false) c.in_ok-place.ensures.read
 
 pub returns-in_err-place-clause-read : goal.returns-in_err-place-clause-read
 returns-in_err-place-clause-read c =

@@ -3,12 +3,13 @@ use Rattle.htl_emach.proofs.Overdue.{nothing_overdue}
 use Rattle.htl_machine.proofs.Going.{phase_replayed, phase_ends}
 use Rattle.htl_machine.proofs.Doing.{doing_start, doing_on, doing_cut, doing_end, doing_counted, doing_told}
 use Rattle.htl_machine.proofs.Marking.{noted_on, module_done, sensors_then}
-use Rattle.htl_machine.proofs.Short.{fewer_then, midway_start}
+use Rattle.htl_machine.proofs.Short.{fewer_then}
 use Rattle.htl_machine.proofs.steps.do_instrs.Goals as goal
+use Rattle.htl_emach.proofs.Instants.{starts}
 
 pub loop-done-init : goal.loop-done-init
 loop-done-init g c = record {
-  doing = λ es s. doing_start c.args.program.now.tables.now c.args.program.now.code.now es c.args.at c.args.phase c.args.program.now.show c.args.machines.now.emach c.args.machines.now.works.world c.args.machines.now.works.s_machine _ _ _ (midway_start c.args.program.now.tables.now c.args.program.now.code.now es c.args.at c.args.phase c.args.machines.now.emach s.idle s.calendar) c.requires.fitted.safe c.requires.fitted.shaped;
+  doing = λ es s. doing_start c.args.program.now.tables.now c.args.program.now.code.now es c.args.at c.args.phase c.args.program.now.show c.args.machines.now.emach c.args.machines.now.works.world c.args.machines.now.works.s_machine _ _ _ (starts c.args.program.now.tables.now c.args.program.now.code.now es c.args.at c.args.phase c.args.machines.now.emach s.idle s.calendar) c.requires.fitted.safe c.requires.fitted.shaped;
   safe = c.requires.fitted.safe;
   shaped = c.requires.fitted.shaped;
   values = λ two. refl;

@@ -4,20 +4,20 @@ use Rattle.htl_walk.specs.Following.{IsKnown}
 use Rattle.htl_walk.specs.Walk.{Point, next_point, left_by, finished_by}
 use Rattle.htl_top.specs.Planned.{left_text, slice_text, done_text}
 use Rattle.htl_top.proofs.PlanWalk.{dispatch_finished, dispatch_text, Puts-same, Puts-same_cut}
-use Rattle.htl_top.proofs.Putting.{Puts-none}
 use Rattle.htl_top.proofs.plan_walk.step.Goals as goal
+use Rattle.htl_machine.proofs.Printing.{nothing_put}
 
 pub returns-in-Idle-clause-put : goal.returns-in-Idle-clause-put
 returns-in-Idle-clause-put g c =
     let x : Point = record { time = c.args.time; left = c.args.left.now } in
     let text : SInstr → List ℕ = λ i. left_text c.args.t.now c.args.jobs.now (left_by c.args.jobs.now i x (next_point c.args.jobs.now i x)) in
-    Puts-none _ _ (text c.args.instr) _ (ap text c.in-Idle.is)
+    nothing_put _ _ (text c.args.instr) _ (ap text c.in-Idle.is)
 
 pub returns-in-End-clause-put : goal.returns-in-End-clause-put
 returns-in-End-clause-put g c =
     let x : Point = record { time = c.args.time; left = c.args.left.now } in
     let text : SInstr → List ℕ = λ i. left_text c.args.t.now c.args.jobs.now (left_by c.args.jobs.now i x (next_point c.args.jobs.now i x)) in
-    Puts-none _ _ (text c.args.instr) _ (ap text c.in-End.is)
+    nothing_put _ _ (text c.args.instr) _ (ap text c.in-End.is)
 
 pub returns-in-Ok-clause-next : goal.returns-in-Ok-clause-next
 returns-in-Ok-clause-next g c =

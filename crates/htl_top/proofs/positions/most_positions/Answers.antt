@@ -7,9 +7,9 @@ use Rattle.htl_model.specs.Selections.{inv_of_mode, modes_of}
 use Rattle.htl_model.specs.Tables.{Tables}
 use Rattle.htl_model.specs.declared.frame.Round.{Round}
 use Rattle.htl_object.proofs.Limits.{count_places}
-use Rattle.htl_object.proofs.Noting.{none_filled}
 use Rattle.htl_top.proofs.PathPositions.{most_is}
 use Rattle.htl_top.proofs.positions.most_positions.Goals as goal
+use Rattle.htl_base.proofs.Places.{all_zero}
 
 -- a round more
 one_more : (t : Tables) (n wide k count : ℕ) (rounds : List Round) (x : Round) (total : ℕ) → count ≤ length rounds → k < count → wide ≡ frames.most_invs t (modes_of t (get_or rounds k x).unit)
@@ -22,7 +22,7 @@ one_more t n wide k count rounds x total all less is so_far =
     rw add-one (omega (arith, here, same, is, so_far))
 
 pub count_invs-requires : goal.count_invs-requires
-count_invs-requires c = λ m. none_filled 256 m
+count_invs-requires c = λ m. all_zero 256 m
 
 pub widest-n-requires-clause-counts : goal.widest-n-requires-clause-counts
 widest-n-requires-clause-counts c =

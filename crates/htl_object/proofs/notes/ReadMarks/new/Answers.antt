@@ -1,5 +1,5 @@
-use Rattle.htl_object.proofs.Noting.{nothing_marked}
 use Rattle.htl_object.proofs.notes.ReadMarks.new.Goals as goal
+use Rattle.htl_base.proofs.Places.{none_marked}
 
 pub returns : goal.returns
-returns c = λ k few. nothing_marked 1024 k
+returns c = λ k few. none_marked 1024 k
