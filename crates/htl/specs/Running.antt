@@ -1,5 +1,5 @@
 -- What an E machine and its world are asked for in a test.
-use Rattle.std.specs.Prelude.{ℕ, ◌≤◌, length}
+use Rattle.std.specs.Prelude.{◌≤◌, length}
 use Rattle.htl_model.specs.FrameRules.{KeptApart}
 use Rattle.htl_model.specs.FunctionTypes.{FitPlaces}
 use Rattle.htl_model.specs.Tables.{Tables}

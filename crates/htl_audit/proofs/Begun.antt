@@ -60,12 +60,6 @@ done_both (x ∷ xs) ys log = omega (arith, done_both xs ys log)
 
 module _ (t : Tables) (range : AreInRange t) (kept : KeptApart t 16) (rounds : HaveRounds t) (es : List Event) (within : AreTookWithin t es) (s : ℕ) (is : begins (root_periods t) s ≡ true) (log : List Slice) (k : Kept)
     (f : LogFollows t (all_rounds t es s) (suc s) log k) where
-  old : List BeginningJobs
-  old = all_rounds t es s
-
-  new : BeginningJobs
-  new = round_of t es s
-
   abbrev all : List BeginningJobs
   all = all_rounds t es s ++ round_of t es s ∷ []
 

@@ -40,8 +40,6 @@ use Rattle.htl_machine.specs.ListTurns.{Turn, left_before, turn_finished_by}
 use Rattle.htl_machine.specs.Plans.{finished_before}
 use Rattle.htl_machine.specs.Programs.{schedules_of, before_of, lines_of}
 use Rattle.htl_machine.specs.RunLists.{turn_at}
-use Rattle.htl_machine.specs.StandingList.{turn_list}
-use Rattle.htl_machine.specs.declared.numbering.ListAt.{ListAt}
 use Rattle.htl_machine.specs.Texts.{capped}
 use Rattle.htl_machine.specs.Values.{ValuesFollow}
 use Rattle.htl_machine.proofs.Accepted.{accepted_is_loaded}

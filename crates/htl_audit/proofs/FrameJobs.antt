@@ -72,9 +72,6 @@ module _ (t : Tables) (lists : List (List SInstr)) (es : List Event) (rounds_fit
   frames : AreFrames t es (now_of t lists es)
   frames = feasible_runs t lists es run
 
-  abbrev jobs_in : ℕ → List Job
-  jobs_in f = frame_jobs t (frame_modes t es f)
-
   -- ---- places
 
   -- what a job of a frame says of its place

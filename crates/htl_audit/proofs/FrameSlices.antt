@@ -77,9 +77,6 @@ module _ (jobs : List Job) (f now : ℕ) where
 
   -- ---- a list that begins at the instant or later has closed nothing yet
 
-  abbrev of : RunningList → List Slice
-  of r = all_some (own_slice jobs) (left_in now f r)
-
   pub slices_of_lists : (number : ℕ → ℕ) (j : ℕ) (ss : List (List SInstr)) (gs : List Leg) (x : Point)
       → joined (λ r. all_some (own_slice jobs) (left_in now f r)) (filter (begun_before now) (lists_from number f j ss gs (walks_from jobs ss gs x))) ≡ closed jobs f now (end_to_end (walks_from jobs ss gs x))
   slices_of_lists number j [] gs x = refl

@@ -110,9 +110,6 @@ module _ (t : Tables) (range : AreInRange t) (kept : KeptApart t 16) where
   -- ---- who has a job at an instant
 
   module _ (modes : List (Option ℕ)) (selection : IsSelection t modes) (s : ℕ) where
-    abbrev pub positions : List ℕ
-    positions = flat_map (running_invs t modes) (beginning t s)
-
     -- who stands at the positions of the rounds that begin
     abbrev pub whose : List (Option ℕ)
     whose = map (chosen t modes) (flat_map (running_invs t modes) (beginning t s))

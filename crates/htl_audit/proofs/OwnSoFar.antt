@@ -1,5 +1,5 @@
 -- The slices of a run, instant by instant, and the ticks that a job has of those before an instant.
-use Rattle.std.proofs.Common.{◌≡◌, ◌≤◌, ◌<◌, ◌⊎◌, inl, inr, ℕ, zero, suc, ◌+◌, ◌*◌, ◌/◌, Bool, true, false, cond, not, ◌&&◌, ◌||◌, leb, List, [], ◌∷◌, ◌++◌, length, take, slice_get, Some, None, refl, sym, ap, ap₂, ◌∙◌, subst, arith}
+use Rattle.std.proofs.Common.{◌≡◌, ◌≤◌, ◌<◌, ◌⊎◌, inl, inr, ℕ, zero, suc, ◌+◌, ◌*◌, ◌/◌, true, false, cond, not, ◌&&◌, ◌||◌, leb, List, [], ◌∷◌, ◌++◌, length, take, slice_get, Some, None, refl, sym, ap, ap₂, ◌∙◌, subst, arith}
 use Rattle.std.proofs.Math.Nat.{div-add-mod, mod-lt, mul-div-le, mul-div_cancel_left}
 use Rattle.std.proofs.lemmas.Bool.{le-ltb, lt-leb, cases_eq, false_from_ne_true}
 use Rattle.std.proofs.lemmas.List.{take-append-le}

@@ -1,5 +1,5 @@
 -- The lines of a log, one by one.
-use Rattle.std.proofs.Common.{◌≡◌, ◌+◌, ◌≤◌, ℕ, suc, true, false, List, [], ◌∷◌, length, take, drop, Some, None, Result, Ok, Err, refl, sym, ap, ◌∙◌, subst, arith, ◌<◌}
+use Rattle.std.proofs.Common.{◌≡◌, ◌+◌, ◌≤◌, ℕ, true, false, List, [], ◌∷◌, length, take, drop, Some, None, Err, refl, sym, ap, ◌∙◌, subst, arith, ◌<◌}
 use Rattle.std.specs.List.{slice_split, position_from, position_or_len}
 use Rattle.std.proofs.lemmas.List.Quantifiers.{position-Some}
 use Rattle.std.proofs.lemmas.List.Sums.{position_or_len_is}
@@ -7,15 +7,13 @@ use Rattle.std.proofs.lemmas.List.Splits.{slice_split_first, length-slice_split}
 use Rattle.std.proofs.lemmas.Iterator.Adapters.{position_from-zero}
 use Rattle.htl_model.specs.declared.parts.Inv.{Inv}
 use Rattle.htl_model.specs.Tables.{Tables}
-use Rattle.htl_script.specs.Lines.{ScriptLine, is_line_feed, lines_of_parts, lines_of}
+use Rattle.htl_script.specs.Lines.{is_line_feed, lines_of_parts, lines_of}
 use Rattle.htl_script.specs.Statements.{is_space, fields_of}
 use Rattle.htl_script.proofs.Places.{none_found}
 use Rattle.htl_script.proofs.Splitting.{lines_of-last}
 use Rattle.htl_script.specs.Judging.{is_invocation, invocation_of}
-use Rattle.htl_audit.specs.declared.slice.Slice.{Slice}
-use Rattle.htl_audit.specs.declared.slice.LogKind.{LogKind}
 use Rattle.htl_audit.specs.declared.slice.LogKind.TheVariants as kind
-use Rattle.htl_audit.specs.Logs.{Log, Refused, in_front, line_of_fields, line_of, log_of_lines, IsFirstLine}
+use Rattle.htl_audit.specs.Logs.{line_of_fields, line_of, IsFirstLine}
 
 -- five fields or more
 pub many_fields : (t : Tables) (text a b name word from to more last : List ℕ) → fields_of text ≡ word ∷ fields_of a → fields_of a ≡ from ∷ fields_of b → fields_of b ≡ to ∷ fields_of name → fields_of name ≡ more ∷ fields_of last
@@ -54,12 +52,6 @@ is_last bytes [] e some none = record { fed = false; lines = last_line bytes e s
 is_last bytes (b ∷ rest) e some none = absurd (omega (arith, none))
 
 -- ---- reading on
-
-abbrev judged_line : Tables → ℕ → List ScriptLine → Result Slice LogKind → Log
-judged_line t n xs r = elim r [ Ok s ↦ in_front s (log_of_lines t (suc n) xs) | Err k ↦ Refused n k ]
-
-first_is : (t : Tables) (n : ℕ) (left text rest : List ℕ) (r : Result Slice LogKind) → IsFirstLine left text rest → r ≡ line_of t text → log_of_lines t n (lines_of left) ≡ judged_line t n (lines_of rest) r
-first_is t n left text rest r f e = ap (log_of_lines t n) f.lines ∙ ap (judged_line t n (lines_of rest)) (sym e)
 
 -- ---- names that are known
 

@@ -47,9 +47,6 @@ pub begins_is : (t : Tables) (s i : ℕ) (x : Inv) → slice_get t.invs i ≡ So
 begins_is t s i x at = ap (λ (o : Option Inv). elim o as (λ _. Bool) [ Some y ↦ eqb (s % mode_period t y.mode) 0 | None ↦ false ]) at
 
 module _ (t : Tables) (range : AreInRange t) (kept : KeptApart t 16) (rounds : HaveRounds t) (es : List Event) (s : ℕ) where
-  abbrev pub modes : List (Option ℕ)
-  modes = modes_at t es s
-
   abbrev whose : List (Option ℕ)
   whose = map (chosen t (modes_at t es s)) (flat_map (running_invs t (modes_at t es s)) (beginning t s))
 

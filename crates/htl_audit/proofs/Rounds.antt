@@ -14,8 +14,7 @@ use Rattle.htl_object.specs.declared.object.Object.{Object}
 use Rattle.htl_object.specs.Accepted.{IsAccepted}
 use Rattle.htl_refine.proofs.Kept.{kept_apart}
 use Rattle.htl_refine.proofs.OneFault.{kept_all}
-use Rattle.htl_walk.proofs.PathReady.{window_small}
-use Rattle.htl_walk.proofs.PathReady.{window_within}
+use Rattle.htl_walk.proofs.PathReady.{window_small, window_within}
 use Rattle.htl_audit.specs.Growing.{HaveRounds}
 use Rattle.htl_base.proofs.Places.{each_at, item_at}
 

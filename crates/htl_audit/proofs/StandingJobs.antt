@@ -1,5 +1,5 @@
 -- The job of an invocation that stands: its round is one of the audit's, it has one, and it follows those that it reads from.
-use Rattle.std.proofs.Common.{◌≡◌, ◌≤◌, ◌<◌, ◌⊎◌, inl, inr, ℕ, ◌+◌, ◌*◌, ◌/◌, ◌%◌, true, List, length, slice_get, Some, option_map, sym, ap, ap₂, ◌∙◌, arith}
+use Rattle.std.proofs.Common.{◌≡◌, ◌≤◌, ◌<◌, inl, inr, ℕ, ◌+◌, ◌*◌, ◌/◌, ◌%◌, true, List, length, slice_get, Some, option_map, sym, ap, ap₂, ◌∙◌, arith}
 use Rattle.std.proofs.Math.Nat.{div-add-mod, mod-lt, mul-mod_right}
 use Rattle.std.proofs.lemmas.Bool.{eq-eqb}
 use Rattle.std.proofs.lemmas.Option.{slice_get_within, same_Some}
@@ -68,9 +68,6 @@ module _ (t : Tables) (range : AreInRange t) (kept : KeptApart t 16) (rounds : H
       (m.0, map_at (round_of t es) (starts_before t now) m.0 s m.1)
 
   module _ (n i s : ℕ) (x : Inv) (st : InvStands t (state t es n).stays i x s) where
-    abbrev stay : Stay
-    stay = record { mode = x.mode; start = s }
-
     period_some : 0 < mode_period t x.mode
     period_some = some_time t range (first_rules t kept) x.mode ((standing_at t range es n).real (mode_module t x.mode) (record { mode = x.mode; start = s }) st.in_round)
 

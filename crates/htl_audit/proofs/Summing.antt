@@ -1,8 +1,7 @@
 -- What is kept once one more line keeps the rules.
-use Rattle.std.proofs.Common.{◌≡◌, ◌≢◌, ℕ, zero, suc, ◌+◌, ◌-◌, ◌≤◌, ◌<◌, Bool, true, false, cond, not, ◌&&◌, ◌||◌, eqb, leb, ltb, List, [], ◌∷◌, ◌++◌, length, get_or, set, Some, None, refl, sym, ◌∙◌, ap, ap₂, subst, arith}
+use Rattle.std.proofs.Common.{◌≡◌, ◌≢◌, ℕ, zero, suc, ◌+◌, ◌-◌, ◌≤◌, ◌<◌, Bool, true, false, cond, not, ◌&&◌, ◌||◌, eqb, leb, ltb, List, [], ◌∷◌, ◌++◌, length, set, Some, None, refl, sym, ◌∙◌, ap, ap₂, subst, arith}
 use Rattle.std.specs.Prelude.{slice_get}
 use Rattle.std.proofs.lemmas.Bool.{eqb-true, and_parts, or_parts, eq-eqb, leb-false, ltb-false}
-use Rattle.std.proofs.lemmas.Bool.Decides.{nat_tests}
 use Rattle.std.proofs.lemmas.List.{get_or-set_same, get_or-set_other, length-set, length-append}
 use Rattle.htl_model.specs.Functions.{of_bool}
 use Rattle.htl_model.specs.Lists.{numbered}
@@ -13,7 +12,7 @@ use Rattle.htl_audit.specs.declared.slice.LogKind.TheVariants as kind
 use Rattle.htl_audit.specs.Jobs.{BeginningJobs}
 use Rattle.htl_audit.specs.Legal as rules
 use Rattle.htl_audit.specs.Legal.{lies_in, ticks, is_done, last_end, how_many, jobs_done}
-use Rattle.htl_audit.specs.Keeping.{Roster, Kept, has_job, sum_at, length_at, start_at, is_inside, is_free_at, ticks_of, kind_of, with_slice}
+use Rattle.htl_audit.specs.Keeping.{Kept, has_job, sum_at, length_at, start_at, is_inside, is_free_at, ticks_of, kind_of, with_slice}
 use Rattle.htl_audit.specs.Rosters.{IsIn, IsCurrent, HasJob, AreSummed}
 use Rattle.htl_audit.proofs.Judging.{lies, ticks_more, lies_current, lies_inside}
 use Rattle.std.proofs.lemmas.Option.{none-some}
@@ -131,9 +130,6 @@ keeps t now k x e =
         }
 
 module _ (t : Tables) (rounds : List BeginningJobs) (log : List Slice) (k : Kept) (s : AreSummed t rounds log k) (x : Slice) (now : ℕ) (keep : Keeps t now k x) (later : start_at k.roster x.inv < x.to) where
-  o : Roster
-  o = k.roster
-
   new_sums : List ℕ
   new_sums = set k.sums x.inv (sum_at k.sums x.inv + ticks_of x)
 

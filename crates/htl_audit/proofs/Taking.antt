@@ -2,7 +2,6 @@
 use Rattle.std.proofs.Common.{◌≡◌, ℕ, suc, ◌+◌, ◌≤◌, ◌<◌, ◌⊎◌, inl, inr, Bool, true, false, cond, ◌&&◌, eqb, leb, List, [], ◌∷◌, ◌++◌, length, get_or, map, set, take, Option, Some, None, IfSome, refl, sym, ◌∙◌, ap, ap₂, subst, arith}
 use Rattle.std.specs.Prelude.{slice_get}
 use Rattle.std.proofs.lemmas.Bool.{eqb-true, eq-eqb, lt-leb}
-use Rattle.std.proofs.lemmas.Bool.Decides.{nat_tests}
 use Rattle.std.proofs.lemmas.List.{get_or-set_same, get_or-set_other, length-set}
 use Rattle.htl_model.specs.declared.event.Event.{Event}
 use Rattle.htl_model.specs.declared.event.Event.TheVariants as V
@@ -25,7 +24,7 @@ use Rattle.htl_audit.specs.Growing.{AgreeBefore, HaveRounds}
 use Rattle.htl_audit.specs.Jobs.{BeginningJobs, beginning, round_of, starts_before, all_rounds}
 use Rattle.htl_audit.specs.Keeping.{Kept, has_job, sum_at, length_at, start_at, release_at, inv_takes}
 use Rattle.htl_audit.specs.Legal as rules
-use Rattle.htl_audit.specs.Legal.{ticks, line_fault, any_short, how_many, jobs_done}
+use Rattle.htl_audit.specs.Legal.{ticks, line_fault, how_many, jobs_done}
 use Rattle.htl_audit.specs.Lines.{IsNext}
 use Rattle.htl_audit.specs.Rosters.{IsIn, IsCurrent, HasJob, AreKept, AreSummed}
 use Rattle.htl_audit.specs.Verdicts.{LogFollows}

@@ -1,5 +1,5 @@
 -- The first number of a kind.
-use Rattle.std.proofs.Common.{arith, ◌≡◌, ◌<◌, ℕ}
+use Rattle.std.proofs.Common.{◌≡◌, ◌<◌, ℕ}
 use Rattle.htl_base.proofs.Numbers.{same_from_neither}
 
 -- a kind has one first number at most

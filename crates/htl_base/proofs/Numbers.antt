@@ -50,6 +50,3 @@ grow_times a b n h = grind arith
 
 pub one_more_time : (a b : ℕ) → suc a * b ≡ a * b + b
 one_more_time a b = grind arith
-
-pub below_from_other : (a b : ℕ) → a ≤ b → (a ≡ b → ⊥) → a < b
-below_from_other a b h n = grind (arith, h, n)

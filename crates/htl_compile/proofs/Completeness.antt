@@ -1,5 +1,5 @@
 -- What has no fault but want of memory, and that there is one fault at most.
-use Rattle.std.proofs.Common.{◌≡◌, ◌<◌, ◌⊎◌, ℕ, List, refl, sym, ◌∙◌, ap, subst, arith, pos, inl, inr}
+use Rattle.std.proofs.Common.{◌≡◌, ◌<◌, ◌⊎◌, ℕ, List, refl, sym, ◌∙◌, ap, subst, pos, inl, inr}
 use Rattle.htl_compile.proofs.SourceLaws.{tables_unique, typed_or_fault, fault_unique}
 use Rattle.htl_compile.proofs.SourceTables.{source_tables_fit}
 use Rattle.htl_compile.specs.Building.{IsBackFault, IsFirstOverload, HasBackFault, unbuilt_of}

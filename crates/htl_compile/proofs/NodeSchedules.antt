@@ -104,9 +104,6 @@ none_before w x = omega arith
 -- ---- of the nodes of tables
 
 module _ (t : Tables) (range : AreInRange t) where
-  first_path : ℕ → ℕ
-  first_path n = (through (radices t) n).0
-
   some_ways : 0 < ways (radices t)
   some_ways = omega (arith, choices_some t (rounds t) (rounds_have t range), choices_starts t (starts t))
 

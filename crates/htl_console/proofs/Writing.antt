@@ -1,5 +1,5 @@
 -- Lines that are written one place after another.
-use Rattle.std.proofs.Common.{◌≡◌, ℕ, zero, suc, ◌≤◌, ◌<◌, length, map, take, List, [], ◌++◌, get_or, Option, None, Some, Result, Ok, Err, refl, sym, ap, ◌∙◌, subst, arith, append_assoc, append-nil, ◌⊎◌, inl, inr}
+use Rattle.std.proofs.Common.{◌≡◌, ℕ, zero, suc, ◌≤◌, ◌<◌, length, map, take, List, [], ◌++◌, get_or, Option, None, Some, Result, Ok, Err, refl, sym, ap, ◌∙◌, subst, arith, append_assoc, append-nil, inl, inr}
 use Rattle.std.specs.Io.KnownBytes.{append_known}
 use Rattle.std.proofs.lemmas.List.{get_or-map, length-append, length-map}
 use Rattle.std.proofs.Math.Seq.{take-append_seam}
@@ -37,9 +37,6 @@ pub record IsWriting {X : Type 0} (line : ℕ → X → List ℕ) (xs : List X) 
   pub written : now ≡ append_known old (up_to (line_at line xs) k)
   pub kept : between ≡ before
 
-pub IsWriting-start : {X : Type 0} (line : ℕ → X → List ℕ) (xs : List X) (old : Option (List ℕ)) (before : ℕ) → IsWriting line xs 0 old old before before
-IsWriting-start line xs old before = record { written = append_known-start old; kept = refl }
-
 abbrev line_of : {X : Type 0} → (ℕ → X → List ℕ) → ℕ → Option X → List ℕ
 line_of line k (Some x) = line k x
 line_of line k None = []
@@ -58,15 +55,6 @@ IsWriting-step line xs k x old mid new before between now u inside is h puts = r
       append_known-more old mid new (up_to (line_at line xs) k) (line k x) h.written puts.whole
       ∙ ap (λ (bs : List ℕ). append_known old (up_to (line_at line xs) k ++ bs)) (sym (line_here line xs k x inside is));
   kept = puts.cause.kept ∙ h.kept;
-}
-
--- all were written
-pub IsWriting-all : {X T E : Type 0} (line : ℕ → X → List ℕ) (xs : List X) (k : ℕ) (old now : Option (List ℕ)) (before between : ℕ) (u : T) → k ≡ length xs
-    → IsWriting line xs k old now before between → Puts {T = T} {E = E} old now before between (all_lines line xs) (Ok u)
-IsWriting-all line xs k old now before between u e h = record {
-  whole = h.written ∙ ap (λ (m : ℕ). append_known old (up_to (line_at line xs) m)) e;
-  part = tt;
-  cause = record { later = omega (arith, h.kept); kept = h.kept; refused = tt };
 }
 
 -- the line of a place failed

@@ -6,11 +6,10 @@ use Rattle.htl_model.specs.declared.parts.Inv.{Inv}
 use Rattle.htl_model.specs.declared.parts.Task.{Task}
 use Rattle.htl_model.specs.declared.parts.End.{End}
 use Rattle.htl_model.specs.declared.parts.End.TheVariants as E
-use Rattle.htl_model.specs.declared.frame.Round.{Round}
 use Rattle.htl_model.specs.declared.frame.Place.{Place}
 use Rattle.htl_model.specs.Tables.{Tables, comm_period, mode_period, offsets, greatest, least_or}
-use Rattle.htl_model.specs.Frames.{rounds_of, rounds, choices, paths, path_places}
-use Rattle.htl_model.proofs.FrameLists.{rounds_of_framed, rounds_framed, choices_framed, paths_framed, path_places_framed}
+use Rattle.htl_model.specs.Frames.{rounds, paths, path_places}
+use Rattle.htl_model.proofs.FrameLists.{rounds_framed, paths_framed, path_places_framed}
 use Rattle.htl_walk.specs.Jobs.{absent_job, is_fed_by, mask}
 use Rattle.htl_walk.specs.PathJobs.{job_in, placed, placed_job, placed_jobs, path_jobs}
 use Rattle.htl_edf.specs.MoreWork.{IsLonger, AreLonger}
@@ -35,14 +34,8 @@ with_tasks t ts = record t { tasks = ts }
 -- ---- other tasks, the same places
 
 module _ (t : Tables) (xs ys : List Task) where
-  pub rounds_of_same : (a : ℕ) (us : List ℕ) → rounds_of (with_tasks t xs) a us ≡ rounds_of (with_tasks t ys) a us
-  rounds_of_same a us = rounds_of_framed (with_tasks t xs) a us ∙ sym (rounds_of_framed (with_tasks t ys) a us)
-
   pub rounds_same : rounds (with_tasks t xs) ≡ rounds (with_tasks t ys)
   rounds_same = rounds_framed (with_tasks t xs) ∙ sym (rounds_framed (with_tasks t ys))
-
-  pub choices_same : (rs : List Round) → choices (with_tasks t xs) rs ≡ choices (with_tasks t ys) rs
-  choices_same rs = choices_framed (with_tasks t xs) rs ∙ sym (choices_framed (with_tasks t ys) rs)
 
   pub paths_same : paths (with_tasks t xs) ≡ paths (with_tasks t ys)
   paths_same = paths_framed (with_tasks t xs) ∙ sym (paths_framed (with_tasks t ys))

@@ -1,5 +1,5 @@
 -- Tightening keeps exactly the slices that meet; tightened windows are one, and so is the interval that is reported.
-use Rattle.std.proofs.Common.{◌≡◌, ℕ, ◌-◌, ◌<◌, ◌≤◌, Bool, true, ◌||◌, refl, sym, ap, ◌∙◌, subst, arith, eq-eqb, le-leb, lt-ltb, ℤ, pos, ◌≤ℤ◌, ◌<ℤ◌, List, [], ◌∷◌}
+use Rattle.std.proofs.Common.{◌≡◌, ℕ, ◌-◌, ◌<◌, ◌≤◌, true, refl, sym, ap, ◌∙◌, subst, arith, eq-eqb, le-leb, lt-ltb, ℤ, pos, ◌≤ℤ◌, ◌<ℤ◌, List, [], ◌∷◌}
 use Rattle.std.proofs.lemmas.Bool.{and_from, or_right, or_left}
 use Rattle.std.proofs.lemmas.Int.{ints}
 use Rattle.htl_edf.specs.Windows.{Windows, demand_of, Overloaded, Reported}

@@ -1,5 +1,5 @@
 -- The lists of all nodes, as the code makes them.
-use Rattle.std.proofs.Common.{◌≡◌, ◌≢◌, ℕ, zero, suc, ◌+◌, ◌-◌, ◌≤◌, ◌<◌, List, [], ◌∷◌, ◌++◌, length, drop, take, set, get_or, add-one, refl, sym, ap, ◌∙◌, subst, arith, inl, inr}
+use Rattle.std.proofs.Common.{◌≡◌, ◌≢◌, ℕ, zero, suc, ◌+◌, ◌-◌, ◌≤◌, ◌<◌, List, [], ◌∷◌, ◌++◌, length, drop, set, get_or, add-one, refl, sym, ap, ◌∙◌, subst, arith, inl, inr}
 use Rattle.std.proofs.lemmas.Bool.{cases_lt, cases_eq}
 use Rattle.htl_model.specs.declared.frame.Frame.{Frame}
 use Rattle.htl_model.specs.FrameTables.{IsFrame}
@@ -89,12 +89,6 @@ module _ (t : Tables) (ready : AreReady t) where
       let e : path - 1 + 1 ≡ path = omega (arith, some) in
       let same : node t (path - 1) i ≡ node t path i = share i b ∙ ap (λ p. node t p i) e in
       ap (λ m. get_or lists m []) (sym same) ∙ has (path - 1) i (omega (arith, some)) (omega (arith, b, l)) ∙ same_part (path - 1) path i (omega (arith, h)) h (omega (arith, b, l)) same
-
-  pub parts_path : (lists : List (List SInstr)) (path : ℕ) → HaveParts t lists path → ((i : ℕ) → i < length (starts t) → HasPart t lists path i) → HaveParts t lists (path + 1)
-  parts_path lists path has here q i b k = elim (cases_lt q path) [
-    | inl c ↦ has q i c k
-    | inr c ↦ let e : path ≡ q = omega (arith, b, c) in subst (λ p. HasPart t lists p i) e (here i k)
-  ]
 
 -- ---- starts in the frame
 

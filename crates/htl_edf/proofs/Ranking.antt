@@ -1,8 +1,8 @@
 -- Items in order, from a sort.
-use Rattle.std.proofs.Common.{◌≡◌, ℕ, ◌/◌, ◌%◌, ◌<◌, ◌≤◌, true, false, eqb, List, length, get_or, sym, ap, ◌∙◌, arith, ⊎_elim, eq-eqb, eqb-true, nat_cmp}
+use Rattle.std.proofs.Common.{◌≡◌, ℕ, ◌/◌, ◌%◌, ◌<◌, ◌≤◌, true, eqb, List, length, get_or, sym, ap, ◌∙◌, arith, ⊎_elim, eq-eqb, eqb-true, nat_cmp}
 use Rattle.std.specs.List.{IsDistinct, list_any}
 use Rattle.std.specs.List.Sorted.{IsPermutation, IsSorted, IsNonDecreasing}
-use Rattle.std.proofs.lemmas.Bool.{cases_lt, ne_eqb, cases_Bool}
+use Rattle.std.proofs.lemmas.Bool.{cases_lt, ne_eqb}
 use Rattle.std.proofs.lemmas.List.{get_or_default}
 use Rattle.std.proofs.lemmas.List.Sorted.{All-permutation, list_any-IsPermutation, IsNonDecreasingBy-from_sort}
 use Rattle.std.proofs.lemmas.List.Folds.{list_any_at, Any-from_list_any}

@@ -126,14 +126,6 @@ module _ (js : List Job) (by_end by_release : List ℕ) (ranked : AreRanked js b
         (earliest_is s ends n)
 
     -- time goes on
-    pub ahead_later : (event : ℕ) → t ≤ event → IsAhead js by_end by_release ls event until ready released
-    ahead_later event l = record {
-      row = ahead.row;
-      count = ahead.count;
-      past = λ n b. let p = ahead.past n b in (omega (arith, p.0, l), p.1);
-      later = ahead.later;
-    }
-
     -- the position of a rank ran
     pub ahead_after : (event new rank p now : ℕ) → p ≡ number_of by_end rank → t ≤ event → rank < length js → p < length ls → has_bit ready rank ≡ true
         → ((r : ℕ) → has_bit new r ≡ cond (eqb r rank) (has_bit ready rank && ltb 0 now) (has_bit ready r)) → IsAhead js by_end by_release (set ls p now) event until new released

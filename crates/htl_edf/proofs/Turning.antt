@@ -1,6 +1,6 @@
 -- Windows that are written in turn: each comes to rest where all that it depends on has.
-use Rattle.std.proofs.Common.{◌≡◌, ◌≢◌, ℕ, zero, suc, ◌+◌, ◌<◌, ◌≤◌, Bool, true, false, cond, ◌||◌, eqb, List, length, get_or, set, refl, sym, ap, ◌∙◌, arith, pos, ◌-ℤ◌, get_or-set_same, get_or-set_other}
-use Rattle.std.proofs.lemmas.Bool.{eqb-true, eq-eqb}
+use Rattle.std.proofs.Common.{◌≡◌, ℕ, zero, suc, ◌+◌, ◌<◌, ◌≤◌, Bool, true, false, cond, eqb, List, length, get_or, set, refl, sym, ap, ◌∙◌, arith, pos, ◌-ℤ◌, get_or-set_same, get_or-set_other}
+use Rattle.std.proofs.lemmas.Bool.{eqb-true}
 use Rattle.std.proofs.lemmas.Int.{ints}
 use Rattle.htl_model.specs.Bits.{has_bit}
 use Rattle.htl_walk.specs.declared.job.Job.{Job}
@@ -10,18 +10,6 @@ use Rattle.htl_edf.specs.Tight.{release_at, end_at}
 use Rattle.htl_edf.specs.Turns.{HaveReleases, HaveEnds}
 use Rattle.htl_edf.proofs.Tightening.{greatest-same, least-same}
 use Rattle.htl_base.proofs.Tests.{eqb_apart}
-
--- one bit more below a count
-pub below_more : (row new k q : ℕ) → ((p : ℕ) → p < k → has_bit row p ≡ true) → ((p : ℕ) → has_bit new p ≡ (has_bit row p || eqb p k)) → q < k + 1 → has_bit new q ≡ true
-below_more row new k q all bits h = bits q ∙ by (eqb q k) refl
-  where
-    with_true : (a : Bool) → (a || true) ≡ true
-    with_true true = refl
-    with_true false = refl
-
-    by : (b : Bool) → eqb q k ≡ b → (has_bit row q || b) ≡ true
-    by true e = with_true (has_bit row q)
-    by false e = let other : q ≢ k = eqb_apart q k e in ap (λ a. a || false) (all q (omega (arith, other)))
 
 still : (waiting new q r : ℕ) → ((p : ℕ) → has_bit new p ≡ cond (eqb p q) false (has_bit waiting p)) → eqb r q ≡ false → has_bit new r ≡ false → has_bit waiting r ≡ false
 still waiting new q r bits e done = sym (bits r ∙ ap (λ b. cond b false (has_bit waiting r)) e) ∙ done

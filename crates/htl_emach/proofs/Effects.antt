@@ -12,7 +12,7 @@ use Rattle.htl_ecode.specs.Steps.{Step}
 use Rattle.htl_ecode.proofs.Reading.{jump_to_is}
 use Rattle.htl_ecode.proofs.Kept.{kept, kept_one, instrs_of}
 use Rattle.htl_emach.specs.declared.trigger.Trigger.{Trigger}
-use Rattle.htl_emach.specs.Calendars.{Calendar, HasModule, list_at, calendar_effect, with_trigger, entry_of}
+use Rattle.htl_emach.specs.Calendars.{Calendar, HasModule, list_at, calendar_effect, with_trigger}
 use Rattle.htl_emach.specs.Leading.{IsAllowed, AreAllowed}
 use Rattle.htl_emach.specs.Pending.{IsSized, Entry, entry_at}
 use Rattle.htl_emach.specs.Following.{calendar_at, calendar_replay}
@@ -186,24 +186,3 @@ next_other p k j (Some y) c e = trigger_set_other p k j (Some y) (with_trigger p
 pub next_sized : (t : Tables) (p k : ℕ) (x : Option Trigger) (c : Calendar) → IsSized t c → IsSized t (with_next p k x (with_trigger p k None c))
 next_sized t p k None c s = trigger_set_sized t p k None c s
 next_sized t p k (Some y) c s = trigger_set_sized t p k (Some y) (with_trigger p k None c) (trigger_set_sized t p k None c s)
-
-trigger_set_was_sized : (t : Tables) (p k : ℕ) (x : Option Trigger) (c : Calendar) → IsSized t (with_trigger p k x c) → IsSized t c
-trigger_set_was_sized t p k x c h = by_test (eqb p 1) (eqb p 2) h
-  where
-    by_test : (a b : Bool) → IsSized t (cond a (record c { writes = set c.writes k x }) (cond b (record c { switches = set c.switches k x }) (record c { reads = set c.reads k x }))) → IsSized t c
-    by_test true b h = record { modes = h.modes; writes = sym (length-set c.writes k x) ∙ h.writes; switches = h.switches; reads = h.reads }
-    by_test false true h = record { modes = h.modes; writes = h.writes; switches = sym (length-set c.switches k x) ∙ h.switches; reads = h.reads }
-    by_test false false h = record { modes = h.modes; writes = h.writes; switches = h.switches; reads = sym (length-set c.reads k x) ∙ h.reads }
-
-pub effect_sized : (t : Tables) (code : ECode) (at k : ℕ) (i : EInstr) (c : Calendar) → IsSized t (calendar_effect t code at k i c) → IsSized t c
-effect_sized t code at k (I.CallWrite a b) c h = h
-effect_sized t code at k (I.CallRead a b) c h = h
-effect_sized t code at k (I.Release a) c h = h
-effect_sized t code at k (I.Future d p x) c h = trigger_set_was_sized t p k (Some (record { at = at + d; target = x })) c h
-effect_sized t code at k (I.JumpIf a b) c h = h
-effect_sized t code at k (I.Jump a) c h = h
-effect_sized t code at k (I.IfMode a b) c h = h
-effect_sized t code at k (I.Enter m) c h = record { modes = sym (length-set c.modes k (Some m)) ∙ h.modes; writes = h.writes; switches = h.switches; reads = h.reads }
-effect_sized t code at k I.Leave c h = record { modes = sym (length-set c.modes k None) ∙ h.modes; writes = h.writes; switches = h.switches; reads = h.reads }
-effect_sized t code at k (I.Fork j) c h = trigger_set_was_sized t 2 j (Some (record { at = at; target = entry_of t code j })) c h
-effect_sized t code at k I.Return c h = h

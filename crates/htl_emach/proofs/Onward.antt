@@ -1,6 +1,6 @@
 -- What the machine does next, from any place inside an instant.
 use Rattle.std.proofs.Common.{◌≡◌, ℕ, ◌<◌, true, eqb, List, [], ◌∷◌, ◌++◌, length, slice_get, Option, Some, None, ℤ, IfSome, All, refl, sym, ap, ◌∙◌, subst}
-use Rattle.std.proofs.lemmas.Option.{slice_get_within, get_or_from_slice_get}
+use Rattle.std.proofs.lemmas.Option.{slice_get_within}
 use Rattle.htl_model.specs.declared.event.Event.{Event}
 use Rattle.htl_model.specs.declared.parts.Inv.{Inv}
 use Rattle.htl_model.specs.declared.parts.End.{End}
@@ -16,15 +16,15 @@ use Rattle.htl_emach.specs.declared.trigger.Block.{Block}
 use Rattle.htl_emach.specs.declared.trigger.EDone.{EDone}
 use Rattle.htl_emach.specs.Contents.{Content, comm_of, reads_at, writes_at}
 use Rattle.htl_emach.specs.Shapes.{IsShaped, HasEnds}
-use Rattle.htl_emach.specs.Calendars.{Calendar, Standing, taken, taken_by, block_in, block_from, first_due, triggers_of, with_trigger, done_at, done_in, stepped, standing_after}
-use Rattle.htl_emach.specs.Ready.{Fits, IsReady}
+use Rattle.htl_emach.specs.Calendars.{Calendar, Standing, taken, taken_by, block_from, first_due, triggers_of, with_trigger, done_at, done_in, stepped, standing_after}
+use Rattle.htl_emach.specs.Ready.{Fits}
 use Rattle.htl_emach.specs.Leading.{goes_at, IsAllowed}
 use Rattle.htl_emach.specs.Pending.{IsSized}
-use Rattle.htl_emach.specs.Following.{BlockRuns, IsInBlock, PhaseStands, Midway, Onward, phase_path, calendar_at, calendar_replay}
+use Rattle.htl_emach.specs.Following.{BlockRuns, IsInBlock, PhaseStands, Midway, Onward, phase_path}
 use Rattle.htl_emach.proofs.ModuleLaws.{ModuleLaws}
 use Rattle.htl_emach.proofs.Inside.{next_of_block, inside}
 use Rattle.htl_emach.proofs.Beginning.{no_block, begins}
-use Rattle.htl_emach.proofs.Effects.{sized_module, effect_sized}
+use Rattle.htl_emach.proofs.Effects.{sized_module}
 use Rattle.htl_base.proofs.Places.{each_at, nothing_ends}
 
 -- the next instruction of a block, and what it may be
@@ -113,38 +113,3 @@ allowed_fits t c w phase k (I.Enter a) r e s z h = tt
 allowed_fits t c w phase k I.Leave r e s z h = tt
 allowed_fits t c w phase k (I.Fork a) r e s z h = sized_module t c a z h
 allowed_fits t c w phase k I.Return r e s z h = tt
-
-some_instr : (a b : EInstr) → Some a ≡ Some b → a ≡ b
-some_instr a b e = cc
-
-block_ready : (t : Tables) (code : ECode) (es : List Event) (now phase : ℕ) (c d : Calendar) (w : Content) (b : Block) (rest : List Done) → AreInRange t → HasEnds t → IsShaped t w → IsSized t c →
-    IsInBlock t code es now phase d b rest → IsReady t code c w b
-block_ready t code es now phase c d w b rest r e s z h =
-    let n = next_in t code es now phase d b rest h in
-    record {
-      «module» = sized_module t c b.«module» z h.runs.within;
-      stands = slice_get_within code.instrs b.address n.instr n.stands;
-      fits = λ i is. allowed_fits t c w phase b.«module» i r e s z (subst (IsAllowed t phase b.«module») (some_instr n.instr i (sym n.stands ∙ is)) n.allowed);
-    }
-
--- the calendar keeps its size while a block runs
-replay_sized : (t : Tables) (code : ECode) (at k : ℕ) (xs : List ℕ) (c : Calendar) → IsSized t (calendar_replay t code at k xs c) → IsSized t c
-replay_sized t code at k [] c h = h
-replay_sized t code at k (x ∷ xs) c h = by_instr (slice_get code.instrs x) (replay_sized t code at k xs (calendar_at t code at k (slice_get code.instrs x) c) h)
-  where
-    by_instr : (o : Option EInstr) → IsSized t (calendar_at t code at k o c) → IsSized t c
-    by_instr None h = h
-    by_instr (Some i) h = effect_sized t code at k i c h
-
--- from any place inside an instant the next instruction can be done
-pub ready : (t : Tables) (code : ECode) (es : List Event) (now phase : ℕ) (laws : (j : ℕ) → j < length t.modules → ModuleLaws t code es now phase j) (m : Standing) (w : Content) (done rest : List Done) →
-    AreInRange t → HasEnds t → IsShaped t w → Midway t code es now phase m done rest → IfSome (block_in phase now m) (IsReady t code m.calendar w)
-ready t code es now phase laws m w done rest r e s h = by_running m.calendar m.running h.stands
-  where
-    by_running : (c : Calendar) (o : Option Block) → PhaseStands t code es now phase c o rest → IfSome (block_in phase now (record { calendar = c; running = o })) (IsReady t code c w)
-    by_running c (Some b) st = block_ready t code es now phase c c w b rest r e s (replay_sized t code now b.«module» st.path c st.runs.leads.sized) st
-    by_running c None st = by_due (first_due now 0 (triggers_of phase c)) refl
-      where
-        by_due : (f : Option (ℕ × ℕ)) → first_due now 0 (triggers_of phase c) ≡ f → IfSome (block_from now f) (IsReady t code c w)
-        by_due None is = tt
-        by_due (Some p) is = block_ready t code es now phase c (with_trigger phase p.0 None c) w (record { «module» = p.0; address = p.1; at = now }) rest r e s st.calendar.sized (begins t code es now phase laws c rest p st is)

@@ -1,5 +1,5 @@
 -- A machine that stands safely can go on, and stands safely after each call.
-use Rattle.std.proofs.Common.{◌≡◌, ℕ, zero, suc, ◌+◌, ◌<◌, ◌≤◌, Bool, true, false, cond, eqb, List, [], ◌∷◌, length, slice_get, set, map, Option, Some, None, IfSome, ℤ, refl, sym, ap, ◌∙◌, subst, arith, ◌⊎◌, inl, inr, Result, Ok, Err, IfOk}
+use Rattle.std.proofs.Common.{◌≡◌, ℕ, zero, suc, ◌+◌, ◌<◌, ◌≤◌, Bool, true, false, cond, eqb, List, [], ◌∷◌, length, slice_get, set, map, Option, Some, None, IfSome, ℤ, refl, sym, ap, ◌∙◌, subst, arith, ◌⊎◌, inl, inr}
 use Rattle.std.proofs.lemmas.Option.{slice_get_within, none-some, same_Some}
 use Rattle.std.proofs.lemmas.List.{length-set, length-map, length-replicate}
 use Rattle.htl_model.specs.declared.parts.Module.{Module}
@@ -224,8 +224,3 @@ first_safely t code r =
         let known = mode_known t k x.start (r.modules k x at).start in
         let same : record { at = 0; target = entered code x.start } ≡ z = same_Some (record { at = 0; target = entered code x.start }) z is in
         record { mode = x.start; known = known.0; owner = known.1; phase = inr (inl refl); starts = inr (inr (sym (ap (λ (y : Trigger). y.target) same))) }
-
--- a machine that is made is the first one
-pub ok_is : {T E : Type 0} (P : T → Type 0) (x : T) (r : Result T E) → P x → IfOk r (λ m. m ≡ x) → IfOk r P
-ok_is P x (Ok m) p e = subst P (sym e) p
-ok_is P x (Err k) p e = tt

@@ -1,7 +1,7 @@
 -- Where modules are, from one instant to the next.
-use Rattle.std.proofs.Common.{◌≡◌, ℕ, zero, suc, ◌+◌, ◌<◌, ◌≤◌, Bool, true, false, cond, ◌&&◌, eqb, List, [], ◌∷◌, length, slice_get, Option, Some, None, IfSome, All, ℤ, refl, sym, ap, ◌∙◌, subst, arith, ◌⊎◌, inl, inr}
+use Rattle.std.proofs.Common.{◌≡◌, ℕ, zero, suc, ◌+◌, ◌<◌, ◌≤◌, Bool, true, false, cond, ◌&&◌, eqb, List, [], ◌∷◌, length, slice_get, Option, Some, None, IfSome, ℤ, refl, sym, ap, ◌∙◌, subst, arith, ◌⊎◌, inl, inr}
 use Rattle.std.proofs.lemmas.Bool.{eqb-true, eq-eqb, cases_Bool}
-use Rattle.std.proofs.lemmas.Option.{slice_get_within, get_or_from_slice_get}
+use Rattle.std.proofs.lemmas.Option.{slice_get_within}
 use Rattle.htl_model.specs.declared.event.Event.{Event}
 use Rattle.htl_model.specs.declared.parts.Module.{Module}
 use Rattle.htl_model.specs.declared.parts.Mode.{Mode}
@@ -40,9 +40,6 @@ moves t v now x on old = elim on [ true ↦ go_on_or_begin t v now x old | false
 -- whether what a module refines runs at the instant; a root module refines nothing
 abbrev pub parent_runs : Tables → List Event → ℕ → Module → Bool
 parent_runs t es now x = elim x.parent [ None ↦ true | Some q ↦ runs t (state t es now).stays q ]
-
-abbrev pub parent_ran : Tables → List Event → ℕ → Module → Bool
-parent_ran t es now x = elim x.parent [ None ↦ true | Some q ↦ runs t (before t es now).stays q ]
 
 -- a parent's module has a lower number
 pub lower_parent : (t : Tables) (k : ℕ) (x : Module) (q : ℕ) → AreInRange t → slice_get t.modules k ≡ Some x → x.parent ≡ Some q → mode_module t q < k

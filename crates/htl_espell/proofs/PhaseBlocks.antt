@@ -91,9 +91,6 @@ module _ (t : Tables) (code : List EInstr) (m phase o a : ℕ) (whole : Option E
   first_and_rest : either (fault_of (read code a (block_chain t m phase o))) (block_faults t code m phase (blocks_at t code m phase (block_of (next_offset t m phase (suc o)) (led_on t code m phase o a)))) ≡ whole
   first_and_rest = sym (ap (block_faults t code m phase) (ap (blocks_at t code m phase) is ∙ block_first t code m phase o a offset_there)) ∙ h.rest
 
-  pub checking_short : OffsetsFit t → o ≤ 1000000
-  checking_short fit = fit m phase o offset_there
-
   pub checking_more : (next target : Option ℕ) (new : Option (ℕ × ℕ)) → next ≡ next_offset t m phase (o + 1) → fault_of (read code a (block_chain t m phase o)) ≡ None → target ≡ led_on t code m phase o a → new ≡ block_of next target →
       IsChecking t code m phase whole new
   checking_more next target new next_is fine target_is new_is =

@@ -6,7 +6,6 @@ use Rattle.std.proofs.lemmas.Bool.Decides.{nat_tests}
 use Rattle.std.proofs.lemmas.List.Folds.{list_any-append}
 use Rattle.std.specs.List.Sorted.{IsPermutation, IsSorted, IsStrictlyIncreasing}
 use Rattle.std.specs.Ordering.{nat_cmp}
-use Rattle.std.proofs.lemmas.Cmp.{nat_eq_equiv}
 use Rattle.std.proofs.lemmas.List.Sorted.{IsPermutation-sym, IsNonDecreasingBy-from_sort}
 use Rattle.std.proofs.lemmas.Map.Keys.{IsDistinct-head, IsDistinct-tail, IsDistinct-cons, IsDistinct-from_apart, IsDistinct-IsPermutation, any_passes_from_place, below_from_sorted, sorted_from_strictly_increasing, IsStrictlyIncreasing-from_distinct}
 use Rattle.htl_model.specs.declared.parts.Inv.{Inv}
@@ -20,7 +19,6 @@ use Rattle.htl_form.proofs.PathLaws.{true_together}
 use Rattle.htl_form.proofs.Places.{filled_at}
 use Rattle.htl_form.proofs.WriterLaws.{writes_before}
 use Rattle.htl_form.specs.Apart.{key, instance_of, AreNear, end_keys, keys_in, inv_keys, keys_from, is_comm, takes, is_taken, is_taken_end, IsApart, AreApart}
-use Rattle.htl_model.specs.First.{or_else, first_from}
 use Rattle.htl_form.specs.Owners.{AreNoted}
 use Rattle.htl_form.specs.Rows.{IsRangeOf}
 use Rattle.htl_form.specs.WriterFaults.{stand_together, rivals, outputs_before, writer_before}

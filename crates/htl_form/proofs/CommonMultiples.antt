@@ -6,10 +6,8 @@ use Rattle.std.proofs.lemmas.Nat.Gcd.{dvd_refl, dvd_trans}
 use Rattle.std.proofs.Math.Nat.{mul_comm, mul_assoc, mul_right_comm, mul-sub, dvd-sub, dvd-mul_left, dvd-mul_right_of_dvd, mul-dvd-mul_left, mul-dvd-mul_right, dvd_of_mul-dvd-mul_right, pos_of_dvd_of_pos, div-mul_cancel, mod-eq-sub-mul-div}
 use Rattle.htl_model.proofs.Divisors.{greatest_divisor}
 use Rattle.htl_model.proofs.FrameBuild.{roots_some}
-use Rattle.htl_model.specs.Frames.{gcd_in, common_multiple, multiple_of, root_periods, unit_period}
-use Rattle.htl_model.specs.Ranges.{AreInRange}
+use Rattle.htl_model.specs.Frames.{gcd_in, common_multiple, multiple_of, unit_period}
 use Rattle.htl_model.specs.Selections.{root_modules}
-use Rattle.htl_model.specs.Tables.{Tables}
 use Rattle.htl_form.specs.CommonMultiples.{IsLcm, IsLcmOf, FramesAreLeast}
 
 -- what divides two multiples divides that of the remainder

@@ -18,7 +18,6 @@ pub mod RowLaws
 pub mod RuleExamples
 pub mod RuleOrder
 pub mod SearchLaws
-pub mod SilentLaws
 pub mod SiteLaws
 mod WriterExamples
 pub mod WriterLaws

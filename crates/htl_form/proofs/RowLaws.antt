@@ -1,5 +1,5 @@
 -- What precedes what among the invocations of one mode, as rows of bits.
-use Rattle.std.proofs.Common.{◌≡◌, ◌≢◌, ◌<◌, ◌≤◌, ◌⊎◌, ℕ, zero, suc, ◌+◌, ◌-◌, ◌*◌, ◌^◌, Bool, true, false, ◌&&◌, ◌||◌, cond, eqb, ltb, List, [], ◌∷◌, ◌++◌, length, get_or, set, take, drop, map, Option, Some, None, refl, sym, ◌∙◌, ap, subst, arith, inl, inr}
+use Rattle.std.proofs.Common.{◌≡◌, ◌≢◌, ◌<◌, ◌≤◌, ℕ, zero, suc, ◌+◌, ◌-◌, ◌*◌, ◌^◌, Bool, true, false, ◌&&◌, ◌||◌, cond, eqb, ltb, List, [], ◌∷◌, ◌++◌, length, get_or, set, take, drop, map, Option, Some, None, refl, sym, ◌∙◌, ap, subst, arith, inl, inr}
 use Rattle.std.specs.Prelude.{slice_get}
 use Rattle.std.specs.Int.{bit_at}
 use Rattle.std.specs.Int.Bits.{bit_and, bit_or, or_zero_r}
@@ -11,11 +11,10 @@ use Rattle.std.proofs.lemmas.Nat.Bits.{and_pow, bit_at-lt}
 use Rattle.std.proofs.lemmas.Option.{slice_get-get_or}
 use Rattle.htl_model.proofs.BitLaws.{has_bit_or}
 use Rattle.htl_model.proofs.PortChains.{leads_from, leads_within}
-use Rattle.htl_model.specs.PortOrder.{leads_below}
+use Rattle.htl_model.specs.PortOrder.{leads_below, Leads, direct, through, feeds, feeds_at}
 use Rattle.htl_model.proofs.PortTableLaws.{row_by_reads}
 use Rattle.htl_model.specs.Bits.{has_bit, cell}
 use Rattle.htl_model.specs.declared.parts.Inv.{Inv}
-use Rattle.htl_model.specs.PortOrder.{Leads, direct, through, feeds, feeds_at}
 use Rattle.htl_model.specs.PortTable.{writes_to, is_from}
 use Rattle.htl_model.specs.Ranges.{AreInRange}
 use Rattle.htl_model.specs.Tables.{Tables}

@@ -1,5 +1,5 @@
 -- The value half over a whole instant of a run by frames, records included.
-use Rattle.std.proofs.Common.{◌≡◌, ℕ, zero, suc, ◌+◌, ◌-◌, ◌≤◌, ◌<◌, ◌⊎◌, Bool, true, false, cond, ◌&&◌, ◌||◌, ltb, List, [], ◌∷◌, slice_get, Option, Some, None, refl, sym, ap, ◌∙◌, subst, arith, inl, inr}
+use Rattle.std.proofs.Common.{◌≡◌, ℕ, zero, suc, ◌+◌, ◌-◌, ◌≤◌, ◌<◌, Bool, true, false, cond, ◌&&◌, ◌||◌, ltb, List, [], ◌∷◌, slice_get, Option, Some, None, refl, sym, ap, ◌∙◌, subst, arith, inl, inr}
 use mathlib.Core.Path.{fun_ext}
 use Rattle.std.proofs.lemmas.Bool.{ltb-true, lt-ltb, and_right, cases_lt}
 use Rattle.htl_model.specs.declared.event.Event.{Event}
@@ -7,7 +7,7 @@ use Rattle.htl_model.specs.declared.parts.Inv.{Inv}
 use Rattle.htl_model.specs.Tables.{Tables}
 use Rattle.htl_model.specs.Ranges.{AreInRange}
 use Rattle.htl_model.specs.FrameRules.{KeptApart}
-use Rattle.htl_model.specs.Meaning.{state, before, sense}
+use Rattle.htl_model.specs.Meaning.{state, before}
 use Rattle.htl_walk.specs.declared.job.Job.{Job}
 use Rattle.htl_walk.specs.Walk.{Left, job_at, is_position}
 use Rattle.htl_emach.specs.Contents.{Content, completed}
@@ -17,8 +17,7 @@ use Rattle.htl_machine.specs.FramesGoOn.{Now, present_finished, finished_at, Are
 use Rattle.htl_machine.specs.Completing.{complete_at, complete_by, run_records}
 use Rattle.htl_machine.specs.Turns.{finished_in}
 use Rattle.htl_machine.specs.Values.{InvStands, ValuesFollow, HasPlaces, HasReadInputs, Ready, and_also}
-use Rattle.htl_machine.specs.Worlds.{effects, all_writes, with_sensors}
-use Rattle.htl_machine.proofs.Carrying.{follows_on, after_shape, holds_values}
+use Rattle.htl_machine.proofs.Carrying.{follows_on, after_shape}
 use Rattle.htl_machine.proofs.SMachineInstants.{record_there, count_within}
 use Rattle.htl_machine.proofs.Finishing.{finish_follows, completed_shape}
 use Rattle.htl_machine.proofs.FramesGoOn.{finished_carried}
@@ -137,8 +136,3 @@ module _ (t : Tables) (range : AreInRange t) (kept : KeptApart t 12) (es : List 
       )
 
   -- after the records, the writes and the sensors the world holds the values of the instant
-  pub values_now : (n : ℕ) (w : Content) → ValuesFollow t es n (present_finished now n) w → HasPlaces t w
-      → (with_sensors t (sense t es) n (effects t (all_writes t n (before t es n).stays) (frame_records t now n w))).values ≡ (state t es n).values
-  values_now n w f shape =
-      let r = records_done n w f shape in
-      holds_values t range kept es n (finished_at now n) (present_finished now (suc n)) (frame_records t now n w) r.0 r.1 (all_ready n) (finished_carried t es now range kept frames n)

@@ -14,8 +14,7 @@ use Rattle.htl_emach.specs.Safety.{StandsSafely}
 use Rattle.htl_emach.specs.Following.{Onward, phase_path, done_of}
 use Rattle.htl_emach.specs.Leading.{IsAllowed}
 use Rattle.htl_emach.proofs.Keeping.{switch_quiet}
-use Rattle.htl_machine.specs.Running.{IsRunning, replay}
-use Rattle.htl_machine.specs.Running.{effect_at}
+use Rattle.htl_machine.specs.Running.{IsRunning, replay, effect_at}
 
 replay_more : (t : Tables) (code : ECode) (ds : List Done) (d : Done) (w : Content) → replay t code (ds ++ d ∷ []) w ≡ effect_at t (slice_get code.instrs d.address) (replay t code ds w)
 replay_more t code [] d w = refl

@@ -6,7 +6,6 @@ use Rattle.htl_model.specs.declared.parts.End.TheVariants as E
 use Rattle.htl_model.specs.declared.state.Stay.{Stay}
 use Rattle.htl_model.specs.Tables.{Tables, comm_period, offsets, greatest, least_or}
 use Rattle.htl_walk.specs.declared.job.Job.{Job}
-use Rattle.htl_walk.specs.Walk.{job_at}
 use Rattle.htl_machine.specs.JobsSoFar.{AreJobsSoFar}
 use Rattle.htl_machine.specs.Turns.{later_or, position_from, last_position_done, finished_in}
 use Rattle.htl_refine.proofs.RecordOrder.{not_some}

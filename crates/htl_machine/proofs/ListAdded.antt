@@ -56,9 +56,6 @@ drop_map g (suc n) (x ∷ xs) = drop_map g n xs
 module _ (t : Tables) (lists : List (List SInstr)) (es : List Event) (run : IsFeasibleRun t lists es) (n : ℕ) (here : (list_turn t lists es (suc n)).frame + (list_turn t lists es (suc n)).from ≡ suc n) (more : suc n % frame_of t ≢ 0)
     (takes : List ℕ) (takes_are : (i u : ℕ) → suc n ≤ u → get_or takes i 0 ≡ took t es i u) (r : Round)
     (ends : SMachineAt (list_turn t lists es n).plan (list_turn t lists es n).frame (length (list_turn t lists es n).plan.schedule) (suc n - (list_turn t lists es n).frame) r) where
-  abbrev v : Turn
-  v = list_turn t lists es n
-
   abbrev f : ℕ
   f = frame_start t n
 

@@ -1,7 +1,6 @@
 -- The starts of a frame: which list stands at an offset, and when the next begins.
 use Rattle.std.proofs.Common.{◌≡◌, ℕ, zero, suc, ◌+◌, ◌≤◌, ◌<◌, ◌⊎◌, Bool, true, false, cond, leb, List, [], ◌∷◌, length, get_or, slice_get, Some, refl, ap, ap₂, arith, inl, inr}
 use Rattle.std.proofs.lemmas.Bool.{leb-true, le-leb, lt-leb, leb-false}
-use Rattle.std.proofs.lemmas.Bool.Decides.{nat_tests}
 use Rattle.htl_model.specs.declared.frame.Place.{Place}
 use Rattle.htl_model.specs.Frames.{begins, known_by}
 use Rattle.htl_model.specs.Functions.{of_bool}

@@ -1,6 +1,5 @@
 -- What instructions change is marked.
-use Rattle.std.proofs.Common.{◌≡◌, ◌≢◌, ℕ, ◌+◌, ◌<◌, ◌≤◌, Bool, true, false, cond, ◌&&◌, ◌||◌, eqb, List, [], length, get_or, set, slice_get, Option, Some, None, IfSome, ℤ, pos, refl, sym, ap, ◌∙◌, subst, arith, length-set, get_or-set_other}
-use Rattle.std.proofs.lemmas.Bool.Decides.{nat_tests}
+use Rattle.std.proofs.Common.{◌≡◌, ℕ, ◌+◌, ◌<◌, ◌≤◌, Bool, false, ◌&&◌, ◌||◌, eqb, List, [], length, get_or, set, slice_get, Option, Some, None, IfSome, ℤ, pos, refl, sym, ap, ◌∙◌, subst, arith, length-set, get_or-set_other}
 use Rattle.htl_model.specs.declared.event.Event.{Event}
 use Rattle.htl_model.specs.Tables.{Tables}
 use Rattle.htl_model.specs.Ranges.{AreInRange}
@@ -10,10 +9,9 @@ use Rattle.htl_ecode.specs.declared.instr.EInstr.{EInstr}
 use Rattle.htl_ecode.specs.declared.instr.EInstr.TheVariants as I
 use Rattle.htl_ecode.specs.Spelling.{Spells}
 use Rattle.htl_ecode.proofs.SpellingLaws.{spelled_departs_not}
-use Rattle.htl_emach.specs.declared.trigger.Trigger.{Trigger}
 use Rattle.htl_emach.specs.declared.trigger.Block.{Block}
 use Rattle.htl_emach.specs.declared.trigger.EDone.{EDone}
-use Rattle.htl_emach.specs.Calendars.{Calendar, Standing, list_at, triggers_of, first_due, block_in, taken, taken_by, with_trigger, calendar_effect, done_at, done_in, entry_of, standing_after, content_after}
+use Rattle.htl_emach.specs.Calendars.{Calendar, Standing, list_at, triggers_of, first_due, block_in, taken, taken_by, calendar_effect, done_at, done_in, entry_of, standing_after, content_after}
 use Rattle.htl_emach.specs.Contents.{Content, comm_of, writes_at, effect}
 use Rattle.htl_emach.specs.Ready.{IsReady}
 use Rattle.htl_emach.specs.Safety.{StandsSafely}

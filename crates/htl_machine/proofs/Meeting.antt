@@ -11,7 +11,7 @@ use Rattle.htl_ecode.proofs.Spelled.{ModeReads}
 use Rattle.htl_emach.specs.Following.{phase_path}
 use Rattle.htl_machine.specs.Running as running
 use Rattle.htl_machine.specs.Worlds.{effects, all_writes, with_sensors}
-use Rattle.htl_machine.proofs.Tying.{replay}
+use Rattle.htl_machine.proofs.Tying.{replay, addresses, write_phase}
 use Rattle.htl_refine.specs.Records.{AreTookWithin}
 use Rattle.htl_machine.specs.Plans.{with_records, next_world}
 use Rattle.htl_machine.specs.RunLists.{turn_at}
@@ -26,7 +26,6 @@ use Rattle.htl_machine.proofs.Standing.{standing_before}
 use Rattle.htl_machine.proofs.FrameValues.{count_grows}
 use Rattle.htl_machine.proofs.ListValues.{values_now}
 use Rattle.htl_machine.proofs.LoadedLists.{loaded_turns}
-use Rattle.htl_machine.proofs.Tying.{addresses, write_phase}
 use Rattle.htl_machine.proofs.Pathing.{after_writes, after_switches, after_reads, path_does}
 
 -- what a phase's clause says of the world is what the addresses do

@@ -9,13 +9,11 @@ use Rattle.htl_model.specs.declared.parts.Mode.{Mode}
 use Rattle.htl_model.specs.FrameRules.{KeptApart}
 use Rattle.htl_model.specs.Frames as frames
 use Rattle.htl_model.specs.Frames.{frame_of, starts, unit_period, root_periods, rounds_of, choices, node}
-use Rattle.htl_model.specs.Lists.{places_from}
 use Rattle.htl_model.specs.Ranges.{AreInRange, IsModeInRange}
 use Rattle.htl_model.specs.Selections.{is_root, root_modules, modes_of, mode_of_module}
 use Rattle.htl_model.specs.Tables.{Tables, mode_period}
 use Rattle.htl_model.proofs.FrameRules.{frame_divided}
 use Rattle.htl_model.proofs.SelectionLaws.{modes_some, place_passes_0}
-use Rattle.htl_object.proofs.Limits.{place_passes}
 use Rattle.htl_walk.specs.declared.schedule.SInstr.{SInstr}
 use Rattle.htl_walk.proofs.PathReady.{IsRootAt, as_unit}
 use Rattle.htl_walk.proofs.Starts.{Rises}

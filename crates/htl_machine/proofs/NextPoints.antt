@@ -1,10 +1,8 @@
 -- The point at which the next list of a path begins.
-use Rattle.std.proofs.Common.{◌≡◌, ℕ, zero, suc, ◌+◌, ◌≤◌, ◌<◌, List, [], ◌∷◌, ◌++◌, length, take, drop, get_or, refl, sym, ap, ◌∙◌, arith}
-use Rattle.std.proofs.lemmas.List.{length-set}
+use Rattle.std.proofs.Common.{◌≡◌, ℕ, zero, suc, ◌+◌, ◌≤◌, ◌<◌, List, [], ◌∷◌, length, drop, get_or, refl, sym, ap, ◌∙◌, arith}
 use Rattle.htl_walk.specs.declared.job.Job.{Job}
 use Rattle.htl_walk.specs.declared.schedule.SInstr.{SInstr}
-use Rattle.htl_walk.specs.declared.schedule.SInstr.TheVariants.{Dispatch, Idle, End}
-use Rattle.htl_walk.specs.Walk.{Point, next_point, last_point, work}
+use Rattle.htl_walk.specs.Walk.{Point, last_point, work}
 use Rattle.htl_walk.specs.Paths.{Leg, list_point, AreInForm, path_point}
 use Rattle.htl_walk.proofs.GoingOn.{untouched}
 use Rattle.htl_refine.specs.ListPlans.{no_leg}

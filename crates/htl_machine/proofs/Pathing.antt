@@ -11,13 +11,12 @@ use Rattle.htl_ecode.specs.Paths.{writes_done, switches_done, reads_done}
 use Rattle.htl_ecode.proofs.Spelled.{ModeReads}
 use Rattle.htl_emach.specs.Contents.{Content}
 use Rattle.htl_machine.specs.Worlds.{effects, all_writes, with_sensors}
-use Rattle.htl_machine.proofs.Tying.{replay}
+use Rattle.htl_machine.proofs.Tying.{replay, addresses, write_phase, read_phase}
 use Rattle.htl_machine.specs.Plans.{with_records, next_world}
 use Rattle.htl_machine.specs.ListTurns.{Turn}
 use Rattle.htl_refine.proofs.Standing.{standing_at}
 use Rattle.htl_machine.proofs.Standing.{standing_before}
 use Rattle.htl_machine.proofs.SwitchPhase.{switch_phase}
-use Rattle.htl_machine.proofs.Tying.{addresses, write_phase, read_phase}
 
 module _ (t : Tables) (code : ECode) (range : AreInRange t) (reads : (m : ℕ) → m < length t.modes → ModeReads t code m) (es : List Event) (now : ℕ) where
   -- what each phase's addresses do

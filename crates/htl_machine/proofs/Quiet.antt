@@ -1,5 +1,5 @@
 -- Over instants at which nothing is due a machine goes on as it stands.
-use Rattle.std.proofs.Common.{◌≡◌, ℕ, zero, suc, ◌+◌, ◌-◌, ◌%◌, ◌<◌, ◌≤◌, Bool, true, false, cond, ◌||◌, not, eqb, List, [], ◌∷◌, ◌++◌, length, get_or, slice_get, map, Option, Some, None, IfSome, ℤ, pos, negsuc, refl, sym, ap, ap₂, ◌∙◌, subst, arith}
+use Rattle.std.proofs.Common.{◌≡◌, ℕ, zero, suc, ◌+◌, ◌-◌, ◌%◌, ◌<◌, ◌≤◌, Bool, true, false, cond, ◌||◌, not, eqb, List, [], ◌∷◌, ◌++◌, length, get_or, slice_get, map, Option, Some, None, IfSome, ℤ, pos, refl, sym, ap, ap₂, ◌∙◌, subst, arith}
 use Rattle.std.proofs.lemmas.Bool.Decides.{nat_tests}
 use Rattle.std.specs.Io.KnownBytes.{append_known}
 use Rattle.std.proofs.lemmas.List.{append-nil}
@@ -19,7 +19,6 @@ use Rattle.htl_smach.specs.Rounds as rounds
 use Rattle.htl_smach.specs.Rounds.{next_left}
 use Rattle.htl_ecode.specs.declared.ecode.ECode.{ECode}
 use Rattle.htl_ecode.specs.Paths.{Done, e_path}
-use Rattle.htl_ecode.proofs.Spelled.{ModeReads}
 use Rattle.htl_ecode.proofs.SpellingLaws.{spelled_departs_not}
 use Rattle.htl_emach.specs.declared.trigger.Block.{Block}
 use Rattle.htl_emach.specs.Contents.{Content}
@@ -56,7 +55,6 @@ use Rattle.htl_machine.proofs.Passing.{up_to_more}
 use Rattle.htl_machine.proofs.Ready.{ready}
 use Rattle.htl_machine.proofs.Recording.{recording_start, recording_end}
 use Rattle.htl_machine.proofs.LoadedRecords.{loaded_records}
-use Rattle.htl_machine.proofs.Wholly.{modes_read}
 use Rattle.htl_machine.specs.Quiet.{IsQuiet, AreQuiet, IsEmpty, PassOver}
 use Rattle.htl_refine.proofs.BeginningsEnd.{beginnings_end}
 use Rattle.htl_machine.proofs.NextLists.{begins_whole}
@@ -139,9 +137,6 @@ module _ (m : Seen) (es : List Event) (n : ℕ) (accepted : IsAccepted m.object)
 
   loaded : IsLoaded m.object.tables (schedules_of m.object)
   loaded = accepted_is_loaded m.object accepted
-
-  reads : (k : ℕ) → k < length m.object.tables.modes → ModeReads m.object.tables m.object.ecode k
-  reads = modes_read t code schedules loaded accepted.spelled.code m.show
 
   is_sound : Sound m.object.tables m.object.ecode
   is_sound = sound t code 12 (omega arith) loaded.range loaded.kept (spelled_departs_not t code accepted.spelled.code)

@@ -6,7 +6,7 @@ use Rattle.std.proofs.lemmas.List.{append_assoc, length-map, length-take}
 use Rattle.std.proofs.Math.Nat.{div-add-mod, mod-lt}
 use Rattle.htl_model.specs.declared.event.Event.{Event}
 use Rattle.htl_model.specs.declared.frame.Place.{Place}
-use Rattle.htl_model.specs.Frames.{frame_of, node, starts, rounds, root_periods, begins, known_by, multiple_of, starts_below, paths, choices, nodes}
+use Rattle.htl_model.specs.Frames.{frame_of, node, starts, rounds, root_periods, begins, known_by, multiple_of, starts_below, nodes}
 use Rattle.htl_model.specs.Selections.{root_modules}
 use Rattle.htl_model.specs.Tables.{Tables, is_concrete, task_worst}
 use Rattle.htl_model.specs.declared.parts.Inv.{Inv}
@@ -29,7 +29,7 @@ use Rattle.htl_refine.specs.ServedFrames.{IsServing, IsFeasibleRun}
 use Rattle.htl_refine.proofs.Fronts.{front_there, job_front}
 use Rattle.htl_refine.proofs.Inherit.{mapped}
 use Rattle.htl_refine.proofs.ListCounts.{count_split, done_split}
-use Rattle.htl_refine.proofs.ListsFollow.{legs_many, leg_from, leg_knows}
+use Rattle.htl_refine.proofs.ListsFollow.{legs_many, leg_from, leg_knows, begins_by}
 use Rattle.htl_refine.proofs.ListWalks.{form_at, list_walks}
 use Rattle.htl_refine.proofs.PathDerived.{placed_present}
 use Rattle.htl_refine.proofs.PathRead.{paths_read}
@@ -43,7 +43,6 @@ use Rattle.htl_machine.specs.FramesGoOn.{Now, AreFrames}
 use Rattle.htl_machine.specs.ListTurns.{Turn, turn_walk, records_so_far, AreTurns, IsTurn, IsListed, AreListed}
 use Rattle.htl_machine.specs.RunFrames.{now_of}
 use Rattle.htl_machine.specs.RunLists.{turn_of, begun_of, list_number, list_turn, RunsGoByLists}
-use Rattle.htl_refine.proofs.ListsFollow.{begins_by}
 use Rattle.htl_machine.proofs.FramePlaced.{at_place_is}
 use Rattle.htl_machine.proofs.ListStarts.{StandsAt, stands_at, some_begun, begun_next, ends_next, ends_within, known_same}
 use Rattle.htl_machine.proofs.ListValues.{take_front}
@@ -96,9 +95,6 @@ module _ (t : Tables) (lists : List (List SInstr)) (es : List Event) (run : IsFe
       by (p ∷ ps) e = first_start p ps (frame_of t) run.ticks
 
   -- ---- the frame of an instant
-
-  abbrev start : ℕ → ℕ
-  start n = frame_start t n
 
   abbrev frame : ℕ → Frame
   frame n = frame_at t lists es (frame_start t n)

@@ -1,17 +1,15 @@
 -- The S machine over an instant: which records it answers, when a list is over, and where it stands afterwards.
-use Rattle.std.proofs.Common.{◌≡◌, ℕ, zero, suc, ◌+◌, ◌-◌, ◌≤◌, ◌<◌, Bool, true, false, cond, ◌&&◌, leb, ltb, List, [], ◌∷◌, length, get_or, slice_get, replicate, Option, Some, None, option_map, refl, sym, ap, ap₂, ◌∙◌, arith}
+use Rattle.std.proofs.Common.{◌≡◌, ℕ, zero, suc, ◌+◌, ◌-◌, ◌≤◌, ◌<◌, Bool, true, false, cond, ◌&&◌, leb, ltb, List, [], ◌∷◌, length, slice_get, replicate, Option, Some, None, option_map, refl, sym, ap, ap₂, ◌∙◌, arith}
 use Rattle.std.proofs.lemmas.Bool.{lt-ltb, le-ltb, le-leb}
 use Rattle.std.proofs.lemmas.Bool.Decides.{nat_tests}
 use Rattle.htl_walk.specs.declared.job.Job.{Job}
-use Rattle.htl_walk.specs.declared.schedule.SInstr.{SInstr}
-use Rattle.htl_walk.specs.declared.schedule.SInstr.TheVariants.{Dispatch, Idle, End}
-use Rattle.htl_walk.specs.Walk.{Point, Left, job_at, time_after, next_point, walk_from, InForm}
+use Rattle.htl_walk.specs.Walk.{Point, Left, walk_from, InForm}
 use Rattle.htl_smach.specs.Rounds as rounds
 use Rattle.htl_smach.specs.Rounds.{Round, told, told_from, walk_records, next_left, left_until, moved}
 use Rattle.htl_refine.specs.RecordCounts.{count_left_before}
 use Rattle.htl_refine.specs.ListPlans.{ListPlan as Plan, list_walk}
 use Rattle.htl_machine.specs.Follows.{released_before, SMachineStands, SMachineAt}
-use Rattle.htl_refine.proofs.RecordOrder.{not_some, times_within}
+use Rattle.htl_refine.proofs.RecordOrder.{times_within}
 use Rattle.htl_machine.proofs.Turning.{at_count, before_count}
 use Rattle.htl_refine.proofs.ListCounts.{count_all}
 use Rattle.htl_refine.proofs.WorkDone.{length-walk}

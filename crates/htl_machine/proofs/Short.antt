@@ -11,7 +11,6 @@ use Rattle.htl_model.specs.Tables.{Tables}
 use Rattle.htl_ecode.specs.declared.ecode.ECode.{ECode}
 use Rattle.htl_ecode.specs.declared.instr.EInstr.{EInstr}
 use Rattle.htl_ecode.specs.Paths.{Done, on}
-use Rattle.htl_emach.specs.declared.trigger.Block.{Block}
 use Rattle.htl_emach.specs.declared.trigger.EDone.{EDone}
 use Rattle.htl_emach.specs.Calendars.{Calendar, Standing, done_in, standing_after, with_trigger}
 use Rattle.htl_emach.specs.Following.{Midway, Onward, calendar_replay, done_of, from_module, phase_blocks, phase_path}
@@ -20,7 +19,7 @@ use Rattle.htl_emach.specs.Pending.{Between}
 use Rattle.htl_emach.proofs.Inside.{next_of_block}
 use Rattle.htl_emach.proofs.Instants.{IsPhase, call_onward, every_module, steps}
 use Rattle.htl_emach.proofs.ModuleLaws.{ModuleLaws, due_target}
-use Rattle.htl_emach.proofs.Phases.{from_zero, phase_starts}
+use Rattle.htl_emach.proofs.Phases.{from_zero}
 use Rattle.htl_emach.proofs.Soundness.{sound as is_sound, phase_is}
 use Rattle.htl_emach.proofs.Switching.{Sound}
 use Rattle.htl_ecode.proofs.SpellingLaws.{spelled_departs_not}

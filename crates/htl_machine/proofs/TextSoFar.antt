@@ -1,5 +1,5 @@
 -- The text before an instant stays, whatever is read at that instant or later.
-use Rattle.std.proofs.Common.{◌≡◌, ◌<◌, ℕ, Bool, true, false, ◌&&◌, cond, eqb, leb, List, [], ◌∷◌, ◌++◌, refl, sym, ap, ◌∙◌, subst, arith}
+use Rattle.std.proofs.Common.{◌≡◌, ◌<◌, ℕ, false, cond, eqb, leb, List, [], ◌∷◌, ◌++◌, refl, sym, ap, ◌∙◌, subst, arith}
 use Rattle.std.proofs.lemmas.Bool.{lt-leb, and_right}
 use Rattle.std.proofs.lemmas.List.{append_assoc, append-nil}
 use Rattle.htl_model.specs.declared.event.Event.{Event}

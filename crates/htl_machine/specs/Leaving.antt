@@ -1,7 +1,7 @@
 -- The S machine while the records of an instant are left.
-use Rattle.std.specs.Prelude.{◌≡◌, ◌≤◌, ℕ, suc, ◌-◌, true, List}
+use Rattle.std.specs.Prelude.{◌≡◌, ◌≤◌, ℕ, suc, ◌-◌, List}
 use Rattle.htl_walk.specs.declared.schedule.SInstr.{SInstr}
-use Rattle.htl_smach.specs.Rounds.{Round, Stands, IsInForm, IsTold}
+use Rattle.htl_smach.specs.Rounds.{Round}
 use Rattle.htl_refine.specs.RecordCounts.{count_left_before}
 use Rattle.htl_refine.specs.ListPlans.{ListPlan as Plan, list_walk}
 use Rattle.htl_machine.specs.Follows.{SMachineAt}
@@ -10,17 +10,6 @@ use Rattle.htl_machine.specs.Follows.{SMachineAt}
 abbrev pub due_by : Plan → ℕ → ℕ → ℕ
 due_by p s at = count_left_before (suc at - s) (list_walk p)
 
--- wherever it stood, it stands in the same list, no record past those that are due
-abbrev pub Goes : Round → Round → List SInstr → ℕ → Type 0
-Goes old now code at =
-    (p : Plan) (s k d : ℕ) → p.schedule ≡ code → s ≤ at → k ≤ due_by p s at → SMachineAt p s k d old → (m : ℕ) × (k ≤ m) × (m ≤ due_by p s at) × SMachineAt p s m d now
-
 -- and once no more is answered, all of them are given
 abbrev pub Leaves : Round → Round → List SInstr → ℕ → Type 0
 Leaves old now code at = (p : Plan) (s k d : ℕ) → p.schedule ≡ code → s ≤ at → k ≤ due_by p s at → SMachineAt p s k d old → SMachineAt p s (due_by p s at) d now
-
-pub record IsLeaving (old now : Round) (code : List SInstr) (at : ℕ) : Type 0 where
-  pub form : now.running ≡ true → IsInForm now code
-  pub stands : Stands now code
-  pub told : IsTold now at
-  pub goes : Goes old now code at

@@ -1,21 +1,13 @@
 -- The S machine while the read phase of an instant is done: its releases make jobs ready.
-use Rattle.std.specs.Prelude.{◌≡◌, ℕ, true, List, [], ◌∷◌, slice_get, set, Option, Some, None}
-use Rattle.htl_model.specs.declared.event.Event.{Event}
-use Rattle.htl_model.specs.Tables.{Tables}
-use Rattle.htl_walk.specs.declared.job.Job.{Job}
-use Rattle.htl_walk.specs.declared.schedule.SInstr.{SInstr}
+use Rattle.std.specs.Prelude.{ℕ, true, List, [], ◌∷◌, slice_get, set, Option, Some, None}
 use Rattle.htl_smach.specs.declared.state.PosState.{PosState}
 use Rattle.htl_smach.specs.declared.state.PosState.TheVariants.{Absent, Pending, Ready, Done as Finished}
-use Rattle.htl_smach.specs.Rounds as rounds
 use Rattle.htl_smach.specs.Rounds.{Round, state_of}
 use Rattle.htl_ecode.specs.declared.ecode.ECode.{ECode}
 use Rattle.htl_ecode.specs.declared.instr.EInstr.{EInstr}
 use Rattle.htl_ecode.specs.declared.instr.EInstr.TheVariants as I
 use Rattle.htl_ecode.specs.Chains.{Want, Does}
 use Rattle.htl_ecode.specs.Paths.{Done}
-use Rattle.htl_emach.specs.Calendars.{Standing}
-use Rattle.htl_emach.specs.Contents.{Content}
-use Rattle.htl_machine.specs.Running.{IsRunning}
 use Rattle.htl_machine.specs.Turns.{position_from}
 
 -- a position is made ready, where it is pending
@@ -49,10 +41,3 @@ s_machine_want _ r = r
 abbrev pub s_machine_all : List Want → Round → Round
 s_machine_all [] r = r
 s_machine_all (w ∷ ws) r = s_machine_all ws (s_machine_want w r)
-
--- the read phase is being done; what is done of it was told
-pub record IsReadying (t : Tables) (code : ECode) (es : List Event) (at : ℕ) (m : Standing) (w first : Content) (s_machine before : Round) (jobs : List Job) : Type 0 where
-  pub running : IsRunning t code es at 3 m w first
-  pub are : s_machine.jobs ≡ jobs
-  pub told : s_machine ≡ s_machine_replay code running.done before
-  pub stands : (s : List SInstr) → rounds.Stands before s → rounds.Stands s_machine s

@@ -2,7 +2,7 @@
 -- of the list that begins.
 use Rattle.std.specs.Prelude.{◌≡◌, ℕ, zero, suc, ◌+◌, ◌-◌, ◌^◌, cond, eqb, min, List, [], ◌++◌, length, take, drop, slice_get, count_by, Option, Some, None}
 use Rattle.htl_model.specs.declared.event.Event.{Event}
-use Rattle.htl_model.specs.Lines.{lines_text, totals_line}
+use Rattle.htl_model.specs.Lines.{lines_text}
 use Rattle.htl_model.specs.Lists.{joined, up_to}
 use Rattle.htl_model.specs.Frames.{hyper}
 use Rattle.htl_model.specs.Tables.{Tables}
@@ -106,12 +106,6 @@ e_before t code es now = capped (sum_to (λ n. length (e_path t code es n)) now)
 
 abbrev pub s_before : Tables → List (List SInstr) → List Event → ℕ → ℕ
 s_before t schedules es now = capped (sum_to (λ n. length (records_of t schedules es (hyper t) n)) now)
-
--- the text of a run up to and including `end`
-abbrev pub listed_run_text : Tables → ECode → List (List SInstr) → List Event → Shown → ℕ → List ℕ
-listed_run_text t code schedules es show end =
-    listed_text_before t code schedules es show (suc end)
-    ++ totals_line end (jobs_before t schedules es (suc end)) (e_before t code es (suc end)) (s_before t schedules es (suc end))
 
 -- what is counted stands before an instant
 pub record TotalsFollow (t : Tables) (code : ECode) (schedules : List (List SInstr)) (es : List Event) (now jobs e s : ℕ) : Type 0 where

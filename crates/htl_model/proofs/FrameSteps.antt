@@ -1,30 +1,12 @@
 -- Starts one after another, and the numbers of nodes place by place.
-use Rattle.std.proofs.Common.{◌≡◌, ℕ, zero, suc, ◌+◌, ◌-◌, ◌*◌, ◌/◌, ◌%◌, ◌≤◌, ◌<◌, Bool, true, false, cond, ◌||◌, eqb, ne_eqb, min, List, [], ◌∷◌, ◌++◌, length, drop, drop-cons, map, get_or, add-one, refl, sym, ap, ◌∙◌, subst, arith, inl, inr}
-use Rattle.std.proofs.lemmas.Bool.{cases_lt, or_right}
+use Rattle.std.proofs.Common.{◌≡◌, ℕ, zero, suc, ◌+◌, ◌-◌, ◌*◌, ◌/◌, ◌%◌, ◌≤◌, ◌<◌, true, false, cond, ◌||◌, eqb, min, List, [], ◌∷◌, ◌++◌, length, drop, drop-cons, map, get_or, add-one, refl, sym, ap, ◌∙◌, subst, arith}
+use Rattle.std.proofs.lemmas.Bool.{or_right}
 use Rattle.std.proofs.lemmas.List.{append-nil, length-append}
-use Rattle.std.proofs.Math.Nat.{div-add-mod, mul-le-mul_left, mul-le-mul_right, div-mul-le_self, mul-div-le, mul-mod_left, le-mul_of_pos_right, mul_assoc}
+use Rattle.std.proofs.Math.Nat.{mul-le-mul_left, mul-le-mul_right, mul-mod_left, le-mul_of_pos_right, mul_assoc}
 use Rattle.htl_model.specs.Frames.{begins, starts_below, gcd_in, ways, nodes_of, node_of}
-use Rattle.htl_base.proofs.Tests.{eqb_some}
 use Rattle.htl_base.proofs.Numbers.{product_parts}
 
 -- ---- instants at which no round begins
-
--- a multiple of p that is greater than a number is at least the next one
-next_least : (p a x : ℕ) → a < x → x % p ≡ 0 → (a / p + 1) * p ≤ x
-next_least p a x l e =
-    let whole = div-add-mod x p in
-    elim (cases_lt (a / p) (x / p)) [
-      | inl h ↦
-          let more : (a / p + 1) * p ≤ x / p * p = mul-le-mul_right p (omega (arith, h)) in
-          omega (arith, more, div-mul-le_self x p)
-      | inr h ↦ absurd (omega (arith, mul-le-mul_left p h, mul-div-le a p, whole, e, l))
-    ]
-
-pub between : (p a x : ℕ) → a < x → x < (a / p + 1) * p → eqb (x % p) 0 ≡ false
-between p a x l h = elim (cases_lt 0 (x % p)) [
-  | inl k ↦ eqb_some (x % p) k
-  | inr k ↦ absurd (omega (arith, h, next_least p a x l (omega (arith, k))))
-]
 
 pub multiple_here : (p n : ℕ) → eqb ((n + 1) * p % p) 0 ≡ true
 multiple_here p n = ap (λ m. eqb m 0) (mul-mod_left (n + 1) p)

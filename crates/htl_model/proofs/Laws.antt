@@ -1,5 +1,5 @@
 -- The recursion over the history, read as equations on the instants.
-use Rattle.std.proofs.Common.{◌≡◌, ℕ, zero, suc, ◌-◌, ◌≤◌, ◌<◌, cond, ltb, List, ◌∷◌, length, get_or, slice_get, Some, None, ℤ, pos, refl, sym, ap, ◌∙◌, arith, ◌⊎◌, inl, inr}
+use Rattle.std.proofs.Common.{◌≡◌, ℕ, zero, suc, ◌-◌, ◌≤◌, ◌<◌, cond, ltb, List, ◌∷◌, length, get_or, slice_get, Some, None, ℤ, pos, refl, sym, ap, ◌∙◌, arith, inl, inr}
 use Rattle.std.proofs.lemmas.Bool.{lt-ltb, le-ltb}
 use mathlib.Core.Path.{fun_ext}
 use Rattle.htl_model.specs.declared.event.Event.{Event}

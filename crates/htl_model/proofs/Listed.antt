@@ -1,5 +1,5 @@
 -- The list of a function's values.
-use Rattle.std.proofs.Common.{◌≡◌, ℕ, zero, suc, ◌<◌, List, [], ◌∷◌, length, get_or, refl, sym, ap, ◌∙◌, arith, ◌++◌, ◌⊎◌, inl, inr, length-append}
+use Rattle.std.proofs.Common.{◌≡◌, ℕ, zero, suc, ◌<◌, List, [], ◌∷◌, length, get_or, refl, sym, ap, ◌∙◌, arith, ◌++◌, inl, inr, length-append}
 use Rattle.htl_model.specs.Lists.{list_to}
 use Rattle.htl_base.proofs.Numbers.{cases_below}
 

@@ -1,14 +1,13 @@
 -- What the meaning at an instant depends on.
-use Rattle.std.proofs.Common.{◌≡◌, ℕ, zero, suc, ◌*◌, ◌/◌, ◌≤◌, ◌<◌, Bool, true, false, cond, ◌&&◌, eqb, leb, List, [], ◌∷◌, ◌++◌, get_or, slice_get, length, Option, Some, None, ℤ, pos, refl, ap, ap₂, ◌∙◌, arith, ◌⊎◌, inl, inr, leb-true, leb-false}
+use Rattle.std.proofs.Common.{◌≡◌, ℕ, zero, suc, ◌*◌, ◌/◌, ◌≤◌, ◌<◌, cond, ◌&&◌, eqb, leb, List, [], ◌∷◌, ◌++◌, slice_get, length, Option, Some, None, ℤ, refl, ap, ap₂, ◌∙◌, arith}
 use mathlib.Core.Path.{fun_ext}
 use Rattle.htl_model.specs.declared.parts.Comm.{Comm}
 use Rattle.htl_model.specs.declared.event.Event.{Event}
-use Rattle.htl_model.specs.declared.event.Event.TheVariants as V
 use Rattle.htl_model.specs.Tables.{Tables}
 use Rattle.htl_model.specs.declared.state.State.{State}
 use Rattle.htl_model.specs.declared.state.Stay.{Stay}
 use Rattle.htl_model.specs.Lists.{up_to, list_to}
-use Rattle.htl_model.specs.Meaning.{run_lines, value_lines, changes, no_state, History, history, newest, next_state, next_values, next_value, written, stays_at, first_state, first_values, first_value, past, sense, last_sense, initial, all_value_lines, lines_so_far, val}
+use Rattle.htl_model.specs.Meaning.{run_lines, value_lines, changes, no_state, History, history, newest, next_state, next_values, next_value, written, stays_at, first_state, first_values, first_value, past, sense}
 use Rattle.htl_base.proofs.Numbers.{round_down}
 
 -- two sensor readings that agree up to n
@@ -52,77 +51,8 @@ history_local t f g (suc n) a =
     let P : History → History = λ h. next_state t f h (newest h) (suc n) ∷ h in
     ap P ih ∙ ap (λ x. x ∷ history t g n) (next_state_local t f g (history t g n) (newest (history t g n)) (suc n) a)
 
--- equal sensor values up to `now` give equal lines up to `now`
-pub lines_same : (t : Tables) (es fs : List Event) (now : ℕ) → Agree (sense t es) (sense t fs) now → all_value_lines t es now ≡ all_value_lines t fs now
-lines_same t es fs now a = ap (lines_so_far t) (history_local t (sense t es) (sense t fs) now a)
-
--- the events without the lengths of jobs
-abbrev pub without_lengths : List Event → List Event
-without_lengths [] = []
-without_lengths (V.Took i n ∷ es) = without_lengths es
-without_lengths (e ∷ es) = e ∷ without_lengths es
-
--- the events that were read at n or before, where those before them were read at `reading`
-abbrev pub read_by : ℕ → ℕ → List Event → List Event
-read_by n reading [] = []
-read_by n reading (V.At t ∷ es) = let rest = read_by n t es in cond (leb t n) (V.At t ∷ rest) rest
-read_by n reading (e ∷ es) = let rest = read_by n reading es in cond (leb reading n) (e ∷ rest) rest
-
-last_sense_lengths : (c u reading : ℕ) (x : ℤ) (es : List Event) → last_sense c u reading x es ≡ last_sense c u reading x (without_lengths es)
-last_sense_lengths c u reading x [] = refl
-last_sense_lengths c u reading x (V.At t ∷ es) = last_sense_lengths c u t x es
-last_sense_lengths c u reading x (V.Sense d y ∷ es) = last_sense_lengths c u reading _ es
-last_sense_lengths c u reading x (V.Took i n ∷ es) = last_sense_lengths c u reading x es
-last_sense_lengths c u reading x (V.End t ∷ es) = last_sense_lengths c u reading x es
-
--- whatever lengths a script has, its lines are the same
-pub lines_know_no_lengths : (t : Tables) (es : List Event) (now : ℕ) → all_value_lines t es now ≡ all_value_lines t (without_lengths es) now
-lines_know_no_lengths t es now =
-    lines_same t es (without_lengths es) now (λ c u h. last_sense_lengths c u 0 (initial t c) es)
-
--- the reading, or any other where the events that follow are past n
-abbrev pub Stands : ℕ → ℕ → ℕ → Type 0
-Stands n r r' = (r ≡ r') ⊎ (n < r)
-
-cond_le : {A : Type 0} (a n : ℕ) (p q : A) → (P : A → Type 0) → (a ≤ n → P p) → (n < a → P q) → P (cond (leb a n) p q)
-cond_le {A = A} a n p q P within past_it = go (leb a n) refl
-  where
-    go : (b : Bool) → leb a n ≡ b → P (cond b p q)
-    go true e = within (leb-true a n e)
-    go false e = past_it (leb-false a n e)
-
 pub not_yet : (c d r u : ℕ) (y x : ℤ) → u < r → cond (eqb c d && leb r u) y x ≡ x
 not_yet c d r u y x h = grind arith
-
-last_sense_read : (c u n r r' : ℕ) (x : ℤ) (es : List Event) → u ≤ n → Stands n r r' → last_sense c u r x es ≡ last_sense c u r' x (read_by n r es)
-last_sense_read c u n r r' x [] h s = refl
-last_sense_read c u n r r' x (V.At t ∷ es) h s =
-    let P : List Event → Type 0 = λ fs. last_sense c u t x es ≡ last_sense c u r' x fs in
-    cond_le t n (V.At t ∷ read_by n t es) (read_by n t es) P
-    (λ p. last_sense_read c u n t t x es h (inl refl)) (λ p. last_sense_read c u n t r' x es h (inr p))
-last_sense_read c u n r r' x (V.Sense d y ∷ es) h s =
-    let P : List Event → Type 0 = λ fs. last_sense c u r (cond (eqb c d && leb r u) y x) es ≡ last_sense c u r' x fs in
-    cond_le r n (V.Sense d y ∷ read_by n r es) (read_by n r es) P
-    (λ p.
-    let e : r ≡ r' = omega arith in
-    let X : ℕ → ℤ = λ z. cond (eqb c d && leb z u) y x in
-    last_sense_read c u n r r' (X r) es h s ∙ ap (λ z. last_sense c u r' (X z) (read_by n r es)) e)
-    (λ p. last_sense_read c u n r r' _ es h s ∙ ap (λ z. last_sense c u r' z (read_by n r es)) (not_yet c d r u y x (omega arith)))
-last_sense_read c u n r r' x (V.Took i k ∷ es) h s =
-    let P : List Event → Type 0 = λ fs. last_sense c u r x es ≡ last_sense c u r' x fs in
-    cond_le r n (V.Took i k ∷ read_by n r es) (read_by n r es) P
-    (λ p. last_sense_read c u n r r' x es h s) (λ p. last_sense_read c u n r r' x es h s)
-last_sense_read c u n r r' x (V.End k ∷ es) h s =
-    let P : List Event → Type 0 = λ fs. last_sense c u r x es ≡ last_sense c u r' x fs in
-    cond_le r n (V.End k ∷ read_by n r es) (read_by n r es) P
-    (λ p. last_sense_read c u n r r' x es h s) (λ p. last_sense_read c u n r r' x es h s)
-
--- what a communicator is at `now` depends only on the events that were read at `now` or before
-pub val_reads_back : (t : Tables) (es : List Event) (c now : ℕ) → val t es c now ≡ val t (read_by now 0 es) c now
-val_reads_back t es c now =
-    ap (λ h. get_or (newest h).values c (pos 0))
-    (history_local t (sense t es) (sense t (read_by now 0 es)) now
-    (λ d u h. last_sense_read d u now 0 0 (initial t d) es h (inl refl)))
 
 pub up_to_same : {A : Type 0} (f g : ℕ → List A) (n : ℕ) → ((k : ℕ) → k < n → f k ≡ g k) → up_to f n ≡ up_to g n
 up_to_same f g zero h = refl

@@ -1,5 +1,5 @@
 -- Tables in range stay in range when their functions are exchanged, and have the same selections; the same invocations stand for others.
-use Rattle.std.proofs.Common.{◌≡◌, ◌≤◌, ◌<◌, ℕ, zero, suc, ◌+◌, ◌*◌, ◌/◌, ◌%◌, cond, List, [], ◌∷◌, length, drop, get_or, slice_get, Option, Some, None, All, IfSome, refl, sym, ◌∙◌, ap, subst}
+use Rattle.std.proofs.Common.{◌≡◌, ◌≤◌, ◌<◌, ℕ, zero, suc, ◌+◌, ◌*◌, ◌/◌, ◌%◌, cond, List, [], ◌∷◌, length, drop, get_or, Option, Some, None, All, IfSome, refl, sym, ◌∙◌, ap, subst}
 use mathlib.Core.Path.{fun_ext}
 use Rattle.std.specs.List.{flat_map}
 use Rattle.htl_model.specs.declared.parts.Inv.{Inv}
@@ -8,8 +8,7 @@ use Rattle.htl_model.specs.declared.parts.End.{End}
 use Rattle.htl_model.specs.declared.parts.End.TheVariants as E
 use Rattle.htl_model.specs.Broken.{KeepsLimits}
 use Rattle.htl_model.specs.Ranges.{AreInRange, IsModeThat, parent_of, is_within, IsModuleInRange, IsEndInRange, IsInvInRange, IsFunInRange}
-use Rattle.htl_model.specs.Chosen.{is_child, child_from, child, itself_or, followed, chosen_in, chosen}
-use Rattle.htl_model.specs.Selections.{is_root, root_modules, modes_of, choices_from, selection_count, root_mode, invs_of, positions, round_length}
+use Rattle.htl_model.specs.Selections.{is_root, root_modules, modes_of, choices_from, selection_count, root_mode, invs_of, positions}
 use Rattle.htl_model.specs.Tables.{Tables, Fun, mode_module}
 use Rattle.htl_model.specs.Exchanged.{with_functions}
 
@@ -103,25 +102,4 @@ module _ (t : Tables) (fs : List Fun) where
         positions = λ sel less. subst (λ (ps : List ℕ). length ps ≤ 128) (positions_same sel) (h.positions sel (subst (λ (n : ℕ). sel < n) (sym selection_count_same) less));
       }
 
-  pub round_length_same : round_length t ≡ round_length (with_functions t fs)
-  round_length_same = refl
-
   -- ---- what stands for an invocation
-
-  child_same : (modes : List (Option ℕ)) (k n : ℕ) (xs : List Inv) → child_from t modes k n xs ≡ child_from (with_functions t fs) modes k n xs
-  child_same modes k n [] = refl
-  child_same modes k n (x ∷ xs) = ap (λ (o : Option ℕ). cond (is_child t modes k x) (Some n) o) (child_same modes k (suc n) xs)
-
-  chosen_in_same : (modes : List (Option ℕ)) (steps k : ℕ) → chosen_in steps t modes k ≡ chosen_in steps (with_functions t fs) modes k
-  chosen_in_same modes zero k = refl
-  chosen_in_same modes (suc steps) k =
-      ap (λ (f : ℕ → Option ℕ). itself_or t k (slice_get t.invs k) (followed f (child t modes k))) (fun_ext (chosen_in_same modes steps))
-      ∙ ap (λ (o : Option ℕ). itself_or t k (slice_get t.invs k) (followed (chosen_in steps (with_functions t fs) modes) o)) (child_same modes k 0 t.invs)
-      ∙ itself_same k (slice_get t.invs k) (followed (chosen_in steps (with_functions t fs) modes) (child (with_functions t fs) modes k))
-    where
-      itself_same : (k : ℕ) (o : Option Inv) (next : Option ℕ) → itself_or t k o next ≡ itself_or (with_functions t fs) k o next
-      itself_same k (Some i) next = refl
-      itself_same k None next = refl
-
-  pub chosen_same : (modes : List (Option ℕ)) (k : ℕ) → chosen t modes k ≡ chosen (with_functions t fs) modes k
-  chosen_same modes k = chosen_in_same modes (length t.modules) k

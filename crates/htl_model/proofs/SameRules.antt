@@ -5,7 +5,7 @@ use Rattle.htl_model.specs.declared.parts.Inv.{Inv}
 use Rattle.htl_model.specs.declared.parts.Mode.{Mode}
 use Rattle.htl_model.specs.declared.parts.End.{End}
 use Rattle.htl_model.specs.declared.parts.End.TheVariants as E
-use Rattle.htl_model.specs.Broken.{Breach, breach, PartBreaks, ModeBreaks, BreaksAt, Broken, KeptTo, Formed, IsFirstBroken, site_of}
+use Rattle.htl_model.specs.Broken.{Breach, breach, PartBreaks, ModeBreaks, BreaksAt, Broken, Formed, IsFirstBroken, site_of}
 use Rattle.htl_model.specs.declared.form_fault.FormFault.{FormFault}
 use Rattle.htl_model.specs.EndRules.{ReadLate, WriteOutside, TypeDiffers, WindowEmpty, AbstractRead, SensorWritten, input_types, output_types}
 use Rattle.htl_model.specs.FormRules.{FormRule, ModulePeriod, FrameLimits, Divides, Offsets, Ends, Windows, WorstCases, PortWriters, PortCycles, AbstractPorts, Sensors, ConcreteWriters, AbstractPlaces, Parents, SharedParents, Inheritance, Part, Itself, Input, Output, Test, Site}
@@ -216,9 +216,6 @@ broken_same t fs gs r s have need h =
 
 pub formed_same : (t : Tables) (fs gs : List Fun) → Formed (with_functions t fs) → Formed (with_functions t gs)
 formed_same t fs gs formed = λ r s have need h. formed r s have need (broken_same t gs fs r s have need h)
-
-pub kept_same : (t : Tables) (fs gs : List Fun) (last : ℕ) → KeptTo (with_functions t fs) last → KeptTo (with_functions t gs) last
-kept_same t fs gs last kept = λ r s have need within h. kept r s have need within (broken_same t gs fs r s have need h)
 
 pub first_same : (t : Tables) (fs gs : List Fun) (f : FormFault) → IsFirstBroken (with_functions t fs) f → IsFirstBroken (with_functions t gs) f
 first_same t fs gs f h =

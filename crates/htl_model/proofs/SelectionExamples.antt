@@ -1,12 +1,11 @@
 -- Selections and positions of two root modules with two modes each, and a refinement between them.
-use Rattle.std.specs.Prelude.{◌≡◌, [], ◌∷◌, Some, None, refl, codes, map}
+use Rattle.std.specs.Prelude.{◌≡◌, [], ◌∷◌, Some, None, refl, codes, map, true, false, pos}
 use Rattle.htl_model.specs.declared.parts.End.TheVariants as E
 use Rattle.htl_model.specs.Tables.{Tables, release, window_end, output_function, switch_function}
 use Rattle.htl_model.specs.Chosen.{chosen}
 use Rattle.htl_model.specs.Selected.{is_selection}
 use Rattle.htl_model.specs.Selections.{selection_count, root_mode, positions, root_period}
 use Rattle.htl_model.proofs.Sources.{plain, mode, module_named, task, call, switch, int_one, refined, reentered}
-use Rattle.std.specs.Prelude.{true, false, pos}
 
 abbrev two_by_two : Tables
 two_by_two =

@@ -1,5 +1,5 @@
 -- Where a module is, by where the modules are.
-use Rattle.std.proofs.Common.{◌≡◌, ℕ, zero, suc, ◌<◌, List, [], ◌∷◌, ◌++◌, length, slice_get, Option, Some, None, ℤ, refl, sym, ap, ◌∙◌, arith, ◌⊎◌, inl, inr, length-append}
+use Rattle.std.proofs.Common.{◌≡◌, ℕ, zero, suc, ◌<◌, List, [], ◌∷◌, ◌++◌, length, slice_get, Option, Some, None, ℤ, refl, sym, ap, ◌∙◌, arith, inl, inr, length-append}
 use Rattle.htl_model.specs.Tables.{Tables}
 use Rattle.htl_model.specs.declared.state.Stay.{Stay}
 use Rattle.htl_model.specs.Meaning.{stay_of, stays_to, next_stay_at}

@@ -1,6 +1,5 @@
 -- Small laws on tests and on the order of numbers.
-use Rattle.std.proofs.Common.{◌≡◌, ◌≢◌, ◌<◌, ◌⊎◌, ℕ, suc, Bool, true, false, ◌&&◌, ◌||◌, eqb, ltb, refl, sym, arith, inl, inr}
-use Rattle.std.proofs.lemmas.Bool.Decides.{nat_tests}
+use Rattle.std.proofs.Common.{◌≡◌, Bool, true, false, ◌&&◌, refl}
 
 pub and_true : (a b : Bool) → a ≡ true → (a && b) ≡ b
 and_true true b e = refl

@@ -1,5 +1,5 @@
 -- The lists of an object in range are in range, each item by those before it.
-use Rattle.std.proofs.Common.{◌≡◌, ◌≤◌, ◌<◌, ℕ, zero, suc, Bool, true, false, not, cond, ◌&&◌, ◌||◌, eqb, List, [], ◌∷◌, ◌++◌, length, map, take, drop, get_or, slice_get, Option, Some, None, All, IfSome, ℤ, pos, refl, sym, ◌∙◌, ap, subst, arith, inl, inr, take-append-drop}
+use Rattle.std.proofs.Common.{◌≡◌, ◌≤◌, ◌<◌, ℕ, zero, suc, Bool, true, false, not, cond, ◌&&◌, eqb, List, [], ◌∷◌, ◌++◌, length, map, take, drop, get_or, slice_get, Option, Some, None, All, IfSome, ℤ, pos, refl, sym, ◌∙◌, ap, subst, arith, inl, inr, take-append-drop}
 use Rattle.std.specs.Prelude.{nat_le, nat_lt, FitsSigned}
 use Rattle.std.specs.Int.{w64}
 use Rattle.std.specs.List.{list_any, count_by}

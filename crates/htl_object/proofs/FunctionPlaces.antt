@@ -1,5 +1,5 @@
 -- The functions of tables, one after the other: how many there are, and where each stands.
-use Rattle.std.proofs.Common.{◌≡◌, ◌≤◌, ◌<◌, ◌⊎◌, ◌*◌, ◌^◌, ℕ, zero, suc, ◌+◌, Bool, true, false, cond, List, length, map, add-one, get_or, slice_get, Option, Some, None, IfSome, sym, ◌∙◌, ap, subst, arith, inl, inr}
+use Rattle.std.proofs.Common.{◌≡◌, ◌≤◌, ◌<◌, ◌*◌, ◌^◌, ℕ, zero, suc, ◌+◌, Bool, true, false, cond, List, length, map, add-one, get_or, slice_get, Option, Some, None, IfSome, sym, ◌∙◌, ap, subst, arith, inl, inr}
 use Rattle.std.proofs.lemmas.List.{length-map}
 use Rattle.std.proofs.lemmas.Option.{slice_get_cases, slice_get-get_or}
 use Rattle.htl_base.specs.declared.Ty.{Ty}
@@ -48,9 +48,6 @@ output_there t k j x r at concrete less =
     task_within t k x at = elim (slice_get_cases t.tasks k).1 [ inl c ↦ c.1 | inr c ↦ absurd (let no : Some x ≡ None = sym at ∙ c.1 in cc) ]
 
 -- ---- one after the other
-
-pub below_next : (k n : ℕ) → k < n + 1 → (k < n) ⊎ (k ≡ n)
-below_next k n h = grind arith
 
 -- ---- the outputs of one task
 

@@ -15,9 +15,6 @@ use Rattle.htl_object.specs.Reading.{Read, ◌>>=◌, field_at, number_at, tagge
 use Rattle.htl_object.specs.Fields.{option_bytes, option_at, place_at, is_owner}
 use Rattle.htl_object.specs.Modules.{is_mode_of}
 
-abbrev pub module_of : List Mode → ℕ → Option ℕ
-module_of modes n = elim (slice_get modes n) [ Some m ↦ Some m.«module» | None ↦ None ]
-
 -- ---- ends
 
 abbrev pub end_bytes : End → List ℕ

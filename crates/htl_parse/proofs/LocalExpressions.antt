@@ -110,9 +110,6 @@ module _ (ops : Sign → Option BinOp) (next : Reader Expr) (l : Local next) whe
     same = λ m k us vs al. tail-both (length us) (length vs) e m k us vs al (omega arith) (omega arith);
   })
 
-  ok-less : (e : Expr) (us : List Placed) → length us ≤ length us
-  ok-less e us = omega arith
-
 compared-local : (next : Reader Expr) → Local next → (e : Expr) → Local (compared next e)
 compared-local next l e = record { less = less; same = same }
   where

@@ -27,10 +27,6 @@ pub graft_named : (o d : Object) (unit mode : List ℕ) (m k : ℕ) → Some m �
 graft_named o d unit mode m k p q =
     ap (λ (x : Option ℕ). graft_by o.tables d.tables x (mode_named d.tables unit mode)) (sym p) ∙ ap (graft_by o.tables d.tables (Some m)) (sym q)
 
-told : (o d : Object) (unit mode : List ℕ) → graft_of o.tables d.tables unit mode ≡ None → IsPatchStop o d unit mode (stop.Refused fault.Mode None)
-told o d unit mode e =
-    (subst (λ (x : Option Graft). IsFaultBy x fault.Mode) (sym e) refl, subst (λ (x : Option Graft). IsHandedBackBy x fault.Mode None) (sym e) refl)
-
 -- ---- faults
 
 both : (g : Graft) (f : PatchFault) → IsEarlyFault g f → IsGraftFault g f × IsHandedBack (patched g) f None

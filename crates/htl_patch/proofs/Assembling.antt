@@ -10,9 +10,8 @@ use Rattle.htl_model.specs.declared.parts.Switch.{Switch}
 use Rattle.htl_model.specs.declared.parts.Task.{Task}
 use Rattle.htl_patch.specs.Joining.{first_limit, Joins}
 use Rattle.htl_patch.specs.Patched.{patched}
-use Rattle.htl_patch.specs.Stops.{AreMet, IsJoinFault, IsEarlyFault}
+use Rattle.htl_patch.specs.Stops.{AreMet, IsEarlyFault}
 use Rattle.htl_patch.specs.United.{Graft}
-use Rattle.htl_patch.specs.declared.fault.PatchFault.{PatchFault}
 use Rattle.htl_patch.specs.declared.fault.PatchFault.TheVariants as fault
 
 abbrev pub made : List Comm → List Mode → List Module → List Port → List Task → List Inv → List Switch → List Fun → Tables
@@ -33,16 +32,6 @@ same_tables {a} {a'} {b} {b'} {c} {c'} {d} {d'} {e} {e'} {f} {f'} {s} {s'} {k} {
 
 pub joined : (g : Graft) → AreMet g → first_limit (patched g) ≡ None → Joins g
 joined g m e = record { comms = m.comms; parents = m.parents; names = m.names; limits = e }
-
-pub early : (g : Graft) (f : PatchFault) → IsJoinFault g f → IsEarlyFault g f
-early g (fault.Comms place) h = h
-early g (fault.Parent inv) h = h
-early g (fault.Twice unit) h = h
-early g (fault.Limit which count) h = absurd h
-early g (fault.IllFormed f) h = absurd h
-early g (fault.Function k) h = absurd h
-early g fault.Mode h = absurd h
-early g (fault.Malformed m) h = absurd h
 
 pub limited : (g : Graft) (which count : ℕ) → AreMet g → first_limit (patched g) ≡ Some (which, count) → IsEarlyFault g (fault.Limit which count)
 limited g which count m e = (m.comms, m.parents, m.names, e)

@@ -6,7 +6,7 @@ use Rattle.htl_model.specs.Functions.{Number}
 use Rattle.htl_model.specs.Tables.{Tables, Fun, Formula, function_count, count_at, count_before, switch_function}
 use Rattle.htl_model.specs.declared.parts.Task.{Task}
 use Rattle.htl_patch.specs.Renumbered.{functions_of, function_of_switch}
-use Rattle.htl_patch.specs.United.{Graft, united, donor_task, donor_switch, output_count, output_functions, switch_functions}
+use Rattle.htl_patch.specs.United.{Graft, united, donor_task, output_count, output_functions, switch_functions}
 use Rattle.htl_patch.proofs.Members.{none}
 use Rattle.htl_patch.proofs.Counting.{count_within, take_length}
 use Rattle.htl_base.proofs.Places.{get_back, get_front, get_mapped, take_front}
@@ -57,17 +57,6 @@ task_at_place : (xs : List Task) (k : ℕ) → k < length xs → (x : Task) × (
 task_at_place [] k less = absurd (omega (arith, less))
 task_at_place (x ∷ xs) zero less = (x, refl)
 task_at_place (x ∷ xs) (suc k) less = task_at_place xs k (omega (arith, less))
-
--- a number behind those of the host is one of the donor
-pub back_within : (g : Graft) (k : ℕ) → length g.host.tasks ≤ k → k < length (united g).tasks → k - length g.host.tasks < length g.donor.tasks
-back_within g k le less =
-    let sum = length-append g.host.tasks (map (donor_task g) g.donor.tasks) in
-    let images = length-map g.donor.tasks (donor_task g) in omega (arith, le, less, sum, images)
-
-pub switch_within : (g : Graft) (k : ℕ) → length g.host.switches ≤ k → k < length (united g).switches → k - length g.host.switches < length g.donor.switches
-switch_within g k le less =
-    let sum = length-append g.host.switches (map (donor_switch g) g.donor.switches) in
-    let images = length-map g.donor.switches (donor_switch g) in omega (arith, le, less, sum, images)
 
 module _ (g : Graft) (host : AreInRange g.host) (donor : AreInRange g.donor) where
   abbrev u : Tables

@@ -1,10 +1,10 @@
 -- Tests of what is taken over: by places, and by the invocations that stand for others.
-use Rattle.std.proofs.Common.{◌≡◌, ◌≤◌, ◌<◌, ◌+◌, ℕ, zero, suc, Bool, true, false, cond, not, ◌&&◌, ◌||◌, ◌⊎◌, inl, inr, eqb, ltb, List, [], ◌∷◌, ◌++◌, length, length-append, map, drop, get_or, slice_get, Option, Some, None, refl, sym, ◌∙◌, ap, subst, arith}
+use Rattle.std.proofs.Common.{◌≡◌, ◌<◌, ◌+◌, ℕ, zero, suc, Bool, true, false, cond, not, ◌&&◌, ◌||◌, eqb, ltb, List, [], ◌∷◌, ◌++◌, length, length-append, map, drop, get_or, slice_get, Option, Some, None, refl, sym, ◌∙◌, ap, subst, arith}
 use Rattle.std.proofs.lemmas.Bool.Decides.{nat_tests}
 use Rattle.std.proofs.lemmas.List.{length-map}
 use Rattle.std.proofs.lemmas.Option.{slice_get-get_or}
 use Rattle.std.specs.List.{list_any}
-use Rattle.htl_model.specs.Lists.{numbered, first_some, list_to}
+use Rattle.htl_model.specs.Lists.{numbered, first_some}
 use Rattle.htl_model.specs.Ranges.{AreInRange, IsModeInRange, IsInvInRange}
 use Rattle.htl_model.specs.Tables.{Tables, mode_module}
 use Rattle.htl_model.specs.declared.parts.Inv.{Inv}

@@ -4,7 +4,6 @@ pub mod Assembling
 pub mod BothOwners
 pub mod CountLaws
 pub mod Counting
-pub mod Covering
 pub mod Embedded
 pub mod EmbeddedPaths
 pub mod Examples

@@ -1,5 +1,5 @@
 -- Items with the new numbers that lists of new numbers tell are the renumbered ones.
-use Rattle.std.proofs.Common.{◌≡◌, ◌≤◌, ◌<◌, ◌+◌, ◌-◌, ℕ, zero, suc, cond, Bool, true, false, eqb, List, [], ◌∷◌, ◌++◌, length, length-append, map, get_or, slice_get, Option, Some, None, IfSome, option_map, All, refl, sym, ◌∙◌, ap, arith}
+use Rattle.std.proofs.Common.{◌≡◌, ◌≤◌, ◌<◌, ◌+◌, ◌-◌, ℕ, zero, cond, Bool, true, false, eqb, List, [], ◌∷◌, ◌++◌, length, length-append, map, get_or, slice_get, Option, Some, None, IfSome, option_map, All, refl, sym, ◌∙◌, ap, arith}
 use Rattle.std.proofs.lemmas.List.{length-map}
 use Rattle.std.proofs.lemmas.Option.{slice_get_within, slice_get-get_or}
 use Rattle.htl_model.specs.Ranges.{AreInRange, IsInvInRange, IsEndInRange}
@@ -20,11 +20,6 @@ use Rattle.htl_patch.proofs.Members.{Has, map_map, map_on, of_places_0}
 use Rattle.htl_base.proofs.Places.{all_at}
 
 -- ---- an item of both programs, by its number
-
-pub at_front : {A : Type 0} (xs ys : List A) (k : ℕ) (x d : A) → k < length xs → x ≡ get_or xs k x → get_or (xs ++ ys) k d ≡ x
-at_front [] ys k x d less is = absurd (omega (arith, less))
-at_front (z ∷ xs) ys zero x d less is = sym is
-at_front (z ∷ xs) ys (suc k) x d less is = at_front xs ys k x d (omega (arith, less)) is
 
 pub has_item : {A : Type 0} (xs : List A) (k : ℕ) (x : A) → k < length xs → x ≡ get_or xs k x → slice_get xs k ≡ Some x
 has_item xs k x less is = slice_get-get_or xs k x less ∙ ap (λ y. Some y) (sym is)

@@ -10,16 +10,13 @@ use Rattle.htl_model.specs.Frames.{unit_period, rounds_of, rounds_at, places_of,
 use Rattle.htl_model.specs.Selected.{entry, IsSelection, IsEntry, IsModeOf}
 use Rattle.htl_model.specs.Selections.{is_root, root_modules, mode_of_module, modes_of, invs_of}
 use Rattle.htl_model.specs.Tables.{Tables}
-use Rattle.htl_refine.specs.DerivedPaths.{round_places, start_places, standing_place, begun_places, modes_of_all}
+use Rattle.htl_refine.specs.DerivedPaths.{start_places, standing_place, begun_places, modes_of_all}
 use Rattle.htl_refine.specs.declared.selection.Selection.{Selection}
 use Rattle.htl_refine.proofs.Members.{of_places, at_place}
 use Rattle.std.proofs.lemmas.Bool.{eq-eqb}
 use Rattle.std.proofs.lemmas.Option.{none-some}
 
 -- ---- one module, and one start, more
-
-pub start_more : (t : Tables) (m : List (Option ℕ)) (a : ℕ) (us : List ℕ) (k : ℕ) → k < length us → start_places t m a (drop k us) ≡ round_places t m a (get_or us k 0) ++ start_places t m a (drop (k + 1) us)
-start_more t m a us k l = rw add-one (ap (start_places t m a) (drop-cons us k 0 l))
 
 pub begun_more : (t : Tables) (sels : List (List (Option ℕ))) (as' : List ℕ) (j : ℕ) → j < length sels → j < length as'
     → begun_places t (drop j sels) (drop j as') ≡ map (standing_place t (get_or sels j [])) (start_places t (get_or sels j []) (get_or as' j 0) (root_modules t)) ++ begun_places t (drop (j + 1) sels) (drop (j + 1) as')

@@ -123,10 +123,6 @@ legs_agree h xs ys (a ∷ later) zero e = refl
 legs_agree h xs ys (a ∷ later) (suc k) e =
     ap₂ (λ n gs. let g : Leg = record { from = a; to = next_of h later; known = n } in g ∷ gs) (e 0 (omega arith) (omega arith)) (legs_agree h xs ys later k (λ j l m. e (suc j) (omega (arith, l)) (omega (arith, m))))
 
-length_snoc : {A : Type 0} (xs : List A) (y : A) → length (xs ++ y ∷ []) ≡ suc (length xs)
-length_snoc [] y = refl
-length_snoc (x ∷ xs) y = ap (λ n. suc n) (length_snoc xs y)
-
 lists_same : {A : Type 0} (g h : ℕ → A) (n : ℕ) → ((j : ℕ) → j < n → g j ≡ h j) → list_to g n ≡ list_to h n
 lists_same g h zero e = refl
 lists_same g h (suc n) e = ap₂ (λ xs y. xs ++ y ∷ []) (lists_same g h n (λ j l. e j (omega (arith, l)))) (e n (omega arith))

@@ -1,9 +1,5 @@
 -- The first items of lists.
-use Rattle.std.proofs.Common.{◌≡◌, ℕ, zero, suc, ◌+◌, ◌≤◌, ◌<◌, Bool, true, false, cond, leb, List, [], ◌∷◌, get_or, map, slice_get, take, Some, refl, ◌∙◌, ap, ap₂, arith}
-use Rattle.std.proofs.lemmas.Bool.{le-leb, leb-true}
-use Rattle.htl_model.specs.declared.frame.Place.{Place}
-use Rattle.htl_model.specs.Frames.{known_by}
-use Rattle.htl_model.specs.Functions.{of_bool}
+use Rattle.std.proofs.Common.{◌≡◌, ℕ, zero, suc, ◌<◌, cond, List, [], ◌∷◌, map, slice_get, take, Some, refl, ◌∙◌, ap, arith}
 use Rattle.htl_walk.specs.declared.job.Job.{Job}
 use Rattle.htl_walk.specs.Walk.{job_at, work}
 use Rattle.htl_refine.proofs.RecordOrder.{not_some}
@@ -34,9 +30,3 @@ take_work (suc n) (j ∷ js) [] = ap (λ ws. 0 ∷ ws) (ap (work (take n js)) (n
     none zero = refl
     none (suc n) = refl
 take_work (suc n) (j ∷ js) (m ∷ ns) = ap (λ ws. cond j.present m 0 ∷ ws) (take_work n js ns)
-
-bit_grow : (b c : Bool) (m n : ℕ) → (b ≡ true → c ≡ true) → m ≤ n → of_bool b + m ≤ of_bool c + n
-bit_grow true true m n h l = omega (arith, l)
-bit_grow true false m n h l = absurd (let z : false ≡ true = h refl in cc)
-bit_grow false true m n h l = omega (arith, l)
-bit_grow false false m n h l = omega (arith, l)

@@ -8,7 +8,7 @@ use Rattle.htl_walk.specs.Paths.{Leg, list_point, AreInForm, AreChained, path_po
 use Rattle.htl_walk.specs.Refinement.{HaveLengths}
 use Rattle.htl_walk.specs.Walk.{Point, job_at, time_after, work_after, next_point, last_point, first_point, work, earlier}
 use Rattle.htl_walk.proofs.Joining.{stays}
-use Rattle.htl_walk.proofs.Steps.{left_same, left_other, time_rises}
+use Rattle.htl_walk.proofs.Steps.{left_same, left_other}
 use Rattle.htl_walk.proofs.Unreleased.{Alike, alike_walks}
 use Rattle.htl_walk.proofs.Work.{job_there, work_present, present_or_idle}
 use Rattle.htl_refine.specs.FrameRuns.{Frame}

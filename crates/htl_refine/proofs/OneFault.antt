@@ -5,7 +5,7 @@ use Rattle.htl_model.specs.declared.form_fault.FormFault.{FormFault}
 use Rattle.htl_model.specs.declared.parts.Mode.{Mode}
 use Rattle.htl_model.specs.Tables.{Tables, mode_module}
 use Rattle.htl_model.specs.Ranges.{AreInRange}
-use Rattle.htl_model.specs.FormRules.{FormRule, number_of, Part, Site, ComesBefore}
+use Rattle.htl_model.specs.FormRules.{FormRule, number_of, Site, ComesBefore}
 use Rattle.htl_model.specs.FormRules as law
 use Rattle.htl_model.specs.Broken.{breach, BreaksAt, Broken, site_of, IsFirstBroken, KeptTo, Formed}
 use Rattle.htl_form.proofs.OneFault.{SameSite, order, one_at, same_fault, broken_there, one_form_fault}

@@ -14,9 +14,8 @@ use Rattle.htl_form.proofs.CycleLaws.{leads_same}
 use Rattle.htl_form.proofs.Places.{filled_at}
 use Rattle.htl_form.proofs.RowLaws.{cell_below, way_out, way_in, unfold_follows}
 use Rattle.htl_model.specs.Bits.{has_bit, cell}
-use Rattle.htl_model.specs.PortOrder.{Leads}
+use Rattle.htl_model.specs.PortOrder.{Leads, leads_below}
 use Rattle.htl_model.proofs.PortChains.{leads_from, leads_within}
-use Rattle.htl_model.specs.PortOrder.{leads_below}
 use Rattle.htl_refine.specs.Orders.{AreRowsBelow, ArePlaces, IsPut}
 use Rattle.htl_refine.specs.Refining.{inv_precedes, writer_parent}
 use Rattle.htl_refine.proofs.PrecedenceLaws.{precedes_is, strangers}

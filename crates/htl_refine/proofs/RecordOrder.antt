@@ -1,11 +1,11 @@
 -- The records of a frame are in order of time, and none comes after it.
-use Rattle.std.proofs.Common.{◌≡◌, ℕ, zero, suc, ◌+◌, ◌-◌, ◌≤◌, ◌<◌, ◌⊎◌, Bool, true, false, cond, ltb, List, [], ◌∷◌, ◌++◌, length, get_or, slice_get, Option, Some, None, refl, sym, ap, ◌∙◌, arith, inl, inr}
+use Rattle.std.proofs.Common.{◌≡◌, ℕ, zero, suc, ◌+◌, ◌-◌, ◌≤◌, ◌<◌, Bool, true, false, cond, ltb, List, [], ◌∷◌, ◌++◌, length, get_or, slice_get, Option, Some, None, refl, sym, ap, ◌∙◌, arith, inl, inr}
 use Rattle.std.proofs.lemmas.Bool.{cases_lt, ltb-false}
 use Rattle.htl_walk.specs.declared.job.Job.{Job}
 use Rattle.htl_walk.specs.declared.schedule.SInstr.{SInstr}
 use Rattle.htl_walk.specs.declared.schedule.SInstr.TheVariants.{Dispatch, Idle, End}
 use Rattle.htl_walk.specs.Paths.{Leg, list_point, walks_from, end_to_end, AreInForm, AreChained}
-use Rattle.htl_walk.specs.Walk.{Point, Left, job_at, time_after, next_point, walk_from, last_point, InForm}
+use Rattle.htl_walk.specs.Walk.{Point, Left, job_at, next_point, walk_from, last_point, InForm}
 use Rattle.htl_walk.proofs.Steps.{time_rises}
 use Rattle.htl_refine.specs.RecordCounts.{Rises, count_left_before}
 use Rattle.htl_walk.proofs.Accepted.{past_legs}

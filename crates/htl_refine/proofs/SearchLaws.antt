@@ -1,9 +1,7 @@
 -- The search answers the first broken rule.
-use Rattle.std.proofs.Common.{◌≡◌, ℕ, ◌+◌, ◌≤◌, ◌<◌, ◌⊎◌, false, Some, None, refl, sym, ◌∙◌, ap, subst, arith, inl, inr}
+use Rattle.std.proofs.Common.{◌≡◌, ℕ, ◌+◌, ◌≤◌, ◌<◌, ◌⊎◌, Some, None, sym, ◌∙◌, ap, subst, arith, inl, inr}
 use Rattle.std.specs.Prelude.{slice_get}
 use Rattle.htl_model.specs.declared.form_fault.FormFault.{FormFault}
-use Rattle.htl_model.specs.declared.parts.Inv.{Inv}
-use Rattle.htl_model.specs.declared.parts.End.{End}
 use Rattle.htl_model.specs.Tables.{Tables}
 use Rattle.htl_model.specs.Ranges.{AreInRange}
 use Rattle.htl_model.specs.FormRules.{FormRule, number_of, Site, ComesBefore}
@@ -12,7 +10,7 @@ use Rattle.htl_form.proofs.Finding.{finds_nothing}
 use Rattle.htl_model.proofs.FirstLaws.{none_at, found_at, IsFirstAt}
 use Rattle.htl_form.proofs.Judging.{Judges}
 use Rattle.htl_form.proofs.SiteLaws.{rule_none, rule_first, IsFirstOfRule}
-use Rattle.htl_refine.specs.Rules.{refinement_law_of, refinement_rule_number, refinement_rules, judges_refined_inputs}
+use Rattle.htl_refine.specs.Rules.{refinement_law_of, refinement_rule_number, refinement_rules}
 use Rattle.htl_refine.specs.Tests.{tests, refinement_fault_of, first_refinement_fault}
 use Rattle.htl_refine.specs.declared.rule.Rule.{Rule}
 use Rattle.htl_refine.specs.declared.rule.Rule.TheVariants as R
@@ -20,24 +18,6 @@ use Rattle.htl_refine.proofs.RefiningLaws.{place_is, parent_is, shared_is, excee
 use Rattle.htl_refine.proofs.RuleOrder.{place_of, number_at}
 
 -- ---- what isn't judged
-
-pub input_silent : (t : Tables) (r : Rule) → judges_refined_inputs r ≡ false → (k : ℕ) (i : Inv) (j : ℕ) (e : End) → (tests t r).input k i j e ≡ None
-input_silent t R.AbstractPlaces h k i j e = refl
-input_silent t R.Parents h k i j e = refl
-input_silent t R.SharedParents h k i j e = refl
-input_silent t R.Inheritance h k i j e = cc
-
-pub output_silent : (t : Tables) (r : Rule) (k : ℕ) (i : Inv) (j : ℕ) (e : End) → (tests t r).output k i j e ≡ None
-output_silent t R.AbstractPlaces k i j e = refl
-output_silent t R.Parents k i j e = refl
-output_silent t R.SharedParents k i j e = refl
-output_silent t R.Inheritance k i j e = refl
-
-pub test_silent : (t : Tables) (r : Rule) (m c : ℕ) → (tests t r).test m c ≡ None
-test_silent t R.AbstractPlaces m c = refl
-test_silent t R.Parents m c = refl
-test_silent t R.SharedParents m c = refl
-test_silent t R.Inheritance m c = refl
 
 -- ---- each rule's tests find exactly what breaks it
 

@@ -1,5 +1,5 @@
 -- The modes in which the modules are at an instant are a selection of running modes.
-use Rattle.std.proofs.Common.{◌≡◌, ℕ, zero, suc, ◌+◌, ◌<◌, Bool, true, false, ◌&&◌, cond, eqb, List, [], ◌∷◌, length, map, Option, Some, None, IfSome, ℤ, refl, sym, ◌∙◌, ap, subst, arith, length-append}
+use Rattle.std.proofs.Common.{◌≡◌, ℕ, zero, suc, ◌+◌, ◌<◌, Bool, true, false, ◌&&◌, cond, eqb, List, [], ◌∷◌, length, map, Option, Some, None, IfSome, ℤ, refl, sym, ◌∙◌, ap, subst, arith}
 use Rattle.std.specs.Prelude.{slice_get, option_map}
 use Rattle.std.proofs.lemmas.List.{length-map}
 use Rattle.std.proofs.lemmas.Option.{slice_get_within, none-some}
@@ -8,7 +8,7 @@ use Rattle.htl_model.specs.declared.parts.Mode.{Mode}
 use Rattle.htl_model.specs.declared.parts.Module.{Module}
 use Rattle.htl_model.specs.declared.parts.Switch.{Switch}
 use Rattle.htl_model.specs.declared.state.Stay.{Stay}
-use Rattle.htl_model.specs.Meaning.{state, module_stay, stay_of, stays_to, next_stay, next_stay_at, go_on_or_begin, runs, target, target_from, switch_holds}
+use Rattle.htl_model.specs.Meaning.{state, module_stay, stay_of, stays_to, next_stay, go_on_or_begin, runs, target, target_from, switch_holds}
 use Rattle.htl_model.specs.Ranges.{AreInRange, IsModeThat, IsSwitchInRange}
 use Rattle.htl_model.specs.Selected.{entry, is_at, is_running, IsModeOf, is_active, IsEntry, IsSelection}
 use Rattle.htl_model.specs.Tables.{Tables, mode_module, mode_period}

@@ -5,8 +5,7 @@ use Rattle.htl_model.specs.declared.parts.Inv.{Inv}
 use Rattle.htl_model.specs.declared.parts.Module.{Module}
 use Rattle.htl_model.specs.declared.parts.End.{End}
 use Rattle.htl_model.specs.declared.parts.End.TheVariants as E
-use Rattle.htl_model.specs.PortOrder.{leads_below}
-use Rattle.htl_model.specs.PortOrder.{feeds}
+use Rattle.htl_model.specs.PortOrder.{leads_below, feeds}
 use Rattle.htl_model.specs.PortWriters.{is_port}
 use Rattle.htl_model.specs.SecondWriters.{parent_mode}
 use Rattle.htl_model.specs.Tables.{Tables, mode_module, is_concrete, task_worst, release, window_end}

@@ -5,10 +5,9 @@ use Rattle.std.proofs.Common.{inl, inr, ◌≡◌, ◌≢◌, ◌⊎◌, ◌+◌
 use Rattle.std.specs.Option.{option_map}
 use Rattle.std.specs.declared.cmp.Ordering.{Ordering}
 use Rattle.std.specs.declared.cmp.Ordering.TheVariants.{Less, Equal, Greater}
-use Rattle.std.specs.Ordering.{ordering_reverse, nat_cmp}
+use Rattle.std.specs.Ordering.{ordering_reverse, nat_cmp, is_eq}
 use Rattle.std.specs.Cmp.Lexicographic.{slice_cmp}
 use Rattle.std.proofs.lemmas.Cmp.{nat_list_cmp_total, tied_itself}
-use Rattle.std.specs.Ordering.{is_eq}
 use Rattle.std.proofs.lemmas.Map.Text.{is_eq-slice_cmp}
 use Rattle.std.proofs.lemmas.Slice.Eq.{bytes_eq-Decides}
 use Rattle.std.proofs.lemmas.Option.{same_Some}
@@ -233,16 +232,6 @@ module _ (name : ℕ → Option (List ℕ)) (count : ℕ) (xs text : List ℕ) (
 module _ (name : ℕ → Option (List ℕ)) (count : ℕ) (xs : List ℕ) (o : AreOrdered name count xs) where
   order : (n k : ℕ) → n < k + 1 → (n < k) ⊎ (n ≡ k)
   order n k h = grind arith
-
-  pub ordered_same : ((a : List ℕ) → name count ≡ Some a → (i : ℕ) × (i < length xs) × (name (get_or xs i 0) ≡ Some a)) → AreOrdered name (count + 1) xs
-  ordered_same stands = record {
-    rising = o.rising;
-    below = λ i h. omega (arith, o.below i h);
-    whole = λ n a h e. elim (order n count h) [
-      | inl l ↦ o.whole n a l e
-      | inr same ↦ let w = stands a (ap name (sym same) ∙ e) in (w.0, w.1, w.2, omega (arith, o.below w.0 w.1))
-    ];
-  }
 
 -- ---- what is found is the first number with the name
 

@@ -1,5 +1,5 @@
 -- The first line of what is left of a script.
-use Rattle.std.proofs.Common.{inl, inr, ◌≡◌, ◌+◌, ◌≤◌, ◌<◌, ℕ, suc, min, Bool, true, false, cond, List, [], ◌∷◌, ◌++◌, length, Option, Result, Ok, Err, refl, sym, ap, ◌∙◌, arith, eqb, append-nil, append_assoc, length-append}
+use Rattle.std.proofs.Common.{inl, inr, ◌≡◌, ◌+◌, ◌≤◌, ◌<◌, ℕ, suc, min, Bool, true, false, cond, List, [], ◌∷◌, ◌++◌, length, Option, Result, Ok, Err, refl, sym, ap, ◌∙◌, arith, eqb, append-nil, length-append}
 use Rattle.std.specs.Prelude.{IfOk, if◌then◌else◌}
 use Rattle.std.specs.List.{slice_split, onto_first, All}
 use Rattle.std.proofs.lemmas.Bool.{cases_Bool, le-leb, lt-ltb, le-ltb, and_from, and_right, ne_eqb, eqb-true}
@@ -151,11 +151,6 @@ rest_of-long t h b later is other full below =
     let first = lines_of-begun h.line b later is.plain other in
     refused_first t h (b ∷ later) first.0 first.1 kind.Long first.2
     (judged-long t h.start h.past first.0 (omega (arith, full, below)) (omega (arith, first.3, full)))
-
--- another byte of a line
-pub rest_of-more : (t : Tables) (h : Here) (b : ℕ) (later : List ℕ)
-    → rest_of t h (b ∷ later) ≡ rest_of t (record { number = h.number; start = h.start; line = h.line ++ b ∷ []; past = h.past }) later
-rest_of-more t h b later = ap (λ (bytes : List ℕ). rest_of_lines t h.number h.start h.past (lines_of bytes)) (sym (append_assoc h.line (b ∷ []) later))
 
 -- a line and what comes behind it, by its answer
 line_answered : (t : Tables) (h new : Here) (fed : Bool) (bytes later : List ℕ) (r : Result (Option Event) ScriptKind)

@@ -1,5 +1,5 @@
 -- How much of its source a reader takes: what it counts, with the bytes that it read ahead.
-use Rattle.std.proofs.Common.{arith, ◌≡◌, ◌≤◌, ◌+◌, ℕ, List, [], ◌∷◌, ◌++◌, length, length-append, Option, Some, None, Result, Ok, Err, IfOk, refl, sym, ap, ◌∙◌, append_assoc}
+use Rattle.std.proofs.Common.{arith, ◌≡◌, ◌≤◌, ◌+◌, ℕ, List, [], ◌∷◌, ◌++◌, length, length-append, Option, Some, Result, Ok, Err, IfOk, ap, ◌∙◌}
 use Rattle.std.specs.Io.KnownBytes.{prepend_known}
 use Rattle.htl_script.specs.Reading.{LosesFront}
 use Rattle.htl_script.specs.Readers.{Here}
@@ -46,24 +46,7 @@ module _ (F S U : Type 0) (first : Ahead) (here : Here) (old new : Pending) (kno
       }
 
   -- the source has no more
-  pub taken_end : {T E : Type 0} (final : Ahead) (r : Result T E) → GivesByte {E = S} old new rest left (Ok None) → IfOk r (λ x. taken_of final ≡ taken_of (record { here = here; ahead = new }))
-      → LosesPiece {T = T} {E = E} first final known left r
-  taken_end {T = T} {E = E} final r gave counted =
-      record {
-        front = was.front;
-        lost = ap (prepend_known was.front) gave.2 ∙ was.lost;
-        few = was.few;
-        counted = by r counted;
-      }
-    where
-      by : (r : Result T E) → IfOk r (λ x. taken_of final ≡ taken_of (record { here = here; ahead = new })) → IfOk r (λ x. taken_of final ≡ taken_of first + length was.front)
-      by (Ok x) is = is ∙ ap (λ (bs : List ℕ). here.start + length here.line + length bs) (gave.1 ∙ sym gave.0) ∙ was.counted
-      by (Err e) is = tt
-
   -- the source failed
-  pub taken_read : {T E : Type 0} (now : Ahead) (y : S) (x : E) → GivesByte {E = S} old new rest left (Err y) → LosesPiece {T = T} {E = E} first now known left (Err x)
-  taken_read now y x gave = record { front = was.front; lost = ap (prepend_known was.front) gave.2 ∙ was.lost; few = was.few; counted = tt }
-
 -- bytes that were read ahead are moved to the line
 pub taken_same : (first a b : Ahead) (known rest : Option (List ℕ)) → taken_of b ≡ taken_of a → LosesPiece {T = Unit {0}} {E = Unit {0}} first a known rest (Ok tt) → LosesPiece {T = Unit {0}} {E = Unit {0}} first b known rest (Ok tt)
 taken_same first a b known rest same h = record { front = h.front; lost = h.lost; few = h.few; counted = same ∙ h.counted }

@@ -124,9 +124,6 @@ bulk_put n object slice old new before now outcome same compiled put =
 
 -- ---- the answers
 
-HasTables-map : (bytes : List ℕ) (Fact Other : Tables → Type 0) → ((t : Tables) → Fact t → Other t) → HasTables bytes Fact → HasTables bytes Other
-HasTables-map bytes Fact Other f h = record { tables = h.tables; of = h.of; can = h.can; fact = f h.tables h.fact }
-
 module _ (n : ℕ) (old new : Streams) where
   abbrev Text : Outcome → Tables → Type 0
   Text outcome t = IsWritten (bulk_text t) Done old.written new.written old.write_faults new.write_faults outcome

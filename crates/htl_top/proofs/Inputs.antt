@@ -1,7 +1,6 @@
 -- The input, read piece by piece.
 use Rattle.std.proofs.Common.{arith, ◌≡◌, ◌≤◌, ◌+◌, ℕ, List, [], ◌++◌, length, Option, None, Some, refl, sym, ap, ◌∙◌, length-append, append_assoc}
-use Rattle.std.specs.Io.KnownBytes.{prepend_known, IsAtEnd}
-use Rattle.htl_edge.specs.Content.{none_left}
+use Rattle.std.specs.Io.KnownBytes.{prepend_known}
 use Rattle.htl_script.specs.Reading.{LosesFront}
 
 -- these bytes were read
@@ -16,10 +15,6 @@ read_start (Some bytes) = refl
 pub read_more : (bytes piece : List ℕ) (initial rest left : Option (List ℕ)) → AreRead bytes initial rest → prepend_known piece left ≡ rest → AreRead (bytes ++ piece) initial left
 read_more bytes piece initial rest None are is = are ∙ ap (prepend_known bytes) (sym is)
 read_more bytes piece initial rest (Some later) are is = are ∙ ap (prepend_known bytes) (sym is) ∙ ap Some (sym (append_assoc bytes piece later))
-
-pub left_none : (bytes : List ℕ) (initial rest left : Option (List ℕ)) → AreRead bytes initial rest → IsAtEnd rest → left ≡ rest → left ≡ none_left initial
-left_none bytes initial None left are end same = same ∙ sym (ap none_left are)
-left_none bytes initial (Some later) left are end same = same ∙ ap Some end ∙ sym (ap none_left are)
 
 -- ---- how much was taken
 

@@ -25,7 +25,6 @@ use Rattle.htl_walk.specs.Paths.{Leg, end_to_end, walks_from}
 use Rattle.htl_walk.specs.Walk.{InForm, Left, Point, last_point, walk_from}
 use Rattle.htl_walk.specs.declared.job.Job.{Job}
 use Rattle.htl_walk.specs.declared.schedule.SInstr.{SInstr}
-use Rattle.htl_walk.specs.declared.schedule.SInstr.TheVariants.{Dispatch}
 use Rattle.htl_walk.specs.declared.schedule.Schedule.{Schedule}
 use Rattle.htl_walk.proofs.Walked.{known_more}
 

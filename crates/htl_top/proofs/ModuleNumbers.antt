@@ -1,15 +1,10 @@
 -- The number of modules that a word asks for: it is the first whose decimal digits the word is.
-use Rattle.std.proofs.Common.{arith, ◌≡◌, ◌<◌, ◌≤◌, ◌⊎◌, ℕ, zero, suc, Bool, true, false, cond, List, Option, None, Some, sym, ap, ◌∙◌, subst, inl, inr}
+use Rattle.std.proofs.Common.{arith, ◌≡◌, ◌<◌, ◌≤◌, ◌⊎◌, ℕ, zero, suc, Bool, true, cond, List, Option, None, Some, sym, ap, ◌∙◌, subst, inl, inr}
 use Rattle.std.specs.Fmt.{decimal}
 use Rattle.std.specs.Str.{bytes_eq}
 use Rattle.htl_top.specs.Words.{decimal_to, modules_in}
 
 module _ (word : List ℕ) where
-  not_here : (n : ℕ) → decimal_to n word ≡ None → bytes_eq word (decimal (suc n)) ≡ false → decimal_to (suc n) word ≡ None
-  not_here n none other =
-      ap (λ (o : Option ℕ). elim o [ Some k ↦ Some k | None ↦ cond (bytes_eq word (decimal (suc n))) (Some (suc n)) None ]) none
-      ∙ ap (λ (b : Bool). cond b (Some (suc n)) None) other
-
   here : (n : ℕ) → decimal_to n word ≡ None → bytes_eq word (decimal (suc n)) ≡ true → decimal_to (suc n) word ≡ Some (suc n)
   here n none same =
       ap (λ (o : Option ℕ). elim o [ Some k ↦ Some k | None ↦ cond (bytes_eq word (decimal (suc n))) (Some (suc n)) None ]) none
@@ -24,10 +19,6 @@ module _ (word : List ℕ) where
     | inl le ↦ ap (λ (o : Option ℕ). elim o [ Some j ↦ Some j | None ↦ cond (bytes_eq word (decimal (suc m))) (Some (suc m)) None ]) (stays m n k le is)
     | inr e ↦ ap (λ (j : ℕ). decimal_to j word) (sym e) ∙ is
   ]
-
-  pub none_yet : (n j : ℕ) → j ≡ suc n → decimal_to n word ≡ None → bytes_eq word (decimal j) ≡ false → decimal_to j word ≡ None
-  none_yet n j e none other =
-      ap (λ (i : ℕ). decimal_to i word) e ∙ not_here n none (subst (λ (i : ℕ). bytes_eq word (decimal i) ≡ false) e other)
 
   pub found : (n j : ℕ) → j ≡ suc n → n < 64 → decimal_to n word ≡ None → bytes_eq word (decimal j) ≡ true → modules_in word ≡ Some j
   unfolding modules_in

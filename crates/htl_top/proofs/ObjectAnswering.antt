@@ -56,30 +56,10 @@ one_refusal bytes f (fault.Schedule sel m) p q = of_object bytes f (fault.Schedu
 
 -- ---- a text
 
-pub IsTextAnswer-written : (text : List ℕ) (old new : Streams) (outcome : Outcome) → new.rest ≡ old.rest
-    → IsWritten text Done old.written new.written old.write_faults new.write_faults outcome → IsTextAnswer text old new outcome
-IsTextAnswer-written text old new outcome same written =
-    elim written [
-      | inl w ↦ subst (λ (o : Outcome). IsTextAnswer text old new o) (sym w.0) (same, w.1)
-      | inr w ↦ subst (λ (o : Outcome). IsTextAnswer text old new o) (sym w.0) (same, w.1, w.2)
-    ]
-
 pub IsAcceptedFile-map : (name : Option (List ℕ)) (holds : Option Holdings) (Fact Other : Object → Type 0) → ((o : Object) → Fact o → Other o)
     → IsAcceptedFile name holds Fact → IsAcceptedFile name holds Other
 IsAcceptedFile-map name holds Fact Other f a =
     record { bytes = a.bytes; file = a.file; object = a.object; has = a.has; accepted = a.accepted; fact = f a.object a.fact }
-
-pub IsOnObject-text : (text : Object → List ℕ) (name : Option (List ℕ)) (shelf : Files) (old new : Streams) (outcome : Outcome) → new.rest ≡ old.rest
-    → IsTextOnObject text name shelf old.written new.written old.write_faults new.write_faults outcome
-    → IsOnObject (λ o before after answer. IsTextAnswer (text o) before after answer) name shelf old new outcome
-IsOnObject-text text name shelf old new outcome same on = elim on [
-  | inl a ↦
-      inl (
-      IsAcceptedFile-map name shelf.holds (λ o. IsWritten (text o) Done old.written new.written old.write_faults new.write_faults outcome)
-      (λ o. IsTextAnswer (text o) old new outcome) (λ o w. IsTextAnswer-written (text o) old new outcome same w) a
-      )
-  | inr s ↦ inr (s.0, record { rest = same; written = s.1 })
-]
 
 -- an accepted object was had, and its text was written
 pub IsTextOnObject-opened : (text : Object → List ℕ) (name : Option (List ℕ)) (shelf : Files) (old new : Option (List ℕ)) (before now : ℕ) (loaded : Object) (put : List ℕ) → put ≡ text loaded

@@ -6,7 +6,7 @@ use Rattle.std.proofs.lemmas.List.{length-append, length-map}
 use Rattle.std.proofs.lemmas.Nat.{div-mul-add}
 use Rattle.std.proofs.Math.Nat.{add-mul-mod_self_left, mod-eq_of_lt, mul-add-div_right}
 use Rattle.htl_model.proofs.FrameLimits.{HaveModes, choices_some, rounds_have}
-use Rattle.htl_model.specs.Frames.{multiple_of, unit_period, starts_below, starts, rounds, rounds_at, choices, paths, mode_in, places_of, places_in, path_places, most_invs}
+use Rattle.htl_model.specs.Frames.{multiple_of, unit_period, starts_below, rounds, rounds_at, choices, paths, mode_in, places_of, places_in, path_places, most_invs}
 use Rattle.htl_model.specs.Frames as frames
 use Rattle.htl_model.specs.Ranges.{AreInRange}
 use Rattle.htl_model.specs.Selections.{root_modules, modes_of, invs_of}

@@ -1,7 +1,7 @@
 -- The events of a script, told one by one: what comes next, and what is written.
 use Rattle.std.proofs.Common.{arith, ◌≡◌, ◌≤◌, ◌<◌, ◌+◌, ◌-◌, ℕ, zero, suc, List, [], ◌∷◌, ◌++◌, Option, None, Some, refl, sym, ap, ◌∙◌, subst}
 use Rattle.std.specs.Prelude.{IfSome}
-use Rattle.std.proofs.lemmas.List.{append_assoc, append-nil}
+use Rattle.std.proofs.lemmas.List.{append-nil}
 use Rattle.htl_console.specs.declared.shown.Shown.{Shown}
 use Rattle.htl_machine.proofs.Accepted.{accepted_is_loaded}
 use Rattle.htl_machine.proofs.Events.{reading_more}
@@ -10,7 +10,6 @@ use Rattle.htl_machine.specs.Calls.{text_between}
 use Rattle.htl_machine.specs.Follows.{reading_of}
 use Rattle.htl_machine.specs.Laws.{AreReadFrom}
 use Rattle.htl_machine.specs.Programs.{before_of, lines_of, schedules_of}
-use Rattle.htl_model.specs.Lists.{up_to}
 use Rattle.htl_model.specs.Tables.{Tables, task_worst}
 use Rattle.htl_model.specs.declared.event.Event.{Event}
 use Rattle.htl_model.specs.declared.event.Event.TheVariants as event

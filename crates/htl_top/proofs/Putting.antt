@@ -1,8 +1,7 @@
 -- Texts that are written one after another.
-use Rattle.std.proofs.Common.{◌≡◌, ℕ, List, [], Option, Result, Ok, Err, refl, sym, ap, ◌∙◌, subst, arith, inl, inr}
+use Rattle.std.proofs.Common.{◌≡◌, ℕ, List, Option, Result, Ok, Err, ap, ◌∙◌, subst, inl, inr}
 use Rattle.std.specs.Io.KnownBytes.{append_known}
 use Rattle.htl_edge.specs.Content.{AppendsPrefix, Puts}
-use Rattle.htl_edge.proofs.Puts.{append_known-start}
 use Rattle.htl_top.specs.Answers.{Tells}
 
 -- what was put is told

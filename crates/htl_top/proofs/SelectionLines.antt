@@ -1,7 +1,7 @@
 -- The first line of what is left of a plan's input.
-use Rattle.std.proofs.Common.{inl, inr, ◌≡◌, ◌+◌, ◌≤◌, ◌<◌, ℕ, min, Bool, true, false, cond, List, [], ◌∷◌, ◌++◌, length, take, Option, Result, Ok, Err, sym, ap, ◌∙◌, arith, append-nil, append_assoc}
+use Rattle.std.proofs.Common.{inl, inr, ◌≡◌, ◌+◌, ◌≤◌, ◌<◌, ℕ, min, Bool, true, false, cond, List, [], ◌∷◌, ◌++◌, length, take, Option, Result, Ok, Err, sym, ap, ◌∙◌, arith, append-nil}
 use Rattle.std.specs.Prelude.{IfOk, if◌then◌else◌}
-use Rattle.std.proofs.lemmas.Bool.{cases_Bool, le-leb, lt-ltb, le-ltb, and_from, and_right, eqb-true}
+use Rattle.std.proofs.lemmas.Bool.{cases_Bool, le-leb, lt-ltb, le-ltb, and_from, eqb-true}
 use Rattle.htl_model.specs.Tables.{Tables}
 use Rattle.htl_script.specs.declared.fault.ScriptKind.{ScriptKind}
 use Rattle.htl_script.specs.declared.fault.ScriptKind.TheVariants as kind
@@ -70,11 +70,6 @@ rest_of-long t p modes b later is other full below =
     let first = lines_of-begun p.line b later is.plain other in
     refused_first t p modes (b ∷ later) first.0 first.1 kind.Long first.2
     (judged-long t p.start (take p.done modes) first.0 (omega (arith, full, below)) (omega (arith, first.3, full)))
-
--- another byte of a line
-pub rest_of-more : (t : Tables) (p : Place) (modes : List (Option ℕ)) (b : ℕ) (later : List ℕ)
-    → rest_of t p modes (b ∷ later) ≡ rest_of t (record { number = p.number; start = p.start; line = p.line ++ b ∷ []; done = p.done }) modes later
-rest_of-more t p modes b later = ap (λ (bytes : List ℕ). input_of_lines t p.number p.start (take p.done modes) (lines_of bytes)) (sym (append_assoc p.line (b ∷ []) later))
 
 -- a line and what comes behind it, by its answer
 line_answered : (t : Tables) (p new : Place) (modes entries : List (Option ℕ)) (fed : Bool) (bytes later : List ℕ) (r : Result (Option (Option ℕ)) ScriptKind)

@@ -1,21 +1,15 @@
 -- A reader that takes a plan's input in pieces, as its source gives them.
-use Rattle.std.proofs.Common.{◌≡◌, ◌≤◌, ◌<◌, ◌+◌, ℕ, Bool, cond, List, [], ◌∷◌, ◌++◌, length, take, drop, get_or, Option, Some, None, Result, Ok, Err, refl, sym, ap, ◌∙◌, subst, arith, add-one, append_assoc, length-append}
+use Rattle.std.proofs.Common.{◌≡◌, ◌≤◌, ◌+◌, ℕ, List, [], ◌++◌, length, Option, Some, None, Result, Ok, Err, refl, sym, ap, ◌∙◌, subst, arith, append_assoc, length-append}
 use Rattle.std.specs.Prelude.{IfSome, OnOk, unwrap_or}
 use Rattle.std.specs.Io.KnownBytes.{prepend_known, IsAtEnd}
-use Rattle.std.proofs.Math.Seq.{drop-cons}
-use Rattle.std.proofs.lemmas.Bool.{eq-eqb}
-use Rattle.std.proofs.lemmas.List.{take_all}
-use Rattle.htl_edge.specs.Content.{none_left}
 use Rattle.htl_model.specs.Ranges.{AreInRange}
 use Rattle.htl_model.specs.Tables.{Tables}
 use Rattle.htl_model.specs.Selected.{IsSelection}
 use Rattle.htl_script.specs.declared.fault.ScriptFault.{ScriptFault}
-use Rattle.htl_script.specs.declared.fault.ScriptKind.TheVariants as kind
-use Rattle.htl_script.specs.Lines.{lines_of}
 use Rattle.htl_script.specs.Reading.{OfScript, LosesFront}
 use Rattle.htl_top.specs.declared.selection.ScriptStop.{ScriptStop}
 use Rattle.htl_top.specs.declared.selection.ScriptStop.TheVariants as stop
-use Rattle.htl_top.specs.SelectionInput.{Input, Whole, Bad, ended, input_of_lines, input_of}
+use Rattle.htl_top.specs.SelectionInput.{Input, Whole, Bad, input_of}
 use Rattle.htl_top.specs.SelectionReaders.{Place, rest_of, first_place, Takes, Finishes, IsAnswer}
 use Rattle.htl_top.proofs.SelectionEntries.{whole_right}
 use Rattle.htl_base.proofs.Places.{prepend_known-append, prepend_known-nil}
@@ -26,31 +20,7 @@ use Rattle.htl_base.proofs.Places.{prepend_known-append, prepend_known-nil}
 pub record IsTaking (t : Tables) (first : Place) (modes : List (Option ℕ)) (now : Place) (entries : List (Option ℕ)) (bytes left : List ℕ) : Type 0 where
   pub follows : (later : List ℕ) → rest_of t first modes (bytes ++ later) ≡ rest_of t now entries (left ++ later)
 
-pub taking_start : (t : Tables) (first : Place) (modes : List (Option ℕ)) (bytes : List ℕ) → IsTaking t first modes first modes bytes bytes
-taking_start t first modes bytes = record { follows = λ later. refl }
-
--- the byte at a place is the first that is left
-cut : (bytes : List ℕ) (i d : ℕ) → i < length bytes → drop i bytes ≡ get_or bytes i d ∷ drop (i + 1) bytes
-cut bytes i d below = drop-cons bytes i d below ∙ ap (λ n. get_or bytes i d ∷ drop n bytes) (sym (add-one i))
-
-pub taking_step : (t : Tables) (first now next : Place) (modes entries newer : List (Option ℕ)) (bytes : List ℕ) (i d : ℕ) → i < length bytes
-    → IsTaking t first modes now entries bytes (drop i bytes) → ((later : List ℕ) → rest_of t now entries (get_or bytes i d ∷ later) ≡ rest_of t next newer later)
-    → IsTaking t first modes next newer bytes (drop (i + 1) bytes)
-taking_step t first now next modes entries newer bytes i d below taking one =
-    record { follows = λ later. taking.follows later ∙ ap (λ left. rest_of t now entries (left ++ later)) (cut bytes i d below) ∙ one (drop (i + 1) bytes ++ later) }
-
 -- ---- the end
-
-pub end_is : (t : Tables) (p : Place) (modes : List (Option ℕ)) → p.line ≡ [] → rest_of t p modes [] ≡ ended t p.number (take p.done modes)
-end_is t p modes none = ap (λ (line : List ℕ). input_of_lines t p.number p.start (take p.done modes) (lines_of (line ++ []))) none
-
-all_taken : (xs : List (Option ℕ)) (n : ℕ) → n ≡ length xs → take n xs ≡ xs
-all_taken xs n e = take_all n xs (omega arith)
-
-pub end_whole : (t : Tables) (p : Place) (modes : List (Option ℕ)) → p.line ≡ [] → length modes ≡ length t.modules → p.done ≡ length t.modules → rest_of t p modes [] ≡ Whole modes
-end_whole t p modes none all done =
-    let whole : take p.done modes ≡ modes = all_taken modes p.done (done ∙ sym all) in
-    end_is t p modes none ∙ ap (ended t p.number) whole ∙ ap (λ (b : Bool). cond b (Whole modes) (Bad p.number kind.NoEnd)) (eq-eqb (length modes) (length t.modules) all)
 
 -- ---- what a source gave
 
@@ -123,15 +93,6 @@ pub answer_finished : (T : Type 0) (t : Tables) (now : Place) (entries newer : L
 answer_finished T t now entries newer known rest (Ok done) reading at_end is = answer_end t now entries known rest (Whole newer) reading at_end is
 answer_finished T t now entries newer known rest (Err (stop.Script f)) reading at_end is = answer_end t now entries known rest (Bad f.line f.kind) reading at_end is
 answer_finished T t now entries newer known rest (Err stop.Read) reading at_end is = absurd is
-
--- nothing is left
-pub nothing_left : (t : Tables) (now : Place) (entries : List (Option ℕ)) (known rest left : Option (List ℕ)) → IsReading t now entries known rest → IsAtEnd rest → prepend_known [] left ≡ rest
-    → left ≡ none_left known
-nothing_left t now entries known rest left reading at_end gave = sym (prepend_known-nil left) ∙ gave ∙ by_rest rest at_end ∙ ap none_left reading.told
-  where
-    by_rest : (rest : Option (List ℕ)) → IsAtEnd rest → rest ≡ none_left (prepend_known reading.taken rest)
-    by_rest None e = refl
-    by_rest (Some xs) e = ap (λ (l : List ℕ). Some l) e
 
 -- what was taken stood before what is left
 pub loses_piece : (t : Tables) (now : Place) (entries : List (Option ℕ)) (known rest left : Option (List ℕ)) (piece : List ℕ) → IsReading t now entries known rest

@@ -1,5 +1,5 @@
 -- The task of two names, and what `slack` answers.
-use Rattle.std.proofs.Common.{◌≡◌, ◌≤◌, ◌<◌, ◌⊎◌, ℕ, suc, Bool, true, false, ◌&&◌, List, length, slice_get, Option, Some, None, refl, sym, ap, ◌∙◌, subst, arith, inl, inr}
+use Rattle.std.proofs.Common.{◌≡◌, ◌≤◌, ◌<◌, ℕ, Bool, true, false, ◌&&◌, List, length, slice_get, Option, Some, None, refl, sym, ap, ◌∙◌, subst, arith, inl, inr}
 use Rattle.std.specs.Str.{bytes_eq}
 use Rattle.std.proofs.lemmas.Bool.{and_parts}
 use Rattle.std.proofs.lemmas.Option.{slice_get_within}
@@ -16,7 +16,6 @@ use Rattle.htl_top.specs.Objects.{IsOnObject, IsAcceptedFile}
 use Rattle.htl_top.specs.Slacked.{IsNamed, IsRootNamed, NamesNoTask, has_names, IsSlackTold, IsSlacked, IsSlackOnObject}
 use Rattle.htl_top.specs.declared.outcome.Outcome.{Outcome}
 use Rattle.htl_top.specs.declared.outcome.Outcome.TheVariants.{Done, Usage, Source, IllFormed, Unschedulable, Platform, Task, Log, Patch, Object as Refused, Script, Shelf, Read, Write, Memory}
-use Rattle.htl_base.proofs.Numbers.{cases_below}
 
 -- ---- the names
 
@@ -46,16 +45,6 @@ finding t owner name task x at is =
 -- the first k tasks don't have them
 abbrev pub NoneBelow : Tables → List ℕ → List ℕ → ℕ → Type 0
 NoneBelow t owner name k = (task : ℕ) → task < k → IsRootNamed t owner name task → ⊥
-
-pub NoneBelow-start : (t : Tables) (owner name : List ℕ) → NoneBelow t owner name 0
-NoneBelow-start t owner name task less is = omega (arith, less)
-
-pub NoneBelow-step : (t : Tables) (owner name : List ℕ) (k n : ℕ) → n ≡ suc k → NoneBelow t owner name k → (IsRootNamed t owner name k → ⊥) → NoneBelow t owner name n
-NoneBelow-step t owner name k n next below here task less is = by (cases_below task k (omega (arith, less, next)))
-  where
-    by : (task < k) ⊎ (task ≡ k) → ⊥
-    by (inl l) = below task l is
-    by (inr e) = here (subst (λ (j : ℕ). IsRootNamed t owner name j) e is)
 
 pub NoneBelow-all : (t : Tables) (owner name : List ℕ) (k : ℕ) → length t.tasks ≤ k → NoneBelow t owner name k → NamesNoTask t owner name
 NoneBelow-all t owner name k all below task is = below task (omega (arith, all, slice_get_within t.tasks task is.named.item is.named.at)) is

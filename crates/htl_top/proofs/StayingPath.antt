@@ -1,5 +1,5 @@
 -- The number of the path on which every module stays in its mode, start by start.
-use Rattle.std.proofs.Common.{◌≡◌, ℕ, zero, suc, ◌+◌, ◌*◌, ◌≤◌, ◌<◌, List, [], ◌∷◌, ◌++◌, length, take, drop, drop-cons, get_or, Option, None, refl, sym, ap, ap₂, ◌∙◌, subst, arith, take-append-drop}
+use Rattle.std.proofs.Common.{◌≡◌, ℕ, zero, suc, ◌+◌, ◌*◌, ◌≤◌, ◌<◌, List, ◌++◌, length, take, drop, drop-cons, get_or, Option, None, sym, ap, ap₂, ◌∙◌, subst, arith, take-append-drop}
 use Rattle.std.specs.List.{flat_map}
 use Rattle.std.proofs.lemmas.Grind.{flat_map-append}
 use Rattle.std.proofs.lemmas.List.{drop_all, get_or-map}
@@ -13,7 +13,6 @@ use Rattle.htl_model.specs.Tables.{Tables}
 use Rattle.htl_model.proofs.FrameLimits.{choices_append, choices_some, limits_kept, rounds_have}
 use Rattle.htl_refine.specs.BegunJobs.{choice_of}
 use Rattle.htl_refine.specs.FrameRuns.{path_in, path_of}
-use Rattle.htl_refine.specs.Roots.{entry_place}
 use Rattle.htl_refine.proofs.PathRead.{paths_read}
 use Rattle.htl_refine.proofs.NodeRead.{path_join}
 use Rattle.htl_base.proofs.Numbers.{product_parts}
@@ -30,9 +29,6 @@ module _ (t : Tables) (modes : List (Option ℕ)) where
   -- a number of choices for the rounds before start j, with the choices for those from there on
   abbrev pub path_from : ℕ → ℕ → ℕ
   path_from path j = path * choices t (later_rounds j) + path_in t always (later_rounds j)
-
-  pub path_first : path_from 0 0 ≡ path_of t always
-  path_first = let z : path_from 0 0 ≡ path_in t always (later_rounds 0) = omega arith in z
 
   module _ (j : ℕ) (there : j < length (starts t)) where
     abbrev here : List Round

@@ -14,8 +14,7 @@ use Rattle.htl_model.specs.Selections.{root_modules, choices_from, selection_cou
 use Rattle.htl_model.specs.Tables.{Tables}
 use Rattle.htl_model.specs.declared.frame.Place.{Place}
 use Rattle.htl_walk.proofs.Accepted.{one_list_accepted}
-use Rattle.htl_walk.proofs.EqualPeriods.{first_round}
-use Rattle.htl_walk.proofs.EqualPeriods.{one_round as round_period}
+use Rattle.htl_walk.proofs.EqualPeriods.{first_round, one_round as round_period}
 use Rattle.htl_walk.proofs.OnePeriod.{same_multiple, one_period}
 use Rattle.htl_walk.proofs.WidestPath.{widest_path}
 use Rattle.htl_walk.specs.EqualPeriods.{AllHave, RootsHaveOnePeriod, HasOnePeriod, AreRounds}

@@ -41,12 +41,6 @@ is_late now (suc w) r h t a b c = omega arith
 -- ---- a dispatch from alike points
 
 module _ (jobs : List Job) (t p h : ℕ) (x y : Point) (a : Alike jobs t x y) where
-  r_of : ℕ
-  r_of = (job_at jobs p).release
-
-  x_after : Point
-  x_after = next_point jobs (Dispatch p h) x
-
   same_left : get_or x.left p 0 ≡ get_or y.left p 0 →
       get_or (next_point jobs (Dispatch p h) x).left p 0 ≡ get_or (next_point jobs (Dispatch p h) y).left p 0
   same_left e =

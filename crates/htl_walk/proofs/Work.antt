@@ -1,11 +1,9 @@
 -- The job and the work at a position.
-use Rattle.std.proofs.lemmas.Option.{slice_get_within, get_or_from_slice_get, same_Some}
-use Rattle.std.specs.List.{All}
+use Rattle.std.proofs.lemmas.Option.{same_Some}
 use Rattle.htl_model.proofs.BitLaws.{has_no_bit}
-use Rattle.htl_walk.specs.Jobs.{absent_job}
-use Rattle.std.proofs.Common.{◌≡◌, ℕ, zero, suc, ◌<◌, Bool, true, false, cond, List, [], ◌∷◌, get_or, slice_get, Some, refl, ap, ◌∙◌, subst, arith, ◌⊎◌, inl, inr}
+use Rattle.htl_walk.specs.Jobs.{absent_job, precedes}
+use Rattle.std.proofs.Common.{◌≡◌, ℕ, zero, suc, ◌<◌, Bool, true, false, cond, List, [], ◌∷◌, get_or, slice_get, Some, refl, ap, ◌∙◌, arith, ◌⊎◌, inl, inr}
 use Rattle.htl_walk.specs.declared.job.Job.{Job}
-use Rattle.htl_walk.specs.Jobs.{precedes}
 use Rattle.htl_walk.specs.Walk.{job_at, worst_cases, work}
 use Rattle.std.proofs.lemmas.Bool.{cases_lt}
 
@@ -35,10 +33,6 @@ work_present (k ∷ js) [] zero j e f = refl
 work_present (k ∷ js) [] (suc p) j e f = work_present js [] p j e f
 work_present (k ∷ js) (n ∷ ns) zero j e f = ap (λ b. cond b n 0) (ap (λ x. x.present) (same_Some _ _ e) ∙ f)
 work_present (k ∷ js) (n ∷ ns) (suc p) j e f = work_present js ns p j e f
-
-no_length : (p : ℕ) → get_or {A = ℕ} [] p 0 ≡ 0
-no_length zero = refl
-no_length (suc p) = refl
 
 -- who has work is present
 pub work_some : (js : List Job) (ns : List ℕ) (p : ℕ) → 0 < get_or (work js ns) p 0 → (job_at js p).present ≡ true

@@ -1,4 +1,3 @@
-use Rattle.std.proofs.Common.{arith}
 use Rattle.std.proofs.lemmas.Grind.{merely}
 use Rattle.htl_fcode.proofs.Runs.{Verified-types_run, types_run-Verified}
 use Rattle.htl_fcode.proofs.verifier.verify.Goals as goal

@@ -1,4 +1,4 @@
-use Rattle.std.proofs.Common.{◌+◌, ℕ, eqb, [], length, map, ap, sym, ◌∙◌, arith}
+use Rattle.std.proofs.Common.{◌+◌, ℕ, eqb, [], length, map, ap, sym, ◌∙◌}
 use Rattle.htl_model.specs.Tables.{Tables}
 use Rattle.htl_model.specs.declared.parts.Mode.{Mode}
 use Rattle.htl_patch.specs.United.{graft, donor_mode}

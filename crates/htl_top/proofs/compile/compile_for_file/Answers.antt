@@ -1,4 +1,4 @@
-use Rattle.std.proofs.Common.{◌≡◌, List, ℕ, Some, refl, sym, subst}
+use Rattle.std.proofs.Common.{List, ℕ, Some, refl, sym, subst}
 use Rattle.htl_top.proofs.Inputs.{taken_none}
 use Rattle.htl_top.specs.Answers.{files}
 use Rattle.htl_top.specs.Causes.{IsSource}

@@ -1,4 +1,4 @@
-use Rattle.std.proofs.Common.{◌≡◌, List, ℕ, Some, refl, subst}
+use Rattle.std.proofs.Common.{List, ℕ, Some, refl, subst}
 use Rattle.htl_top.proofs.Going.{IsGoing-bytes}
 use Rattle.htl_top.specs.Answers.{files, streams}
 use Rattle.htl_top.specs.Going.{IsBytesGoing}

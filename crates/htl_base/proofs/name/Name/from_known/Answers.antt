@@ -1,4 +1,3 @@
-use Rattle.std.proofs.Common.{rules}
 use Rattle.htl_base.specs.Held.{IsHeld-copied, length-name}
 use Rattle.htl_base.proofs.name.Name.from_known.Goals as goal
 
