@@ -26,8 +26,6 @@ room_after : (now w r until : ℕ) → dispatch_begins now r until < until → d
 room_after now w r until h = omega (arith, h)
 
 pub slice_room : (jobs : List Job) (i : SInstr) (x : Point) (u : ℕ × ℕ) → slice_of jobs i x (next_point jobs i x).time ≡ Some u → u.0 < u.1
-slice_room jobs (Idle h) x u e = not_some u e
-slice_room jobs End x u e = not_some u e
 slice_room jobs (Dispatch p h) x u e = by_work (get_or x.left p 0) e
   where
     by_work : (w : ℕ) → slice_between (dispatch_begins x.time (job_at jobs p).release h) h w (time_after x.time w (job_at jobs p).release h) ≡ Some u → u.0 < u.1
@@ -40,16 +38,16 @@ slice_room jobs (Dispatch p h) x u e = by_work (get_or x.left p 0) e
         by_room true is e =
             let same : ◌≡◌ {A = ℕ × ℕ} (dispatch_begins x.time (job_at jobs p).release h, time_after x.time (suc w) (job_at jobs p).release h) u = same_Some _ _ e in
             omega (arith, room_after x.time w (job_at jobs p).release h (ltb-true (dispatch_begins x.time (job_at jobs p).release h) h is), ap (λ (z : ℕ × ℕ). z.0) same, ap (λ (z : ℕ × ℕ). z.1) same)
+slice_room jobs _ x u e = not_some u e
 
 -- and are of a position with work
 slice_works : (jobs : List Job) (i : SInstr) (x : Point) (u : ℕ × ℕ) → slice_of jobs i x (next_point jobs i x).time ≡ Some u → (p : ℕ) × (position_of i ≡ Some p) × (0 < get_or x.left p 0)
-slice_works jobs (Idle h) x u e = not_some u e
-slice_works jobs End x u e = not_some u e
 slice_works jobs (Dispatch p h) x u e = (p, refl, by_work (get_or x.left p 0) refl e)
   where
     by_work : (w : ℕ) → get_or x.left p 0 ≡ w → slice_between (dispatch_begins x.time (job_at jobs p).release h) h w (next_point jobs (Dispatch p h) x).time ≡ Some u → 0 < get_or x.left p 0
     by_work zero is e = not_some u e
     by_work (suc w) is e = omega (arith, is)
+slice_works jobs _ x u e = not_some u e
 
 -- a record with a slice: it ends with the record, and is of a position that has work at the start
 pub record Runs (P : ℕ → Type 0) (l : Left) (u : ℕ × ℕ) : Type 0 where

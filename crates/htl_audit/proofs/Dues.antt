@@ -20,9 +20,8 @@ use Rattle.htl_base.proofs.Numbers.{cases_below_next}
 set_grows : (ns : List ℕ) (i n j : ℕ) → get_or ns i 0 ≤ n → get_or ns j 0 ≤ get_or (set ns i n) j 0
 set_grows [] i n j h = omega arith
 set_grows (m ∷ ns) zero n zero h = h
-set_grows (m ∷ ns) zero n (suc j) h = omega arith
-set_grows (m ∷ ns) (suc i) n zero h = omega arith
 set_grows (m ∷ ns) (suc i) n (suc j) h = set_grows ns i n j h
+set_grows (m ∷ ns) _ n _ h = omega arith
 
 sums_grow : (t : Tables) (now : ℕ) (xs : List Slice) (k : Kept) (i : ℕ) → sum_at k.sums i ≤ sum_at (judged_to t now xs k).sums i
 sums_grow t now [] k i = omega arith

@@ -64,8 +64,6 @@ module _ (jobs : List Job) (f now : ℕ) where
   pub closed_joined : (ss : List (List SInstr)) (gs : List Leg) (a h n : ℕ) (x : Point) → AreInForm ss gs → AreChained a h n gs → x.time ≤ a
       → closed jobs f now (end_to_end (walks_from jobs ss gs x)) ≡ closed jobs f now (walk_from jobs (joining.joined ss gs) x)
   closed_joined [] [] a h n x form chain early = sym (cond_same (eqb (f + x.time) now) [])
-  closed_joined [] (g ∷ gs) a h n x form chain early = absurd form
-  closed_joined (s ∷ ss) [] a h n x form chain early = absurd form
   closed_joined (s ∷ ss) (g ∷ gs) a h n x form chain early =
       let y = list_point g.from x in
       let e : next_point jobs (Idle g.from) x ≡ y = begun_idle jobs g.from x (omega (arith, chain.0, early)) in
@@ -74,6 +72,7 @@ module _ (jobs : List Job) (f now : ℕ) where
       closed_body s (joining.joined ss gs) y (end_to_end (walks_from jobs ss gs (last_point jobs s y))) rest
       ∙ ap (λ z. closed jobs f now (walk_from jobs (body s ++ joining.joined ss gs) z)) (sym e)
       ∙ sym (cond_same (eqb (f + (next_point jobs (Idle g.from) x).time) now) (closed jobs f now (walk_from jobs (body s ++ joining.joined ss gs) (next_point jobs (Idle g.from) x))))
+  closed_joined _ _ a h n x form chain early = absurd form
 
   -- ---- a list that begins at the instant or later has closed nothing yet
 

@@ -94,9 +94,8 @@ done_one (x ∷ rs) log new b (suc n) r p j at is off on same =
 -- ---- one more line
 
 pub last_more : (log : List Slice) (x : Slice) → last_end (log ++ x ∷ []) ≡ x.to
-last_more [] x = refl
-last_more (y ∷ []) x = refl
 last_more (y ∷ z ∷ ys) x = last_more (z ∷ ys) x
+last_more _ x = refl
 
 -- what a line says that keeps the rules
 pub record Keeps (t : Tables) (now : ℕ) (k : Kept) (x : Slice) : Type 0 where

@@ -34,11 +34,7 @@ slice_between t (Some from) None name = Err kind.Form
 -- `j A B NAME`
 abbrev pub line_of_fields : Tables → List (List ℕ) → Result Slice LogKind
 line_of_fields t (word ∷ from ∷ to ∷ name ∷ []) = if bytes_eq word (codes "j") then slice_between t (instant_of from) (instant_of to) name else Err kind.Form
-line_of_fields t (word ∷ from ∷ to ∷ name ∷ more ∷ fields) = Err kind.Form
-line_of_fields t (word ∷ from ∷ to ∷ []) = Err kind.Form
-line_of_fields t (word ∷ from ∷ []) = Err kind.Form
-line_of_fields t (word ∷ []) = Err kind.Form
-line_of_fields t [] = Err kind.Form
+line_of_fields t _ = Err kind.Form
 
 -- the slice of a line, or the first rule that it breaks
 abbrev pub line_of : Tables → List ℕ → Result Slice LogKind

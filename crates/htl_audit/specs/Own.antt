@@ -52,11 +52,7 @@ own_log t lists es end = up_to (own_at t lists es (hyper t)) (suc end)
 -- the slice of a j line
 abbrev pub line_slice : RunLine → Option Slice
 line_slice (SliceLine from to i) = Some (record { from = from; to = to; inv = i })
-line_slice (DoneLine at i) = None
-line_slice (InstrLine at address x) = None
-line_slice (ChangeLine x) = None
-line_slice (StepLine at selection place x) = None
-line_slice (TotalsLine at jobs e s) = None
+line_slice _ = None
 
 -- the text is printed line by line, and its j lines are those of the log, in order
 pub record ShowsLog (t : Tables) (text : List ℕ) (log : List Slice) : Type 0 where

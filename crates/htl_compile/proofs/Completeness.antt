@@ -74,9 +74,8 @@ one_back_fault t (back.IllFormed f) (back.IllFormed g) range p q h i = ap back.I
 one_back_fault t (back.IllFormed f) (back.Unschedulable sel a b demand) range p q h i = absurd (i.0 h.law (site_of f h.part) f.have f.need h.broken)
 one_back_fault t (back.Unschedulable sel a b demand) (back.IllFormed g) range p q h i = absurd (h.0 i.law (site_of g i.part) g.have g.need i.broken)
 one_back_fault t (back.Unschedulable j a b m) (back.Unschedulable k c d n) range p q h i = one_overload t j k a c b d m n h.1 i.1
-one_back_fault t (back.IllFormed f) back.Memory range p q h i = absurd (q refl)
-one_back_fault t (back.Unschedulable j a b m) back.Memory range p q h i = absurd (q refl)
 one_back_fault t back.Memory g range p q h i = absurd (p refl)
+one_back_fault t _ back.Memory range p q h i = absurd (q refl)
 
 -- a fault of its tables is no fault of a source
 not_both : (bytes : List ℕ) (f : SourceFault) (g : BackFault) → IsSourceFault bytes f → HasBackFault bytes g → ⊥
@@ -96,17 +95,15 @@ pub one_compile_fault : OneCompileFault
 one_compile_fault bytes (compile.Source f) (compile.Source g) p q h i = ap compile.Source (fault_unique bytes f g h i)
 one_compile_fault bytes (compile.Source f) (compile.IllFormed g) p q h i = absurd (not_both bytes f (back.IllFormed g) h i)
 one_compile_fault bytes (compile.Source f) (compile.Unschedulable k c d n) p q h i = absurd (not_both bytes f (back.Unschedulable k c d n) h i)
-one_compile_fault bytes (compile.Source f) compile.Memory p q h i = absurd (q refl)
 one_compile_fault bytes (compile.IllFormed f) (compile.Source g) p q h i = absurd (not_both bytes g (back.IllFormed f) i h)
 one_compile_fault bytes (compile.IllFormed f) (compile.IllFormed g) p q h i =
     ap unbuilt_of (two_faults bytes (back.IllFormed f) (back.IllFormed g) (ill_formed_told f) (ill_formed_told g) h i)
 one_compile_fault bytes (compile.IllFormed f) (compile.Unschedulable k c d n) p q h i =
     ap unbuilt_of (two_faults bytes (back.IllFormed f) (back.Unschedulable k c d n) (ill_formed_told f) (unschedulable_told k c d n) h i)
-one_compile_fault bytes (compile.IllFormed f) compile.Memory p q h i = absurd (q refl)
 one_compile_fault bytes (compile.Unschedulable j a b m) (compile.Source g) p q h i = absurd (not_both bytes g (back.Unschedulable j a b m) i h)
 one_compile_fault bytes (compile.Unschedulable j a b m) (compile.IllFormed g) p q h i =
     ap unbuilt_of (two_faults bytes (back.Unschedulable j a b m) (back.IllFormed g) (unschedulable_told j a b m) (ill_formed_told g) h i)
 one_compile_fault bytes (compile.Unschedulable j a b m) (compile.Unschedulable k c d n) p q h i =
     ap unbuilt_of (two_faults bytes (back.Unschedulable j a b m) (back.Unschedulable k c d n) (unschedulable_told j a b m) (unschedulable_told k c d n) h i)
-one_compile_fault bytes (compile.Unschedulable j a b m) compile.Memory p q h i = absurd (q refl)
 one_compile_fault bytes compile.Memory g p q h i = absurd (p refl)
+one_compile_fault bytes _ compile.Memory p q h i = absurd (q refl)

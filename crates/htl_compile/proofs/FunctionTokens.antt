@@ -30,9 +30,6 @@ fault_below n token None h = h
 fault_below n token (Some t) h = tt
 
 first_below : (n : ℕ) (args : List Ty) (e : Term) → AreOperatorsBelow n e → IsBelow n (first_ill args e)
-first_below n args (Number token x) h = tt
-first_below n args (Truth token x) h = tt
-first_below n args (Arg token k) h = tt
 first_below n args (Unary token op e) h =
     either_below n (first_ill args e) (at_fault token (type_one op (type_of args e))) (first_below n args e h.1) (fault_below n token _ h.0)
 first_below n args (Binary token op l r) h =
@@ -43,14 +40,13 @@ first_below n args (Choose token c a b) h =
     either_below n (first_ill args c) (or_else (first_ill args a) (or_else (first_ill args b) at)) (first_below n args c h.1.0)
     (either_below n (first_ill args a) (or_else (first_ill args b) at) (first_below n args a h.1.1.0)
     (either_below n (first_ill args b) at (first_below n args b h.1.1.1) (fault_below n token _ h.0)))
+first_below n args _ h = tt
 
 unless_below : (n : ℕ) (want : Ty) (first : ℕ) (t : Option Ty) → first < n → IsBelow n (unless_type want first t)
 unless_below n IntTy first (Some IntTy) h = tt
-unless_below n IntTy first (Some BoolTy) h = h
 unless_below n IntTy first None h = h
-unless_below n BoolTy first (Some IntTy) h = h
 unless_below n BoolTy first (Some BoolTy) h = tt
-unless_below n BoolTy first None h = h
+unless_below n _ first _ h = h
 
 ill_below : (n first : ℕ) (args : List Ty) (want : Ty) (e : Term) (token : ℕ) → first < n → AreOperatorsBelow n e → ill_typed first args want e ≡ Some token → token < n
 ill_below n first args want e token low h is =
@@ -75,18 +71,16 @@ deep_token n t token h is = deep_here n is.here.type is.here.function token (h i
 
 -- no want of memory
 abbrev pub IsTold : FnFault → Type 0
-IsTold (fn_fault.IllTyped token) = Unit {0}
-IsTold (fn_fault.Deep token) = Unit {0}
 IsTold fn_fault.Memory = ⊥
+IsTold _ = Unit {0}
 
 -- a function with a fault isn't typed
 not_typed : (f : FunctionType) (g : Fun) (e : FnFault) → IsTold e → IsFaultOf f g e → IsTyped f g → ⊥
 not_typed f (Formula first e) (fn_fault.IllTyped token) told h i = no_function first f.args f.want e (fn_fault.IllTyped token) h i
 not_typed f (Formula first e) (fn_fault.Deep token) told h i = no_function first f.args f.want e (fn_fault.Deep token) h i
 not_typed f (Formula first e) fn_fault.Memory told h i = told
-not_typed f (Compiled code) (fn_fault.IllTyped token) told h i = h
-not_typed f (Compiled code) (fn_fault.Deep token) told h i = h
 not_typed f (Compiled code) fn_fault.Memory told h i = told
+not_typed f (Compiled code) _ told h i = h
 
 pub not_all_typed : (t : Tables) (e : FnFault) → IsTold e → IsFirstFault t e → AreTyped t → ⊥
 not_all_typed t e told h typed =
@@ -105,12 +99,10 @@ one_fault f (Formula first x) (fn_fault.IllTyped k) (fn_fault.Deep j) p q h i =
 one_fault f (Formula first x) (fn_fault.Deep k) (fn_fault.IllTyped j) p q h i =
     absurd (no_token (ill_typed first f.args f.want x) j (ill_typed-typed first f.args f.want x h.1) i)
 one_fault f (Formula first x) (fn_fault.Deep k) (fn_fault.Deep j) p q h i = ap fn_fault.Deep (h.0 ∙ sym i.0)
-one_fault f (Formula first x) (fn_fault.IllTyped k) fn_fault.Memory p q h i = absurd q
-one_fault f (Formula first x) (fn_fault.Deep k) fn_fault.Memory p q h i = absurd q
 one_fault f (Formula first x) fn_fault.Memory d p q h i = absurd p
-one_fault f (Compiled code) (fn_fault.IllTyped k) d p q h i = absurd h
-one_fault f (Compiled code) (fn_fault.Deep k) d p q h i = absurd h
 one_fault f (Compiled code) fn_fault.Memory d p q h i = absurd p
+one_fault f (Formula first x) _ fn_fault.Memory p q h i = absurd q
+one_fault f (Compiled code) _ d p q h i = absurd h
 
 one_place : (t : Tables) (a b : ℕ) (e d : FnFault) → a ≡ b → IsTold e → IsTold d → IsFaultAt t a e → IsFaultAt t b d → e ≡ d
 one_place t a b e d same p q h i =

@@ -184,9 +184,7 @@ module _ (n : ℕ) where
   IsFaultBelow (fault.Twice token) = token < n
   IsFaultBelow (fault.Unknown token) = token < n
   IsFaultBelow (fault.Kind token) = token < n
-  IsFaultBelow (fault.NotATree p) = Unit {0}
-  IsFaultBelow (fault.Limit which count) = Unit {0}
-  IsFaultBelow fault.Memory = Unit {0}
+  IsFaultBelow _ = Unit {0}
 
   fault_below : (ps : List PlainProgram) → Each (IsProgramNode n) ps → (r : NameRule) (k : ℕ) (f : NameFault) → NameBroken ps r k f → IsFaultBelow f
   fault_below ps h RepeatedName k f b = subst IsFaultBelow (sym b.3) (each_at IsEntry (entries ps) k b.0 (source_declares 0 0 ps h) b.1)

@@ -189,11 +189,8 @@ module _ (source file : List ℕ) where
   one_with_fault f g known other is h = one f g (stage f known is) (stage g other h)
 
   is_memory : (f : WithFault) → (f ≡ Memory) ⊎ (f ≡ Memory → ⊥)
-  is_memory (on.Compile (compile.Source f)) = inr (λ e. cc)
-  is_memory (on.Platform f) = inr (λ e. cc)
-  is_memory (on.Compile (compile.IllFormed f)) = inr (λ e. cc)
-  is_memory (on.Compile (compile.Unschedulable sel a b demand)) = inr (λ e. cc)
   is_memory (on.Compile compile.Memory) = inl refl
+  is_memory _ = inr (λ e. cc)
 
   pub with_refused : {V : Type 0} (items : V → List ℕ) (f : WithFault) → (f ≡ Memory → ⊥) → IsWithFault source file f → (r : Result V WithFault)
       → IfOk r (λ v. IsCompiledOn source file (items v)) → IfErr r (IsWithFault source file) → MatchResult r (λ _. ⊥) (λ g. (g ≡ f) ⊎ (g ≡ Memory))

@@ -16,13 +16,11 @@ use Rattle.htl_compile.proofs.TokenPlaces.{AreOuts, HasOperators, IsMode, IsModu
 
 module _ (n : ℕ) where
   operators_below : (place : Id → ℕ) (e : Expr) → HasOperators n e → AreOperatorsBelow n (term_by place e)
-  operators_below place (Number t x) h = tt
-  operators_below place (Flag t x) h = tt
-  operators_below place (Variable id) h = tt
   operators_below place (Prefix t op e) h = (h.0, operators_below place e h.1)
   operators_below place (Infix t op l r) h = (h.0, (operators_below place l h.1.0, operators_below place r h.1.1))
   operators_below place (Choice t c a b) h =
       (h.0, (operators_below place c h.1.0, (operators_below place a h.1.1.0, operators_below place b h.1.1.1)))
+  operators_below place _ h = tt
 
   outs_below : (l : Layout) (p u k : ℕ) (o : PlainOuts) → AreOuts n o → Each (IsFunctionBelow n) (outs_functions l p u k o)
   outs_below l p u k (Concrete xs) h =

@@ -30,12 +30,11 @@ use Rattle.htl_walk.specs.declared.schedule.Schedule.{Schedule}
 -- lists of one length with the same items are the same
 same_items : {A : Type 0} (xs ys : List A) → length xs ≡ length ys → ((k : ℕ) (y : A) → slice_get ys k ≡ Some y → slice_get xs k ≡ Some y) → xs ≡ ys
 same_items [] [] e h = refl
-same_items [] (y ∷ ys) e h = absurd (omega (arith, e))
-same_items (x ∷ xs) [] e h = absurd (omega (arith, e))
 same_items (x ∷ xs) (y ∷ ys) e h =
     let first : Some x ≡ Some y = h 0 y refl in
     let one : x ≡ y = cc in
     ap (λ z. z ∷ xs) one ∙ ap (λ zs. y ∷ zs) (same_items xs ys (omega (arith, e)) (λ k z at. h (suc k) z at))
+same_items _ _ e h = absurd (omega (arith, e))
 
 none : Schedule
 none = record { instrs = [] }

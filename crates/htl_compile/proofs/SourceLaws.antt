@@ -76,9 +76,8 @@ IsOfFunctions t (fn_fault.Deep token) f = (at : ℕ) × BeginsAt t token at × (
 IsOfFunctions t fn_fault.Memory f = ⊥
 
 told : (t : TokenList) (e : FnFault) (f : SourceFault) → IsOfFunctions t e f → IsTold e
-told t (fn_fault.IllTyped token) f h = tt
-told t (fn_fault.Deep token) f h = tt
 told t fn_fault.Memory f h = h
+told t _ f h = tt
 
 -- the fault is found at one of these stages
 data Stage (bytes : List ℕ) (f : SourceFault) : Type 0 where
@@ -159,9 +158,8 @@ one_of_names : (t : TokenList) (n : NameFault) (f g : SourceFault) → IsOfNames
 one_of_names t (name.Twice k) f g p q = sym p.2 ∙ ap fault.Twice (begins_once t k k p.0 q.0 refl p.1 q.1) ∙ q.2
 one_of_names t (name.Unknown k) f g p q = sym p.2 ∙ ap fault.Unknown (begins_once t k k p.0 q.0 refl p.1 q.1) ∙ q.2
 one_of_names t (name.Kind k) f g p q = sym p.2 ∙ ap fault.Kind (begins_once t k k p.0 q.0 refl p.1 q.1) ∙ q.2
-one_of_names t (name.NotATree program) f g p q = sym p ∙ q
-one_of_names t (name.Limit which count) f g p q = sym p ∙ q
 one_of_names t name.Memory f g p q = absurd p
+one_of_names t _ f g p q = sym p ∙ q
 
 one_names : (bytes : List ℕ) (t u : TokenList) (n m : NameFault) (f g : SourceFault) → IsNameFaultOf bytes t n → IsNameFaultOf bytes u m → IsOfNames t n f → IsOfNames u m g → f ≡ g
 one_names bytes t u n m f g p q is other =

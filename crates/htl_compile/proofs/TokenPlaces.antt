@@ -51,12 +51,10 @@ module _ (n : ℕ) where
 
   -- the tokens of its operators
   abbrev pub HasOperators : Expr → Type 0
-  HasOperators (Number token x) = Unit {0}
-  HasOperators (Flag token x) = Unit {0}
-  HasOperators (Variable id) = Unit {0}
   HasOperators (Prefix token op e) = (token < n) × HasOperators e
   HasOperators (Infix token op l r) = (token < n) × (HasOperators l × HasOperators r)
   HasOperators (Choice token c a b) = (token < n) × (HasOperators c × (HasOperators a × HasOperators b))
+  HasOperators _ = Unit {0}
 
   pub record IsExpr (e : Expr) : Type 0 where
     pub names : Each IsId (names_of e)
@@ -148,8 +146,7 @@ module _ (n : ℕ) where
   pub const_spelled : {ts rest : List Placed} {c : ConstNode} → SpellsConst ts c rest → Below n ts → IsConst c × Below n rest
   const_spelled positive h = h
   const_spelled negative h = (h.0, h.1.1)
-  const_spelled true_const h = h
-  const_spelled false_const h = h
+  const_spelled _ h = h
 
   pub comm_spelled : {ts rest : List Placed} {c : CommNode} → SpellsComm ts c rest → Below n ts → IsComm c × Below n rest
   comm_spelled (communicator t c) h =

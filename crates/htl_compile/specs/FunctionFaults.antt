@@ -14,9 +14,8 @@ abbrev pub IsFaultOf : FunctionType → Fun → FnFault → Type 0
 IsFaultOf f (Formula first e) (fn_fault.IllTyped token) = ill_typed first f.args f.want e ≡ Some token
 IsFaultOf f (Formula first e) (fn_fault.Deep token) = (token ≡ first) × (type_of f.args e ≡ Some f.want) × (MAX_STACK < held e)
 IsFaultOf f (Formula first e) fn_fault.Memory = Unit {0}
-IsFaultOf f (Compiled code) (fn_fault.IllTyped token) = ⊥
-IsFaultOf f (Compiled code) (fn_fault.Deep token) = ⊥
 IsFaultOf f (Compiled code) fn_fault.Memory = Unit {0}
+IsFaultOf f (Compiled code) _ = ⊥
 
 -- function k has this fault
 pub record IsFaultAt (t : Tables) (k : ℕ) (e : FnFault) : Type 0 where

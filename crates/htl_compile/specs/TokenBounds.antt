@@ -5,12 +5,10 @@ use Rattle.htl_model.specs.Tables.{Tables, Fun, Formula, Compiled}
 
 -- the tokens of an expression's operators are among so many
 abbrev pub AreOperatorsBelow : ℕ → Term → Type 0
-AreOperatorsBelow n (Number token x) = Unit {0}
-AreOperatorsBelow n (Truth token x) = Unit {0}
-AreOperatorsBelow n (Arg token k) = Unit {0}
 AreOperatorsBelow n (Unary token op e) = (token < n) × AreOperatorsBelow n e
 AreOperatorsBelow n (Binary token op l r) = (token < n) × (AreOperatorsBelow n l × AreOperatorsBelow n r)
 AreOperatorsBelow n (Choose token c a b) = (token < n) × (AreOperatorsBelow n c × (AreOperatorsBelow n a × AreOperatorsBelow n b))
+AreOperatorsBelow n _ = Unit {0}
 
 -- and its first token
 abbrev pub IsFunctionBelow : ℕ → Fun → Type 0

@@ -29,13 +29,12 @@ nothing_falls i j d l b = absurd (omega arith)
 
 -- two numbers, the second no less
 two_rise : (a b : ℕ) → a ≤ b → IsNonDecreasing (a ∷ b ∷ [])
-two_rise a b h zero zero d l k = omega arith
 two_rise a b h zero (suc zero) d l k = h
 two_rise a b h zero (suc (suc j)) d l k = absurd (omega arith)
 two_rise a b h (suc i) zero d l k = absurd (omega arith)
-two_rise a b h (suc zero) (suc zero) d l k = omega arith
 two_rise a b h (suc zero) (suc (suc j)) d l k = absurd (omega arith)
 two_rise a b h (suc (suc i)) (suc j) d l k = absurd (omega arith)
+two_rise a b h _ _ d l k = omega arith
 
 few_in_mode : (m : ℕ) → count_by (λ i. eqb i.mode m) frame_invs ≤ 128
 few_in_mode m = let most = count_by-le-length (λ (i : Inv). eqb i.mode m) frame_invs in omega (arith, most)
@@ -212,27 +211,10 @@ module _ (w : ℕ) (small : w ≤ 20) where
       g.2 (g.0 ∙ same_Some 20 need g.1)
   by_mode ModulePeriod (suc (suc m)) x have need other at h = cc
   by_mode FrameLimits m x have need other at h = other refl
-  by_mode Divides m x have need other at h = h
-  by_mode Offsets m x have need other at h = h
-  by_mode Ends m x have need other at h = h
-  by_mode Windows m x have need other at h = h
-  by_mode WorstCases m x have need other at h = h
-  by_mode PortWriters m x have need other at h = h
-  by_mode PortCycles m x have need other at h = h
-  by_mode AbstractPorts m x have need other at h = h
-  by_mode Sensors m x have need other at h = h
-  by_mode ConcreteWriters m x have need other at h = h
-  by_mode AbstractPlaces m x have need other at h = h
-  by_mode Parents m x have need other at h = h
-  by_mode SharedParents m x have need other at h = h
-  by_mode Inheritance m x have need other at h = h
+  by_mode _ m x have need other at h = h
 
   -- the rules on an invocation as a whole
   by_call : (r : FormRule) (k : ℕ) (i : Inv) (c : IsCall w i) (have need : ℕ) → number_of r ≤ 12 → (breach (frame_sample w) r).inv k (frame_inv c.mode c.comm c.instance) have need → ⊥
-  by_call ModulePeriod k i c have need l h = h
-  by_call FrameLimits k i c have need l h = h
-  by_call Divides k i c have need l h = h
-  by_call Offsets k i c have need l h = h
   by_call Ends k i c have need l h =
       elim h [
         | inl x ↦ x.2 (x.0 ∙ sym (x.1 ∙ ap (λ (a : CallFacts). length a.inputs) c.facts))
@@ -240,15 +222,12 @@ module _ (w : ℕ) (small : w ≤ 20) where
       ]
   by_call Windows k i c have need l h = omega (arith, h.0, h.1, h.2, c.last, c.some)
   by_call WorstCases k i c have need l h = omega (arith, h.0, h.1, h.2, c.worst)
-  by_call PortWriters k i c have need l h = h
   by_call PortCycles k i c have need l h = no_leads k k h.0
-  by_call AbstractPorts k i c have need l h = h
-  by_call Sensors k i c have need l h = h
-  by_call ConcreteWriters k i c have need l h = h
   by_call AbstractPlaces k i c have need l h = omega (arith, l)
   by_call Parents k i c have need l h = omega (arith, l)
   by_call SharedParents k i c have need l h = omega (arith, l)
   by_call Inheritance k i c have need l h = omega (arith, l)
+  by_call _ k i c have need l h = h
 
   divided : (m c have need : ℕ) → 0 < mode_period (frame_sample w) m → mode_period (frame_sample w) m % comm_period (frame_sample w) c ≡ 0 → comm_period (frame_sample w) c ≡ 10
       → have ≡ comm_period (frame_sample w) c → need ≡ mode_period (frame_sample w) m → (have ≡ 0) ⊎ (need % have ≢ 0) → ⊥
@@ -257,28 +236,15 @@ module _ (w : ℕ) (small : w ≤ 20) where
 
   -- the rules on an input, and on an output
   by_input : (r : FormRule) (k : ℕ) (i : Inv) (c : IsCall w i) (have need : ℕ) → number_of r ≤ 12 → (breach (frame_sample w) r).input k (frame_inv c.mode c.comm c.instance) 0 (E.Comm 0 0) have need → ⊥
-  by_input ModulePeriod k i c have need l h = h
-  by_input FrameLimits k i c have need l h = h
   by_input Divides k i c have need l h = divided c.mode 0 have need c.some c.read_divides refl h.0 h.1 h.2
   by_input Offsets k i c have need l h = omega (arith, h.0, h.1, h.2, c.some)
   by_input Ends k i c have need l h =
       h.2 (sym (same_Some 0 have h.0) ∙ same_Some 0 need (sym (ap (λ (a : CallFacts). option_map type_number (slice_get a.inputs 0)) c.facts) ∙ h.1))
-  by_input Windows k i c have need l h = h
-  by_input WorstCases k i c have need l h = h
-  by_input PortWriters k i c have need l h = h
-  by_input PortCycles k i c have need l h = h
-  by_input AbstractPorts k i c have need l h = h
-  by_input Sensors k i c have need l h = h
-  by_input ConcreteWriters k i c have need l h = h
-  by_input AbstractPlaces k i c have need l h = h
-  by_input Parents k i c have need l h = h
-  by_input SharedParents k i c have need l h = h
   by_input Inheritance k i c have need l h = omega (arith, l)
+  by_input _ k i c have need l h = h
 
   by_output : (r : FormRule) (k : ℕ) (i : Inv) (c : IsCall w i) (have need : ℕ) → number_of r ≤ 12
       → (breach (frame_sample w) r).output k (frame_inv c.mode c.comm c.instance) 0 (E.Comm c.comm c.instance) have need → ⊥
-  by_output ModulePeriod k i c have need l h = h
-  by_output FrameLimits k i c have need l h = h
   by_output Divides k i c have need l h = divided c.mode c.comm have need c.some c.divides (ap (λ (a : CallFacts). a.period) c.facts) h.0 h.1 h.2
   by_output Offsets k i c have need l h =
       elim h.2 [
@@ -287,17 +253,9 @@ module _ (w : ℕ) (small : w ≤ 20) where
       ]
   by_output Ends k i c have need l h =
       h.2 (sym (same_Some 0 have (sym (ap (λ (a : CallFacts). option_map type_number a.type) c.facts) ∙ h.0)) ∙ same_Some 0 need (sym (ap (λ (a : CallFacts). option_map type_number (slice_get a.outputs 0)) c.facts) ∙ h.1))
-  by_output Windows k i c have need l h = h
-  by_output WorstCases k i c have need l h = h
-  by_output PortWriters k i c have need l h = h
-  by_output PortCycles k i c have need l h = h
-  by_output AbstractPorts k i c have need l h = h
   by_output Sensors k i c have need l h = let no : true ≡ false = sym h.2 ∙ ap (λ (a : CallFacts). a.sensor) c.facts in cc
   by_output ConcreteWriters k i c have need l h = let no : false ≡ true = sym (ap (λ (a : CallFacts). not a.abstract) c.facts) ∙ h.1 in cc
-  by_output AbstractPlaces k i c have need l h = h
-  by_output Parents k i c have need l h = h
-  by_output SharedParents k i c have need l h = h
-  by_output Inheritance k i c have need l h = h
+  by_output _ k i c have need l h = h
 
   one_end : (e f : End) (j : ℕ) → slice_get (e ∷ []) j ≡ Some f → (j ≡ 0) × (e ≡ f)
   one_end e f zero at = (refl, same_Some _ _ at)
@@ -306,8 +264,6 @@ module _ (w : ℕ) (small : w ≤ 20) where
   broken : (r : FormRule) (m : ℕ) (x : Mode) (o : Option ℕ) (p : Part) (have need : ℕ) → number_of r ≤ 12 → (number_of r ≡ 2 → ⊥) → slice_get frame_modes m ≡ Some x
       → BreaksAt (frame_sample w) (breach (frame_sample w) r) m x o p have need → ⊥
   broken r m x None Itself have need l other at h = by_mode r m x have need other at h
-  broken r m x None (Input j) have need l other at h = h
-  broken r m x None (Output j) have need l other at h = h
   broken r m x None (Test v j) have need l other at h = absurd (let no = h.1 in cc)
   broken r m x (Some k) Itself have need l other at h =
       let call = call_at k h.0 h.1 in
@@ -327,6 +283,7 @@ module _ (w : ℕ) (small : w ≤ 20) where
       (subst (λ (z : End). (breach (frame_sample w) r).output k h.0 0 z have need) (sym end.1)
       (subst (λ (z : ℕ). (breach (frame_sample w) r).output k h.0 z h.3.0 have need) end.0 h.3.2)))
   broken r m x (Some k) (Test v j) have need l other at h = h.3
+  broken r m x None _ have need l other at h = h
 
   keeps : KeptApart (frame_sample w) 12
   keeps r s have need l other h = broken r s.mode h.0 s.inv s.part have need l other h.1 h.2

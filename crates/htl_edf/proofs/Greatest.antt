@@ -24,9 +24,8 @@ worst_at ts k = elim (slice_get ts k) [ Some x ↦ x.worst | None ↦ 0 ]
 worst_in-le : (w v : ℕ) → w ≤ v → (ts : List Task) (k i : ℕ) → worst_at (worst_in w k ts) i ≤ worst_at (worst_in v k ts) i
 worst_in-le w v h [] k i = omega arith
 worst_in-le w v h (x ∷ xs) zero zero = h
-worst_in-le w v h (x ∷ xs) zero (suc i) = omega arith
-worst_in-le w v h (x ∷ xs) (suc k) zero = omega arith
 worst_in-le w v h (x ∷ xs) (suc k) (suc i) = worst_in-le w v h xs k i
+worst_in-le w v h (x ∷ xs) _ _ = omega arith
 
 abbrev pub with_tasks : Tables → List Task → Tables
 with_tasks t ts = record t { tasks = ts }

@@ -27,9 +27,8 @@ use Rattle.htl_base.proofs.Places.{get_taken}
 
 behind : (xs : List ℕ) (h n : ℕ) → n ≡ length xs → get_or (xs ++ h ∷ []) n 0 ≡ h
 behind [] h zero e = refl
-behind [] h (suc n) e = absurd (omega (arith, e))
-behind (x ∷ xs) h zero e = absurd (omega (arith, e))
 behind (x ∷ xs) h (suc n) e = behind xs h n (omega (arith, e))
+behind _ h _ e = absurd (omega (arith, e))
 
 pub frame_end : (t : Tables) (f : Frame) → IsFrame t f → get_or f.starts f.count 0 ≡ frame_of t
 frame_end t f s = sym (get_taken (f.count + 1) f.starts f.count (omega arith)) ∙ ap (λ xs. get_or xs f.count 0) s.starts ∙ behind (starts t) (frame_of t) f.count s.count
@@ -39,9 +38,8 @@ frame_end t f s = sym (get_taken (f.count + 1) f.starts f.count (omega arith)) �
 set_other : (xs : List Schedule) (n m : ℕ) (s : Schedule) → n ≢ m → get_or (instrs_of (set xs n s)) m [] ≡ get_or (instrs_of xs) m []
 set_other [] n m s e = refl
 set_other (x ∷ xs) zero zero s e = absurd (e refl)
-set_other (x ∷ xs) zero (suc m) s e = refl
-set_other (x ∷ xs) (suc n) zero s e = refl
 set_other (x ∷ xs) (suc n) (suc m) s e = set_other xs n m s (λ f. e (ap suc f))
+set_other (x ∷ xs) _ _ s e = refl
 
 set_same : (xs : List Schedule) (n : ℕ) (s : Schedule) → n < length xs → get_or (instrs_of (set xs n s)) n [] ≡ s.instrs
 set_same [] n s l = absurd (omega (arith, l))

@@ -64,10 +64,8 @@ pub record DrawerState : Type 0 where
 
 -- a drawer after a fetch
 abbrev pub drawer_after : DrawerState → Result (Vec ℕ Global) ShelfFault → DrawerState
-drawer_after old (Ok bytes) = record old { calls = one_more old.calls }
 drawer_after old (Err fault.Failed) = record old { calls = one_more old.calls; faults = one_more old.faults }
-drawer_after old (Err (fault.TooLong seen)) = record old { calls = one_more old.calls }
-drawer_after old (Err fault.Memory) = record old { calls = one_more old.calls }
+drawer_after old _ = record old { calls = one_more old.calls }
 
 -- the call isn't one that fails, and the drawer has these bytes under the name
 abbrev pub Finds : DrawerState → List ℕ → List ℕ → Type 0

@@ -23,12 +23,9 @@ HoldsUnder holds name bytes = IfSome holds (λ held. get held name ≡ Some byte
 abbrev pub IsTooLong : Option Holdings → List ℕ → ℕ → ShelfFault → Type 0
 IsTooLong holds name limit (TooLong seen) =
     (limit < seen) × IfSome holds (λ held. (bytes : List ℕ) × (get held name ≡ Some bytes) × (seen ≡ length bytes))
-IsTooLong holds name limit Failed = Unit {0}
-IsTooLong holds name limit Memory = Unit {0}
+IsTooLong holds name limit _ = Unit {0}
 
 -- A count of faults stands where it stood, unless the answer is a failed fetch.
 abbrev pub IsKept : {T : Type 0} → ℕ → ℕ → Result T ShelfFault → Type 0
-IsKept before now (Ok bytes) = now ≡ before
-IsKept before now (Err (TooLong seen)) = now ≡ before
-IsKept before now (Err Memory) = now ≡ before
 IsKept before now (Err Failed) = Unit {0}
+IsKept before now _ = now ≡ before

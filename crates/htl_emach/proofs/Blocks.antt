@@ -24,22 +24,15 @@ module _ (code : List EInstr) (holds runs : ℕ → Bool) where
 
   abbrev pub GoesOn : Want → Type 0
   GoesOn (Does j) = (a : ℕ) → goes holds runs a j ≡ Some (suc a)
-  GoesOn (Waits d p) = Unit {0}
-  GoesOn (Turns d x) = Unit {0}
   GoesOn (Tests k m x) = holds k ≡ false
   GoesOn (Asks q) = runs q ≡ true
   GoesOn (Arrives x) = ⊥
+  GoesOn _ = Unit {0}
 
   -- from one required instruction to the next
   pub reached_leads : (a : ℕ) (w : Want) (y : Reached) → GoesOn w → IsReached code a w y → Leads code (goes holds runs) a y.step.passed y.next
   reached_leads a (Does j) y on r =
       let go : goes holds runs r.place r.instr ≡ Some y.next = ap (goes holds runs r.place) r.meets.0 ∙ on r.place ∙ ap (λ z. Some z) (sym r.meets.1) in
-      subst (λ xs. Leads code (goes holds runs) a xs y.next) (sym r.passed) (then_at a r.place y.next r.jumps r.instr r.leads r.stands go)
-  reached_leads a (Waits d p) y on r =
-      let go : goes holds runs r.place r.instr ≡ Some y.next = ap (goes holds runs r.place) r.meets.0 ∙ ap (λ z. Some z) (sym r.meets.1) in
-      subst (λ xs. Leads code (goes holds runs) a xs y.next) (sym r.passed) (then_at a r.place y.next r.jumps r.instr r.leads r.stands go)
-  reached_leads a (Turns d x) y on r =
-      let go : goes holds runs r.place r.instr ≡ Some y.next = ap (goes holds runs r.place) r.meets.0 ∙ ap (λ z. Some z) (sym r.meets.1) in
       subst (λ xs. Leads code (goes holds runs) a xs y.next) (sym r.passed) (then_at a r.place y.next r.jumps r.instr r.leads r.stands go)
   reached_leads a (Tests k m x) y on r =
       let go : goes holds runs r.place r.instr ≡ Some y.next = ap (goes holds runs r.place) r.meets.0 ∙ ap (λ b. Some (cond b y.step.target (suc r.place))) on ∙ ap (λ z. Some z) (sym r.meets.1) in
@@ -48,6 +41,9 @@ module _ (code : List EInstr) (holds runs : ℕ → Bool) where
       let go : goes holds runs r.place r.instr ≡ Some y.next = ap (goes holds runs r.place) r.meets.0 ∙ ap (λ b. Some (cond b y.step.target (suc r.place))) on ∙ ap (λ z. Some z) (sym r.meets.1) in
       subst (λ xs. Leads code (goes holds runs) a xs y.next) (sym r.passed) (then_at a r.place y.next r.jumps r.instr r.leads r.stands go)
   reached_leads a (Arrives x) y on r = absurd on
+  reached_leads a _ y on r =
+      let go : goes holds runs r.place r.instr ≡ Some y.next = ap (goes holds runs r.place) r.meets.0 ∙ ap (λ z. Some z) (sym r.meets.1) in
+      subst (λ xs. Leads code (goes holds runs) a xs y.next) (sym r.passed) (then_at a r.place y.next r.jumps r.instr r.leads r.stands go)
 
   -- a switch that holds leads on to the anchor
   pub test_leads : (a k m x : ℕ) (y : Reached) → holds k ≡ true → IsReached code a (Tests k m x) y → Leads code (goes holds runs) a (y.step.passed ++ y.step.side) x
@@ -64,12 +60,8 @@ module _ (code : List EInstr) (holds runs : ℕ → Bool) where
   IsBlock (w ∷ v ∷ ws) = GoesOn w × IsBlock (v ∷ ws)
 
   pub is_instr : (w : Want) → GoesOn w → IsInstr w
-  is_instr (Does j) on = tt
-  is_instr (Waits d p) on = tt
-  is_instr (Turns d x) on = tt
-  is_instr (Tests k m x) on = tt
-  is_instr (Asks q) on = tt
   is_instr (Arrives x) on = absurd on
+  is_instr _ on = tt
 
   pub ends_on : (a b : ℕ) (xs ys : List ℕ) → Leads code (goes holds runs) a xs b → Ends code (goes holds runs) b ys → Ends code (goes holds runs) a (xs ++ ys)
   ends_on a b xs ys p q =

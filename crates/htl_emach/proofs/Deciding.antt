@@ -86,7 +86,6 @@ jumps_then t code at k hs rs a b xs ys f j p =
 
 -- the end of a decide list of mode m
 abbrev pub IsTail : Tables → ECode → ℕ → List Want → Type 0
-IsTail t code m [] = ⊥
 IsTail t code m (Tests j x anchor ∷ ws) = (anchor ≡ led_to (block_begun code m) code.enter m x) × (j < length t.switches) × ModeReads t code x × IsTail t code m ws
 IsTail t code m (Arrives b ∷ []) = b ≡ block_begun code m
 IsTail t code m _ = ⊥
@@ -102,12 +101,6 @@ moved_calendar t code at k m y c = cond (eqb y m) (begun_calendar t code at k m 
 
 pub tail_passes : (t : Tables) (code : ECode) (at k m : ℕ) (hs rs : ℕ → Bool) (stays : Bool) (ws : List Want) (a : ℕ) (ss : List Step) → ModeReads t code m → IsTail t code m ws → read code.instrs a ws ≡ Ok ss →
     Passes t code at k (goes hs rs) a (followed t code m hs stays ws ss) (moved_calendar t code at k m (chosen hs m ws))
-tail_passes t code at k m hs rs stays [] a ss mine h e = absurd h
-tail_passes t code at k m hs rs stays (Does j ∷ ws) a ss mine h e = absurd h
-tail_passes t code at k m hs rs stays (Waits d p ∷ ws) a ss mine h e = absurd h
-tail_passes t code at k m hs rs stays (Turns d p ∷ ws) a ss mine h e = absurd h
-tail_passes t code at k m hs rs stays (Asks q ∷ ws) a ss mine h e = absurd h
-tail_passes t code at k m hs rs stays (Arrives b ∷ w ∷ ws) a ss mine h e = absurd h
 tail_passes t code at k m hs rs stays (Arrives b ∷ []) a ss mine h e =
     let r = read_is code.instrs a (Arrives b) [] ss e in
     let j : Jumps code.instrs a r.first.step.passed b = (anchor_is code.instrs a b r.first r.reaches).0 in
@@ -155,6 +148,7 @@ tail_passes t code at k m hs rs stays (Tests j x anchor ∷ ws) a ss mine h e =
         let first : kept code.instrs y.step.passed ≡ I.JumpIf j y.step.target ∷ [] = kept_first code.instrs a (Tests j x anchor) y e in
         leads_then t code at k hs rs a y.next y.step.passed (followed t code m hs stays ws rest) (moved_calendar t code at k m (chosen hs m ws)) (λ c. c) (reached_leads code.instrs hs rs a (Tests j x anchor) y off (here y e))
         (subst (AllAllowed t 2 k) (sym first) (may, tt)) (λ c. ap (λ is. calendar_after t code at k is c) first) ih
+tail_passes t code at k m hs rs stays _ a ss mine h e = absurd h
 
 -- ---- a module that leaves
 

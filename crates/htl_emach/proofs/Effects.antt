@@ -122,9 +122,8 @@ list_here (x ∷ xs) (suc k) y h = list_here xs k y (omega (arith, h))
 pub list_other : {A : Type 0} (xs : List (Option A)) (k j : ℕ) (y : Option A) → (j ≡ k → ⊥) → list_at (set xs k y) j ≡ list_at xs j
 list_other [] k j y e = refl
 list_other (x ∷ xs) zero zero y e = absurd (e refl)
-list_other (x ∷ xs) zero (suc j) y e = refl
-list_other (x ∷ xs) (suc k) zero y e = refl
 list_other (x ∷ xs) (suc k) (suc j) y e = list_other xs k j y (λ h. e (ap suc h))
+list_other (x ∷ xs) _ _ y e = refl
 
 pub trigger_set_here : (p k : ℕ) (x : Option Trigger) (c : Calendar) → HasModule c k → entry_at (with_trigger p k x c) k ≡ entry_with p x (entry_at c k)
 trigger_set_here p k x c h = by_test (eqb p 1) (eqb p 2)

@@ -59,17 +59,11 @@ trigger_set_modes phase k x c = by_test (eqb phase 1) (eqb phase 2)
 
 -- an instruction of module k leaves the modes of others
 mode_stays : (t : Tables) (code : ECode) (at k j : ℕ) (i : EInstr) (c : Calendar) → (j ≡ k → ⊥) → list_at (calendar_effect t code at k i c).modes j ≡ list_at c.modes j
-mode_stays t code at k j (I.CallWrite a b) c e = refl
-mode_stays t code at k j (I.CallRead a b) c e = refl
-mode_stays t code at k j (I.Release a) c e = refl
 mode_stays t code at k j (I.Future d p x) c e = ap (λ zs. list_at zs j) (trigger_set_modes p k (Some (record { at = at + d; target = x })) c)
-mode_stays t code at k j (I.JumpIf a b) c e = refl
-mode_stays t code at k j (I.Jump a) c e = refl
-mode_stays t code at k j (I.IfMode a b) c e = refl
 mode_stays t code at k j (I.Enter m) c e = list_other c.modes k j (Some m) e
 mode_stays t code at k j I.Leave c e = list_other c.modes k j None e
 mode_stays t code at k j (I.Fork a) c e = ap (λ zs. list_at zs j) (trigger_set_modes 2 a (Some (record { at = at; target = entry_of t code a })) c)
-mode_stays t code at k j I.Return c e = refl
+mode_stays t code at k j _ c e = refl
 
 modes_stay : (t : Tables) (code : ECode) (at k j : ℕ) (xs : List ℕ) (c : Calendar) → (j ≡ k → ⊥) → list_at (calendar_replay t code at k xs c).modes j ≡ list_at c.modes j
 modes_stay t code at k j [] c e = refl
@@ -98,18 +92,10 @@ runs_same t modes stays q e = ap (λ (o : Option ℕ). elim o as (λ _. Bool) [ 
 -- an instruction of a block that runs leads where the meaning says
 go_same : (t : Tables) (code : ECode) (es : List Event) (now phase k a : ℕ) (c : Calendar) (values : List ℤ) (i : EInstr) → IsAllowed t phase k i → (eqb phase 2 ≡ true → values ≡ (state t es now).values) →
     (eqb phase 2 ≡ true → (j : ℕ) → j < k → list_at c.modes j ≡ mode_of (new_stay t es now j)) → goes (holds_in t values) (runs_in t c.modes) a i ≡ goes_at t es now a i
-go_same t code es now phase k a c values (I.CallWrite u v) tests same modes = refl
-go_same t code es now phase k a c values (I.CallRead u v) tests same modes = refl
-go_same t code es now phase k a c values (I.Release u) tests same modes = refl
-go_same t code es now phase k a c values (I.Future d p x) tests same modes = refl
 go_same t code es now phase k a c values (I.JumpIf j x) tests same modes = ap (λ zs. Some (cond (holds_in t zs j) x (suc a))) (same tests.0)
-go_same t code es now phase k a c values (I.Jump u) tests same modes = refl
 go_same t code es now phase k a c values (I.IfMode q x) tests same modes =
     ap (λ b. Some (cond b x (suc a))) (runs_same t c.modes (state t es now).stays q (modes tests.0 (mode_module t q) tests.1))
-go_same t code es now phase k a c values (I.Enter u) tests same modes = refl
-go_same t code es now phase k a c values I.Leave tests same modes = refl
-go_same t code es now phase k a c values (I.Fork u) tests same modes = refl
-go_same t code es now phase k a c values I.Return tests same modes = refl
+go_same t code es now phase k a c values _ tests same modes = refl
 
 -- in the switch phase the modules below k have the modes of the instant
 lower_modes : (t : Tables) (code : ECode) (es : List Event) (now phase k : ℕ) (xs : List ℕ) (c : Calendar) → Between t code es now phase (calendar_replay t code now k xs c) (suc k) → eqb phase 2 ≡ true →

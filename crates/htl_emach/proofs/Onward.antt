@@ -104,12 +104,6 @@ allowed_fits t c w phase k (I.CallRead u v) r e s z h =
       room = (subst (λ n. u < n) (sym s.input_rows) (slice_get_within t.invs u h.1.0 h.1.1), subst (λ n. v < n) (e.reads u h.1.0 h.1.1 ∙ sym row.count) h.1.2);
       comm = subst (λ zs. IfSome (comm_of (slice_get zs v)) (λ y. y < length w.values)) (sym ends) (end_below t h.1.0.mode (length w.values) v h.1.0.reads s.values.count inv.reads);
     }
-allowed_fits t c w phase k (I.Release a) r e s z h = tt
-allowed_fits t c w phase k (I.Future a b d) r e s z h = tt
 allowed_fits t c w phase k (I.JumpIf a b) r e s z h = h.1
-allowed_fits t c w phase k (I.Jump a) r e s z h = tt
-allowed_fits t c w phase k (I.IfMode a b) r e s z h = tt
-allowed_fits t c w phase k (I.Enter a) r e s z h = tt
-allowed_fits t c w phase k I.Leave r e s z h = tt
 allowed_fits t c w phase k (I.Fork a) r e s z h = sized_module t c a z h
-allowed_fits t c w phase k I.Return r e s z h = tt
+allowed_fits t c w phase k _ r e s z h = tt

@@ -28,17 +28,9 @@ use Rattle.std.proofs.lemmas.Option.{none-some}
 -- ---- operands
 
 pub fits_room : (t : Tables) (c : Calendar) (w : Content) (i : EInstr) → Fits t c w i → HasRoom t w i
-fits_room t c w (I.CallWrite a b) h = h
-fits_room t c w (I.CallRead a b) h = h
-fits_room t c w (I.Release a) h = h
-fits_room t c w (I.Future a b d) h = h
 fits_room t c w (I.JumpIf a b) h = tt
-fits_room t c w (I.Jump a) h = h
-fits_room t c w (I.IfMode a b) h = h
-fits_room t c w (I.Enter a) h = h
-fits_room t c w I.Leave h = h
 fits_room t c w (I.Fork a) h = tt
-fits_room t c w I.Return h = h
+fits_room t c w _ h = h
 
 pub fits_switch : (t : Tables) (c : Calendar) (w : Content) (i : EInstr) → Fits t c w i → (k x : ℕ) → i ≡ I.JumpIf k x → k < length t.switches
 fits_switch t c w i h k x e = subst (Fits t c w) e h
@@ -68,17 +60,8 @@ module_taken phase at m j h = by_running m.running (first_due at 0 (triggers_of 
     by_running None (Some p) = module_trigger_set phase p.0 None m.calendar j h
 
 fits_taken : (t : Tables) (m : Standing) (w : Content) (phase at : ℕ) (i : EInstr) → Fits t m.calendar w i → Fits t (taken phase at m) w i
-fits_taken t m w phase at (I.CallWrite a b) h = h
-fits_taken t m w phase at (I.CallRead a b) h = h
-fits_taken t m w phase at (I.Release a) h = h
-fits_taken t m w phase at (I.Future a b d) h = h
-fits_taken t m w phase at (I.JumpIf a b) h = h
-fits_taken t m w phase at (I.Jump a) h = h
-fits_taken t m w phase at (I.IfMode a b) h = h
-fits_taken t m w phase at (I.Enter a) h = h
-fits_taken t m w phase at I.Leave h = h
 fits_taken t m w phase at (I.Fork a) h = module_taken phase at m a h
-fits_taken t m w phase at I.Return h = h
+fits_taken t m w phase at _ h = h
 
 pub ready_taken : (t : Tables) (code : ECode) (m : Standing) (w : Content) (phase at : ℕ) (b : Block) → IsReady t code m.calendar w b → IsReady t code (taken phase at m) w b
 ready_taken t code m w phase at b h =

@@ -20,16 +20,7 @@ use Rattle.std.proofs.lemmas.Bool.{cases_eq}
 
 effect_outputs : (t : Tables) (i : EInstr) (w : Content) → (effect t i w).outputs ≡ w.outputs
 effect_outputs t (I.CallWrite a b) w = refl
-effect_outputs t (I.CallRead a b) w = refl
-effect_outputs t (I.Release a) w = refl
-effect_outputs t (I.Future a b d) w = refl
-effect_outputs t (I.JumpIf a b) w = refl
-effect_outputs t (I.Jump a) w = refl
-effect_outputs t (I.IfMode a b) w = refl
-effect_outputs t (I.Enter a) w = refl
-effect_outputs t I.Leave w = refl
-effect_outputs t (I.Fork a) w = refl
-effect_outputs t I.Return w = refl
+effect_outputs t _ w = refl
 
 pub outputs_stay : (t : Tables) (w after : Content) (result : Option EDone) → after ≡ content_after t w result → after.outputs ≡ w.outputs
 outputs_stay t w after None e = ap (λ (z : Content). z.outputs) e
@@ -59,16 +50,7 @@ write_sensors t w i k r kept = by_end (slice_get (writes_at t i) k) refl
 
 effect_sensors : (t : Tables) (i : EInstr) (w : Content) → AreInRange t → KeptApart t 12 → SensorsStay t w.values (effect t i w).values
 effect_sensors t (I.CallWrite a b) w r kept = write_sensors t w a b r kept
-effect_sensors t (I.CallRead a b) w r kept = λ c x at sensor. refl
-effect_sensors t (I.Release a) w r kept = λ c x at sensor. refl
-effect_sensors t (I.Future a b d) w r kept = λ c x at sensor. refl
-effect_sensors t (I.JumpIf a b) w r kept = λ c x at sensor. refl
-effect_sensors t (I.Jump a) w r kept = λ c x at sensor. refl
-effect_sensors t (I.IfMode a b) w r kept = λ c x at sensor. refl
-effect_sensors t (I.Enter a) w r kept = λ c x at sensor. refl
-effect_sensors t I.Leave w r kept = λ c x at sensor. refl
-effect_sensors t (I.Fork a) w r kept = λ c x at sensor. refl
-effect_sensors t I.Return w r kept = λ c x at sensor. refl
+effect_sensors t _ w r kept = λ c x at sensor. refl
 
 pub sensors_stay : (t : Tables) (w after : Content) (result : Option EDone) → AreInRange t → KeptApart t 12 → after ≡ content_after t w result → SensorsStay t w.values after.values
 sensors_stay t w after None r kept e = λ c x at sensor. ap (λ (z : Content). get_or z.values c (pos 0)) e

@@ -38,15 +38,13 @@ begun_calendar t code at k m c =
 
 begin_block : (code : List EInstr) (hs rs : ℕ → Bool) (p d : ℕ) (w r : Option ℕ) → IsBlock code hs rs (waits_for 0 1 w ++ (waits_for 0 3 r ++ Turns p d ∷ Does I.Return ∷ []))
 begin_block code hs rs p d None None = (tt, refl)
-begin_block code hs rs p d None (Some y) = (tt, (tt, refl))
-begin_block code hs rs p d (Some x) None = (tt, (tt, refl))
 begin_block code hs rs p d (Some x) (Some y) = (tt, (tt, (tt, refl)))
+begin_block code hs rs p d _ _ = (tt, (tt, refl))
 
 begin_wants : (t : Tables) (k p d : ℕ) (w r : Option ℕ) → WantsAllowed t 2 k (waits_for 0 1 w ++ (waits_for 0 3 r ++ Turns p d ∷ Does I.Return ∷ []))
 begin_wants t k p d None None = (tt, (tt, tt))
-begin_wants t k p d None (Some y) = (tt, (tt, (tt, tt)))
-begin_wants t k p d (Some x) None = (tt, (tt, (tt, tt)))
 begin_wants t k p d (Some x) (Some y) = (tt, (tt, (tt, (tt, tt))))
+begin_wants t k p d _ _ = (tt, (tt, (tt, tt)))
 
 begin_does : (t : Tables) (code : ECode) (at k p d : ℕ) (w r : Option ℕ) (ss : List Step) (c : Calendar) → length ss ≡ length (waits_for 0 1 w ++ (waits_for 0 3 r ++ Turns p d ∷ Does I.Return ∷ [])) →
     (let ws : List Want = waits_for 0 1 w ++ (waits_for 0 3 r ++ Turns p d ∷ Does I.Return ∷ []) in
@@ -54,24 +52,18 @@ begin_does : (t : Tables) (code : ECode) (at k p d : ℕ) (w r : Option ℕ) (ss
     ≡ with_trigger 2 k (Some (record { at = at + p; target = (turn_step ws ss).target })) (set_next at k 3 0 r (target_of 3 ws ss) (set_next at k 1 0 w (target_of 1 ws ss) c)))
 begin_does t code at k p d None None [] c e = absurd (omega (arith, e))
 begin_does t code at k p d None None (a ∷ []) c e = absurd (omega (arith, e))
-begin_does t code at k p d None None (a ∷ b ∷ []) c e = refl
 begin_does t code at k p d None None (a ∷ b ∷ x ∷ xs) c e = absurd (omega (arith, e))
 begin_does t code at k p d None (Some y) [] c e = absurd (omega (arith, e))
 begin_does t code at k p d None (Some y) (a ∷ []) c e = absurd (omega (arith, e))
 begin_does t code at k p d None (Some y) (a ∷ b ∷ []) c e = absurd (omega (arith, e))
-begin_does t code at k p d None (Some y) (a ∷ b ∷ x ∷ []) c e = refl
 begin_does t code at k p d None (Some y) (a ∷ b ∷ x ∷ z ∷ xs) c e = absurd (omega (arith, e))
 begin_does t code at k p d (Some u) None [] c e = absurd (omega (arith, e))
 begin_does t code at k p d (Some u) None (a ∷ []) c e = absurd (omega (arith, e))
 begin_does t code at k p d (Some u) None (a ∷ b ∷ []) c e = absurd (omega (arith, e))
-begin_does t code at k p d (Some u) None (a ∷ b ∷ x ∷ []) c e = refl
 begin_does t code at k p d (Some u) None (a ∷ b ∷ x ∷ z ∷ xs) c e = absurd (omega (arith, e))
-begin_does t code at k p d (Some u) (Some y) [] c e = absurd (omega (arith, e))
-begin_does t code at k p d (Some u) (Some y) (a ∷ []) c e = absurd (omega (arith, e))
-begin_does t code at k p d (Some u) (Some y) (a ∷ b ∷ []) c e = absurd (omega (arith, e))
-begin_does t code at k p d (Some u) (Some y) (a ∷ b ∷ x ∷ []) c e = absurd (omega (arith, e))
 begin_does t code at k p d (Some u) (Some y) (a ∷ b ∷ x ∷ z ∷ []) c e = refl
-begin_does t code at k p d (Some u) (Some y) (a ∷ b ∷ x ∷ z ∷ v ∷ xs) c e = absurd (omega (arith, e))
+begin_does t code at k p d (Some u) (Some y) _ c e = absurd (omega (arith, e))
+begin_does t code at k p d _ _ _ c e = refl
 
 -- the trigger of a round's start is that of the first block
 sets_first : (t : Tables) (code : ECode) (m p s k : ℕ) (c : Calendar) (n x : Option ℕ) → ((o : ℕ) → n ≡ Some o → (a : ℕ) × (block_at t code m p o ≡ Some a) × (x ≡ Some a)) →
@@ -146,11 +138,10 @@ forks_wants t k x test n (y ∷ ys) h = by_test (test y) (forks_wants t k x test
 
 forks_do : (t : Tables) (code : ECode) (at k x : ℕ) (js : List ℕ) (ss : List Step) (c : Calendar) → length ss ≡ length (all_do (map (λ j. I.Fork j) js) ++ Arrives x ∷ []) →
     calendar_after t code at k (instrs_of (all_do (map (λ j. I.Fork j) js) ++ Arrives x ∷ []) ss) c ≡ forked t code at js c
-forks_do t code at k x [] [] c e = refl
-forks_do t code at k x [] (s ∷ []) c e = refl
 forks_do t code at k x [] (s ∷ u ∷ ss) c e = absurd (omega (arith, e))
 forks_do t code at k x (j ∷ js) [] c e = absurd (omega (arith, e))
 forks_do t code at k x (j ∷ js) (s ∷ ss) c e = forks_do t code at k x js ss (with_trigger 2 j (Some (record { at = at; target = entry_of t code j })) c) (omega (arith, e))
+forks_do t code at k x [] _ c e = refl
 
 pub kept_more : (code : List EInstr) (xs ys : List ℕ) → kept code (xs ++ ys) ≡ kept code xs ++ kept code ys
 kept_more code [] ys = refl

@@ -36,15 +36,9 @@ safe_parts t code k (safe a i stands fit next) = (i, stands, fit, next)
 fit_fits : (t : Tables) (code : ECode) (c : Calendar) (w : Content) (k : ℕ) (i : EInstr) → AreInRange t → HasEnds t → IsShaped t w → IsSized t c → IsFit t code k i → Fits t c w i
 fit_fits t code c w k (I.CallWrite a b) r e s z h = allowed_fits t c w 1 k (I.CallWrite a b) r e s z (refl, h)
 fit_fits t code c w k (I.CallRead a b) r e s z h = allowed_fits t c w 3 k (I.CallRead a b) r e s z (refl, h)
-fit_fits t code c w k (I.Release a) r e s z h = tt
-fit_fits t code c w k (I.Future a b d) r e s z h = tt
 fit_fits t code c w k (I.JumpIf a b) r e s z h = h
-fit_fits t code c w k (I.Jump a) r e s z h = tt
-fit_fits t code c w k (I.IfMode a b) r e s z h = tt
-fit_fits t code c w k (I.Enter a) r e s z h = tt
-fit_fits t code c w k I.Leave r e s z h = tt
 fit_fits t code c w k (I.Fork a) r e s z h = sized_module t c a z h.0
-fit_fits t code c w k I.Return r e s z h = tt
+fit_fits t code c w k _ r e s z h = tt
 
 safe_ready : (t : Tables) (code : ECode) (c : Calendar) (w : Content) (k a at : ℕ) → AreInRange t → HasEnds t → IsShaped t w → IsSized t c → k < length t.modules → IsSafe t code k a → IsReady t code c w (record { «module» = k; address = a; at = at })
 safe_ready t code c w k a at r e s z inside h =
@@ -105,9 +99,8 @@ ready_safely t code phase at m w r kept spelled ph shaped s = by_running m.runni
 list_set : {A : Type 0} (xs : List (Option A)) (k j : ℕ) (y : Option A) (z : A) → list_at (set xs k y) j ≡ Some z → ((j ≡ k) × (y ≡ Some z)) ⊎ (list_at xs j ≡ Some z)
 list_set [] k j y z e = inr e
 list_set (x ∷ xs) zero zero y z e = inl (refl, e)
-list_set (x ∷ xs) zero (suc j) y z e = inr e
-list_set (x ∷ xs) (suc k) zero y z e = inr e
 list_set (x ∷ xs) (suc k) (suc j) y z e = elim (list_set xs k j y z e) [ inl h ↦ inl (ap suc h.0, h.1) | inr h ↦ inr h ]
+list_set (x ∷ xs) _ _ y z e = inr e
 
 lead_set : (t : Tables) (code : ECode) (p k : ℕ) (y : Option Trigger) (xs : List (Option Trigger)) → LeadToBlocks t code p xs → ((z : Trigger) → y ≡ Some z → IsStart t code k p z.target) → LeadToBlocks t code p (set xs k y)
 lead_set t code p k y xs h g = λ j z e. elim (list_set xs k j y z e) [ inl here ↦ subst (λ n. IsStart t code n p z.target) (sym here.0) (g z here.1) | inr there ↦ h j z there ]
@@ -137,19 +130,13 @@ set_is : (t : Tables) (code : ECode) (k p : ℕ) (x z : Trigger) → IsStart t c
 set_is t code k p x z h e = subst (λ (y : Trigger). IsStart t code k p y.target) (same_Some x z e) h
 
 effect_leads : (t : Tables) (code : ECode) (at k : ℕ) (i : EInstr) (c : Calendar) → Leads t code c → IsFit t code k i → Leads t code (calendar_effect t code at k i c)
-effect_leads t code at k (I.CallWrite a b) c h f = h
-effect_leads t code at k (I.CallRead a b) c h f = h
-effect_leads t code at k (I.Release a) c h f = h
 effect_leads t code at k (I.Future d p x) c h f = trigger_set_leads t code p k (Some (record { at = at + d; target = x })) c f.phase h (λ z e. set_is t code k p (record { at = at + d; target = x }) z f e)
-effect_leads t code at k (I.JumpIf a b) c h f = h
-effect_leads t code at k (I.Jump a) c h f = h
-effect_leads t code at k (I.IfMode a b) c h f = h
 effect_leads t code at k (I.Enter m) c h f =
     record { sized = record { modes = length-set c.modes k (Some m) ∙ h.sized.modes; writes = h.sized.writes; switches = h.sized.switches; reads = h.sized.reads }; writes = h.writes; switches = h.switches; reads = h.reads }
 effect_leads t code at k I.Leave c h f =
     record { sized = record { modes = length-set c.modes k None ∙ h.sized.modes; writes = h.sized.writes; switches = h.sized.switches; reads = h.sized.reads }; writes = h.writes; switches = h.switches; reads = h.reads }
 effect_leads t code at k (I.Fork j) c h f = trigger_set_leads t code 2 j (Some (record { at = at; target = entry_of t code j })) c (inr (inl refl)) h (λ z e. set_is t code j 2 (record { at = at; target = entry_of t code j }) z f.1 e)
-effect_leads t code at k I.Return c h f = h
+effect_leads t code at k _ c h f = h
 
 -- the machine after an instruction, where there was one
 abbrev standing_of : Tables → ECode → List ℤ → ℕ → Calendar → Option EDone → Standing

@@ -137,11 +137,7 @@ module _ (t : Tables) (code : ECode) (k : ℕ) where
 
   always_owes : (w : Want) (s : Step) → Always w → OwesOne w s
   always_owes (Does j) s h = h
-  always_owes (Waits a b) s h = absurd h
-  always_owes (Turns a b) s h = absurd h
-  always_owes (Tests a b c) s h = absurd h
-  always_owes (Asks a) s h = absurd h
-  always_owes (Arrives a) s h = absurd h
+  always_owes _ s h = absurd h
 
   owes_front : (xs : List Want) (y : Want) (ys : List Want) (ss : List Step) → AllAlways xs → length ss ≡ length (xs ++ y ∷ ys) → Owes (y ∷ ys) (drop (length xs) ss) → Owes (xs ++ y ∷ ys) ss
   owes_front [] y ys ss q l o = o
@@ -155,20 +151,15 @@ module _ (t : Tables) (code : ECode) (k : ℕ) where
   target_front p (Does j ∷ xs) ys [] q l = absurd (omega (arith, l))
   target_front p (Does j ∷ xs) ys (s ∷ ss) q l = target_front p xs ys ss q.1 (omega (arith, l))
   target_front p (Waits a b ∷ xs) ys ss q l = absurd q.0
-  target_front p (Turns a b ∷ xs) ys ss q l = absurd q.0
-  target_front p (Tests a b c ∷ xs) ys ss q l = absurd q.0
-  target_front p (Asks a ∷ xs) ys ss q l = absurd q.0
-  target_front p (Arrives a ∷ xs) ys ss q l = absurd q.0
+  target_front p _ ys ss q l = absurd q.0
 
   owes_end : (o p : ℕ) (n : Option ℕ) (ss : List Step) → length ss ≡ length (waits_for o p n ++ Does I.Return ∷ []) →
       ((o1 x : ℕ) → n ≡ Some o1 → target_of p (waits_for o p n ++ Does I.Return ∷ []) ss ≡ Some x → IsStart t code k p x) → Owes (waits_for o p n ++ Does I.Return ∷ []) ss
   owes_end o p None [] l h = absurd (omega (arith, l))
   owes_end o p None (s ∷ []) l h = inl refl
   owes_end o p None (s ∷ u ∷ ss) l h = absurd (omega (arith, l))
-  owes_end o p (Some o1) [] l h = absurd (omega (arith, l))
-  owes_end o p (Some o1) (s ∷ []) l h = absurd (omega (arith, l))
   owes_end o p (Some o1) (s ∷ u ∷ []) l h = (h o1 s.target refl (ap (λ (b : Bool). elim b as (λ _. Option ℕ) [ true ↦ Some s.target | false ↦ None ]) (eq-eqb p p refl)), inl refl)
-  owes_end o p (Some o1) (s ∷ u ∷ v ∷ ss) l h = absurd (omega (arith, l))
+  owes_end o p (Some o1) _ l h = absurd (omega (arith, l))
 
   -- a chain of quiet instructions, a trigger and a return
   block_owes : (xs : List Want) (o p : ℕ) (n : Option ℕ) (ss : List Step) → AllAlways xs → length ss ≡ length (xs ++ (waits_for o p n ++ Does I.Return ∷ [])) →
@@ -186,19 +177,7 @@ module _ (t : Tables) (code : ECode) (k : ℕ) where
   always_quiet p (Does (I.CallWrite a b)) q h = (h.1, λ z hs rs. refl)
   always_quiet p (Does (I.CallRead a b)) q h = (h.1, λ z hs rs. refl)
   always_quiet p (Does (I.Release a)) q h = (tt, λ z hs rs. refl)
-  always_quiet p (Does (I.Future a b e)) q h = absurd q
-  always_quiet p (Does (I.JumpIf a b)) q h = absurd q
-  always_quiet p (Does (I.Jump a)) q h = absurd q
-  always_quiet p (Does (I.IfMode a b)) q h = absurd q
-  always_quiet p (Does (I.Enter a)) q h = absurd q
-  always_quiet p (Does I.Leave) q h = absurd q
-  always_quiet p (Does (I.Fork a)) q h = absurd q
-  always_quiet p (Does I.Return) q h = absurd q
-  always_quiet p (Waits a b) q h = absurd q
-  always_quiet p (Turns a b) q h = absurd q
-  always_quiet p (Tests a b e) q h = absurd q
-  always_quiet p (Asks a) q h = absurd q
-  always_quiet p (Arrives a) q h = absurd q
+  always_quiet p _ q h = absurd q
 
   all_quiet : (p : ℕ) (xs ys : List Want) → AreQuiet xs → WantsAllowed t p k (xs ++ ys) → AllAlways xs
   all_quiet p [] ys q h = tt
@@ -245,12 +224,8 @@ module _ (t : Tables) (code : ECode) (k : ℕ) where
   begin_owes p d (Some u) None (a ∷ b ∷ []) l f g h = absurd (omega (arith, l))
   begin_owes p d (Some u) None (a ∷ b ∷ x ∷ []) l f g h = (f u a.target refl refl, (h, inl refl))
   begin_owes p d (Some u) None (a ∷ b ∷ x ∷ z ∷ xs) l f g h = absurd (omega (arith, l))
-  begin_owes p d (Some u) (Some y) [] l f g h = absurd (omega (arith, l))
-  begin_owes p d (Some u) (Some y) (a ∷ []) l f g h = absurd (omega (arith, l))
-  begin_owes p d (Some u) (Some y) (a ∷ b ∷ []) l f g h = absurd (omega (arith, l))
-  begin_owes p d (Some u) (Some y) (a ∷ b ∷ x ∷ []) l f g h = absurd (omega (arith, l))
   begin_owes p d (Some u) (Some y) (a ∷ b ∷ x ∷ z ∷ []) l f g h = (f u a.target refl refl, (g y b.target refl refl, (h, inl refl)))
-  begin_owes p d (Some u) (Some y) (a ∷ b ∷ x ∷ z ∷ v ∷ xs) l f g h = absurd (omega (arith, l))
+  begin_owes p d (Some u) (Some y) _ l f g h = absurd (omega (arith, l))
 
   pub begin_safe : (m : ℕ) → ModeReads t code m → m < length t.modes → mode_module t m ≡ k → IsSafe t code k (block_begun code m)
   begin_safe m r known owner =
@@ -284,9 +259,8 @@ module _ (t : Tables) (code : ECode) (k : ℕ) where
       by_test false rest = rest
 
   anchor_owes : (x : ℕ) (ss : List Step) → length ss ≡ 1 → IsSafe t code k x → Owes (Arrives x ∷ []) ss
-  anchor_owes x [] l s = absurd (omega (arith, l))
   anchor_owes x (u ∷ []) l s = inr (x, refl, s)
-  anchor_owes x (u ∷ v ∷ ss) l s = absurd (omega (arith, l))
+  anchor_owes x _ l s = absurd (omega (arith, l))
 
   pub enter_safe : (m : ℕ) → AreInRange t → ModeReads t code m → m < length t.modes → mode_module t m ≡ k → IsSafe t code k (entered code m)
   enter_safe m r reads known owner =
@@ -304,22 +278,16 @@ module _ (t : Tables) (code : ECode) (k : ℕ) where
 
   -- the end of a decide list: each test leads to a mode of the module
   abbrev TestsSafe : List Want → Type 0
-  TestsSafe [] = ⊥
   TestsSafe (Tests j x anchor ∷ ws) = (j < length t.switches) × IsSafe t code k anchor × TestsSafe ws
   TestsSafe (Arrives b ∷ []) = IsSafe t code k b
   TestsSafe _ = ⊥
 
   tail_owes : (ws : List Want) (ss : List Step) → TestsSafe ws → length ss ≡ length ws → Owes ws ss
-  tail_owes [] ss h l = absurd h
-  tail_owes (Does j ∷ ws) ss h l = absurd h
-  tail_owes (Waits d p ∷ ws) ss h l = absurd h
-  tail_owes (Turns d p ∷ ws) ss h l = absurd h
-  tail_owes (Asks q ∷ ws) ss h l = absurd h
-  tail_owes (Arrives b ∷ w ∷ ws) ss h l = absurd h
   tail_owes (Arrives b ∷ []) ss h l = anchor_owes b ss l h
   tail_owes (Tests j x anchor ∷ []) ss h l = absurd h.2
   tail_owes (Tests j x anchor ∷ v ∷ ws) [] h l = absurd (omega (arith, l))
   tail_owes (Tests j x anchor ∷ v ∷ ws) (s ∷ ss) h l = ((h.0, h.1), tail_owes (v ∷ ws) ss h.2 (omega (arith, l)))
+  tail_owes _ ss h l = absurd h
 
   tests_safe : (m n : ℕ) (ws : List Switch) → n + length ws ≡ length t.switches → IsSafe t code k (block_begun code m) → ((i : ℕ) (w : Switch) → slice_get ws i ≡ Some w → eqb w.mode m ≡ true → IsSafe t code k (led_to (block_begun code m) code.enter m w.target)) →
       TestsSafe (tests_from code m n ws ++ Arrives (block_begun code m) ∷ [])

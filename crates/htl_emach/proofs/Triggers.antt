@@ -45,18 +45,7 @@ quiet_front t ec at k p (Does (I.CallRead a b) ∷ xs) ys (s ∷ ss) c d x q l h
 quiet_front t ec at k p (Does (I.Release a) ∷ xs) ys [] c d x q l h = absurd (omega arith)
 quiet_front t ec at k p (Does (I.Release a) ∷ xs) ys (s ∷ ss) c d x q l h = let r = quiet_front t ec at k p xs ys ss c d x q.1 (omega arith) h in record { sets = r.sets; leads = r.leads }
 quiet_front t ec at k p (Does (I.Future a b e) ∷ xs) ys ss c d x q l h = absurd q.0
-quiet_front t ec at k p (Does (I.JumpIf a b) ∷ xs) ys ss c d x q l h = absurd q.0
-quiet_front t ec at k p (Does (I.Jump a) ∷ xs) ys ss c d x q l h = absurd q.0
-quiet_front t ec at k p (Does (I.IfMode a b) ∷ xs) ys ss c d x q l h = absurd q.0
-quiet_front t ec at k p (Does (I.Enter a) ∷ xs) ys ss c d x q l h = absurd q.0
-quiet_front t ec at k p (Does I.Leave ∷ xs) ys ss c d x q l h = absurd q.0
-quiet_front t ec at k p (Does (I.Fork a) ∷ xs) ys ss c d x q l h = absurd q.0
-quiet_front t ec at k p (Does I.Return ∷ xs) ys ss c d x q l h = absurd q.0
-quiet_front t ec at k p (Waits a b ∷ xs) ys ss c d x q l h = absurd q.0
-quiet_front t ec at k p (Turns a b ∷ xs) ys ss c d x q l h = absurd q.0
-quiet_front t ec at k p (Tests a b e ∷ xs) ys ss c d x q l h = absurd q.0
-quiet_front t ec at k p (Asks a ∷ xs) ys ss c d x q l h = absurd q.0
-quiet_front t ec at k p (Arrives a ∷ xs) ys ss c d x q l h = absurd q.0
+quiet_front t ec at k p _ ys ss c d x q l h = absurd q.0
 
 -- the trigger that the end of a block sets
 abbrev pub set_next : ℕ → ℕ → ℕ → ℕ → Option ℕ → Option ℕ → Calendar → Calendar
@@ -67,11 +56,9 @@ end_sets : (t : Tables) (ec : ECode) (at k p o : ℕ) (n : Option ℕ) (ss : Lis
 end_sets t ec at k p o None [] c l = absurd (omega arith)
 end_sets t ec at k p o None (s ∷ []) c l = refl
 end_sets t ec at k p o None (s ∷ u ∷ ss) c l = absurd (omega arith)
-end_sets t ec at k p o (Some o1) [] c l = absurd (omega arith)
-end_sets t ec at k p o (Some o1) (s ∷ []) c l = absurd (omega arith)
-end_sets t ec at k p o (Some o1) (s ∷ u ∷ v ∷ ss) c l = absurd (omega arith)
 end_sets t ec at k p o (Some o1) (s ∷ u ∷ []) c l =
     ap (λ (b : Bool). with_trigger p k (trigger_at (at + (o1 - o)) (elim b as (λ _. Option ℕ) [ true ↦ Some s.target | false ↦ None ])) c) (sym (eq-eqb p p refl))
+end_sets t ec at k p o (Some o1) _ c l = absurd (omega arith)
 
 -- a block of quiet instructions, a trigger and a return
 pub block_sets : (t : Tables) (ec : ECode) (code : List EInstr) (at k p o a : ℕ) (xs : List Want) (n : Option ℕ) (ss : List Step) (c : Calendar) → AreQuiet xs → read code a (xs ++ (waits_for o p n ++ Does I.Return ∷ [])) ≡ Ok ss →

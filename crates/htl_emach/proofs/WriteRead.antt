@@ -41,19 +41,7 @@ module _ (code : List EInstr) (holds runs : ℕ → Bool) where
   quiet_goes (Does (I.CallWrite a b)) q = λ z. refl
   quiet_goes (Does (I.CallRead a b)) q = λ z. refl
   quiet_goes (Does (I.Release a)) q = λ z. refl
-  quiet_goes (Does (I.Future a b e)) q = absurd q
-  quiet_goes (Does (I.JumpIf a b)) q = absurd q
-  quiet_goes (Does (I.Jump a)) q = absurd q
-  quiet_goes (Does (I.IfMode a b)) q = absurd q
-  quiet_goes (Does (I.Enter a)) q = absurd q
-  quiet_goes (Does I.Leave) q = absurd q
-  quiet_goes (Does (I.Fork a)) q = absurd q
-  quiet_goes (Does I.Return) q = absurd q
-  quiet_goes (Waits a b) q = absurd q
-  quiet_goes (Turns a b) q = absurd q
-  quiet_goes (Tests a b e) q = absurd q
-  quiet_goes (Asks a) q = absurd q
-  quiet_goes (Arrives a) q = absurd q
+  quiet_goes _ q = absurd q
 
   quiet_block : (xs : List Want) (y : Want) (ys : List Want) → AreQuiet xs → IsBlock code holds runs (y ∷ ys) → IsBlock code holds runs (xs ++ y ∷ ys)
   quiet_block [] y ys q b = b

@@ -99,13 +99,7 @@ goes holds runs a I.Return = None
 goes holds runs a (I.Jump x) = Some x
 goes holds runs a (I.JumpIf k x) = Some (cond (holds k) x (suc a))
 goes holds runs a (I.IfMode m x) = Some (cond (runs m) x (suc a))
-goes holds runs a (I.CallWrite i k) = Some (suc a)
-goes holds runs a (I.CallRead i k) = Some (suc a)
-goes holds runs a (I.Release i) = Some (suc a)
-goes holds runs a (I.Future d p x) = Some (suc a)
-goes holds runs a (I.Enter m) = Some (suc a)
-goes holds runs a I.Leave = Some (suc a)
-goes holds runs a (I.Fork k) = Some (suc a)
+goes holds runs a _ = Some (suc a)
 
 -- where a module begins that is forked
 abbrev pub entry_of : Tables → ECode → ℕ → ℕ

@@ -52,11 +52,6 @@ AreTyped-as_bool : (l r : Option Ty) (u : Ty) → as_bool (same_type l r) ≡ So
 AreTyped-as_bool l r u h = let s = IsTyped-as_bool (same_type l r) u h in AreTyped-same_type l r s.type s.is
 
 pub AreTyped-type_two : (op : BinOp) (l r : Option Ty) (t : Ty) → type_two op l r ≡ Some t → AreTyped l r
-AreTyped-type_two Add l r t h = AreTyped-both_int IntTy l r t h
-AreTyped-type_two Sub l r t h = AreTyped-both_int IntTy l r t h
-AreTyped-type_two Mul l r t h = AreTyped-both_int IntTy l r t h
-AreTyped-type_two Div l r t h = AreTyped-both_int IntTy l r t h
-AreTyped-type_two Rem l r t h = AreTyped-both_int IntTy l r t h
 AreTyped-type_two Lt l r t h = AreTyped-both_int BoolTy l r t h
 AreTyped-type_two Le l r t h = AreTyped-both_int BoolTy l r t h
 AreTyped-type_two Gt l r t h = AreTyped-both_int BoolTy l r t h
@@ -65,15 +60,15 @@ AreTyped-type_two Eq l r t h = AreTyped-as_bool l r t h
 AreTyped-type_two Ne l r t h = AreTyped-as_bool l r t h
 AreTyped-type_two And l r t h = AreTyped-both_bool l r t h
 AreTyped-type_two Or l r t h = AreTyped-both_bool l r t h
+AreTyped-type_two _ l r t h = AreTyped-both_int IntTy l r t h
 
 pub record IsTypedChoice (c a b : Option Ty) (t : Ty) : Type 0 where
   pub condition : c ≡ Some BoolTy
   pub choices : same_type a b ≡ Some t
 
 pub IsTypedChoice-type_choose : (c a b : Option Ty) (t : Ty) → type_choose c a b ≡ Some t → IsTypedChoice c a b t
-IsTypedChoice-type_choose None a b t h = cc
-IsTypedChoice-type_choose (Some IntTy) a b t h = cc
 IsTypedChoice-type_choose (Some BoolTy) a b t h = record { condition = refl; choices = h }
+IsTypedChoice-type_choose _ a b t h = cc
 
 -- ---- the value of a typed expression is of its type
 
@@ -91,18 +86,15 @@ test_fits IntTy b h = tt
 
 FitsType-negate : (op : UnOp) (e : Option Ty) (t : Ty) (x : ℤ) → type_one op e ≡ Some t → FitsType t (negate op x)
 FitsType-negate Neg (Some IntTy) t x h = int_fits t (negate Neg x) h
-FitsType-negate Neg (Some BoolTy) t x h = cc
 FitsType-negate Neg None t x h = cc
-FitsType-negate Not (Some IntTy) t x h = cc
 FitsType-negate Not (Some BoolTy) t x h = test_fits t (is_zero x) h
-FitsType-negate Not None t x h = cc
+FitsType-negate _ _ t x h = cc
 
 int_operands : (u : Ty) (l r : Option Ty) (t : Ty) → both_int u l r ≡ Some t → Some u ≡ Some t
 int_operands u None r t h = cc
 int_operands u (Some BoolTy) r t h = cc
-int_operands u (Some IntTy) None t h = cc
-int_operands u (Some IntTy) (Some BoolTy) t h = cc
 int_operands u (Some IntTy) (Some IntTy) t h = h
+int_operands u (Some IntTy) _ t h = cc
 
 equals_is_bool : (o : Option Ty) (t : Ty) → as_bool o ≡ Some t → Some BoolTy ≡ Some t
 equals_is_bool None t h = cc
@@ -115,9 +107,8 @@ record AreBools (l r : Option Ty) (t : Ty) : Type 0 where
 AreBools-both_bool : (l r : Option Ty) (t : Ty) → both_bool l r ≡ Some t → AreBools l r t
 AreBools-both_bool None r t h = cc
 AreBools-both_bool (Some IntTy) r t h = cc
-AreBools-both_bool (Some BoolTy) None t h = cc
-AreBools-both_bool (Some BoolTy) (Some IntTy) t h = cc
 AreBools-both_bool (Some BoolTy) (Some BoolTy) t h = record { right = refl; whole = h }
+AreBools-both_bool (Some BoolTy) _ t h = cc
 
 -- a bool of one of two ways
 FitsType-cond : (t : Ty) (b : Bool) (x y : ℤ) → FitsType t x → FitsType t y → FitsType t (cond b x y)
@@ -155,11 +146,9 @@ record AreAlike (a b : Option Ty) (t : Ty) : Type 0 where
 AreAlike-same_type : (a b : Option Ty) (t : Ty) → same_type a b ≡ Some t → AreAlike a b t
 AreAlike-same_type None b t h = cc
 AreAlike-same_type (Some IntTy) None t h = cc
-AreAlike-same_type (Some IntTy) (Some BoolTy) t h = cc
 AreAlike-same_type (Some IntTy) (Some IntTy) t h = record { first = h; second = h }
-AreAlike-same_type (Some BoolTy) None t h = cc
-AreAlike-same_type (Some BoolTy) (Some IntTy) t h = cc
 AreAlike-same_type (Some BoolTy) (Some BoolTy) t h = record { first = h; second = h }
+AreAlike-same_type _ _ t h = cc
 
 -- an expression's value is of the expression's type
 pub FitsType-value : (types : List Ty) (values : List ℤ) (e : Term) (t : Ty)

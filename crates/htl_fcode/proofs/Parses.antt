@@ -28,8 +28,6 @@ parsed O.Choose es = fold_choose 0 es
 
 pub stacked-operation : (i : FInstr) (es : List Term) → stacked 0 i es ≡ parsed (operation_of i) es
 stacked-operation (I.Int x) es = refl
-stacked-operation (I.Bool x) es = refl
-stacked-operation (I.Arg k) es = refl
 stacked-operation _ es = refl
 
 -- a bool that is put is 0 or 1
@@ -53,8 +51,7 @@ BoolsFit-join _ is p q = q
 abbrev pub Stands : List Ty → List Term → List Ty → Type 0
 Stands args [] [] = Unit {0}
 Stands args (e ∷ es) (t ∷ ts) = (type_of args e ≡ Some t) × (length es + held e ≤ 64) × Stands args es ts
-Stands args [] (t ∷ ts) = ⊥
-Stands args (e ∷ es) [] = ⊥
+Stands args _ _ = ⊥
 
 abbrev pub StandsThere : List Ty → Option (List Term) → List Ty → Type 0
 StandsThere args (Some es) ts = Stands args es ts
@@ -63,17 +60,14 @@ StandsThere args None ts = ⊥
 pub length-Stands : (args : List Ty) (es : List Term) (ts : List Ty) → Stands args es ts → length ts ≡ length es
 length-Stands args [] [] h = refl
 length-Stands args (e ∷ es) (t ∷ ts) h = ap suc (length-Stands args es ts h.2)
-length-Stands args [] (t ∷ ts) h = absurd h
-length-Stands args (e ∷ es) [] h = absurd h
+length-Stands args _ _ h = absurd h
 
 -- each expression holds a value at least
 pub held_some : (e : Term) → 1 ≤ held e
-held_some (Number token x) = omega arith
-held_some (Truth token x) = omega arith
-held_some (Arg token k) = omega arith
 held_some (Unary token op e) = held_some e
 held_some (Binary token op l r) = omega (arith, held_some l)
 held_some (Choose token c a b) = omega (arith, held_some c)
+held_some _ = omega arith
 
 put_room : {A : Type 0} (x : A) (xs : List A) → length xs < 64 → put x xs ≡ Some (x ∷ xs)
 put_room x xs h = ap (λ b. cond b (Some (x ∷ xs)) None) (lt-ltb (length xs) 64 h)
@@ -197,8 +191,6 @@ after_truth args x es ts us true e s h = after_put args (O.Truth x) (Truth 0 (lt
 
 after_unary : (args : List Ty) (op : UnOp) (es : List Term) (ts us : List Ty) → Stands args es ts → types_after args (O.Unary op) ts ≡ Some us → After args (O.Unary op) es us
 after_unary args op [] [] us s h = cc
-after_unary args op [] (t ∷ ts) us s h = absurd s
-after_unary args op (e ∷ es) [] us s h = absurd s
 after_unary args op (e ∷ es) (t ∷ ts) us s h =
     let w = IsInPlace-in_place (type_one op (Some t)) ts us h in
     record {
@@ -207,12 +199,11 @@ after_unary args op (e ∷ es) (t ∷ ts) us s h =
       stands = subst (λ xs. Stands args (Unary 0 op e ∷ es) xs) w.is (ap (type_one op) s.0 ∙ w.typed, s.1, s.2);
       fits = refl;
     }
+after_unary args op _ _ us s h = absurd s
 
 after_binary : (args : List Ty) (op : BinOp) (es : List Term) (ts us : List Ty) → Stands args es ts → types_after args (O.Binary op) ts ≡ Some us → After args (O.Binary op) es us
-after_binary args op [] [] us s h = cc
 after_binary args op [] (t ∷ ts) us s h = absurd s
 after_binary args op (r ∷ es) [] us s h = absurd s
-after_binary args op (r ∷ []) (t ∷ []) us s h = cc
 after_binary args op (r ∷ []) (t ∷ u ∷ ts) us s h = absurd s.2
 after_binary args op (r ∷ l ∷ es) (t ∷ []) us s h = absurd s.2
 after_binary args op (r ∷ l ∷ es) (t ∷ u ∷ ts) us s h =
@@ -225,15 +216,13 @@ after_binary args op (r ∷ l ∷ es) (t ∷ u ∷ ts) us s h =
           (ap (λ o. type_two op o (type_of args r)) s.2.0 ∙ ap (type_two op (Some u)) s.0 ∙ w.typed, omega (arith, s.1, s.2.1), s.2.2);
       fits = refl;
     }
+after_binary args op _ _ us s h = cc
 
 after_choose : (args : List Ty) (es : List Term) (ts us : List Ty) → Stands args es ts → types_after args O.Choose ts ≡ Some us → After args O.Choose es us
-after_choose args [] [] us s h = cc
 after_choose args [] (t ∷ ts) us s h = absurd s
 after_choose args (b ∷ es) [] us s h = absurd s
-after_choose args (b ∷ []) (t ∷ []) us s h = cc
 after_choose args (b ∷ []) (t ∷ u ∷ ts) us s h = absurd s.2
 after_choose args (b ∷ a ∷ es) (t ∷ []) us s h = absurd s.2
-after_choose args (b ∷ a ∷ []) (t ∷ u ∷ []) us s h = cc
 after_choose args (b ∷ a ∷ []) (t ∷ u ∷ v ∷ ts) us s h = absurd s.2.2
 after_choose args (b ∷ a ∷ c ∷ es) (t ∷ u ∷ []) us s h = absurd s.2.2
 after_choose args (b ∷ a ∷ c ∷ es) (t ∷ u ∷ v ∷ ts) us s h =
@@ -250,6 +239,7 @@ after_choose args (b ∷ a ∷ c ∷ es) (t ∷ u ∷ v ∷ ts) us s h =
           );
       fits = refl;
     }
+after_choose args _ _ us s h = cc
 
 pub after : (args : List Ty) (o : Operation) (es : List Term) (ts us : List Ty) → Stands args es ts → types_after args o ts ≡ Some us → After args o es us
 after args (O.Number x) es ts us s h = after_put args (O.Number x) (Number 0 x) es IntTy ts us refl refl refl refl s h
@@ -271,9 +261,8 @@ values_put values args e es (t ∷ ts) h =
     put_room (value values e) (all_values values es) (omega (arith, held_some e, h.1, length-map es (value values)))
 
 of_bool_value : (x : ℕ) → leb x 1 ≡ true → pos x ≡ of_test (ltb 0 x)
-of_bool_value zero h = refl
-of_bool_value (suc zero) h = refl
 of_bool_value (suc (suc x)) h = absurd (let k : suc (suc x) ≤ 1 = grind (arith, nat_tests) in omega arith)
+of_bool_value _ h = refl
 
 value_argument : (values : List ℤ) (args : List Ty) (k : ℕ) (es : List Term) (us : List Ty)
     → AreArguments args values → Stands args (Arg 0 k ∷ es) us → slice_get values k ≡ Some (get_or values k (pos 0))
@@ -288,16 +277,13 @@ values_unary values op (e ∷ es) args us h = refl
 
 values_binary : (values : List ℤ) (op : BinOp) (es : List Term) (args : List Ty) (us : List Ty) → StandsThere args (fold_two 0 op es) us
     → values_after values (O.Binary op) (all_values values es) ≡ option_map (all_values values) (fold_two 0 op es)
-values_binary values op [] args us h = absurd h
-values_binary values op (r ∷ []) args us h = absurd h
 values_binary values op (r ∷ l ∷ es) args us h = refl
+values_binary values op _ args us h = absurd h
 
 values_choose : (values : List ℤ) (es : List Term) (args : List Ty) (us : List Ty) → StandsThere args (fold_choose 0 es) us
     → values_after values O.Choose (all_values values es) ≡ option_map (all_values values) (fold_choose 0 es)
-values_choose values [] args us h = absurd h
-values_choose values (b ∷ []) args us h = absurd h
-values_choose values (b ∷ a ∷ []) args us h = absurd h
 values_choose values (b ∷ a ∷ c ∷ es) args us h = refl
+values_choose values _ args us h = absurd h
 
 pub values_parsed : (values : List ℤ) (args : List Ty) (o : Operation) (es : List Term) (us : List Ty)
     → AreArguments args values → bool_fits o ≡ true → StandsThere args (parsed o es) us

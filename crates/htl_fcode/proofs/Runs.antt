@@ -100,10 +100,8 @@ parses args (i ∷ is) es ts us s h =
 -- ---- whole code
 
 only-is : (o : Option (List Term)) (e : Term) → only o ≡ Some e → o ≡ Some (e ∷ [])
-only-is None e h = cc
-only-is (Some []) e h = cc
 only-is (Some (f ∷ [])) e h = let k : f ≡ e = cc in ap (λ x. Some (x ∷ [])) k
-only-is (Some (f ∷ g ∷ es)) e h = cc
+only-is _ e h = cc
 
 parse_of : (code : Code) → (v : Verified code) → stack_of (zeros code.instrs) [] ≡ Some (v.tree_of ∷ [])
 parse_of code v = only-is (stack_of (zeros code.instrs) []) v.tree_of v.is_tree

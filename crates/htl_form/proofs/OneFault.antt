@@ -23,17 +23,11 @@ use Rattle.htl_base.proofs.Numbers.{cases_less_same}
 
 part_order : (p q : Part) → PartBefore p q ⊎ (p ≡ q) ⊎ PartBefore q p
 part_order Itself Itself = inr (inl refl)
-part_order Itself (Input j) = inl tt
-part_order Itself (Output j) = inl tt
-part_order Itself (Test l j) = inl tt
 part_order (Input i) Itself = inr (inr tt)
 part_order (Input i) (Input j) = elim (cases_less_same i j) [ inl less ↦ inl less | inr (inl same) ↦ inr (inl (ap Input same)) | inr (inr more) ↦ inr (inr more) ]
-part_order (Input i) (Output j) = inl tt
-part_order (Input i) (Test l j) = inl tt
 part_order (Output i) Itself = inr (inr tt)
 part_order (Output i) (Input j) = inr (inr tt)
 part_order (Output i) (Output j) = elim (cases_less_same i j) [ inl less ↦ inl less | inr (inl same) ↦ inr (inl (ap Output same)) | inr (inr more) ↦ inr (inr more) ]
-part_order (Output i) (Test l j) = inl tt
 part_order (Test k i) Itself = inr (inr tt)
 part_order (Test k i) (Input j) = inr (inr tt)
 part_order (Test k i) (Output j) = inr (inr tt)
@@ -45,6 +39,7 @@ part_order (Test k i) (Test l j) = by (cases_less_same k l) (cases_less_same i j
     by (inr (inl same)) (inr (inl at)) = inr (inl (ap (λ n. Test n i) same ∙ ap (Test l) at))
     by (inr (inl same)) (inr (inr more)) = inr (inr (inr (sym same, more)))
     by (inr (inr more)) place = inr (inr (inl more))
+part_order _ _ = inl tt
 
 inv_order : (k l : Option ℕ) (p q : Part) → InvBefore k p l q ⊎ ((k ≡ l) × (p ≡ q)) ⊎ InvBefore l q k p
 inv_order None None p q = elim (part_order p q) [ inl less ↦ inl less | inr (inl same) ↦ inr (inl (refl, same)) | inr (inr more) ↦ inr (inr more) ]
@@ -113,14 +108,13 @@ one_part t f b judge k i at (Test l j) h n a c x y = absurd x
 one_of_mode : (t : Tables) (f : Tests) (b : Breach) → Judges t f b → (m : ℕ) (x : Mode) → slice_get t.modes m ≡ Some x
     → (p : Part) (h n a c : ℕ) → ModeBreaks t b m x p h n → ModeBreaks t b m x p a c → (h ≡ a) × (n ≡ c)
 one_of_mode t f b judge m x at Itself h n a c y z = one_found (f.mode m x) (b.mode m x) (judge.mode m x at) h n a c y z
-one_of_mode t f b judge m x at (Input j) h n a c y z = absurd y
-one_of_mode t f b judge m x at (Output j) h n a c y z = absurd y
 one_of_mode t f b judge m x at (Test l j) h n a c y z =
     let one = y.1 in let other = z.1 in
     let switch : z.0 ≡ y.0 = cc in
     let reads = y.4 in let others = z.4 in
     let same : z.3 ≡ y.3 = cc in
     one_found (f.test m y.3) (b.test m y.3) (judge.test m y.3) h n a c y.5 (subst (λ (d : ℕ). b.test m d a c) same z.5)
+one_of_mode t f b judge m x at _ h n a c y z = absurd y
 
 pub one_at : (t : Tables) (f : Tests) (b : Breach) → Judges t f b → (m : ℕ) (x : Mode) → slice_get t.modes m ≡ Some x
     → (k : Option ℕ) (p : Part) (h n a c : ℕ) → BreaksAt t b m x k p h n → BreaksAt t b m x k p a c → (h ≡ a) × (n ≡ c)

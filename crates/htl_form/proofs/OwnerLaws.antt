@@ -44,9 +44,8 @@ taker t m (suc l) c h =
 
 -- of two modules among the owners one is another than the second, unless they are the same
 same_module : (o : Owner) (u v : ℕ) → has_module o u ≡ true → has_other o v ≡ false → u ≡ v
-same_module owner.Nobody u v p q = cc
 same_module (owner.One w) u v p q = grind (arith, nat_tests)
-same_module owner.Several u v p q = cc
+same_module _ u v p q = cc
 
 -- an end that names a communicator, among ends that are not shared
 not_shared : (owners : List Owner) (u c : ℕ) (ends : List End) → list_any (is_comm c) ends ≡ true → list_any (is_shared_end owners u) ends ≡ false

@@ -64,17 +64,14 @@ pub record IsFirstPart (b : Breach) (k : ℕ) (i : Inv) (h n : ℕ) : Type 0 whe
 
 before_itself : (b : Breach) (k : ℕ) (i : Inv) (q : Part) (a c : ℕ) → PartBefore q Itself → PartBreaks b k i q a c → ⊥
 before_itself b k i Itself a c less x = less
-before_itself b k i (Input j) a c less x = less
-before_itself b k i (Output j) a c less x = less
-before_itself b k i (Test l j) a c less x = less
+before_itself b k i _ a c less x = less
 
 before_input : (t : Tables) (f : Tests) (b : Breach) → Judges t f b → (k : ℕ) (i : Inv) → slice_get t.invs k ≡ Some i → (y : ℕ × ℕ) → f.inv k i ≡ None
     → (g : IsFirstAt (f.input k i) i.reads y) → (q : Part) (a c : ℕ) → PartBefore q (Input g.place) → PartBreaks b k i q a c → ⊥
 before_input t f b judge k i at y none g Itself a c less x = not_found (f.inv k i) (b.inv k i) (judge.inv k i at) none a c x
 before_input t f b judge k i at y none g (Input j) a c less x =
     not_found (f.input k i j x.0) (b.input k i j x.0) (judge.input k i j x.0 at x.1) (g.before j x.0 less x.1) a c x.2
-before_input t f b judge k i at y none g (Output j) a c less x = less
-before_input t f b judge k i at y none g (Test l j) a c less x = less
+before_input t f b judge k i at y none g _ a c less x = less
 
 before_output : (t : Tables) (f : Tests) (b : Breach) → Judges t f b → (k : ℕ) (i : Inv) → slice_get t.invs k ≡ Some i → (y : ℕ × ℕ) → f.inv k i ≡ None
     → first_from (f.input k i) 0 i.reads ≡ None → (g : IsFirstAt (f.output k i) i.writes y)
@@ -122,9 +119,8 @@ switch_none t f b judge m l w is none j c h n at x =
 mode_parts_none : (t : Tables) (f : Tests) (b : Breach) → Judges t f b → (m : ℕ) (x : Mode) → slice_get t.modes m ≡ Some x
     → f.mode m x ≡ None → first_from (at_switch f m) 0 t.switches ≡ None → (p : Part) (h n : ℕ) → ModeBreaks t b m x p h n → ⊥
 mode_parts_none t f b judge m x at one two Itself h n y = not_found (f.mode m x) (b.mode m x) (judge.mode m x at) one h n y
-mode_parts_none t f b judge m x at one two (Input j) h n y = y
-mode_parts_none t f b judge m x at one two (Output j) h n y = y
 mode_parts_none t f b judge m x at one two (Test l j) h n y = switch_none t f b judge m l y.0 y.2 (none_at (at_switch f m) t.switches two l y.0 y.1) j y.3 h n y.4 y.5
+mode_parts_none t f b judge m x at one two _ h n y = y
 
 pub mode_none : (t : Tables) (f : Tests) (b : Breach) → Judges t f b → (m : ℕ) (x : Mode) → slice_get t.modes m ≡ Some x → at_mode f t m x ≡ None
     → (p : Part) (h n : ℕ) → ModeBreaks t b m x p h n → ⊥
@@ -139,22 +135,19 @@ pub record IsFirstOfMode (t : Tables) (b : Breach) (m : ℕ) (x : Mode) (h n : �
 
 before_mode : (t : Tables) (b : Breach) (m : ℕ) (x : Mode) (q : Part) (a c : ℕ) → PartBefore q Itself → ModeBreaks t b m x q a c → ⊥
 before_mode t b m x Itself a c less y = less
-before_mode t b m x (Input j) a c less y = less
-before_mode t b m x (Output j) a c less y = less
-before_mode t b m x (Test l j) a c less y = less
+before_mode t b m x _ a c less y = less
 
 before_test : (t : Tables) (f : Tests) (b : Breach) → Judges t f b → (m : ℕ) (x : Mode) → slice_get t.modes m ≡ Some x → (y : ℕ × ℕ) → f.mode m x ≡ None
     → (g : IsFirstAt (at_switch f m) t.switches y) (r : IsFirstAt (at_read f m) g.item.reads y)
     → (q : Part) (a c : ℕ) → PartBefore q (Test g.place r.place) → ModeBreaks t b m x q a c → ⊥
 before_test t f b judge m x at y none g r Itself a c less z = not_found (f.mode m x) (b.mode m x) (judge.mode m x at) none a c z
-before_test t f b judge m x at y none g r (Input j) a c less z = z
-before_test t f b judge m x at y none g r (Output j) a c less z = z
 before_test t f b judge m x at y none g r (Test l j) a c (inl below) z = switch_none t f b judge m l z.0 z.2 (g.before l z.0 below z.1) j z.3 a c z.4 z.5
 before_test t f b judge m x at y none g r (Test l j) a c (inr here) z =
     let item : Some z.0 ≡ Some g.item = sym z.1 ∙ ap (slice_get t.switches) here.0 ∙ g.at in
     let is : z.0 ≡ g.item = cc in
     let read : slice_get g.item.reads j ≡ Some z.3 = subst (λ (w : Switch). slice_get w.reads j ≡ Some z.3) is z.4 in
     not_found (f.test m z.3) (b.test m z.3) (judge.test m z.3) (r.before j z.3 here.1 read) a c z.5
+before_test t f b judge m x at y none g r _ a c less z = z
 
 pub mode_first : (t : Tables) (f : Tests) (b : Breach) → Judges t f b → (m : ℕ) (x : Mode) → slice_get t.modes m ≡ Some x → (h n : ℕ) → at_mode f t m x ≡ Some (h, n)
     → IsFirstOfMode t b m x h n

@@ -21,10 +21,7 @@ place_of law.PortCycles few = (8, R.PortCycles, refl, refl, refl)
 place_of law.AbstractPorts few = (9, R.AbstractPorts, refl, refl, refl)
 place_of law.Sensors few = (10, R.Sensors, refl, refl, refl)
 place_of law.ConcreteWriters few = (11, R.ConcreteWriters, refl, refl, refl)
-place_of law.AbstractPlaces few = absurd (omega arith)
-place_of law.Parents few = absurd (omega arith)
-place_of law.SharedParents few = absurd (omega arith)
-place_of law.Inheritance few = absurd (omega arith)
+place_of _ few = absurd (omega arith)
 
 -- the number of the rule at a place
 pub number_at : (p : ℕ) (r : Rule) → slice_get all_rules p ≡ Some r → (suc p ≡ rule_number r) × (suc p ≤ 12)

@@ -29,43 +29,22 @@ all_rules =
 
 -- whether the rule speaks of inputs; of outputs; of what switches read
 abbrev pub judges_inputs : Rule → Bool
-judges_inputs R.ModulePeriod = false
-judges_inputs R.FrameLimits = false
 judges_inputs R.Divides = true
 judges_inputs R.Offsets = true
 judges_inputs R.Ends = true
-judges_inputs R.Windows = false
-judges_inputs R.WorstCases = false
 judges_inputs R.PortWriters = true
-judges_inputs R.PortCycles = false
 judges_inputs R.AbstractPorts = true
-judges_inputs R.Sensors = false
-judges_inputs R.ConcreteWriters = false
+judges_inputs _ = false
 
 abbrev pub judges_outputs : Rule → Bool
-judges_outputs R.ModulePeriod = false
-judges_outputs R.FrameLimits = false
 judges_outputs R.Divides = true
 judges_outputs R.Offsets = true
 judges_outputs R.Ends = true
-judges_outputs R.Windows = false
-judges_outputs R.WorstCases = false
 judges_outputs R.PortWriters = true
-judges_outputs R.PortCycles = false
-judges_outputs R.AbstractPorts = false
 judges_outputs R.Sensors = true
 judges_outputs R.ConcreteWriters = true
+judges_outputs _ = false
 
 abbrev pub judges_switches : Rule → Bool
-judges_switches R.ModulePeriod = false
-judges_switches R.FrameLimits = false
 judges_switches R.Divides = true
-judges_switches R.Offsets = false
-judges_switches R.Ends = false
-judges_switches R.Windows = false
-judges_switches R.WorstCases = false
-judges_switches R.PortWriters = false
-judges_switches R.PortCycles = false
-judges_switches R.AbstractPorts = false
-judges_switches R.Sensors = false
-judges_switches R.ConcreteWriters = false
+judges_switches _ = false

@@ -13,9 +13,6 @@ use Rattle.htl_func.specs.Faults.{IsFault}
 
 -- a typed expression has no ill-typed operator
 pub first_ill-typed : (args : List Ty) (e : Term) (t : Ty) → type_of args e ≡ Some t → first_ill args e ≡ None
-first_ill-typed args (Number token x) t h = refl
-first_ill-typed args (Truth token x) t h = refl
-first_ill-typed args (Arg token k) t h = refl
 first_ill-typed args (Unary token op e) t h =
     let y = IsTyped-type_one op (type_of args e) t h in
     ap (λ o. or_else o (at_fault token (type_one op (type_of args e)))) (first_ill-typed args e y.type y.is) ∙ ap (at_fault token) h
@@ -27,6 +24,7 @@ first_ill-typed args (Choose token c a b) t h =
     let y = AreTyped-same_type (type_of args a) (type_of args b) t w.choices in
     rw (first_ill-typed args c BoolTy w.condition, first_ill-typed args a y.left.type y.left.is, first_ill-typed args b y.right.type y.right.is)
     (ap (at_fault token) h)
+first_ill-typed args _ t h = refl
 
 unless_type-same : (t : Ty) (first : ℕ) → unless_type t first (Some t) ≡ None
 unless_type-same IntTy first = refl

@@ -40,9 +40,6 @@ zeros-append : (xs ys : List FInstr) → zeros (xs ++ ys) ≡ zeros xs ++ zeros 
 zeros-append xs ys = map-append (λ (i : FInstr). (0, i)) xs ys
 
 zeros-postfix : (e : Term) → zeros (postfix e) ≡ spelled (without_tokens e)
-zeros-postfix (Number t x) = refl
-zeros-postfix (Truth t x) = refl
-zeros-postfix (Arg t k) = refl
 zeros-postfix (Unary t op e) =
     ap zeros (postfix-unary t op e) ∙ zeros-append (postfix e) (of_unary op ∷ []) ∙ ap (λ is. is ++ (0, of_unary op) ∷ []) (zeros-postfix e)
 zeros-postfix (Binary t op l r) =
@@ -57,6 +54,7 @@ zeros-postfix (Choose t c a b) =
     (zeros-append (postfix a) (postfix b ++ I.Choose ∷ []) ∙ ap (λ is. is ++ zeros (postfix b ++ I.Choose ∷ [])) (zeros-postfix a)
     ∙ ap (λ is. spelled (without_tokens a) ++ is)
     (zeros-append (postfix b) (I.Choose ∷ []) ∙ ap (λ is. is ++ (0, I.Choose) ∷ []) (zeros-postfix b)))
+zeros-postfix _ = refl
 
 pub tree-postfix : (e : Term) → tree (postfix e) ≡ Some (without_tokens e)
 tree-postfix e =
@@ -66,34 +64,28 @@ tree-postfix e =
 -- ---- token numbers mean nothing
 
 pub value-without_tokens : (values : List ℤ) (e : Term) → value values (without_tokens e) ≡ value values e
-value-without_tokens values (Number t x) = refl
-value-without_tokens values (Truth t x) = refl
-value-without_tokens values (Arg t k) = refl
 value-without_tokens values (Unary t op e) = ap (negate op) (value-without_tokens values e)
 value-without_tokens values (Binary t op l r) =
     ap (λ x. combine op x (value values (without_tokens r))) (value-without_tokens values l)
     ∙ ap (combine op (value values l)) (value-without_tokens values r)
 value-without_tokens values (Choose t c a b) =
     rw (value-without_tokens values c, value-without_tokens values a, value-without_tokens values b) refl
+value-without_tokens values _ = refl
 
 pub type_of-without_tokens : (args : List Ty) (e : Term) → type_of args (without_tokens e) ≡ type_of args e
-type_of-without_tokens args (Number t x) = refl
-type_of-without_tokens args (Truth t x) = refl
-type_of-without_tokens args (Arg t k) = refl
 type_of-without_tokens args (Unary t op e) = ap (type_one op) (type_of-without_tokens args e)
 type_of-without_tokens args (Binary t op l r) =
     ap (λ x. type_two op x (type_of args (without_tokens r))) (type_of-without_tokens args l)
     ∙ ap (type_two op (type_of args l)) (type_of-without_tokens args r)
 type_of-without_tokens args (Choose t c a b) =
     rw (type_of-without_tokens args c, type_of-without_tokens args a, type_of-without_tokens args b) refl
+type_of-without_tokens args _ = refl
 
 pub held-without_tokens : (e : Term) → held (without_tokens e) ≡ held e
-held-without_tokens (Number t x) = refl
-held-without_tokens (Truth t x) = refl
-held-without_tokens (Arg t k) = refl
 held-without_tokens (Unary t op e) = held-without_tokens e
 held-without_tokens (Binary t op l r) = rw (held-without_tokens l, held-without_tokens r) refl
 held-without_tokens (Choose t c a b) = rw (held-without_tokens c, held-without_tokens a, held-without_tokens b) refl
+held-without_tokens _ = refl
 
 -- ---- its bools and its length
 
@@ -108,24 +100,10 @@ bools_fit-unary un.Not = refl
 
 bools_fit-binary : (op : BinOp) → bools_fit (of_binary op ∷ []) ≡ true
 bools_fit-binary bin.Add = refl
-bools_fit-binary bin.Sub = refl
-bools_fit-binary bin.Mul = refl
-bools_fit-binary bin.Div = refl
-bools_fit-binary bin.Rem = refl
-bools_fit-binary bin.Lt = refl
-bools_fit-binary bin.Le = refl
-bools_fit-binary bin.Gt = refl
-bools_fit-binary bin.Ge = refl
-bools_fit-binary bin.Eq = refl
-bools_fit-binary bin.Ne = refl
-bools_fit-binary bin.And = refl
-bools_fit-binary bin.Or = refl
+bools_fit-binary _ = refl
 
 pub bools_fit-postfix : (e : Term) → bools_fit (postfix e) ≡ true
-bools_fit-postfix (Number t x) = refl
 bools_fit-postfix (Truth t true) = refl
-bools_fit-postfix (Truth t false) = refl
-bools_fit-postfix (Arg t k) = refl
 bools_fit-postfix (Unary t op e) =
     ap bools_fit (postfix-unary t op e) ∙ bools_fit-append (postfix e) (of_unary op ∷ []) (bools_fit-postfix e) (bools_fit-unary op)
 bools_fit-postfix (Binary t op l r) =
@@ -137,25 +115,20 @@ bools_fit-postfix (Choose t c a b) =
     ∙ bools_fit-append (postfix c) (postfix a ++ (postfix b ++ I.Choose ∷ [])) (bools_fit-postfix c)
     (bools_fit-append (postfix a) (postfix b ++ I.Choose ∷ []) (bools_fit-postfix a)
     (bools_fit-append (postfix b) (I.Choose ∷ []) (bools_fit-postfix b) refl))
+bools_fit-postfix _ = refl
 
 pub length-postfix : (e : Term) → length (postfix e) ≡ nodes e
-length-postfix (Number t x) = refl
-length-postfix (Truth t x) = refl
-length-postfix (Arg t k) = refl
 length-postfix (Unary t op e) =
     omega (arith, ap length (postfix-unary t op e), length-append (postfix e) (of_unary op ∷ []), length-postfix e)
 length-postfix (Binary t op l r) =
     omega (arith, ap length (postfix-binary t op l r), length-append (postfix l) (postfix r ++ of_binary op ∷ []), length-append (postfix r) (of_binary op ∷ []), length-postfix l, length-postfix r)
 length-postfix (Choose t c a b) =
     omega (arith, ap length (postfix-choose t c a b), length-append (postfix c) (postfix a ++ (postfix b ++ I.Choose ∷ [])), length-append (postfix a) (postfix b ++ I.Choose ∷ []), length-append (postfix b) (I.Choose ∷ []), length-postfix c, length-postfix a, length-postfix b)
+length-postfix _ = refl
 
 nodes_some : (e : Term) → 1 ≤ nodes e
 nodes_some (Number t x) = omega arith
-nodes_some (Truth t x) = omega arith
-nodes_some (Arg t k) = omega arith
-nodes_some (Unary t op e) = omega arith
-nodes_some (Binary t op l r) = omega arith
-nodes_some (Choose t c a b) = omega arith
+nodes_some _ = omega arith
 
 -- ---- code that is the postfix form
 

@@ -25,9 +25,6 @@ at_fault token None = Some token
 
 -- the token of the first operator whose operands have wrong types: operands from left to right, then their operator
 abbrev pub first_ill : List Ty → Term → Option ℕ
-first_ill args (Number token x) = None
-first_ill args (Truth token x) = None
-first_ill args (Arg token k) = None
 first_ill args (Unary token op e) = or_else (first_ill args e) (at_fault token (type_one op (type_of args e)))
 first_ill args (Binary token op l r) =
     or_else (first_ill args l) (or_else (first_ill args r) (at_fault token (type_two op (type_of args l) (type_of args r))))
@@ -35,6 +32,7 @@ first_ill args (Choose token c a b) =
     or_else (first_ill args c)
     (or_else (first_ill args a)
     (or_else (first_ill args b) (at_fault token (type_choose (type_of args c) (type_of args a) (type_of args b)))))
+first_ill args _ = None
 
 -- the first token of an expression whose type isn't the one that is wanted
 abbrev pub unless_type : Ty → ℕ → Option Ty → Option ℕ

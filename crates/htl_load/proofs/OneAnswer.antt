@@ -22,10 +22,7 @@ record TellsBadField (bytes : List ℕ) (f : ObjectFault) : Type 0 where
 
 refusal : (bytes : List ℕ) (f : ObjectFault) → RefusesBytes bytes f → TellsBadField bytes f ⊎ RefusesObject bytes f
 refusal bytes (fault.Malformed m) h = inl (record { malformed = m; is = refl; bad = h })
-refusal bytes (fault.IllFormed f) h = inr h
-refusal bytes (fault.Function k) h = inr h
-refusal bytes (fault.ECode e) h = inr h
-refusal bytes (fault.Schedule sel m) h = inr h
+refusal bytes _ h = inr h
 
 not_both : (bytes : List ℕ) (r : Read Lists) (o : Object) (m : Malformed) → object_or bytes r ≡ Ok o → fault_of bytes r ≡ Some m → ⊥
 not_both bytes (Ok x) o m p q = cc

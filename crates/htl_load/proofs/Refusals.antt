@@ -77,23 +77,20 @@ one_schedule t lists j k m n p q = by (cases_less_same j k)
 
 pub one_fault : OneFault
 one_fault o (fault.Malformed m) g range p q = absurd p
-one_fault o (fault.IllFormed f) (fault.Malformed m) range p q = absurd q
 one_fault o (fault.IllFormed f) (fault.IllFormed g) range p q = ap fault.IllFormed (one_first_broken o.tables range.tables f g p q)
 one_fault o (fault.IllFormed f) (fault.Function k) range p q = absurd (not_formed o.tables f q.0.formed p)
 one_fault o (fault.IllFormed f) (fault.ECode e) range p q = absurd (not_formed o.tables f q.0.formed p)
 one_fault o (fault.IllFormed f) (fault.Schedule sel m) range p q = absurd (not_formed o.tables f q.0.formed.formed p)
-one_fault o (fault.Function k) (fault.Malformed m) range p q = absurd q
 one_fault o (fault.Function k) (fault.IllFormed f) range p q = absurd (not_formed o.tables f p.0.formed q)
 one_fault o (fault.Function k) (fault.Function n) range p q = ap fault.Function (one_unfit o.tables k n p.1 q.1)
 one_fault o (fault.Function k) (fault.ECode e) range p q = absurd (p.1.here (q.1.0 k))
 one_fault o (fault.Function k) (fault.Schedule sel m) range p q = absurd (p.1.here (q.0.functions k))
-one_fault o (fault.ECode e) (fault.Malformed m) range p q = absurd q
 one_fault o (fault.ECode e) (fault.IllFormed f) range p q = absurd (not_formed o.tables f p.0.formed q)
 one_fault o (fault.ECode e) (fault.Function k) range p q = absurd (q.1.here (p.1.0 k))
 one_fault o (fault.ECode e) (fault.ECode f) range p q = ap fault.ECode (one_departure (departure o.tables o.ecode) e f p.1.1 q.1.1)
 one_fault o (fault.ECode e) (fault.Schedule sel m) range p q = absurd (not_spelled o e q.0 p.1.1)
-one_fault o (fault.Schedule sel m) (fault.Malformed n) range p q = absurd q
 one_fault o (fault.Schedule sel m) (fault.IllFormed f) range p q = absurd (not_formed o.tables f p.0.formed.formed q)
 one_fault o (fault.Schedule sel m) (fault.Function k) range p q = absurd (q.1.here (p.0.functions k))
 one_fault o (fault.Schedule sel m) (fault.ECode e) range p q = absurd (not_spelled o e p.0 q.1.1)
 one_fault o (fault.Schedule sel m) (fault.Schedule other n) range p q = one_schedule o.tables (instrs_of o.schedules) sel other m n p.1 q.1
+one_fault o _ _ range p q = absurd q

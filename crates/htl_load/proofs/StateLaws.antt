@@ -34,21 +34,13 @@ accepted_with o spelled feasible = record { spelled = spelled; feasible = feasib
 
 pub form_refused : (o : Object) (f : ObjectFault) → IsFormFault o f → IsRefused o f
 form_refused o (fault.IllFormed f) is = is
-form_refused o (fault.Malformed m) is = absurd is
-form_refused o (fault.Function k) is = absurd is
-form_refused o (fault.ECode e) is = absurd is
-form_refused o (fault.Schedule sel m) is = absurd is
+form_refused o _ is = absurd is
 
 pub spelling_refused : (o : Object) (f : ObjectFault) → IsFormed o → IsSpellingFault o f → IsRefused o f
 spelling_refused o (fault.Function k) formed is = (formed, is)
 spelling_refused o (fault.ECode e) formed is = (formed, is)
-spelling_refused o (fault.Malformed m) formed is = absurd is
-spelling_refused o (fault.IllFormed f) formed is = absurd is
-spelling_refused o (fault.Schedule sel m) formed is = absurd is
+spelling_refused o _ formed is = absurd is
 
 pub schedule_refused : (o : Object) (f : ObjectFault) → IsSpelled o → IsScheduleFault o f → IsRefused o f
 schedule_refused o (fault.Schedule sel m) spelled is = (spelled, is)
-schedule_refused o (fault.Malformed m) spelled is = absurd is
-schedule_refused o (fault.IllFormed f) spelled is = absurd is
-schedule_refused o (fault.Function k) spelled is = absurd is
-schedule_refused o (fault.ECode e) spelled is = absurd is
+schedule_refused o _ spelled is = absurd is

@@ -15,26 +15,18 @@ use Rattle.htl_walk.specs.NodeWalks.{IsFirstFailing, instrs_of}
 -- the first form rule that the tables break
 abbrev pub IsFormFault : Object → ObjectFault → Type 0
 IsFormFault o (fault.IllFormed f) = IsFirstBroken o.tables f
-IsFormFault o (fault.Malformed m) = ⊥
-IsFormFault o (fault.Function k) = ⊥
-IsFormFault o (fault.ECode e) = ⊥
-IsFormFault o (fault.Schedule sel m) = ⊥
+IsFormFault o _ = ⊥
 
 -- the first function that doesn't fit its place; where all do, the first departure of the E code
 abbrev pub IsSpellingFault : Object → ObjectFault → Type 0
 IsSpellingFault o (fault.Function k) = IsFirstUnfit o.tables k
 IsSpellingFault o (fault.ECode e) = FitPlaces o.tables × (departure o.tables o.ecode ≡ Some e)
-IsSpellingFault o (fault.Malformed m) = ⊥
-IsSpellingFault o (fault.IllFormed f) = ⊥
-IsSpellingFault o (fault.Schedule sel m) = ⊥
+IsSpellingFault o _ = ⊥
 
 -- the first path that doesn't accept the lists of its nodes, with its first miss
 abbrev pub IsScheduleFault : Object → ObjectFault → Type 0
 IsScheduleFault o (fault.Schedule sel m) = IsFirstFailing o.tables (instrs_of o.schedules) sel m
-IsScheduleFault o (fault.Malformed m) = ⊥
-IsScheduleFault o (fault.IllFormed f) = ⊥
-IsScheduleFault o (fault.Function k) = ⊥
-IsScheduleFault o (fault.ECode e) = ⊥
+IsScheduleFault o _ = ⊥
 
 -- ---- the first fault
 

@@ -112,12 +112,11 @@ finishes_late jobs (Dispatch p until ∷ is) x zero q l at pos fin =
     by zero v e f = absurd (let z : ⊥ = cc in z)
     by (suc w) zero e f = passes x.time (suc w) (job_at jobs p).release until (omega arith) (sym e)
     by (suc w) (suc v) e f = absurd (let z : ⊥ = cc in z)
-finishes_late jobs (Idle until ∷ is) x zero q l at pos fin = let e = same_Some _ _ at in not_some q (ap (λ (z : Left). z.position) e ∙ pos)
-finishes_late jobs (End ∷ is) x zero q l at pos fin = let e = same_Some _ _ at in not_some q (ap (λ (z : Left). z.position) e ∙ pos)
 finishes_late jobs (Dispatch p until ∷ is) x (suc k) q l at pos fin =
     omega (arith, time_passes x.time (get_or x.left p 0) (job_at jobs p).release until, finishes_late jobs is (next_point jobs (Dispatch p until) x) k q l at pos fin)
 finishes_late jobs (Idle until ∷ is) x (suc k) q l at pos fin = omega (arith, finishes_late jobs is (next_point jobs (Idle until) x) k q l at pos fin)
 finishes_late jobs (End ∷ is) x (suc k) q l at pos fin = finishes_late jobs is x k q l at pos fin
+finishes_late jobs _ x zero q l at pos fin = let e = same_Some _ _ at in not_some q (ap (λ (z : Left). z.position) e ∙ pos)
 
 -- so no job is done at once
 still : (t : Tables) (p : Plan) (k : ℕ) (w : Content) → k < count_left_before (suc p.first.time) (list_walk p) → complete_by t p.jobs (slice_get (list_walk p) k) w ≡ w

@@ -238,9 +238,8 @@ finished m es to f =
 
 map_or : {A B : Type 0} (f : A → B) (d : B) (xs : List A) (k : ℕ) → get_or (map f xs) k d ≡ elim (slice_get xs k) as (λ _. B) [ Some x ↦ f x | None ↦ d ]
 map_or f d [] zero = refl
-map_or f d [] (suc k) = refl
-map_or f d (x ∷ xs) zero = refl
 map_or f d (x ∷ xs) (suc k) = map_or f d xs k
+map_or f d _ _ = refl
 
 -- a new machine
 pub first_follows : (o : Object) (show : Shown) → IsAccepted o → StandsSafely o.tables o.ecode (first_standing o.tables o.ecode) → IsShaped o.tables (first_content o.tables)

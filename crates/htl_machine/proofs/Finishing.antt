@@ -32,9 +32,8 @@ get_front (x ∷ xs) ys (suc k) h = get_front xs ys k (omega arith)
 
 get_end : (xs : List ℤ) (y : ℤ) (k : ℕ) → k ≡ length xs → get_or (xs ++ y ∷ []) k (pos 0) ≡ y
 get_end [] y zero h = refl
-get_end [] y (suc k) h = absurd (omega arith)
-get_end (x ∷ xs) y zero h = absurd (omega arith)
 get_end (x ∷ xs) y (suc k) h = get_end xs y k (omega arith)
+get_end _ y _ h = absurd (omega arith)
 
 pub list_to_at : (f : ℕ → ℤ) (n k : ℕ) → k < n → get_or (list_to f n) k (pos 0) ≡ f k
 list_to_at f zero k h = absurd (omega arith)

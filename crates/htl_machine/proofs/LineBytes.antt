@@ -173,9 +173,8 @@ module _ (t : Tables) (names : HasNames t) where
   instr_plain (I.Jump a) = joins (codes "jump ") (decimal a) (plain refl) (number_plain a)
   instr_plain (I.IfMode m a) = joins _ (decimal a) (joins _ (codes " ") (joins (codes "ifmode ") (mode_text t m) (plain refl) (mode_text_plain m)) (plain refl)) (number_plain a)
   instr_plain (I.Enter m) = joins (codes "enter ") (mode_text t m) (plain refl) (mode_text_plain m)
-  instr_plain I.Leave = plain refl
   instr_plain (I.Fork k) = joins (codes "fork ") (module_text t k) (plain refl) (module_text_plain k)
-  instr_plain I.Return = plain refl
+  instr_plain _ = plain refl
 
   step_plain : (i : SInstr) → IsPlain (step_text i)
   step_plain (Dispatch p until) = joins _ (decimal until) (joins _ (codes " until ") (joins (codes "dispatch ") (decimal p) (plain refl) (number_plain p)) (plain refl)) (number_plain until)
@@ -213,12 +212,8 @@ module _ (t : Tables) (names : HasNames t) where
   -- the first letter tells the job lines
   pub letter : (l : RunLine) → begins_as_job (printed t l) ≡ is_job_line l
   letter (SliceLine from to i) = refl
-  letter (DoneLine at i) = refl
-  letter (InstrLine at a x) = refl
   letter (ChangeLine (ValueLine at c x)) = refl
-  letter (ChangeLine (ModeLine at k m)) = refl
-  letter (StepLine at s k x) = refl
-  letter (TotalsLine at jobs e s) = refl
+  letter _ = refl
 
   -- ---- lines are found again
 

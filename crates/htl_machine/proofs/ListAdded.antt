@@ -39,14 +39,13 @@ use Rattle.htl_machine.proofs.RunLists.{past, stands, from_is, length-jobs}
 same_work : (js : List Job) (ns ms : List ℕ) → length ns ≡ length ms → ((p : ℕ) (j : Job) → slice_get js p ≡ Some j → j.present ≡ true → get_or ns p 0 ≡ get_or ms p 0) → work js ns ≡ work js ms
 same_work [] ns ms e h = refl
 same_work (j ∷ js) [] [] e h = refl
-same_work (j ∷ js) [] (m ∷ ms) e h = absurd (omega (arith, e))
-same_work (j ∷ js) (n ∷ ns) [] e h = absurd (omega (arith, e))
 same_work (j ∷ js) (n ∷ ns) (m ∷ ms) e h =
     ap₂ (λ (a : ℕ) (ws : List ℕ). a ∷ ws) (by j.present refl) (same_work js ns ms (omega (arith, e)) (λ p k at here. h (suc p) k at here))
   where
     by : (b : Bool) → j.present ≡ b → cond b n 0 ≡ cond b m 0
     by true f = h 0 j refl f
     by false f = refl
+same_work (j ∷ js) _ _ e h = absurd (omega (arith, e))
 
 drop_map : {A B : Type 0} (g : A → B) (n : ℕ) (xs : List A) → drop n (map g xs) ≡ map g (drop n xs)
 drop_map g zero xs = refl

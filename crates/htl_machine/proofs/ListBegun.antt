@@ -43,9 +43,8 @@ some_steps count end (i ∷ is) f = omega arith
 -- the first list begins with the work of the frame
 point_first : (jobs : List Job) (ss : List (List SInstr)) (gs : List Leg) (x : Point) → AreInForm ss gs → 0 < length gs → path_point jobs ss gs 0 0 x ≡ paths.list_point (get_or gs 0 no_leg).from x
 point_first jobs [] [] x f l = absurd (omega (arith, l))
-point_first jobs [] (g ∷ gs) x f l = absurd f
-point_first jobs (s ∷ ss) [] x f l = absurd f
 point_first jobs (s ∷ ss) (g ∷ gs) x f l = refl
+point_first jobs _ _ x f l = absurd f
 
 module _ (t : Tables) (lists : List (List SInstr)) (es : List Event) (run : IsFeasibleRun t lists es) (at : ℕ) (here : (list_turn t lists es at).frame + (list_turn t lists es at).from ≡ at) where
   abbrev u : Turn

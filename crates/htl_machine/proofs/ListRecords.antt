@@ -86,14 +86,13 @@ rises_zero a (l ∷ ls) r = (omega arith, r.1)
 -- a record dispatches a position that has begun
 position_below : (jobs : List Job) (count to : ℕ) (is : List SInstr) (x : Point) → InForm count to is → (k : ℕ) (l : walks.Left) (q : ℕ) → slice_get (walk_from jobs is x) k ≡ Some l → l.position ≡ Some q → q < count
 position_below jobs count to [] x f k l q at pos = not_some l at
-position_below jobs count to (End ∷ []) x f zero l q at pos = not_some q (ap (λ (m : walks.Left). m.position) (same_Some _ _ at) ∙ pos)
 position_below jobs count to (End ∷ []) x f (suc k) l q at pos = not_some l at
 position_below jobs count to (End ∷ i ∷ is) x f k l q at pos = absurd f.0
 position_below jobs count to (Dispatch p until ∷ is) x f zero l q at pos =
     let same : p ≡ q = same_Some _ _ (ap (λ (m : walks.Left). m.position) (same_Some _ _ at) ∙ pos) in omega (arith, same, f.0.0)
 position_below jobs count to (Dispatch p until ∷ is) x f (suc k) l q at pos = position_below jobs count to is (next_point jobs (Dispatch p until) x) f.1 k l q at pos
-position_below jobs count to (Idle until ∷ is) x f zero l q at pos = not_some q (ap (λ (m : walks.Left). m.position) (same_Some _ _ at) ∙ pos)
 position_below jobs count to (Idle until ∷ is) x f (suc k) l q at pos = position_below jobs count to is (next_point jobs (Idle until) x) f.1 k l q at pos
+position_below jobs count to _ x f zero l q at pos = not_some q (ap (λ (m : walks.Left). m.position) (same_Some _ _ at) ∙ pos)
 
 -- whether one piece of text is made of a record that is left at an instant
 module _ {X : Type 0} (g h : ℕ × walks.Left → List X) (start now : ℕ) where

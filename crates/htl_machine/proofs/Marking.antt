@@ -36,16 +36,7 @@ values_length t (I.CallWrite a b) w = by (comm_of (slice_get (writes_at t a) b))
     by : (o : Option ℕ) → length (elim o as (λ _. List ℤ) [ Some c ↦ set w.values c (get_or (get_or w.outputs a []) b (pos 0)) | None ↦ w.values ]) ≡ length w.values
     by None = refl
     by (Some c) = length-set w.values c (get_or (get_or w.outputs a []) b (pos 0))
-values_length t (I.CallRead a b) w = refl
-values_length t (I.Release a) w = refl
-values_length t (I.Future a b d) w = refl
-values_length t (I.JumpIf a b) w = refl
-values_length t (I.Jump a) w = refl
-values_length t (I.IfMode a b) w = refl
-values_length t (I.Enter a) w = refl
-values_length t I.Leave w = refl
-values_length t (I.Fork a) w = refl
-values_length t I.Return w = refl
+values_length t _ w = refl
 
 -- a communicator that isn't written keeps its value
 value_stays : (t : Tables) (i : EInstr) (w : Content) (c : ℕ) → is_written t i c ≡ false → get_or (effect t i w).values c (pos 0) ≡ get_or w.values c (pos 0)
@@ -55,16 +46,7 @@ value_stays t (I.CallWrite a b) w c e = by (comm_of (slice_get (writes_at t a) b
         → get_or (elim o as (λ _. List ℤ) [ Some x ↦ set w.values x (get_or (get_or w.outputs a []) b (pos 0)) | None ↦ w.values ]) c (pos 0) ≡ get_or w.values c (pos 0)
     by None e = refl
     by (Some x) e = get_or-set_other w.values x c (get_or (get_or w.outputs a []) b (pos 0)) (pos 0) (eqb_apart c x e)
-value_stays t (I.CallRead a b) w c e = refl
-value_stays t (I.Release a) w c e = refl
-value_stays t (I.Future a b d) w c e = refl
-value_stays t (I.JumpIf a b) w c e = refl
-value_stays t (I.Jump a) w c e = refl
-value_stays t (I.IfMode a b) w c e = refl
-value_stays t (I.Enter a) w c e = refl
-value_stays t I.Leave w c e = refl
-value_stays t (I.Fork a) w c e = refl
-value_stays t I.Return w c e = refl
+value_stays t _ w c e = refl
 
 -- ---- modes
 
@@ -80,31 +62,19 @@ modes_taken phase at m = by m.running
     by None = by_due (first_due at 0 (triggers_of phase m.calendar))
 
 modes_length : (t : Tables) (code : ECode) (at k : ℕ) (i : EInstr) (c : Calendar) → length (calendar_effect t code at k i c).modes ≡ length c.modes
-modes_length t code at k (I.CallWrite a b) c = refl
-modes_length t code at k (I.CallRead a b) c = refl
-modes_length t code at k (I.Release a) c = refl
 modes_length t code at k (I.Future d p x) c = ap length (trigger_set_modes p k (Some (record { at = at + d; target = x })) c)
-modes_length t code at k (I.JumpIf a b) c = refl
-modes_length t code at k (I.Jump a) c = refl
-modes_length t code at k (I.IfMode a b) c = refl
 modes_length t code at k (I.Enter a) c = length-set c.modes k (Some a)
 modes_length t code at k I.Leave c = length-set c.modes k None
 modes_length t code at k (I.Fork a) c = ap length (trigger_set_modes 2 a (Some (record { at = at; target = entry_of t code a })) c)
-modes_length t code at k I.Return c = refl
+modes_length t code at k _ c = refl
 
 -- a module that decides nothing keeps its mode
 mode_stays : (t : Tables) (code : ECode) (at k : ℕ) (i : EInstr) (c : Calendar) (j : ℕ) → (decides i && eqb j k) ≡ false → list_at (calendar_effect t code at k i c).modes j ≡ list_at c.modes j
-mode_stays t code at k (I.CallWrite a b) c j e = refl
-mode_stays t code at k (I.CallRead a b) c j e = refl
-mode_stays t code at k (I.Release a) c j e = refl
 mode_stays t code at k (I.Future d p x) c j e = ap (λ xs. list_at xs j) (trigger_set_modes p k (Some (record { at = at + d; target = x })) c)
-mode_stays t code at k (I.JumpIf a b) c j e = refl
-mode_stays t code at k (I.Jump a) c j e = refl
-mode_stays t code at k (I.IfMode a b) c j e = refl
 mode_stays t code at k (I.Enter a) c j e = list_other c.modes k j (Some a) (eqb_apart j k e)
 mode_stays t code at k I.Leave c j e = list_other c.modes k j None (eqb_apart j k e)
 mode_stays t code at k (I.Fork a) c j e = ap (λ xs. list_at xs j) (trigger_set_modes 2 a (Some (record { at = at; target = entry_of t code a })) c)
-mode_stays t code at k I.Return c j e = refl
+mode_stays t code at k _ c j e = refl
 
 -- ---- one instruction
 

@@ -27,9 +27,8 @@ one_noted xs ys zs k o less same front is noted = (
 
 same_is : (a b : Option ℕ) → same_mode a b ≡ true → a ≡ b
 same_is None None e = refl
-same_is None (Some b) e = absurd (let z : ⊥ = cc in z)
-same_is (Some a) None e = absurd (let z : ⊥ = cc in z)
 same_is (Some a) (Some b) e = ap Some (eqb-true a b e)
+same_is _ _ e = absurd (let z : ⊥ = cc in z)
 
 -- one place more is the same
 pub one_same : (xs ys : List (Option ℕ)) (k : ℕ) (a b : Option ℕ) → ((i : ℕ) → i < k → list_at xs i ≡ list_at ys i) → a ≡ list_at xs k → b ≡ list_at ys k → same_mode a b ≡ true

@@ -26,14 +26,8 @@ kind_of (Does (I.JumpIf a b)) = idles (λ t w. refl) (λ a b e. let z : ⊥ = cc
 kind_of (Does (I.Jump a)) = idles (λ t w. refl) (λ a b e. let z : ⊥ = cc in z) (λ a b e. let z : ⊥ = cc in z)
 kind_of (Does (I.IfMode a b)) = idles (λ t w. refl) (λ a b e. let z : ⊥ = cc in z) (λ a b e. let z : ⊥ = cc in z)
 kind_of (Does (I.Enter a)) = idles (λ t w. refl) (λ a b e. let z : ⊥ = cc in z) (λ a b e. let z : ⊥ = cc in z)
-kind_of (Does I.Leave) = idles (λ t w. refl) (λ a b e. let z : ⊥ = cc in z) (λ a b e. let z : ⊥ = cc in z)
 kind_of (Does (I.Fork a)) = idles (λ t w. refl) (λ a b e. let z : ⊥ = cc in z) (λ a b e. let z : ⊥ = cc in z)
-kind_of (Does I.Return) = idles (λ t w. refl) (λ a b e. let z : ⊥ = cc in z) (λ a b e. let z : ⊥ = cc in z)
-kind_of (Waits d p) = idles (λ t w. refl) (λ a b e. let z : ⊥ = cc in z) (λ a b e. let z : ⊥ = cc in z)
-kind_of (Turns d x) = idles (λ t w. refl) (λ a b e. let z : ⊥ = cc in z) (λ a b e. let z : ⊥ = cc in z)
-kind_of (Tests k m x) = idles (λ t w. refl) (λ a b e. let z : ⊥ = cc in z) (λ a b e. let z : ⊥ = cc in z)
-kind_of (Asks q) = idles (λ t w. refl) (λ a b e. let z : ⊥ = cc in z) (λ a b e. let z : ⊥ = cc in z)
-kind_of (Arrives x) = idles (λ t w. refl) (λ a b e. let z : ⊥ = cc in z) (λ a b e. let z : ⊥ = cc in z)
+kind_of _ = idles (λ t w. refl) (λ a b e. let z : ⊥ = cc in z) (λ a b e. let z : ⊥ = cc in z)
 
 -- ---- what isn't touched
 

@@ -13,9 +13,7 @@ use Rattle.htl_machine.specs.Readiness.{made_ready, released_to, s_machine_does,
 -- but for flags the round stays
 ready_only : (s : PosState) (r : Round) (p : ℕ) → made_ready s r p ≡ record r { released = (made_ready s r p).released }
 ready_only Pending r p = refl
-ready_only Absent r p = refl
-ready_only Ready r p = refl
-ready_only Finished r p = refl
+ready_only _ r p = refl
 
 released_only : (i : ℕ) (r : Round) → released_to i r ≡ record r { released = (released_to i r).released }
 released_only i r = by_place (position_from 0 r.jobs i)
@@ -26,16 +24,7 @@ released_only i r = by_place (position_from 0 r.jobs i)
 
 does_only : (i : EInstr) (r : Round) → s_machine_does i r ≡ record r { released = (s_machine_does i r).released }
 does_only (I.Release i) r = released_only i r
-does_only (I.CallWrite a b) r = refl
-does_only (I.CallRead a b) r = refl
-does_only (I.Future a b c) r = refl
-does_only (I.JumpIf a b) r = refl
-does_only (I.Jump a) r = refl
-does_only (I.IfMode a b) r = refl
-does_only (I.Enter a) r = refl
-does_only I.Leave r = refl
-does_only (I.Fork a) r = refl
-does_only I.Return r = refl
+does_only _ r = refl
 
 pub does_jobs : (i : EInstr) (r : Round) → (s_machine_does i r).jobs ≡ r.jobs
 does_jobs i r = ap (λ (z : Round). z.jobs) (does_only i r)

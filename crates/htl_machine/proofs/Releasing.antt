@@ -88,21 +88,7 @@ data Kind (x : Want) : Type 1 where
 
 kind_of : (x : Want) → Kind x
 kind_of (Does (I.Release a)) = releases a refl
-kind_of (Does (I.CallWrite a b)) = idles (λ js bs. refl) (λ i e. let z : ⊥ = cc in z)
-kind_of (Does (I.CallRead a b)) = idles (λ js bs. refl) (λ i e. let z : ⊥ = cc in z)
-kind_of (Does (I.Future a b d)) = idles (λ js bs. refl) (λ i e. let z : ⊥ = cc in z)
-kind_of (Does (I.JumpIf a b)) = idles (λ js bs. refl) (λ i e. let z : ⊥ = cc in z)
-kind_of (Does (I.Jump a)) = idles (λ js bs. refl) (λ i e. let z : ⊥ = cc in z)
-kind_of (Does (I.IfMode a b)) = idles (λ js bs. refl) (λ i e. let z : ⊥ = cc in z)
-kind_of (Does (I.Enter a)) = idles (λ js bs. refl) (λ i e. let z : ⊥ = cc in z)
-kind_of (Does I.Leave) = idles (λ js bs. refl) (λ i e. let z : ⊥ = cc in z)
-kind_of (Does (I.Fork a)) = idles (λ js bs. refl) (λ i e. let z : ⊥ = cc in z)
-kind_of (Does I.Return) = idles (λ js bs. refl) (λ i e. let z : ⊥ = cc in z)
-kind_of (Waits d p) = idles (λ js bs. refl) (λ i e. let z : ⊥ = cc in z)
-kind_of (Turns d x) = idles (λ js bs. refl) (λ i e. let z : ⊥ = cc in z)
-kind_of (Tests k m x) = idles (λ js bs. refl) (λ i e. let z : ⊥ = cc in z)
-kind_of (Asks q) = idles (λ js bs. refl) (λ i e. let z : ⊥ = cc in z)
-kind_of (Arrives x) = idles (λ js bs. refl) (λ i e. let z : ⊥ = cc in z)
+kind_of _ = idles (λ js bs. refl) (λ i e. let z : ⊥ = cc in z)
 
 tell_length : (o : Option ℕ) (bs : List Bool) → length (raise_at o bs) ≡ length bs
 tell_length None bs = refl
@@ -162,9 +148,8 @@ are_flagged jobs (x ∷ xs) bs p h = by_kind (kind_of x) (are_flagged jobs xs (r
 
 same_bools : (xs ys : List Bool) → length xs ≡ length ys → ((k : ℕ) → k < length ys → get_or xs k false ≡ get_or ys k false) → xs ≡ ys
 same_bools [] [] e h = refl
-same_bools [] (y ∷ ys) e h = absurd (omega arith)
-same_bools (x ∷ xs) [] e h = absurd (omega arith)
 same_bools (x ∷ xs) (y ∷ ys) e h = ap₂ (λ a b. a ∷ b) (h 0 (omega arith)) (same_bools xs ys (omega arith) (λ k p. h (suc k) (omega arith)))
+same_bools _ _ e h = absurd (omega arith)
 
 pub flag_at : (d : ℕ) (js : List Job) (p : ℕ) (j : Job) → slice_get js p ≡ Some j → get_or (released_before d js) p false ≡ (j.present && ltb j.release d)
 flag_at d [] p j e = not_some j e

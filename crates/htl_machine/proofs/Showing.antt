@@ -19,9 +19,8 @@ use Rattle.htl_base.proofs.Numbers.{zero_down}
 
 list_is : (xs ys : List ℤ) → length xs ≡ length ys → ((k : ℕ) → k < length xs → get_or xs k (pos 0) ≡ get_or ys k (pos 0)) → xs ≡ ys
 list_is [] [] e h = refl
-list_is [] (y ∷ ys) e h = absurd (omega (arith, e))
-list_is (x ∷ xs) [] e h = absurd (omega (arith, e))
 list_is (x ∷ xs) (y ∷ ys) e h = ap₂ (λ a b. a ∷ b) (h 0 (omega arith)) (list_is xs ys (omega (arith, e)) (λ k less. h (suc k) (omega (arith, less))))
+list_is _ _ e h = absurd (omega (arith, e))
 
 -- a sensor has what it showed when its period last divided the instant
 sensor_value : (t : Tables) (es : List Event) (n c : ℕ) (x : Comm) → slice_get t.comms c ≡ Some x → x.sensor ≡ true → get_or (state t es n).values c (pos 0) ≡ sense t es c (x.period * (n / x.period))

@@ -56,8 +56,7 @@ none_waits t s values is = λ c x at sensor free. ap (λ xs. get_or xs c (pos 0)
 same_is : (x y : ℤ) → same x y ≡ true → x ≡ y
 same_is (pos a) (pos b) e = ap pos (eqb-true a b e)
 same_is (negsuc a) (negsuc b) e = ap negsuc (eqb-true a b e)
-same_is (pos a) (negsuc b) e = absurd (let z : ⊥ = cc in z)
-same_is (negsuc a) (pos b) e = absurd (let z : ⊥ = cc in z)
+same_is _ _ e = absurd (let z : ⊥ = cc in z)
 
 pub sensed_waits : (t : Tables) (s next : Sensors) (values : List ℤ) (comm : ℕ) (x has : ℤ) → MarksWaiting t s values → comm < length s.shows → next.shows ≡ set s.shows comm x → has ≡ get_or values comm (pos 0)
     → ((c : ℕ) → is_marked next.waiting c ≡ cond (eqb c comm) (not (same x has)) (is_marked s.waiting c)) → MarksWaiting t next values

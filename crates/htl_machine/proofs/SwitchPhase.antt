@@ -41,20 +41,7 @@ AreQuiet (w ∷ ws) = IsQuiet w × AreQuiet ws
 quiet_want : (t : Tables) (x : Want) (w : Content) → IsQuiet x → want_effect t x w ≡ w
 quiet_want t (Does (I.CallWrite a b)) w q = absurd q
 quiet_want t (Does (I.CallRead a b)) w q = absurd q
-quiet_want t (Does (I.Release a)) w q = refl
-quiet_want t (Does (I.Future a b d)) w q = refl
-quiet_want t (Does (I.JumpIf a b)) w q = refl
-quiet_want t (Does (I.Jump a)) w q = refl
-quiet_want t (Does (I.IfMode a b)) w q = refl
-quiet_want t (Does (I.Enter a)) w q = refl
-quiet_want t (Does I.Leave) w q = refl
-quiet_want t (Does (I.Fork a)) w q = refl
-quiet_want t (Does I.Return) w q = refl
-quiet_want t (Waits d p) w q = refl
-quiet_want t (Turns d x) w q = refl
-quiet_want t (Tests k m x) w q = refl
-quiet_want t (Asks r) w q = refl
-quiet_want t (Arrives x) w q = refl
+quiet_want t _ w q = refl
 
 quiet_effects : (t : Tables) (ws : List Want) (w : Content) → AreQuiet ws → effects t ws w ≡ w
 quiet_effects t [] w q = refl
@@ -173,13 +160,9 @@ module _ (t : Tables) (code : ECode) (reads : (m : ℕ) → m < length t.modes �
   followed_quiet : (m : ℕ) (holds' : ℕ → Bool) (stays : Bool) → m < length t.modes → (ws : List Want) (a : ℕ) (ss : List Step) (w : Content) → read code.instrs a ws ≡ Ok ss → AreAimed t ws → AreQuiet ws
       → replay t code.instrs (followed t code m holds' stays ws ss) w ≡ w
   followed_quiet m holds' stays real [] a [] w e aim q = refl
-  followed_quiet m holds' stays real [] a (s ∷ ss) w e aim q = refl
   followed_quiet m holds' stays real (Does j ∷ ws) a [] w e aim q = refl
-  followed_quiet m holds' stays real (Does j ∷ ws) a (s ∷ ss) w e aim q = refl
   followed_quiet m holds' stays real (Waits d p ∷ ws) a [] w e aim q = refl
-  followed_quiet m holds' stays real (Waits d p ∷ ws) a (s ∷ ss) w e aim q = refl
   followed_quiet m holds' stays real (Turns d x ∷ ws) a [] w e aim q = refl
-  followed_quiet m holds' stays real (Turns d x ∷ ws) a (s ∷ ss) w e aim q = refl
   followed_quiet m holds' stays real (Asks r ∷ ws) a ss w e aim q =
       let d = read_is code.instrs a (Asks r) ws ss e in
       let g = reach_is code.instrs a (Asks r) d.first tt d.reaches in
@@ -218,6 +201,7 @@ module _ (t : Tables) (code : ECode) (reads : (m : ℕ) → m < length t.modes �
       ap (λ z. replay t code.instrs (followed t code m holds' stays (Arrives x ∷ ws) z) w) d.is
       ∙ replay_more t code.instrs d.first.step.passed (begin_path t code m) w
       ∙ ap (λ z. replay t code.instrs (begin_path t code m) z) (reached_does t code.instrs a (Arrives x) d.first w d.reaches) ∙ begin_quiet t code m w (reads m real)
+  followed_quiet m holds' stays real _ a (s ∷ ss) w e aim q = refl
 
   -- the jumps from where the round's end begins to the decide list
   turn_quiet : (ws : List Want) (a : ℕ) (ss : List Step) (w : Content) → read code.instrs a ws ≡ Ok ss → replay t code.instrs (turn_step ws ss).side w ≡ w

@@ -41,10 +41,9 @@ module _ (t : Tables) (code : ECode) (schedules : List (List SInstr)) (show : Sh
       (λ m h. instant_same t code schedules loaded es within i n fits (reading_of 0 es) refl show m (omega (arith, h, from.0)))
 
   first_from : (r : ℕ) (e : Event) (later : List Event) → AreReadFrom now r (e ∷ later) → AreReadFrom now r (e ∷ []) × AreReadFrom now (reading_of r (e ∷ [])) later
-  first_from r (V.At to) later h = (tt, h)
-  first_from r (V.End to) later h = (tt, h)
   first_from r (V.Sense c x) later h = ((h.0, tt), h.1)
   first_from r (V.Took i n) later h = ((h.0, tt), h.1)
+  first_from r _ later h = (tt, h)
 
   back_within : (es : List Event) (e : Event) (later : List Event) → AreTookWithin t (es ++ e ∷ later) → IsTookWithin t e
   back_within [] e later h = h.0

@@ -57,21 +57,7 @@ released_is i r open_yet = by_place (position_from 0 r.jobs i) refl
 
 want_is : (w : Want) (r : Round) → ((i q : ℕ) → w ≡ Does (I.Release i) → position_from 0 r.jobs i ≡ Some q → state_of r q ≢ Finished) → s_machine_want w r ≡ with_flags r (raise_want r.jobs w r.released)
 want_is (Does (I.Release i)) r h = released_is i r (λ q e. h i q refl e)
-want_is (Does (I.CallWrite a b)) r h = refl
-want_is (Does (I.CallRead a b)) r h = refl
-want_is (Does (I.Future a b d)) r h = refl
-want_is (Does (I.JumpIf a b)) r h = refl
-want_is (Does (I.Jump a)) r h = refl
-want_is (Does (I.IfMode a b)) r h = refl
-want_is (Does (I.Enter a)) r h = refl
-want_is (Does I.Leave) r h = refl
-want_is (Does (I.Fork a)) r h = refl
-want_is (Does I.Return) r h = refl
-want_is (Waits d p) r h = refl
-want_is (Turns d x) r h = refl
-want_is (Tests k m x) r h = refl
-want_is (Asks q) r h = refl
-want_is (Arrives x) r h = refl
+want_is _ r h = refl
 
 -- who is asked for isn't done
 abbrev pub AreOpen : List Want → Round → Type 0

@@ -80,11 +80,10 @@ works_at jobs [] x k l at does = not_some l at
 works_at jobs (i ∷ is) x (suc k) l at does =
     let w = works_at jobs is (next_point jobs i x) k l at does in
     record { position = w.position; of = w.of; some = omega (arith, w.some, left_falls jobs i x w.position); released = w.released; ends = w.ends }
-works_at jobs (Idle until ∷ is) x zero l at does = let same = same_Some _ _ at in idle l (ap (λ (m : Left). m.slice) same) (ap (λ (m : Left). m.finished) same) does
-works_at jobs (End ∷ is) x zero l at does = let same = same_Some _ _ at in idle l (ap (λ (m : Left). m.slice) same) (ap (λ (m : Left). m.finished) same) does
 works_at jobs (Dispatch q until ∷ is) x zero l at does =
     let same : record_of jobs q until x ≡ l = same_Some _ _ at in
     subst (λ m. DoesWork m → Works jobs x m) same (dispatched jobs q until x) does
+works_at jobs _ x zero l at does = let same = same_Some _ _ at in idle l (ap (λ (m : Left). m.slice) same) (ap (λ (m : Left). m.finished) same) does
 
 -- in the walks of a frame's lists
 pub works_in : (jobs : List Job) (ss : List (List SInstr)) (gs : List Leg) (x : Point) (k : ℕ) (l : Left) → slice_get (end_to_end (walks_from jobs ss gs x)) k ≡ Some l → DoesWork l → Works jobs x l

@@ -123,9 +123,7 @@ with_length r p n =
 
 abbrev pub set_pending : PosState → Round → ℕ → ℕ → Round
 set_pending Pending r p n = with_length r p n
-set_pending Absent r p n = r
-set_pending Ready r p n = r
-set_pending Done r p n = r
+set_pending _ r p n = r
 
 -- a pending job of the invocation takes so long
 abbrev pub s_machine_taking : ℕ → ℕ → Round → Round

@@ -40,10 +40,7 @@ printed t (TotalsLine at jobs e s) = totals_line at jobs e s
 abbrev pub is_job_line : RunLine → Bool
 is_job_line (SliceLine from to i) = true
 is_job_line (DoneLine at i) = true
-is_job_line (InstrLine at address x) = false
-is_job_line (ChangeLine x) = false
-is_job_line (StepLine at node place x) = false
-is_job_line (TotalsLine at jobs e s) = false
+is_job_line _ = false
 
 -- ---- the job lines of records
 

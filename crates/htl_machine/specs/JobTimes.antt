@@ -19,20 +19,12 @@ is_in i start end inv at = eqb inv i && (ltb start at && leb at end)
 -- when a d line of the invocation says that its job was done, if that was then
 abbrev pub done_time : ℕ → ℕ → ℕ → RunLine → List ℕ
 done_time i start end (DoneLine at inv) = cond (is_in i start end inv at) (at ∷ []) []
-done_time i start end (SliceLine from to inv) = []
-done_time i start end (InstrLine at address x) = []
-done_time i start end (ChangeLine x) = []
-done_time i start end (StepLine at node place x) = []
-done_time i start end (TotalsLine at jobs e s) = []
+done_time i start end _ = []
 
 -- the slice of a j line of the invocation, if it ended then
 abbrev pub slice_time : ℕ → ℕ → ℕ → RunLine → List (ℕ × ℕ)
 slice_time i start end (SliceLine from to inv) = cond (is_in i start end inv to) ((from, to) ∷ []) []
-slice_time i start end (DoneLine at inv) = []
-slice_time i start end (InstrLine at address x) = []
-slice_time i start end (ChangeLine x) = []
-slice_time i start end (StepLine at node place x) = []
-slice_time i start end (TotalsLine at jobs e s) = []
+slice_time i start end _ = []
 
 -- The lines show job j of the frame from f, whose invocation's round stands from `start` to `end`. Of its invocation they have one d
 -- line in the round, no later than the end of the job's window; the j lines of its invocation in the round lie in the window, and have

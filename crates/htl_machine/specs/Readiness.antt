@@ -13,9 +13,7 @@ use Rattle.htl_machine.specs.Turns.{position_from}
 -- a position is made ready, where it is pending
 abbrev pub made_ready : PosState → Round → ℕ → Round
 made_ready Pending r p = record r { released = set r.released p true }
-made_ready Absent r p = r
-made_ready Ready r p = r
-made_ready Finished r p = r
+made_ready _ r p = r
 
 abbrev pub released_to : ℕ → Round → Round
 released_to i r = elim (position_from 0 r.jobs i) [ Some p ↦ made_ready (state_of r p) r p | None ↦ r ]

@@ -8,13 +8,10 @@ use Rattle.htl_model.specs.Bits.{has_bit, cell}
 use Rattle.htl_base.proofs.Places.{all_zero}
 
 joined : (x y : ℕ) → x < 2 → y < 2 → eqb (max x y) 1 ≡ (eqb x 1 || eqb y 1)
-joined zero zero p q = refl
-joined zero (suc zero) p q = refl
 joined zero (suc (suc y)) p q = absurd (omega arith)
-joined (suc zero) zero p q = refl
-joined (suc zero) (suc zero) p q = refl
 joined (suc zero) (suc (suc y)) p q = absurd (omega arith)
 joined (suc (suc x)) y p q = absurd (omega arith)
+joined _ _ p q = refl
 
 pub has_bit_or : (a b q : ℕ) → has_bit (bit_or a b) q ≡ (has_bit a q || has_bit b q)
 has_bit_or a b q = ap (λ x. eqb x 1) (bit_at_or a b q) ∙ joined (bit_at a q) (bit_at b q) (bit_at-lt a q) (bit_at-lt b q)
@@ -47,13 +44,12 @@ no_bits n p q = ap (λ x. has_bit x q) (all_zero n p) ∙ has_no_bit q
 
 -- numbers with the same bits are the same
 same_digit : (a b : ℕ) → a < 2 → b < 2 → eqb a 1 ≡ eqb b 1 → a ≡ b
-same_digit zero zero p q e = refl
 same_digit zero (suc zero) p q e = cc
 same_digit zero (suc (suc b)) p q e = absurd (omega arith)
 same_digit (suc zero) zero p q e = cc
-same_digit (suc zero) (suc zero) p q e = refl
 same_digit (suc zero) (suc (suc b)) p q e = absurd (omega arith)
 same_digit (suc (suc a)) b p q e = absurd (omega arith)
+same_digit _ _ p q e = refl
 
 same_to : (n x y : ℕ) → x ≤ n → y ≤ n → ((q : ℕ) → has_bit x q ≡ has_bit y q) → x ≡ y
 same_to zero x y a b h = omega arith

@@ -9,9 +9,8 @@ length-list_to f (suc n) = length-append (list_to f n) _ ∙ omega (arith, lengt
 
 get_end : {A : Type 0} (xs : List A) (y d : A) (k : ℕ) → k ≡ length xs → get_or (xs ++ y ∷ []) k d ≡ y
 get_end [] y d zero h = refl
-get_end [] y d (suc k) h = absurd (omega arith)
-get_end (x ∷ xs) y d zero h = absurd (omega arith)
 get_end (x ∷ xs) y d (suc k) h = get_end xs y d k (omega arith)
+get_end _ y d _ h = absurd (omega arith)
 
 get_front : {A : Type 0} (xs ys : List A) (d : A) (k : ℕ) → k < length xs → get_or (xs ++ ys) k d ≡ get_or xs k d
 get_front [] ys d k h = absurd (omega arith)

@@ -15,9 +15,8 @@ use Rattle.htl_model.specs.Exchanged.{with_functions}
 module _ (t : Tables) (fs : List Fun) where
   within_same : (steps : ℕ) (o : Option ℕ) → is_within steps t o ≡ is_within steps (with_functions t fs) o
   within_same zero None = refl
-  within_same (suc n) None = refl
-  within_same zero (Some m) = refl
   within_same (suc n) (Some m) = within_same n (parent_of t (mode_module t m))
+  within_same _ _ = refl
 
   end_same : (m : ℕ) (e : End) → IsEndInRange t m e → IsEndInRange (with_functions t fs) m e
   end_same m (E.Comm c n) h = h

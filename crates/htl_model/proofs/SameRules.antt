@@ -167,7 +167,6 @@ pub record Carries (a b : Breach) : Type 0 where
 
 module _ (t : Tables) (fs gs : List Fun) where
   carries : (r : FormRule) → Carries (breach (with_functions t fs) r) (breach (with_functions t gs) r)
-  carries ModulePeriod = record { mode = λ m x have need h. h; inv = λ k i have need h. h; input = λ k i j e have need h. h; output = λ k i j e have need h. h; test = λ m c have need h. h }
   carries FrameLimits = record { mode = frame_exceeds t fs gs; inv = λ k i have need h. h; input = λ k i j e have need h. h; output = λ k i j e have need h. h; test = λ m c have need h. h }
   carries Divides = record { mode = λ m x have need h. h; inv = λ k i have need h. h; input = λ k i j e. divided t fs gs i e; output = λ k i j e. divided t fs gs i e; test = λ m c have need h. h }
   carries Offsets = record { mode = λ m x have need h. h; inv = λ k i have need h. h; input = λ k i j e. read_late t fs gs i e; output = λ k i j e. write_outside t fs gs i e; test = λ m c have need h. h }
@@ -180,7 +179,6 @@ module _ (t : Tables) (fs gs : List Fun) where
         test = λ m c have need h. h;
       }
   carries Windows = record { mode = λ m x have need h. h; inv = λ k i. window_empty t fs gs i; input = λ k i j e have need h. h; output = λ k i j e have need h. h; test = λ m c have need h. h }
-  carries WorstCases = record { mode = λ m x have need h. h; inv = λ k i have need h. h; input = λ k i j e have need h. h; output = λ k i j e have need h. h; test = λ m c have need h. h }
   carries PortWriters = record { mode = λ m x have need h. h; inv = λ k i have need h. h; input = λ k i j e. unwritten t fs gs e; output = rewritten t fs gs; test = λ m c have need h. h }
   carries PortCycles = record { mode = λ m x have need h. h; inv = in_cycle t fs gs; input = λ k i j e have need h. h; output = λ k i j e have need h. h; test = λ m c have need h. h }
   carries AbstractPorts = record { mode = λ m x have need h. h; inv = λ k i have need h. h; input = λ k i j e. abstract_read t fs gs i j e; output = λ k i j e have need h. h; test = λ m c have need h. h }
@@ -190,6 +188,7 @@ module _ (t : Tables) (fs gs : List Fun) where
   carries Parents = record { mode = λ m x have need h. h; inv = λ k i. parent_fault t fs gs _ i.parent; input = λ k i j e have need h. h; output = λ k i j e have need h. h; test = λ m c have need h. h }
   carries SharedParents = record { mode = λ m x have need h. h; inv = second_child t fs gs; input = λ k i j e have need h. h; output = λ k i j e have need h. h; test = λ m c have need h. h }
   carries Inheritance = record { mode = λ m x have need h. h; inv = λ k i. exceeds t fs gs i; input = λ k i j e. unordered t fs gs i e; output = λ k i j e have need h. h; test = λ m c have need h. h }
+  carries _ = record { mode = λ m x have need h. h; inv = λ k i have need h. h; input = λ k i j e have need h. h; output = λ k i j e have need h. h; test = λ m c have need h. h }
 
 part_carried : (a b : Breach) → Carries a b → (k : ℕ) (i : Inv) (p : Part) (have need : ℕ) → PartBreaks a k i p have need → PartBreaks b k i p have need
 part_carried a b c k i Itself have need h = c.inv k i have need h
@@ -200,9 +199,8 @@ part_carried a b c k i (Test l j) have need h = h
 mode_carried : (t : Tables) (fs gs : List Fun) (a b : Breach) → Carries a b → (m : ℕ) (x : Mode) (p : Part) (have need : ℕ)
     → ModeBreaks (with_functions t fs) a m x p have need → ModeBreaks (with_functions t gs) b m x p have need
 mode_carried t fs gs a b c m x Itself have need h = c.mode m x have need h
-mode_carried t fs gs a b c m x (Input j) have need h = h
-mode_carried t fs gs a b c m x (Output j) have need h = h
 mode_carried t fs gs a b c m x (Test l j) have need h = (h.0, h.1, h.2, h.3, h.4, c.test m h.3 have need h.5)
+mode_carried t fs gs a b c m x _ have need h = h
 
 at_carried : (t : Tables) (fs gs : List Fun) (a b : Breach) → Carries a b → (m : ℕ) (x : Mode) (o : Option ℕ) (p : Part) (have need : ℕ)
     → BreaksAt (with_functions t fs) a m x o p have need → BreaksAt (with_functions t gs) b m x o p have need

@@ -13,9 +13,8 @@ length-stays_to t v now old (suc k) =
 
 get_end : {A : Type 0} (xs : List A) (y : A) (k : ℕ) → k ≡ length xs → slice_get (xs ++ y ∷ []) k ≡ Some y
 get_end [] y zero h = refl
-get_end [] y (suc k) h = absurd (omega arith)
-get_end (x ∷ xs) y zero h = absurd (omega arith)
 get_end (x ∷ xs) y (suc k) h = get_end xs y k (omega arith)
+get_end _ y _ h = absurd (omega arith)
 
 opened : Option (Option Stay) → Option Stay
 opened o = elim o [ Some x ↦ x | None ↦ None ]

@@ -70,10 +70,9 @@ PartBreaks b k i (Test l j) have need = ⊥
 -- the breach is at a part of a mode
 abbrev pub ModeBreaks : Tables → Breach → ℕ → Mode → Part → ℕ → ℕ → Type 0
 ModeBreaks t b m x Itself have need = b.mode m x have need
-ModeBreaks t b m x (Input j) have need = ⊥
-ModeBreaks t b m x (Output j) have need = ⊥
 ModeBreaks t b m x (Test l j) have need =
     (w : Switch) × (slice_get t.switches l ≡ Some w) × (w.mode ≡ m) × (c : ℕ) × (slice_get w.reads j ≡ Some c) × b.test m c have need
+ModeBreaks t b m x _ have need = ⊥
 
 abbrev pub BreaksAt : Tables → Breach → ℕ → Mode → Option ℕ → Part → ℕ → ℕ → Type 0
 BreaksAt t b m x None p have need = ModeBreaks t b m x p have need

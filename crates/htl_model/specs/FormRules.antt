@@ -57,18 +57,13 @@ PartBefore Itself Itself = ⊥
 PartBefore Itself (Input j) = Unit {0}
 PartBefore Itself (Output j) = Unit {0}
 PartBefore Itself (Test l j) = Unit {0}
-PartBefore (Input i) Itself = ⊥
 PartBefore (Input i) (Input j) = i < j
 PartBefore (Input i) (Output j) = Unit {0}
 PartBefore (Input i) (Test l j) = Unit {0}
-PartBefore (Output i) Itself = ⊥
-PartBefore (Output i) (Input j) = ⊥
 PartBefore (Output i) (Output j) = i < j
 PartBefore (Output i) (Test l j) = Unit {0}
-PartBefore (Test k i) Itself = ⊥
-PartBefore (Test k i) (Input j) = ⊥
-PartBefore (Test k i) (Output j) = ⊥
 PartBefore (Test k i) (Test l j) = (k < l) ⊎ ((k ≡ l) × (i < j))
+PartBefore _ _ = ⊥
 
 -- the invocations of a mode come before the mode itself and its switches
 abbrev pub InvBefore : Option ℕ → Part → Option ℕ → Part → Type 0

@@ -43,8 +43,7 @@ is_zero (negsuc n) = false
 abbrev pub same : ℤ → ℤ → Bool
 same (pos a) (pos b) = eqb a b
 same (negsuc a) (negsuc b) = eqb a b
-same (pos a) (negsuc b) = false
-same (negsuc a) (pos b) = false
+same _ _ = false
 
 abbrev pub negate : UnOp → ℤ → ℤ
 negate Neg x = int_wrapping_neg w64 x
@@ -76,12 +75,10 @@ value args (Choose t c a b) = cond (is_zero (value args c)) (value args b) (valu
 
 -- the values held at once while an expression is evaluated
 abbrev pub held : Term → ℕ
-held (Number t x) = 1
-held (Truth t x) = 1
-held (Arg t k) = 1
 held (Unary t op e) = held e
 held (Binary t op l r) = max (held l) (1 + held r)
 held (Choose t c a b) = max (held c) (max (1 + held a) (2 + held b))
+held _ = 1
 
 abbrev pub of_binary : BinOp → FInstr
 of_binary Add = I.Add
@@ -124,9 +121,8 @@ fold_one t op [] = None
 fold_one t op (e ∷ below) = Some (Unary t op e ∷ below)
 
 abbrev pub fold_two : ℕ → BinOp → List Term → Option (List Term)
-fold_two t op [] = None
-fold_two t op (r ∷ []) = None
 fold_two t op (r ∷ l ∷ below) = Some (Binary t op l r ∷ below)
+fold_two t op _ = None
 
 abbrev pub fold_choose : ℕ → List Term → Option (List Term)
 fold_choose t (b ∷ a ∷ c ∷ below) = Some (Choose t c a b ∷ below)
@@ -190,11 +186,6 @@ as_bool (Some t) = Some BoolTy
 as_bool None = None
 
 abbrev pub type_two : BinOp → Option Ty → Option Ty → Option Ty
-type_two Add l r = both_int IntTy l r
-type_two Sub l r = both_int IntTy l r
-type_two Mul l r = both_int IntTy l r
-type_two Div l r = both_int IntTy l r
-type_two Rem l r = both_int IntTy l r
 type_two Lt l r = both_int BoolTy l r
 type_two Le l r = both_int BoolTy l r
 type_two Gt l r = both_int BoolTy l r
@@ -203,6 +194,7 @@ type_two Eq l r = as_bool (same_type l r)
 type_two Ne l r = as_bool (same_type l r)
 type_two And l r = both_bool l r
 type_two Or l r = both_bool l r
+type_two _ l r = both_int IntTy l r
 
 abbrev pub type_choose : Option Ty → Option Ty → Option Ty → Option Ty
 type_choose (Some BoolTy) a b = same_type a b

@@ -231,8 +231,7 @@ mode_of None = None
 abbrev pub same_mode : Option ℕ → Option ℕ → Bool
 same_mode None None = true
 same_mode (Some a) (Some b) = eqb a b
-same_mode None (Some b) = false
-same_mode (Some a) None = false
+same_mode _ _ = false
 
 abbrev pub value_in : State → ℕ → ℤ
 value_in x c = get_or x.values c (pos 0)

@@ -7,21 +7,18 @@ use Rattle.htl_model.specs.Tables.{Tables, Fun, Formula, Compiled}
 
 -- how many literals, arguments and operators an expression has
 abbrev pub nodes : Term → ℕ
-nodes (Number token x) = 1
-nodes (Truth token x) = 1
-nodes (Arg token k) = 1
 nodes (Unary token op e) = nodes e + 1
 nodes (Binary token op l r) = nodes l + nodes r + 1
 nodes (Choose token c a b) = nodes c + nodes a + nodes b + 1
+nodes _ = 1
 
 -- each argument is one of so many
 abbrev pub ArgumentsBelow : ℕ → Term → Type 0
-ArgumentsBelow n (Number token x) = Unit {0}
-ArgumentsBelow n (Truth token x) = Unit {0}
 ArgumentsBelow n (Arg token k) = k < n
 ArgumentsBelow n (Unary token op e) = ArgumentsBelow n e
 ArgumentsBelow n (Binary token op l r) = ArgumentsBelow n l × ArgumentsBelow n r
 ArgumentsBelow n (Choose token c a b) = ArgumentsBelow n c × ArgumentsBelow n a × ArgumentsBelow n b
+ArgumentsBelow n _ = Unit {0}
 
 -- an expression of at most 512 nodes, with at most 256 arguments that are there
 abbrev pub IsSmallFunction : FunctionType → Fun → Type 0

@@ -17,18 +17,7 @@ stacked_unary t Not e ts = refl
 
 stacked_binary : (t : ℕ) (op : BinOp) (l r : Term) (ts : List Term) → stacked t (of_binary op) (r ∷ l ∷ ts) ≡ Some (Binary t op l r ∷ ts)
 stacked_binary t Add l r ts = refl
-stacked_binary t Sub l r ts = refl
-stacked_binary t Mul l r ts = refl
-stacked_binary t Div l r ts = refl
-stacked_binary t Rem l r ts = refl
-stacked_binary t Lt l r ts = refl
-stacked_binary t Le l r ts = refl
-stacked_binary t Gt l r ts = refl
-stacked_binary t Ge l r ts = refl
-stacked_binary t Eq l r ts = refl
-stacked_binary t Ne l r ts = refl
-stacked_binary t And l r ts = refl
-stacked_binary t Or l r ts = refl
+stacked_binary t _ l r ts = refl
 
 after_stacked : ℕ → FInstr → List (ℕ × FInstr) → Option (List Term) → Option (List Term)
 after_stacked t i rest o = elim o [ Some us ↦ stack_of rest us | None ↦ None ]

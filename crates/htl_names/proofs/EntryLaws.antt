@@ -160,24 +160,20 @@ mode_of key = record { program = key.scope.program; «module» = key.scope.«mod
 
 -- the item with the key's name at place n of the key's list
 abbrev pub Stands : List PlainProgram → Space → Key → ℕ → Type 0
-Stands ps space.Programs key n = Unit {0}
 Stands ps space.Comms key n = (x : CommNode) × (slice_get (comms_of ps) n ≡ Some x) × (x.name.name ≡ key.name)
-Stands ps space.Modules key n = Unit {0}
 Stands ps space.Tasks key n = (t : PlainTask) × (slice_get (tasks_at ps key.scope.program key.scope.«module») n ≡ Some t) × (t.name.name ≡ key.name)
 Stands ps space.Modes key n = (x : PlainMode) × (slice_get (modes_at ps key.scope.program key.scope.«module») n ≡ Some x) × (x.name.name ≡ key.name)
-Stands ps space.Params key n = Unit {0}
 Stands ps space.Ports key n = (y : ParamNode) × (slice_get (ports_at ps (mode_of key)) n ≡ Some y) × (y.name.name ≡ key.name)
 Stands ps space.Invokes key n = (y : InvokeNode) × (slice_get (invokes_at ps (mode_of key)) n ≡ Some y) × (y.task.name ≡ key.name)
+Stands ps _ key n = Unit {0}
 
 stands : (ps : List PlainProgram) (e : Entry) → Origin ps e → Stands ps e.key.scope.space e.key e.number
-stands ps e (of_program p x there) = tt
 stands ps e (of_comm c x there) = (x, there, refl)
-stands ps e (of_module p u x there) = tt
 stands ps e (of_task p u k t there) = (t, there, refl)
-stands ps e (of_param p u k t there j x at) = tt
 stands ps e (of_mode p u m x there) = (x, there, refl)
 stands ps e (of_port a j y at) = (y, at, refl)
 stands ps e (of_invoke a j y at) = (y, at, refl)
+stands ps e _ = tt
 
 -- so does what a name means, where it is found
 pub means : (ps : List PlainProgram) (key : Key) (n : ℕ) → look_up key (symbols_of ps) ≡ Some n → Stands ps key.scope.space key (meaning (layout ps) key)

@@ -135,8 +135,7 @@ module _ {A B : Type 0} (R : A → B → Type 0) where
   pub zip_append : (xs : List A) (ys : List B) (us : List A) (vs : List B) → AllZip R xs ys → AllZip R us vs → AllZip R (xs ++ us) (ys ++ vs)
   zip_append [] [] us vs h k = k
   zip_append (x ∷ xs) (y ∷ ys) us vs h k = (h.0, zip_append xs ys us vs h.1 k)
-  zip_append [] (y ∷ ys) us vs h k = absurd h
-  zip_append (x ∷ xs) [] us vs h k = absurd h
+  zip_append _ _ us vs h k = absurd h
 
   pub zip_map : {X : Type 0} (f : X → A) (g : X → B) (xs : List X) → ((k : ℕ) (x : X) → slice_get xs k ≡ Some x → R (f x) (g x)) → AllZip R (map f xs) (map g xs)
   zip_map f g [] h = tt

@@ -8,12 +8,8 @@ tried r s j k = grind arith
 
 -- at one place one fault is told
 one_at : (ps : List PlainProgram) (r : NameRule) (k : ℕ) (f g : NameFault) → NameBroken ps r k f → NameBroken ps r k g → f ≡ g
-one_at ps RepeatedName k f g p q = cc
-one_at ps UnknownName k f g p q = cc
-one_at ps WrongKind k f g p q = cc
 one_at ps ProgramTree k f g p q = p.2 ∙ sym q.2
-one_at ps ParentName k f g p q = cc
-one_at ps Limits k f g p q = cc
+one_at ps _ k f g p q = cc
 
 pub one_name_fault : (ps : List PlainProgram) (f g : NameFault) → IsFirstNameFault ps f → IsFirstNameFault ps g → f ≡ g
 one_name_fault ps f g p q = by (tried p.rule q.rule p.place q.place)

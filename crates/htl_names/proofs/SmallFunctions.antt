@@ -14,16 +14,12 @@ use Rattle.htl_base.proofs.Places.{all_at, item_at}
 -- ---- expressions
 
 nodes_same : (place : Id → ℕ) (e : Expr) → nodes (term_by place e) ≡ tree_nodes e
-nodes_same place (Number t x) = refl
-nodes_same place (Flag t x) = refl
-nodes_same place (Variable id) = refl
 nodes_same place (Prefix t op e) = ap (λ (n : ℕ). n + 1) (nodes_same place e)
 nodes_same place (Infix t op l r) = ap₂ (λ (n m : ℕ). n + m + 1) (nodes_same place l) (nodes_same place r)
 nodes_same place (Choice t c a b) = ap₂ (λ (n m : ℕ). n + m + 1) (ap₂ (λ (n m : ℕ). n + m) (nodes_same place c) (nodes_same place a)) (nodes_same place b)
+nodes_same place _ = refl
 
 args_below : (place : Id → ℕ) (n : ℕ) (e : Expr) → ((id : Id) → In id (names_of e) → place id < n) → ArgumentsBelow n (term_by place e)
-args_below place n (Number t x) h = tt
-args_below place n (Flag t x) h = tt
 args_below place n (Variable id) h = h id (0, refl)
 args_below place n (Prefix t op e) h = args_below place n e h
 args_below place n (Infix t op l r) h = (args_below place n l (λ id at. h id (in_first _ _ at)), args_below place n r (λ id at. h id (in_second (names_of l) _ at)))
@@ -32,6 +28,7 @@ args_below place n (Choice t c a b) h = (
   args_below place n a (λ id at. h id (in_second (names_of c) _ (in_first _ _ at))),
   args_below place n b (λ id at. h id (in_second (names_of c) _ (in_second (names_of a) _ at))),
 )
+args_below place n _ h = tt
 
 small_by : (f : FunctionType) (first n : ℕ) (place : Id → ℕ) (e : Expr) → n ≡ length f.args → n ≤ 256 → tree_nodes e ≤ 512 → ((id : Id) → In id (names_of e) → place id < n)
     → IsSmallFunction f (Formula first (term_by place e))

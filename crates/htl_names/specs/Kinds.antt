@@ -34,10 +34,9 @@ is_instance (negsuc n) = false
 
 -- a constant of a type
 abbrev pub has_type : Ty → ConstNode → Bool
-has_type ty.Int (const.Int token minus x) = true
 has_type ty.Int (const.Bool token x) = false
 has_type ty.Bool (const.Int token minus x) = false
-has_type ty.Bool (const.Bool token x) = true
+has_type _ _ = true
 
 abbrev pub is_kind : Judged → Bool
 is_kind (Span n) = is_span n.x

@@ -168,17 +168,10 @@ parent_test invs (Some p) h = lt_test p invs h
 -- ---- instructions
 
 instr_fits : (i : EInstr) → HasWidths i → IsPhased i → IsEInstr i
-instr_fits (I.CallWrite a b) w p = w
-instr_fits (I.CallRead a b) w p = w
-instr_fits (I.Release a) w p = w
 instr_fits (I.Future d f x) w p = (w.0, ((omega (arith, p.1), and_from (nat_le 1 f) (nat_le f 3) (le_test 1 f p.0) (le_test f 3 p.1)), w.1))
-instr_fits (I.JumpIf a b) w p = w
-instr_fits (I.Jump a) w p = w
-instr_fits (I.IfMode a b) w p = w
-instr_fits (I.Enter a) w p = w
 instr_fits I.Leave w p = tt
-instr_fits (I.Fork a) w p = w
 instr_fits I.Return w p = tt
+instr_fits _ w p = w
 
 code_test : (c : Code) → All IsFInstr c.instrs → IsFunInRange (Compiled c) → IsCode c
 code_test c w h =

@@ -30,9 +30,8 @@ e-again (E.JumpIf switch target) rest f = (field {make = λ p. E.JumpIf p.0 p.1}
 e-again (E.Jump target) rest f = (last {make = λ n. E.Jump n} number32).again target rest f
 e-again (E.IfMode mode target) rest f = (field {make = λ p. E.IfMode p.0 p.1} number16 (λ _ _. last number32)).again (mode, target) rest f
 e-again (E.Enter mode) rest f = (last {make = λ n. E.Enter n} number16).again mode rest f
-e-again E.Leave rest f = refl
 e-again (E.Fork unit) rest f = (last {make = λ n. E.Fork n} number16).again unit rest f
-e-again E.Return rest f = refl
+e-again _ rest f = refl
 
 e-takes : TableTakes e_bytes IsEInstr e_table
 e-takes =
@@ -73,24 +72,8 @@ s_instr = tagged s_bytes IsSInstr s_table s-again s-takes
 
 f-again : (i : FInstr) (rest : List ℕ) → IsFInstr i → f_instr_at (f_bytes i ++ rest) ≡ Ok (i, rest)
 f-again (F.Int x) rest f = (last {make = λ n. F.Int n} value).again x rest f
-f-again (F.Bool x) rest f = refl
 f-again (F.Arg k) rest f = (last {make = λ n. F.Arg n} number16).again k rest f
-f-again F.Neg rest f = refl
-f-again F.Not rest f = refl
-f-again F.Add rest f = refl
-f-again F.Sub rest f = refl
-f-again F.Mul rest f = refl
-f-again F.Div rest f = refl
-f-again F.Rem rest f = refl
-f-again F.Lt rest f = refl
-f-again F.Le rest f = refl
-f-again F.Gt rest f = refl
-f-again F.Ge rest f = refl
-f-again F.Eq rest f = refl
-f-again F.Ne rest f = refl
-f-again F.And rest f = refl
-f-again F.Or rest f = refl
-f-again F.Choose rest f = refl
+f-again _ rest f = refl
 
 f-takes : TableTakes f_bytes IsFInstr f_table
 f-takes =

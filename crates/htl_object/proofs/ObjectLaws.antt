@@ -38,17 +38,10 @@ use Rattle.htl_object.specs.declared.object.Object.{Object}
 -- ---- what is read keeps its types
 
 has_widths : (i : EInstr) → IsEInstr i → HasWidths i
-has_widths (I.CallWrite a b) h = h
-has_widths (I.CallRead a b) h = h
-has_widths (I.Release a) h = h
 has_widths (I.Future d p x) h = (h.0, h.1.1)
-has_widths (I.JumpIf a b) h = h
-has_widths (I.Jump a) h = h
-has_widths (I.IfMode a b) h = h
-has_widths (I.Enter a) h = h
 has_widths I.Leave h = tt
-has_widths (I.Fork a) h = h
 has_widths I.Return h = tt
+has_widths _ h = h
 
 keeps_types : (l : Lists) → IsFileInRange l → KeepsTypes (object_of_lists l)
 keeps_types l h =

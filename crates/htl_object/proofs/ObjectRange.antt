@@ -20,17 +20,8 @@ use Rattle.htl_object.specs.Lists.{object_of_lists}
 use Rattle.htl_base.proofs.Tests.{and_first}
 
 phased : (i : EInstr) → IsEInstr i → IsPhased i
-phased (I.CallWrite a b) h = tt
-phased (I.CallRead a b) h = tt
-phased (I.Release a) h = tt
 phased (I.Future d p x) h = (at_most 1 p (and_first (nat_le 1 p) (nat_le p 3) h.1.0.1), at_most p 3 (right (nat_le 1 p) (nat_le p 3) h.1.0.1))
-phased (I.JumpIf a b) h = tt
-phased (I.Jump a) h = tt
-phased (I.IfMode a b) h = tt
-phased (I.Enter a) h = tt
-phased I.Leave h = tt
-phased (I.Fork a) h = tt
-phased I.Return h = tt
+phased _ h = tt
 
 pub lists_are_object : (l : Lists) → IsFileInRange l → IsInRange (object_of_lists l)
 lists_are_object l h =

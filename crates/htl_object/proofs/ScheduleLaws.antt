@@ -41,13 +41,9 @@ schedule = whole make_schedule (λ s. s.instrs) schedule_bytes IsSchedule (last 
 instr_equal : (a b : SInstr) → instr_numbers a ≡ instr_numbers b → a ≡ b
 instr_equal (S.Dispatch p u) (S.Dispatch q v) e = cc
 instr_equal (S.Dispatch p u) (S.Idle v) e = cc
-instr_equal (S.Dispatch p u) S.End e = cc
 instr_equal (S.Idle u) (S.Dispatch q v) e = cc
-instr_equal (S.Idle u) (S.Idle v) e = cc
-instr_equal (S.Idle u) S.End e = cc
-instr_equal S.End (S.Dispatch q v) e = cc
-instr_equal S.End (S.Idle v) e = cc
 instr_equal S.End S.End e = refl
+instr_equal _ _ e = cc
 
 pub schedule_equal : (a b : Schedule) → same_schedule a b ≡ true → a ≡ b
 schedule_equal a b e =

@@ -124,9 +124,8 @@ IsEInstr (E.JumpIf switch target) = Is16 switch × Is32 target
 IsEInstr (E.Jump target) = Is32 target
 IsEInstr (E.IfMode mode target) = Is16 mode × Is32 target
 IsEInstr (E.Enter mode) = Is16 mode
-IsEInstr E.Leave = Unit {0}
 IsEInstr (E.Fork unit) = Is16 unit
-IsEInstr E.Return = Unit {0}
+IsEInstr _ = Unit {0}
 
 abbrev pub IsFInstr : FInstr → Type 0
 IsFInstr (F.Int x) = FitsSigned w64 x

@@ -33,9 +33,8 @@ HasWidths (E.JumpIf switch target) = Is16 switch × Is32 target
 HasWidths (E.Jump target) = Is32 target
 HasWidths (E.IfMode mode target) = Is16 mode × Is32 target
 HasWidths (E.Enter mode) = Is16 mode
-HasWidths E.Leave = Unit {0}
 HasWidths (E.Fork unit) = Is16 unit
-HasWidths E.Return = Unit {0}
+HasWidths _ = Unit {0}
 
 abbrev pub KeepsFunction : Fun → Type 0
 KeepsFunction (Compiled c) = All IsFInstr c.instrs

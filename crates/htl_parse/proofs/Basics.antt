@@ -66,9 +66,7 @@ const-sound ts = tt
 
 pub const-complete : {ts : List Placed} {c : ConstNode} {rest : List Placed} → SpellsConst ts c rest → const_at ts ≡ Ok (c, rest)
 const-complete positive = refl
-const-complete negative = refl
-const-complete true_word = refl
-const-complete false_word = refl
+const-complete _ = refl
 
 pub clause-sound : (wanted : Word) (ts : List Placed) → Holds (λ (x : Option Id × List Placed). SpellsClause wanted ts x.0 x.1) (clause_at wanted ts)
 clause-sound wanted (Put k (token.Word w) ∷ ts) = by (word_code w == word_code wanted) refl

@@ -117,30 +117,24 @@ pub record Run {X : Type 0} (size : X → ℕ) (Good : X → Type 0) (ts : List 
 
 -- how many tokens spell an expression at least
 abbrev pub weight : Expr → ℕ
-weight (Number k x) = 1
-weight (Flag k x) = 1
-weight (Variable id) = 1
 weight (Prefix k op e) = weight e + 1
 weight (Infix k op l r) = weight l + weight r + 1
 weight (Choice k c a b) = weight c + weight a + weight b + 5
+weight _ = 1
 
 pub nodes-weight : (e : Expr) → tree_nodes e ≤ weight e
-nodes-weight (Number k x) = omega arith
-nodes-weight (Flag k x) = omega arith
-nodes-weight (Variable id) = omega arith
 nodes-weight (Prefix k op e) = omega (arith, nodes-weight e)
 nodes-weight (Infix k op l r) = omega (arith, nodes-weight l, nodes-weight r)
 nodes-weight (Choice k c a b) = omega (arith, nodes-weight c, nodes-weight a, nodes-weight b)
+nodes-weight _ = omega arith
 
 -- between two names stands at least one token
 pub names-weight : (e : Expr) → 2 * length (names_of e) ≤ weight e + 1
-names-weight (Number k x) = omega arith
-names-weight (Flag k x) = omega arith
-names-weight (Variable id) = omega arith
 names-weight (Prefix k op e) = omega (arith, names-weight e)
 names-weight (Infix k op l r) = omega (arith, names-weight l, names-weight r, length-append (names_of l) (names_of r))
 names-weight (Choice k c a b) =
     omega (arith, names-weight c, names-weight a, names-weight b, length-append (names_of c) (names_of a ++ names_of b), length-append (names_of a) (names_of b))
+names-weight _ = omega arith
 
 abbrev pub IsExprRun : List Placed → Expr → List Placed → Type 0
 IsExprRun = Run weight HasLiterals
@@ -175,9 +169,6 @@ expr-run (prefix {s = s} {op = op} is e) fit =
     let run = expr-run e (behind fit) in
     record { runs = next (no_end prefix_of refl refl refl s op is) run.runs; fits = omega (arith, run.fits); good = run.good }
 expr-run number fit = record { runs = next refl here; fits = omega arith; good = fit.spellable.0 }
-expr-run true_word fit = record { runs = next refl here; fits = omega arith; good = tt }
-expr-run false_word fit = record { runs = next refl here; fits = omega arith; good = tt }
-expr-run name fit = record { runs = next refl here; fits = omega arith; good = tt }
 expr-run (brackets e) fit =
     let run = expr-run e (behind fit) in
     record { runs = next refl (further run.runs (next refl here)); fits = omega (arith, run.fits); good = run.good }
@@ -193,6 +184,7 @@ expr-run (choice c a b) fit =
       fits = omega (arith, cond.fits, one.fits, other.fits);
       good = (cond.good, one.good, other.good);
     }
+expr-run _ fit = record { runs = next refl here; fits = omega arith; good = tt }
 
 -- an expression of a run has few tokens
 pub expr-short : {ts : List Placed} {e : Expr} {rest : List Placed} → AreFit ts → IsExprRun ts e rest → weight e ≤ 512

@@ -91,12 +91,8 @@ after (suc (suc zero)) e us = Ok (e, us)
 after l e us = step l e us
 
 level-step : (l : ℕ) (ts : List Placed) → l < 5 → level_by read_expr l ts ≡ (level_by read_expr (suc l) ts >>= λ x. step l x.0 x.1)
-level-step zero ts below = refl
-level-step (suc zero) ts below = refl
-level-step (suc (suc zero)) ts below = refl
-level-step (suc (suc (suc zero))) ts below = refl
-level-step (suc (suc (suc (suc zero)))) ts below = refl
 level-step (suc (suc (suc (suc (suc n))))) ts below = absurd (omega (arith, below))
+level-step _ ts below = refl
 
 -- no operator of the level stands next
 abbrev pub IsNoneOf : ℕ → List Placed → Type 0
@@ -160,12 +156,9 @@ climb-op low m e k s us op is =
 -- where the loop goes on behind an operator of a level and its right operand
 after-climb : (low m l : ℕ) (f : Expr) (us : List Placed) → low + m ≡ l → l < 5
     → (d : ℕ) × (low + d ≡ limit_behind l) × ((after l f us >>= λ y. climb low m y.0 y.1) ≡ climb low d f us)
-after-climb low m zero f us same below = (suc m, omega (arith, same), ap (λ (l : ℕ). step l f us >>= λ y. climb low m y.0 y.1) (sym same))
-after-climb low m (suc zero) f us same below = (suc m, omega (arith, same), ap (λ (l : ℕ). step l f us >>= λ y. climb low m y.0 y.1) (sym same))
 after-climb low m (suc (suc zero)) f us same below = (m, same, refl)
-after-climb low m (suc (suc (suc zero))) f us same below = (suc m, omega (arith, same), ap (λ (l : ℕ). step l f us >>= λ y. climb low m y.0 y.1) (sym same))
-after-climb low m (suc (suc (suc (suc zero)))) f us same below = (suc m, omega (arith, same), ap (λ (l : ℕ). step l f us >>= λ y. climb low m y.0 y.1) (sym same))
 after-climb low m (suc (suc (suc (suc (suc n))))) f us same below = absurd (omega (arith, below))
+after-climb low m _ f us same below = (suc m, omega (arith, same), ap (λ (l : ℕ). step l f us >>= λ y. climb low m y.0 y.1) (sym same))
 
 -- ---- the loop
 

@@ -26,12 +26,9 @@ shorter (unary s) = shorter s
 shorter (multiply l is r) = omega (arith, shorter l, shorter r)
 shorter (atom s) = shorter s
 shorter (prefix is s) = omega (arith, shorter s)
-shorter number = omega arith
-shorter true_word = omega arith
-shorter false_word = omega arith
-shorter name = omega arith
 shorter (brackets s) = omega (arith, shorter s)
 shorter (choice c a b) = omega (arith, shorter c, shorter a, shorter b)
+shorter _ = omega arith
 
 -- no operator of this kind stands next
 abbrev pub IsFree : (Sign → Option BinOp) → List Placed → Type 0
@@ -129,10 +126,6 @@ expr-done zero ts e rest some is fits p q c a o = absurd (omega (arith, some, fi
 expr-done (suc n) ts e rest some is fits p q c a o = done (and_by (expr_at n)) or_of (or_by (expr_at n)) ts e rest (is n fits p q c a) o
 
 pub complete : {level : Level} {ts : List Placed} {e : Expr} {rest : List Placed} → Spells level ts e rest → IsRead level ts e rest
-complete number = λ n fits. refl
-complete true_word = λ n fits. refl
-complete false_word = λ n fits. refl
-complete name = λ n fits. refl
 complete (brackets {ts} {e} {rest} {k} {m} s) = λ n fits.
     ap (λ (r : Read Expr). r >>= λ x. after_sign sign.CloseParen x.1 >>= λ us. Ok (x.0, us))
     (expr-done n ts e (Put m (token.Sign sign.CloseParen) ∷ rest) (shorter s) (complete s) (omega (arith, fits)) refl refl refl refl refl)
@@ -180,6 +173,7 @@ complete (or {ts} {us} {l} {r} {rest} {k} {s} {op} sl is sr) = λ n fits p q c a
     let free = or-free s is in
     more (and_by (expr_at n)) or_of (or_by (expr_at n)) ts us k s op l r rest (complete sl n fits free.0 free.1 free.2 free.3) is
     (done (compare_by (expr_at n)) and_of (and_by (expr_at n)) us r rest (complete sr n (omega (arith, fits, shorter sl)) p q c) a) (omega (arith, shorter sr))
+complete _ = λ n fits. refl
 
 -- no operator of any kind stands next
 pub record IsEnd (rest : List Placed) : Type 0 where

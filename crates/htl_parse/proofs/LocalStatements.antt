@@ -255,13 +255,11 @@ switch-local =
 
 comm-head : (p : Placed) (us vs : List Placed) → begins_comm (p ∷ us) ≡ begins_comm (p ∷ vs)
 comm-head (Put j (token.Word word.Communicator)) us vs = refl
-comm-head (Put j (token.Word word.Sensor)) us vs = refl
-comm-head p us vs = refl
+comm-head _ us vs = refl
 
 task-head : (p : Placed) (us vs : List Placed) → begins_task (p ∷ us) ≡ begins_task (p ∷ vs)
 task-head (Put j (token.Word word.Abstract)) us vs = refl
-task-head (Put j (token.Word word.Task)) us vs = refl
-task-head p us vs = refl
+task-head _ us vs = refl
 
 port-head : (p : Placed) (us vs : List Placed) → begins_port (p ∷ us) ≡ begins_port (p ∷ vs)
 port-head (Put j (token.Word word.Port)) us vs = refl

@@ -16,8 +16,7 @@ pub data Alike (m k : List Placed) : List Placed → List Placed → Type 0 wher
 abbrev pub Agree : {X : Type 0} → List Placed → List Placed → Read X → Read X → Type 0
 Agree m k (Ok a) (Ok b) = (a.0 ≡ b.0) × Alike m k a.1 b.1
 Agree m k (Err l) (Err j) = Alike m k l j
-Agree m k (Ok a) (Err j) = ⊥
-Agree m k (Err l) (Ok b) = ⊥
+Agree m k _ _ = ⊥
 
 -- the two do the same, or both went beyond the token
 abbrev pub Both : {X : Type 0} → List Placed → List Placed → Read X → Read X → Type 0

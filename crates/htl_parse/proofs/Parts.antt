@@ -68,9 +68,7 @@ comm-complete ts c rest (sensor st sc) = rw (type-complete st, const-complete sc
 
 const-shorter : {ts : List Placed} {c : ConstNode} {rest : List Placed} → SpellsConst ts c rest → length rest < length ts
 const-shorter positive = omega arith
-const-shorter negative = omega arith
-const-shorter true_word = omega arith
-const-shorter false_word = omega arith
+const-shorter _ = omega arith
 
 comm-shorter : (ts : List Placed) (c : CommNode) (rest : List Placed) → SpellsComm ts c rest → length rest < length ts
 comm-shorter ts c rest (communicator st sc) = omega (arith, type-shorter st, const-shorter sc)

@@ -65,9 +65,8 @@ next-first n ts us (Some (kind.Sign s)) e = subst (λ (vs : List Token). NextIs 
 
 pub kind-at : (n p : ℕ) (ts : List Token) → next_kind (tokens_numbered n (drop p ts)) ≡ option_map kind_of (slice_get ts p)
 kind-at n zero [] = refl
-kind-at n zero (t ∷ ts) = refl
-kind-at n (suc p) [] = refl
 kind-at n (suc p) (t ∷ ts) = kind-at n p ts
+kind-at n _ _ = refl
 
 pub next-is : (n : ℕ) (ts us : List Token) (t : Token) → ts ≡ t ∷ us → tokens_numbered n ts ≡ Put (place_at (tokens_numbered n ts)) t ∷ behind (tokens_numbered n ts)
 next-is n ts us t e = subst (λ (vs : List Token). tokens_numbered n vs ≡ Put (place_at (tokens_numbered n vs)) t ∷ behind (tokens_numbered n vs)) (sym e) refl

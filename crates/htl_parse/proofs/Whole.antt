@@ -55,10 +55,9 @@ tells-tree tokens (Err fault.Memory) is = λ tree short s. tt
 tells-tree tokens (Err (fault.Long k)) is = λ tree short s. short k is.long
 
 pub tells-long : (tokens : List Token) (result : Result Tree ParseFault) → IsParsed tokens result → TellsLong tokens result
-tells-long tokens (Ok t) is = λ k first. absurd (is.0 k first.long)
-tells-long tokens (Err (fault.Syntax j)) is = λ k first. absurd (is.0 k first.long)
 tells-long tokens (Err fault.Memory) is = λ k first. absurd (is k first.long)
 tells-long tokens (Err (fault.Long j)) is = λ k first. ap (λ (n : ℕ). Err (fault.Long n)) (first-unique (IsLong tokens) j k is.long first.long is.first first.first)
+tells-long tokens _ is = λ k first. absurd (is.0 k first.long)
 
 pub tells-syntax : (tokens : List Token) (result : Result Tree ParseFault) → IsParsed tokens result → TellsSyntax tokens result
 tells-syntax tokens (Ok t) is = λ short none k misfit. absurd (none (tree_of t) is.1)

@@ -47,9 +47,8 @@ IsParsed tokens (Err (fault.Long k)) = IsFirstLong tokens k
 -- this tree is the answer, or memory ran out
 abbrev pub AnswersTree : List PlainProgram → Result Tree ParseFault → Type 0
 AnswersTree tree (Ok t) = tree_of t ≡ tree
-AnswersTree tree (Err (fault.Syntax k)) = ⊥
 AnswersTree tree (Err fault.Memory) = Unit {0}
-AnswersTree tree (Err (fault.Long k)) = ⊥
+AnswersTree tree _ = ⊥
 
 -- a tree that the tokens spell is the answer, where no run is long
 abbrev pub TellsTree : List Token → Result Tree ParseFault → Type 0

@@ -30,14 +30,11 @@ graft_named o d unit mode m k p q =
 -- ---- faults
 
 both : (g : Graft) (f : PatchFault) → IsEarlyFault g f → IsGraftFault g f × IsHandedBack (patched g) f None
-both g (fault.Comms place) h = (h, refl)
-both g (fault.Parent inv) h = (h, refl)
-both g (fault.Twice unit) h = (h, refl)
-both g (fault.Limit which count) h = (h, refl)
 both g (fault.IllFormed f) h = absurd h
 both g (fault.Function k) h = absurd h
 both g fault.Mode h = absurd h
 both g (fault.Malformed m) h = absurd h
+both g _ h = (h, refl)
 
 module _ (o d : Object) (unit mode : List ℕ) (g : Graft) (is : graft_of o.tables d.tables unit mode ≡ Some g) where
   stopped : (f : PatchFault) (t : Option Tables) → IsGraftFault g f → IsHandedBack (patched g) f t → IsPatchStop o d unit mode (stop.Refused f t)
@@ -49,12 +46,7 @@ module _ (o d : Object) (unit mode : List ℕ) (g : Graft) (is : graft_of o.tabl
   late : (j : Joins g) (f : PatchFault) (t : Option Tables) → IsTablesFault (patched g) f t → IsGraftFault g f × IsHandedBack (patched g) f t
   late j (fault.IllFormed f) t h = ((j, h.0), h.1)
   late j (fault.Function k) t h = ((j, h.0, h.1), h.2)
-  late j (fault.Comms place) t h = absurd h
-  late j (fault.Parent inv) t h = absurd h
-  late j (fault.Twice unit) t h = absurd h
-  late j (fault.Limit which count) t h = absurd h
-  late j fault.Mode t h = absurd h
-  late j (fault.Malformed m) t h = absurd h
+  late j _ t h = absurd h
 
   by_stop : (j : Joins g) (s : PatchStop) → IsTablesStop (patched g) s → IsPatchStop o d unit mode s
   by_stop j (stop.Refused f t) h = let r = late j f t h in stopped f t r.0 r.1

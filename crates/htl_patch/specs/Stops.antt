@@ -27,8 +27,7 @@ IsGraftFault g (fault.Limit which count) =
     (g.host.comms ≡ g.donor.comms) × (first_stray g ≡ None) × (first_twice g ≡ None) × (first_limit (patched g) ≡ Some (which, count))
 IsGraftFault g (fault.IllFormed f) = Joins g × IsFirstBroken (patched g) f
 IsGraftFault g (fault.Function k) = Joins g × Formed (patched g) × IsFirstUnfit (patched g) k
-IsGraftFault g fault.Mode = ⊥
-IsGraftFault g (fault.Malformed m) = ⊥
+IsGraftFault g _ = ⊥
 
 -- communicators, parents and names have no fault
 pub record AreMet (g : Graft) : Type 0 where
@@ -41,11 +40,7 @@ abbrev pub IsJoinFault : Graft → PatchFault → Type 0
 IsJoinFault g (fault.Comms place) = IsGraftFault g (fault.Comms place)
 IsJoinFault g (fault.Parent inv) = IsGraftFault g (fault.Parent inv)
 IsJoinFault g (fault.Twice unit) = IsGraftFault g (fault.Twice unit)
-IsJoinFault g (fault.Limit which count) = ⊥
-IsJoinFault g (fault.IllFormed f) = ⊥
-IsJoinFault g (fault.Function k) = ⊥
-IsJoinFault g fault.Mode = ⊥
-IsJoinFault g (fault.Malformed m) = ⊥
+IsJoinFault g _ = ⊥
 
 -- the first fault, where it comes before the form rules
 abbrev pub IsEarlyFault : Graft → PatchFault → Type 0
@@ -53,10 +48,7 @@ IsEarlyFault g (fault.Comms place) = IsGraftFault g (fault.Comms place)
 IsEarlyFault g (fault.Parent inv) = IsGraftFault g (fault.Parent inv)
 IsEarlyFault g (fault.Twice unit) = IsGraftFault g (fault.Twice unit)
 IsEarlyFault g (fault.Limit which count) = IsGraftFault g (fault.Limit which count)
-IsEarlyFault g (fault.IllFormed f) = ⊥
-IsEarlyFault g (fault.Function k) = ⊥
-IsEarlyFault g fault.Mode = ⊥
-IsEarlyFault g (fault.Malformed m) = ⊥
+IsEarlyFault g _ = ⊥
 
 -- one of the two has no mode of these names, or both have one and this is the first fault
 abbrev pub IsFaultBy : Option Graft → PatchFault → Type 0
@@ -69,13 +61,7 @@ IsPatchFault o donor unit mode f = IsFaultBy (graft_of o.tables donor.tables uni
 -- the new tables come with the form rule that they break, and with nothing else
 abbrev pub IsHandedBack : Tables → PatchFault → Option Tables → Type 0
 IsHandedBack t (fault.IllFormed f) o = o ≡ Some t
-IsHandedBack t (fault.Function k) o = o ≡ None
-IsHandedBack t (fault.Comms place) o = o ≡ None
-IsHandedBack t (fault.Parent inv) o = o ≡ None
-IsHandedBack t (fault.Twice unit) o = o ≡ None
-IsHandedBack t (fault.Limit which count) o = o ≡ None
-IsHandedBack t fault.Mode o = o ≡ None
-IsHandedBack t (fault.Malformed m) o = o ≡ None
+IsHandedBack t _ o = o ≡ None
 
 -- ---- the new tables
 
@@ -86,12 +72,7 @@ object_with o t = record { tables = t; ecode = layout t; schedules = o.schedules
 abbrev pub IsTablesFault : Tables → PatchFault → Option Tables → Type 0
 IsTablesFault t (fault.IllFormed f) o = IsFirstBroken t f × (o ≡ Some t)
 IsTablesFault t (fault.Function k) o = Formed t × IsFirstUnfit t k × (o ≡ None)
-IsTablesFault t (fault.Comms place) o = ⊥
-IsTablesFault t (fault.Parent inv) o = ⊥
-IsTablesFault t (fault.Twice unit) o = ⊥
-IsTablesFault t (fault.Limit which count) o = ⊥
-IsTablesFault t fault.Mode o = ⊥
-IsTablesFault t (fault.Malformed m) o = ⊥
+IsTablesFault t _ o = ⊥
 
 -- the first form rule that the tables break, or else the first function that doesn't fit its place; want of memory is free
 abbrev pub IsTablesStop : Tables → PatchStop → Type 0
@@ -106,14 +87,8 @@ IsAcceptedWith o t l = (l ≡ object_with o t) × Formed t × FitPlaces t
 
 abbrev pub IsMisfit : ObjectFault → Type 0
 IsMisfit (object_fault.Function k) = Unit {0}
-IsMisfit (object_fault.Malformed m) = ⊥
-IsMisfit (object_fault.IllFormed f) = ⊥
-IsMisfit (object_fault.ECode e) = ⊥
-IsMisfit (object_fault.Schedule sel m) = ⊥
+IsMisfit _ = ⊥
 
 abbrev pub misfit_of : ObjectFault → PatchFault
 misfit_of (object_fault.Function k) = fault.Function k
-misfit_of (object_fault.Malformed m) = fault.Mode
-misfit_of (object_fault.IllFormed f) = fault.Mode
-misfit_of (object_fault.ECode e) = fault.Mode
-misfit_of (object_fault.Schedule sel m) = fault.Mode
+misfit_of _ = fault.Mode

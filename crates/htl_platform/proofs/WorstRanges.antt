@@ -53,9 +53,8 @@ module _ (t : Tables) (ws : List ℕ) where
 
   within_same : (steps : ℕ) (o : Option ℕ) → is_within steps t o ≡ is_within steps (with_worst t ws) o
   within_same zero None = refl
-  within_same (suc n) None = refl
-  within_same zero (Some m) = refl
   within_same (suc n) (Some m) = within_same n (parent_of t (mode_module t m))
+  within_same _ _ = refl
 
   end_same : (m : ℕ) (e : End) → IsEndInRange t m e → IsEndInRange (with_worst t ws) m e
   end_same m (E.Comm c n) h = h

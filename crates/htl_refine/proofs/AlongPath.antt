@@ -209,9 +209,8 @@ module _ (t : Tables) where
 
 take_front : {A : Type 0} (xs ys : List A) (n : ℕ) → n ≡ length xs → take n (xs ++ ys) ≡ xs
 take_front [] ys zero e = refl
-take_front [] ys (suc n) e = absurd (omega (arith, e))
-take_front (x ∷ xs) ys zero e = absurd (omega (arith, e))
 take_front (x ∷ xs) ys (suc n) e = ap (λ zs. x ∷ zs) (take_front xs ys n (omega (arith, e)))
+take_front _ ys _ e = absurd (omega (arith, e))
 
 module _ (t : Tables) (path : ℕ) (sels : List (List (Option ℕ))) (few : length sels ≤ length (starts t)) (along : IsAlong t path sels) where
   rising : AreRising (starts t)

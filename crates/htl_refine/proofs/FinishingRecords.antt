@@ -59,8 +59,6 @@ module _ (jobs : List Job) (p : ℕ) where
   -- the first slice, with a record in front
   slices_front : (i : SInstr) (x : Point) (ls : List Left) (a : ℕ) → (next_point jobs i x).time ≤ a → ((s : ℕ × ℕ) × (slice_get (slices ls p) 0 ≡ Some s) × (s.0 < a))
       → (s : ℕ × ℕ) × (slice_get (slices (left_by jobs i x (next_point jobs i x) ∷ ls) p) 0 ≡ Some s) × (s.0 < a)
-  slices_front (Idle h) x ls a later r = r
-  slices_front End x ls a later r = r
   slices_front (Dispatch q h) x ls a later r = by_position (eqb q p) refl
     where
       y : Point
@@ -80,6 +78,7 @@ module _ (jobs : List Job) (p : ℕ) where
           → (s : ℕ × ℕ) × (slice_get (cond b (slice_onto (slice_between (dispatch_begins x.time (job_at jobs q).release h) h (get_or x.left q 0) y.time) (slices ls p)) (slices ls p)) 0 ≡ Some s) × (s.0 < a)
       by_position true e = by_work (get_or x.left q 0) refl later
       by_position false e = r
+  slices_front _ x ls a later r = r
 
   -- the record of the dispatch that does the last work
   last_here : (q h : ℕ) (is : List SInstr) (x : Point) → q ≡ p → finishes_by (get_or x.left q 0) (get_or (next_point jobs (Dispatch q h) x).left q 0) ≡ true
@@ -110,8 +109,6 @@ module _ (jobs : List Job) (p : ℕ) where
       let e : left_by jobs (Dispatch q h) x (next_point jobs (Dispatch q h) x) ≡ l = same_Some _ _ at in
       let same : q ≡ p = same_Some _ _ (ap (λ (z : Left). z.position) e ∙ pos) in
       subst (IsLast jobs (Dispatch q h ∷ is) x 0 p) e (last_here q h is x same (ap (λ (z : Left). z.finished) e ∙ fin))
-  last_is (Idle h ∷ is) x zero l at pos fin = let e = same_Some _ _ at in not_some p (ap (λ (z : Left). z.position) e ∙ pos)
-  last_is (End ∷ is) x zero l at pos fin = let e = same_Some _ _ at in not_some p (ap (λ (z : Left). z.position) e ∙ pos)
   last_is (i ∷ is) x (suc k) l at pos fin =
       let y = next_point jobs i x in
       let r = last_is is y k l at pos fin in
@@ -147,6 +144,7 @@ module _ (jobs : List Job) (p : ℕ) where
           by_position true g =
               let same : q ≡ p = eqb-true q p g in
               ap (λ b. is_some (cond (true && b) (Some y.time) (finish (take k (walk_from jobs is y)) p))) (not_done (get_or x.left q 0) (get_or y.left q 0) (subst (λ z. 0 < get_or y.left z 0) (sym same) s)) ∙ e
+  last_is _ x zero l at pos fin = let e = same_Some _ _ at in not_some p (ap (λ (z : Left). z.position) e ∙ pos)
 
 -- a job that finishes has a record that says so
 pub finish_record : (ls : List Left) (p f : ℕ) → finish ls p ≡ Some f → (k : ℕ) × (l : Left) × (slice_get ls k ≡ Some l) × (l.position ≡ Some p) × (l.finished ≡ true) × (l.at ≡ f)
@@ -193,13 +191,12 @@ done_past (x ∷ xs) ys k p e =
 -- a list dispatches what it knows alone
 known_in : (jobs : List Job) (c b : ℕ) (is : List SInstr) (x : Point) (k p : ℕ) (l : Left) → InForm c b is → slice_get (walk_from jobs is x) k ≡ Some l → l.position ≡ Some p → p < c
 known_in jobs c b [] x k p l f e pos = not_some l e
-known_in jobs c b (End ∷ []) x zero p l f e pos = not_some p (ap (λ (z : Left). z.position) (same_Some _ _ e) ∙ pos)
 known_in jobs c b (End ∷ []) x (suc k) p l f e pos = not_some l e
 known_in jobs c b (End ∷ i ∷ is) x k p l f e pos = absurd f.0
 known_in jobs c b (Dispatch q h ∷ is) x zero p l f e pos = let same : q ≡ p = same_Some _ _ (ap (λ (z : Left). z.position) (same_Some _ _ e) ∙ pos) in omega (arith, f.0.0, same)
 known_in jobs c b (Dispatch q h ∷ is) x (suc k) p l f e pos = known_in jobs c b is (next_point jobs (Dispatch q h) x) k p l f.1 e pos
-known_in jobs c b (Idle h ∷ is) x zero p l f e pos = not_some p (ap (λ (z : Left). z.position) (same_Some _ _ e) ∙ pos)
 known_in jobs c b (Idle h ∷ is) x (suc k) p l f e pos = known_in jobs c b is (next_point jobs (Idle h) x) k p l f.1 e pos
+known_in jobs c b _ x zero p l f e pos = not_some p (ap (λ (z : Left). z.position) (same_Some _ _ e) ∙ pos)
 
 -- a slice that is listed is one of a record
 listed : (ls : List Left) (p k : ℕ) (s : ℕ × ℕ) → slice_get (slices ls p) k ≡ Some s → (m : ℕ) × (b : Left) × (slice_get ls m ≡ Some b) × (b.slice ≡ Some s)

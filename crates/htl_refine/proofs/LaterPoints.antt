@@ -26,8 +26,6 @@ late_work now (suc w) r until t early late =
     (waited now (suc w) r until t late (omega arith) (waits now (suc w) r until t late (omega arith) early)).1
 
 late_left : (jobs : List Job) (t q : ℕ) (i : SInstr) (x : Point) → (next_point jobs i x).time < t → t ≤ (job_at jobs q).release → get_or (next_point jobs i x).left q 0 ≡ get_or x.left q 0
-late_left jobs t q (Idle until) x early late = refl
-late_left jobs t q End x early late = refl
 late_left jobs t q (Dispatch p until) x early late = elim (cases_eq p q) [
   | inl e ↦
       ap (λ z. get_or (next_point jobs (Dispatch p until) x).left z 0) (sym e) ∙ left_same x.left p x.time (job_at jobs p).release until
@@ -35,6 +33,7 @@ late_left jobs t q (Dispatch p until) x early late = elim (cases_eq p q) [
       ∙ ap (λ z. get_or x.left z 0) e
   | inr n ↦ left_other x.left p q (work_after x.time (get_or x.left p 0) (job_at jobs p).release until) n
 ]
+late_left jobs t q _ x early late = refl
 
 late_last : (jobs : List Job) (t q : ℕ) (is : List SInstr) (x : Point) → (last_point jobs is x).time < t → t ≤ (job_at jobs q).release → get_or (last_point jobs is x).left q 0 ≡ get_or x.left q 0
 late_last jobs t q [] x early late = refl

@@ -16,21 +16,7 @@ use Rattle.htl_refine.proofs.SearchLaws.{judges}
 
 last_number : (r : FormRule) → number_of r ≤ 16
 last_number law.ModulePeriod = omega arith
-last_number law.FrameLimits = omega arith
-last_number law.Divides = omega arith
-last_number law.Offsets = omega arith
-last_number law.Ends = omega arith
-last_number law.Windows = omega arith
-last_number law.WorstCases = omega arith
-last_number law.PortWriters = omega arith
-last_number law.PortCycles = omega arith
-last_number law.AbstractPorts = omega arith
-last_number law.Sensors = omega arith
-last_number law.ConcreteWriters = omega arith
-last_number law.AbstractPlaces = omega arith
-last_number law.Parents = omega arith
-last_number law.SharedParents = omega arith
-last_number law.Inheritance = omega arith
+last_number _ = omega arith
 
 pub formed : (t : Tables) → KeptTo t 16 → Formed t
 formed t kept = λ r s h n b. kept r s h n (last_number r) b

@@ -45,14 +45,13 @@ times_within jobs count period (Idle until ∷ is) x f h (suc k) l e = times_wit
 
 pub path_rises : (jobs : List Job) (ss : List (List SInstr)) (gs : List Leg) (a h n : ℕ) (x : Point) → AreInForm ss gs → AreChained a h n gs → Rises a (end_to_end (walks_from jobs ss gs x))
 path_rises jobs [] [] a h n x f c = tt
-path_rises jobs [] (g ∷ gs) a h n x f c = absurd f
-path_rises jobs (s ∷ ss) [] a h n x f c = absurd f
 path_rises jobs (s ∷ ss) (g ∷ gs) a h n x f c =
     let y = list_point g.from x in
     let own : Rises g.from (walk_from jobs s y) = walk_rises jobs s y in
     rises_later a g.from (end_to_end (walks_from jobs (s ∷ ss) (g ∷ gs) x)) (omega (arith, c.0))
     (rises_join g.from g.to (walk_from jobs s y) (end_to_end (walks_from jobs ss gs (last_point jobs s y))) c.1 own
     (λ k l e. times_within jobs g.known g.to s y f.0 c.1 k l e) (path_rises jobs ss gs g.to h n (last_point jobs s y) f.1 c.3))
+path_rises jobs _ _ a h n x f c = absurd f
 
 -- ---- one record among those of all lists
 

@@ -16,8 +16,6 @@ use Rattle.std.proofs.lemmas.Option.{same_Some}
 
 -- a slice begins no earlier than the walk, and ends with its record
 pub slice_inside : (jobs : List Job) (i : SInstr) (x : Point) (s : ℕ × ℕ) → slice_of jobs i x (next_point jobs i x).time ≡ Some s → (x.time ≤ s.0) × (s.1 ≡ (next_point jobs i x).time)
-slice_inside jobs (Idle h) x s e = not_some s e
-slice_inside jobs End x s e = not_some s e
 slice_inside jobs (Dispatch p h) x s e = by_work (get_or x.left p 0) e
   where
     y : Point
@@ -33,6 +31,7 @@ slice_inside jobs (Dispatch p h) x s e = by_work (get_or x.left p 0) e
             let same : ◌≡◌ {A = ℕ × ℕ} (dispatch_begins x.time (job_at jobs p).release h, y.time) s = same_Some _ _ e in
             let first : dispatch_begins x.time (job_at jobs p).release h ≡ s.0 = ap (λ (z : ℕ × ℕ). z.0) same in
             (omega arith, sym (ap (λ (z : ℕ × ℕ). z.1) same))
+slice_inside jobs _ x s e = not_some s e
 
 pub slice_from : (jobs : List Job) (is : List SInstr) (x : Point) (m : ℕ) (b : Left) (u : ℕ × ℕ) → slice_get (walk_from jobs is x) m ≡ Some b → b.slice ≡ Some u → x.time ≤ u.0
 slice_from jobs [] x m b u e f = not_some b e

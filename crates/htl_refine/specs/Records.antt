@@ -38,9 +38,7 @@ lengths_of t es start jobs = map (λ j. took t es j.inv (start + j.release)) job
 -- each `took` is of at least one tick and at most the worst case
 abbrev pub IsTookWithin : Tables → Event → Type 0
 IsTookWithin t (V.Took i n) = (1 ≤ n) × (n ≤ inv_worst t i)
-IsTookWithin t (V.At n) = Unit {0}
-IsTookWithin t (V.Sense c x) = Unit {0}
-IsTookWithin t (V.End n) = Unit {0}
+IsTookWithin t _ = Unit {0}
 
 abbrev pub AreTookWithin : Tables → List Event → Type 0
 AreTookWithin t [] = Unit {0}

@@ -19,7 +19,5 @@ refinement_rules = R.AbstractPlaces ∷ R.Parents ∷ R.SharedParents ∷ R.Inhe
 
 -- whether the rule speaks of inputs
 abbrev pub judges_refined_inputs : Rule → Bool
-judges_refined_inputs R.AbstractPlaces = false
-judges_refined_inputs R.Parents = false
-judges_refined_inputs R.SharedParents = false
 judges_refined_inputs R.Inheritance = true
+judges_refined_inputs _ = false

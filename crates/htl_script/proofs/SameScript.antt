@@ -17,27 +17,19 @@ use Rattle.htl_script.specs.declared.judge.Past.{Past}
 module _ (t : Tables) (fs : List Fun) where
   unknown_same : (s : Statement) → is_unknown t s ≡ is_unknown (with_functions t fs) s
   unknown_same (At instant) = refl
-  unknown_same (Sense name value) = refl
-  unknown_same (Took name ticks) = refl
-  unknown_same (End instant) = refl
+  unknown_same _ = refl
 
   range_same : (s : Statement) → is_out_of_range t s ≡ is_out_of_range (with_functions t fs) s
   range_same (At instant) = refl
-  range_same (Sense name value) = refl
-  range_same (Took name ticks) = refl
-  range_same (End instant) = refl
+  range_same _ = refl
 
   overrun_same : (s : Statement) → overrun_of t s ≡ overrun_of (with_functions t fs) s
   overrun_same (At instant) = refl
-  overrun_same (Sense name value) = refl
-  overrun_same (Took name ticks) = refl
-  overrun_same (End instant) = refl
+  overrun_same _ = refl
 
   event_same : (s : Statement) → event_of t s ≡ event_of (with_functions t fs) s
   event_same (At instant) = refl
-  event_same (Sense name value) = refl
-  event_same (Took name ticks) = refl
-  event_same (End instant) = refl
+  event_same _ = refl
 
   fault_same : (past : Past) (s : Statement) → fault_of t past s ≡ fault_of (with_functions t fs) past s
   fault_same past s =

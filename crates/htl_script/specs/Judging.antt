@@ -25,9 +25,8 @@ at_first = record { reading = None; end = None }
 
 abbrev pub past_after : Past → Event → Past
 past_after past (event.At instant) = record { reading = Some instant; end = past.end }
-past_after past (event.Sense comm x) = past
-past_after past (event.Took inv ticks) = past
 past_after past (event.End instant) = record { reading = past.reading; end = Some instant }
+past_after past _ = past
 
 abbrev pub past_after_all : Past → List Event → Past
 past_after_all past [] = past
@@ -73,10 +72,9 @@ worst_of t i = elim (slice_get t.invs i) [ Some x ↦ task_worst t x.task | None
 -- ---- the rules
 
 abbrev pub is_unknown : Tables → Statement → Bool
-is_unknown t (At instant) = false
 is_unknown t (Sense name value) = is_none (sensor_of t name)
 is_unknown t (Took name ticks) = is_none (invocation_of t name)
-is_unknown t (End instant) = false
+is_unknown t _ = false
 
 -- a value with a sign is a 64-bit value, or for a bool 0 or 1
 abbrev pub is_value : Bool × ℕ → Option Ty → Bool
@@ -100,18 +98,15 @@ is_below instant (Some reading) = nat_lt instant reading
 
 abbrev pub is_out_of_order : Past → Statement → Bool
 is_out_of_order past (At instant) = not (is_above instant past.reading)
-is_out_of_order past (Sense name value) = is_none past.reading
-is_out_of_order past (Took name ticks) = is_none past.reading
 is_out_of_order past (End instant) = is_below instant past.reading
+is_out_of_order past _ = is_none past.reading
 
 -- a length above the worst case, which is given too
 abbrev pub overrun_of : Tables → Statement → Option ScriptKind
-overrun_of t (At instant) = None
-overrun_of t (Sense name value) = None
 overrun_of t (Took name ticks) =
     let worst = worst_of t (unwrap_or (invocation_of t name) 0) in
     if nat_lt worst ticks then Some (kind.Overrun ticks worst) else None
-overrun_of t (End instant) = None
+overrun_of t _ = None
 
 -- the first rule that a statement breaks
 abbrev pub fault_of : Tables → Past → Statement → Option ScriptKind

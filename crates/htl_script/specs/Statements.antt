@@ -35,11 +35,9 @@ named_statement word name number =
     else None
 
 abbrev pub statement_of_fields : List (List ℕ) → Option Statement
-statement_of_fields [] = None
-statement_of_fields (word ∷ []) = None
 statement_of_fields (word ∷ instant ∷ []) = instant_statement word instant
 statement_of_fields (word ∷ name ∷ number ∷ []) = named_statement word name number
-statement_of_fields (word ∷ name ∷ number ∷ more ∷ fields) = None
+statement_of_fields _ = None
 
 -- what a line says, or none where it has none of the four forms
 abbrev pub statement_of : List ℕ → Option Statement

@@ -26,9 +26,8 @@ module _ (t : Tables) (task w : ℕ) where
 
   within_same : (steps : ℕ) (o : Option ℕ) → is_within steps t o ≡ is_within steps (with_worst t task w) o
   within_same zero None = refl
-  within_same (suc n) None = refl
-  within_same zero (Some m) = refl
   within_same (suc n) (Some m) = within_same n (parent_of t (mode_module t m))
+  within_same _ _ = refl
 
   end_same : (m : ℕ) (e : End) → IsEndInRange t m e → IsEndInRange (with_worst t task w) m e
   end_same m (E.Comm c n) h = h

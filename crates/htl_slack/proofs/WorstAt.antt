@@ -19,9 +19,8 @@ map-worst_in {B} f same w (suc k) (x ∷ xs) = ap (λ (bs : List B). f x ∷ bs)
 count_at-worst_in : (w k : ℕ) (ts : List Task) (n : ℕ) → count_at (slice_get (worst_in w k ts) n) ≡ count_at (slice_get ts n)
 count_at-worst_in w k [] n = refl
 count_at-worst_in w zero (x ∷ xs) zero = refl
-count_at-worst_in w zero (x ∷ xs) (suc n) = refl
-count_at-worst_in w (suc k) (x ∷ xs) zero = refl
 count_at-worst_in w (suc k) (x ∷ xs) (suc n) = count_at-worst_in w k xs n
+count_at-worst_in w _ (x ∷ xs) _ = refl
 
 pub count_before-worst_in : (w k : ℕ) (ts : List Task) (n : ℕ) → count_before n (worst_in w k ts) ≡ count_before n ts
 count_before-worst_in w k ts zero = refl
@@ -31,9 +30,8 @@ count_before-worst_in w k ts (suc n) = rw (count_before-worst_in w k ts n, count
 pub task_there : (w k : ℕ) (ts : List Task) (n : ℕ) (x : Task) → slice_get ts n ≡ Some x → (y : Task) × (slice_get (worst_in w k ts) n ≡ Some y) × (y.«module» ≡ x.«module»)
 task_there w k [] n x at = (x, at, refl)
 task_there w zero (y ∷ ys) zero x at = (record y { worst = w }, refl, ap (λ (z : Task). z.«module») (same_Some _ _ at))
-task_there w zero (y ∷ ys) (suc n) x at = (x, at, refl)
-task_there w (suc k) (y ∷ ys) zero x at = (x, at, refl)
 task_there w (suc k) (y ∷ ys) (suc n) x at = task_there w k ys n x at
+task_there w _ (y ∷ ys) _ x at = (x, at, refl)
 
 -- the later worst case counts
 pub worst_in-twice : (v w k : ℕ) (ts : List Task) → worst_in w k (worst_in v k ts) ≡ worst_in w k ts

@@ -77,15 +77,13 @@ module _ (jobs : List Job) where
 
   as_many : (ss : List (List SInstr)) (gs : List Leg) (x : Point) → AreInForm ss gs → length (walks_from jobs ss gs x) ≡ length gs
   as_many [] [] x f = refl
-  as_many [] (g ∷ gs) x f = absurd f
-  as_many (s ∷ ss) [] x f = absurd f
   as_many (s ∷ ss) (g ∷ gs) x f = ap suc (as_many ss gs (last_point jobs s (list_point g.from x)) f.1)
+  as_many _ _ x f = absurd f
 
   point_first : (ss : List (List SInstr)) (gs : List Leg) (x : Point) → AreInForm ss gs → 0 < length gs → path_point jobs ss gs 0 0 x ≡ list_point (get_or gs 0 no_leg).from x
   point_first [] [] x f h = absurd (omega arith)
-  point_first [] (g ∷ gs) x f h = absurd f
-  point_first (s ∷ ss) [] x f h = absurd f
   point_first (s ∷ ss) (g ∷ gs) x f h = refl
+  point_first _ _ x f h = absurd f
 
   point_next : (ss : List (List SInstr)) (gs : List Leg) (j : ℕ) (x : Point) → AreInForm ss gs → suc j < length gs
       → path_point jobs ss gs (suc j) 0 x ≡ list_point (get_or gs (suc j) no_leg).from (last_point jobs (get_or ss j []) (path_point jobs ss gs j 0 x))

@@ -50,9 +50,7 @@ first-at ts place k e = subst (λ (k : Option Kind). FirstIs k (drop place ts) (
 -- a token that is spelled is of its kind, and what is spelled of a kind is that token
 kind_of-spelled : (k : Kind) (text : List ℕ) → kind_of (spelled k text) ≡ k
 kind_of-spelled kind.Ident text = refl
-kind_of-spelled kind.Number text = refl
-kind_of-spelled (kind.Word w) text = refl
-kind_of-spelled (kind.Sign s) text = refl
+kind_of-spelled _ text = refl
 
 pub token_of-kind : (text : List ℕ) (k : Kind) → option_map kind_of (token_of text) ≡ Some k → token_of text ≡ Some (spelled k text)
 token_of-kind text k e = by (is_numeral text) (word_of text) (sign_of text) (is_name text) e

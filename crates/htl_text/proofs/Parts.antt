@@ -18,20 +18,14 @@ last_of (Infix k op l r) = node.Binary k op (length (nodes_of r))
 last_of (Choice k c a b) = node.Choose k (length (nodes_of a)) (length (nodes_of b))
 
 abbrev before_of : Expr → List Node
-before_of (Number k x) = []
-before_of (Flag k x) = []
-before_of (Variable id) = []
 before_of (Prefix k op e) = nodes_of e
 before_of (Infix k op l r) = nodes_of l ++ nodes_of r
 before_of (Choice k c a b) = (nodes_of c ++ nodes_of a) ++ nodes_of b
+before_of _ = []
 
 split_of : (e : Expr) → nodes_of e ≡ before_of e ++ last_of e ∷ []
 split_of (Number k x) = refl
-split_of (Flag k x) = refl
-split_of (Variable id) = refl
-split_of (Prefix k op e) = refl
-split_of (Infix k op l r) = refl
-split_of (Choice k c a b) = refl
+split_of _ = refl
 
 -- what a last node says of what stands before it
 abbrev pub Ends : Node → List Node → Expr → Type 0
@@ -69,9 +63,6 @@ pub choice_same : (k : ℕ) (c d a x b y : Expr) → c ≡ d → a ≡ x → b �
 choice_same k c d a x b y one two three = ap₂ (λ (e f : Expr). Choice k e f b) one two ∙ ap (λ (e : Expr). Choice k d x e) three
 
 ends_own : (e : Expr) → Ends (last_of e) (before_of e) e
-ends_own (Number k x) = refl
-ends_own (Flag k x) = refl
-ends_own (Variable id) = refl
 ends_own (Prefix k op e) = (is_expr e (nodes_of e) refl, ap (Prefix k op) (expr_in-nodes_of e))
 ends_own (Infix k op l r) =
     let f = front_of (nodes_of l) (nodes_of r) in
@@ -90,6 +81,7 @@ ends_own (Choice k c a b) =
       is_expr c _ first,
       choice_same k _ c _ a _ b (in_expr c _ first) (in_expr a _ second) (in_expr b _ last),
     )
+ends_own _ = refl
 
 abbrev tail_of : List Node → List Node
 tail_of [] = []
@@ -136,9 +128,6 @@ names_in-last xs n ids none same = names_in-append xs (n ∷ []) ∙ ap (λ (is 
 
 -- the names stand in the order of the expression
 pub names_in-nodes_of : (e : Expr) → names_in (nodes_of e) ≡ names_of e
-names_in-nodes_of (Number k x) = refl
-names_in-nodes_of (Flag k x) = refl
-names_in-nodes_of (Variable id) = refl
 names_in-nodes_of (Prefix k op e) = names_in-last (nodes_of e) _ (names_of e) refl (names_in-nodes_of e)
 names_in-nodes_of (Infix k op l r) =
     names_in-last (nodes_of l ++ nodes_of r) _ (names_of l ++ names_of r) refl
@@ -148,6 +137,7 @@ names_in-nodes_of (Choice k c a b) =
     (names_in-append (nodes_of c ++ nodes_of a) (nodes_of b) ∙ ap (λ (ids : List Id). ids ++ names_in (nodes_of b)) (names_in-append (nodes_of c) (nodes_of a))
     ∙ append_assoc (names_in (nodes_of c)) (names_in (nodes_of a)) (names_in (nodes_of b))
     ∙ ap₂ ◌++◌ (names_in-nodes_of c) (ap₂ ◌++◌ (names_in-nodes_of a) (names_in-nodes_of b)))
+names_in-nodes_of _ = refl
 
 pub names_in-is : (ns : List Node) → IsExpr ns → names_in ns ≡ names_of (expr_in ns)
 names_in-is ns is = ap names_in (sym is) ∙ names_in-nodes_of (expr_in ns)

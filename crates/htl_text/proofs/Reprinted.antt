@@ -94,9 +94,7 @@ blank-ends xs more b k e long = by (is_token (take k (xs ++ b ∷ more))) refl
 
 separator-blank : (t : Token) → (is_blank (separator t) ≡ true) × ((separator t == 47) ≡ false)
 separator-blank (Sign sign.Semicolon) = (refl, refl)
-separator-blank (Sign sign.OpenBrace) = (refl, refl)
-separator-blank (Sign sign.CloseBrace) = (refl, refl)
-separator-blank t = (refl, refl)
+separator-blank _ = (refl, refl)
 
 word-again : (w : AWord) → (is_token (word_text w) ≡ true) × (token_of (word_text w) ≡ Some (Word w))
 word-again word.Program = (refl, refl)

@@ -17,21 +17,18 @@ use Rattle.htl_text.specs.declared.tree.InvokeNode.{InvokeNode}
 
 -- how many literals, names and operators an expression has; `if` is one operator over three operands
 abbrev pub tree_nodes : Expr → ℕ
-tree_nodes (Number k x) = 1
-tree_nodes (Flag k x) = 1
-tree_nodes (Variable id) = 1
 tree_nodes (Prefix k op e) = tree_nodes e + 1
 tree_nodes (Infix k op l r) = tree_nodes l + tree_nodes r + 1
 tree_nodes (Choice k c a b) = tree_nodes c + tree_nodes a + tree_nodes b + 1
+tree_nodes _ = 1
 
 -- the names of an expression in order, each as often as it stands there
 abbrev pub names_of : Expr → List Id
-names_of (Number k x) = []
-names_of (Flag k x) = []
 names_of (Variable id) = id ∷ []
 names_of (Prefix k op e) = names_of e
 names_of (Infix k op l r) = names_of l ++ names_of r
 names_of (Choice k c a b) = names_of c ++ (names_of a ++ names_of b)
+names_of _ = []
 
 -- a number that a source can write: from 0 to 9,223,372,036,854,775,807
 abbrev pub IsLiteral : ℤ → Type 0
@@ -40,11 +37,10 @@ IsLiteral x = (n : ℕ) × (x ≡ pos n) × (n < 2 ^ 63)
 -- the numbers of an expression are such
 abbrev pub HasLiterals : Expr → Type 0
 HasLiterals (Number k x) = IsLiteral x
-HasLiterals (Flag k x) = Unit {0}
-HasLiterals (Variable id) = Unit {0}
 HasLiterals (Prefix k op e) = HasLiterals e
 HasLiterals (Infix k op l r) = HasLiterals l × HasLiterals r
 HasLiterals (Choice k c a b) = HasLiterals c × HasLiterals a × HasLiterals b
+HasLiterals _ = Unit {0}
 
 pub record IsBoundedExpr (e : Expr) : Type 0 where
   pub few_nodes : tree_nodes e ≤ 512

@@ -40,9 +40,6 @@ unfoldable pub expr_in : List Node → Expr
 expr_in ns = first_of (with_nodes ns [])
 
 with_nodes-of : (e : Expr) (ns : List Node) (es : List Expr) → with_nodes (nodes_of e ++ ns) es ≡ with_nodes ns (e ∷ es)
-with_nodes-of (Number k x) ns es = refl
-with_nodes-of (Flag k x) ns es = refl
-with_nodes-of (Variable id) ns es = refl
 with_nodes-of (Prefix k op e) ns es =
     ap (λ (l : List Node). with_nodes l es) (append_assoc (nodes_of e) (node.Unary k op ∷ []) ns) ∙ with_nodes-of e (node.Unary k op ∷ ns) es
 with_nodes-of (Infix k op l r) ns es =
@@ -55,6 +52,7 @@ with_nodes-of (Choice k c a b) ns es =
     (append_assoc ((nodes_of c ++ nodes_of a) ++ nodes_of b) (last ∷ []) ns ∙ append_assoc (nodes_of c ++ nodes_of a) (nodes_of b) (last ∷ ns)
     ∙ append_assoc (nodes_of c) (nodes_of a) (nodes_of b ++ last ∷ ns))
     ∙ with_nodes-of c (nodes_of a ++ (nodes_of b ++ last ∷ ns)) es ∙ with_nodes-of a (nodes_of b ++ last ∷ ns) (c ∷ es) ∙ with_nodes-of b (last ∷ ns) (a ∷ c ∷ es)
+with_nodes-of _ ns es = refl
 
 pub expr_in-nodes_of : (e : Expr) → expr_in (nodes_of e) ≡ e
 unfolding expr_in

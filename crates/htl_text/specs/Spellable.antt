@@ -9,8 +9,7 @@ use Rattle.htl_text.specs.declared.token.Token.TheVariants as token
 abbrev pub IsSpellable : Token → Type 0
 IsSpellable (token.Ident n) = is_name n ≡ true
 IsSpellable (token.Number x) = IsLiteral x
-IsSpellable (token.Word w) = Unit {0}
-IsSpellable (token.Sign s) = Unit {0}
+IsSpellable _ = Unit {0}
 
 abbrev pub AreSpellable : List Token → Type 0
 AreSpellable [] = Unit {0}

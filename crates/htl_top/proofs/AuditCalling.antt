@@ -89,14 +89,11 @@ module _ (shelf : Files) (old new : Streams) where
   log_cause (Some (Go name)) f call = elim call [ inl p ↦ p.has.fact | inr s ↦ s.0 ]
   log_cause (Some Compile) f call = call
   log_cause (Some (CompileWith file)) f call = call
-  log_cause (Some (Run show name)) f call = elim call [ inl a ↦ a.fact | inr s ↦ s.0 ]
-  log_cause (Some (Check name)) f call = elim call [ inl a ↦ a.fact | inr s ↦ s.0 ]
-  log_cause (Some (Plan name)) f call = elim call [ inl a ↦ a.fact | inr s ↦ s.0 ]
-  log_cause (Some (Show name)) f call = elim call [ inl a ↦ a.fact | inr s ↦ s.0 ]
   log_cause (Some (Bulk n)) f call = call
   log_cause (Some (Slack name owner task)) f call = elim call [ inl a ↦ a.fact.1 | inr s ↦ s.0 ]
   log_cause (Some (Patch name unit mode donor)) f call = elim call.1 [ inl a ↦ a.fact.fact | inr s ↦ s.0 ]
   log_cause (Some (Audit name log)) f call = elim call [ inl a ↦ a | inr s ↦ absurd s.0 ]
+  log_cause _ f call = elim call [ inl a ↦ a.fact | inr s ↦ s.0 ]
 
   -- ---- where this must be the answer
 

@@ -44,37 +44,13 @@ module _ (t : Tables) (bytes : List ℕ) where
   refused_read : (slices : List Slice) → log_of t bytes ≡ ReadLog slices → (outcome : Outcome) → IsLogRefused t bytes outcome → outcome ≡ Memory
   refused_read slices read (Log f) is = absurd (read_or_refused (log_of t bytes) slices f.line f.kind read is)
   refused_read slices read Memory is = refl
-  refused_read slices read Done is = absurd is
-  refused_read slices read (Faulty f) is = absurd is
-  refused_read slices read Read is = absurd is
-  refused_read slices read Write is = absurd is
-  refused_read slices read Usage is = absurd is
-  refused_read slices read (Platform f) is = absurd is
-  refused_read slices read Task is = absurd is
-  refused_read slices read (Unpatched cause) is = absurd is
-  refused_read slices read (Source f) is = absurd is
-  refused_read slices read (IllFormed f) is = absurd is
-  refused_read slices read (Unschedulable sel a b demand) is = absurd is
-  refused_read slices read (Refused f) is = absurd is
-  refused_read slices read (Shelf cause) is = absurd is
+  refused_read slices read _ is = absurd is
 
   -- a line of them is refused
   refused_as : (f : LogFault) → log_of t bytes ≡ RefusedLog f.line f.kind → (outcome : Outcome) → IsLogRefused t bytes outcome → IsOrMemory outcome (Log f)
   refused_as f refused (Log g) is = inl (ap (λ (h : LogFault). Log h) (one_refused (log_of t bytes) g f is refused))
   refused_as f refused Memory is = inr refl
-  refused_as f refused Done is = absurd is
-  refused_as f refused (Faulty g) is = absurd is
-  refused_as f refused Read is = absurd is
-  refused_as f refused Write is = absurd is
-  refused_as f refused Usage is = absurd is
-  refused_as f refused (Platform g) is = absurd is
-  refused_as f refused Task is = absurd is
-  refused_as f refused (Unpatched cause) is = absurd is
-  refused_as f refused (Source g) is = absurd is
-  refused_as f refused (IllFormed g) is = absurd is
-  refused_as f refused (Unschedulable sel a b demand) is = absurd is
-  refused_as f refused (Refused g) is = absurd is
-  refused_as f refused (Shelf cause) is = absurd is
+  refused_as f refused _ is = absurd is
 
 module _ (o : Object) (old new : Streams) (bytes : List ℕ) where
   pub faulty_log : (f : LogFault) → log_of o.tables bytes ≡ RefusedLog f.line f.kind → (outcome : Outcome) → IsAuditOf bytes o old new outcome → IsOrMemory outcome (Log f)
@@ -116,15 +92,7 @@ module _ (o : Object) (log : List Slice) (old new : Streams) (script : List ℕ)
   bad_script f events bad quiet still Read run = absurd (quiet run.0)
   bad_script f events bad quiet still Write run = absurd (still run.0)
   bad_script f events bad quiet still Memory run = inr refl
-  bad_script f events bad quiet still Usage run = absurd run
-  bad_script f events bad quiet still (Platform g) run = absurd run
-  bad_script f events bad quiet still Task run = absurd run
-  bad_script f events bad quiet still (Unpatched cause) run = absurd run
-  bad_script f events bad quiet still (Source g) run = absurd run
-  bad_script f events bad quiet still (IllFormed g) run = absurd run
-  bad_script f events bad quiet still (Unschedulable sel a b demand) run = absurd run
-  bad_script f events bad quiet still (Refused g) run = absurd run
-  bad_script f events bad quiet still (Shelf cause) run = absurd run
+  bad_script f events bad quiet still _ run = absurd run
 
   module _ (events : List Event) (end : ℕ) (whole : IsWhole o.tables script events end) (quiet : Rose old.read_faults new.read_faults → ⊥) (still : Rose old.write_faults new.write_faults → ⊥) where
     not_faulty : (g : ScriptFault) → IsAuditRun log o old new (Faulty g) → ⊥
@@ -149,15 +117,7 @@ module _ (o : Object) (log : List Slice) (old new : Streams) (script : List ℕ)
     illegal_log f fault Read run = absurd (quiet run.0)
     illegal_log f fault Write run = absurd (still run.0)
     illegal_log f fault Memory run = inr refl
-    illegal_log f fault Usage run = absurd run
-    illegal_log f fault (Platform g) run = absurd run
-    illegal_log f fault Task run = absurd run
-    illegal_log f fault (Unpatched cause) run = absurd run
-    illegal_log f fault (Source g) run = absurd run
-    illegal_log f fault (IllFormed g) run = absurd run
-    illegal_log f fault (Unschedulable sel a b demand) run = absurd run
-    illegal_log f fault (Refused g) run = absurd run
-    illegal_log f fault (Shelf cause) run = absurd run
+    illegal_log f fault _ run = absurd run
 
     pub legal_log : IsLegal o.tables events end log → (outcome : Outcome) → IsAuditRun log o old new outcome → IsOrMemory outcome Done
     legal_log legal Done run = inl refl
@@ -166,12 +126,4 @@ module _ (o : Object) (log : List Slice) (old new : Streams) (script : List ℕ)
     legal_log legal Read run = absurd (quiet run.0)
     legal_log legal Write run = absurd (still run.0)
     legal_log legal Memory run = inr refl
-    legal_log legal Usage run = absurd run
-    legal_log legal (Platform g) run = absurd run
-    legal_log legal Task run = absurd run
-    legal_log legal (Unpatched cause) run = absurd run
-    legal_log legal (Source g) run = absurd run
-    legal_log legal (IllFormed g) run = absurd run
-    legal_log legal (Unschedulable sel a b demand) run = absurd run
-    legal_log legal (Refused g) run = absurd run
-    legal_log legal (Shelf cause) run = absurd run
+    legal_log legal _ run = absurd run

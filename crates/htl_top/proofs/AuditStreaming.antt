@@ -138,9 +138,7 @@ module _ (t : Tables) (a0 a : Audit) (accepted : IsAccepted a0.machine.object) (
     (h : IsAuditHeard t a0 a b known rest w0 w e) where
   machine_behind : (a1 : Audit) (e : Event) (es : List Event) → IsAuditBehind a1 es e → IsBehind a1.machine es e
   machine_behind a1 (event.At to) es is = is.machine
-  machine_behind a1 (event.Sense c x) es is = is.machine
-  machine_behind a1 (event.Took i n) es is = is.machine
-  machine_behind a1 (event.End to) es is = is.machine
+  machine_behind a1 _ es is = is.machine
 
   auditor_told : (a1 : Audit) (e : Event) (es : List Event) → HaveNoEnd es → IsAuditBehind a1 es e → IsAuditTold a1 (es ++ e ∷ []) (past_of (es ++ e ∷ [])).end
   auditor_told a1 e es none is = subst (IsAuditTold a1 (es ++ e ∷ [])) (sym (ap (λ (z : Past). z.end) (past_more at_first es e))) (by e is)
@@ -267,15 +265,4 @@ module _ (a0 a : Audit) (accepted : IsAccepted a0.machine.object) (shown : a0.ma
   }
   concluded Write c =
       (rose_since old.write_faults f new.write_faults still c.0, record { given = Whole h.over.told h.over.end; script = h.over.script; written = cut_line (sym fault_there ∙ c.1) c.2 })
-  concluded (Faulty g) c = absurd c
-  concluded Read c = absurd c
-  concluded Memory c = absurd c
-  concluded Usage c = absurd c
-  concluded (Platform g) c = absurd c
-  concluded Task c = absurd c
-  concluded (Unpatched cause) c = absurd c
-  concluded (Source g) c = absurd c
-  concluded (IllFormed g) c = absurd c
-  concluded (Unschedulable sel x y demand) c = absurd c
-  concluded (Refused g) c = absurd c
-  concluded (Shelf cause) c = absurd c
+  concluded _ c = absurd c

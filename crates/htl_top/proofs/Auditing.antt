@@ -61,15 +61,7 @@ IsOfAudit (Faulty f) = Unit {0}
 IsOfAudit Read = Unit {0}
 IsOfAudit Write = Unit {0}
 IsOfAudit Memory = Unit {0}
-IsOfAudit Usage = ⊥
-IsOfAudit (Platform f) = ⊥
-IsOfAudit Task = ⊥
-IsOfAudit (Unpatched cause) = ⊥
-IsOfAudit (Source f) = ⊥
-IsOfAudit (IllFormed f) = ⊥
-IsOfAudit (Unschedulable sel a b demand) = ⊥
-IsOfAudit (Refused f) = ⊥
-IsOfAudit (Shelf cause) = ⊥
+IsOfAudit _ = ⊥
 
 module _ (o : Object) (old new : Streams) where
   run_only : (log : List Slice) (outcome : Outcome) → IsAuditRun log o old new outcome → IsOfAudit outcome
@@ -79,32 +71,12 @@ module _ (o : Object) (old new : Streams) where
   run_only log Read run = tt
   run_only log Write run = tt
   run_only log Memory run = tt
-  run_only log Usage run = absurd run
-  run_only log (Platform f) run = absurd run
-  run_only log Task run = absurd run
-  run_only log (Unpatched cause) run = absurd run
-  run_only log (Source f) run = absurd run
-  run_only log (IllFormed f) run = absurd run
-  run_only log (Unschedulable sel a b demand) run = absurd run
-  run_only log (Refused f) run = absurd run
-  run_only log (Shelf cause) run = absurd run
+  run_only log _ run = absurd run
 
   refused_only : (bytes : List ℕ) (outcome : Outcome) → IsLogRefused o.tables bytes outcome → IsOfAudit outcome
   refused_only bytes (Log f) is = tt
   refused_only bytes Memory is = tt
-  refused_only bytes Done is = absurd is
-  refused_only bytes (Faulty f) is = absurd is
-  refused_only bytes Read is = absurd is
-  refused_only bytes Write is = absurd is
-  refused_only bytes Usage is = absurd is
-  refused_only bytes (Platform f) is = absurd is
-  refused_only bytes Task is = absurd is
-  refused_only bytes (Unpatched cause) is = absurd is
-  refused_only bytes (Source f) is = absurd is
-  refused_only bytes (IllFormed f) is = absurd is
-  refused_only bytes (Unschedulable sel a b demand) is = absurd is
-  refused_only bytes (Refused f) is = absurd is
-  refused_only bytes (Shelf cause) is = absurd is
+  refused_only bytes _ is = absurd is
 
   audit_only : (bytes : List ℕ) (outcome : Outcome) → IsAuditOf bytes o old new outcome → IsOfAudit outcome
   audit_only bytes outcome (inl h) = run_only h.slices outcome h.fact
@@ -118,15 +90,7 @@ module _ (o : Object) (old new : Streams) where
   run_unread log Read run early = absurd early
   run_unread log Write run early = absurd early
   run_unread log Memory run early = absurd early
-  run_unread log Usage run early = absurd run
-  run_unread log (Platform f) run early = absurd run
-  run_unread log Task run early = absurd run
-  run_unread log (Unpatched cause) run early = absurd run
-  run_unread log (Source f) run early = absurd run
-  run_unread log (IllFormed f) run early = absurd run
-  run_unread log (Unschedulable sel a b demand) run early = absurd run
-  run_unread log (Refused f) run early = absurd run
-  run_unread log (Shelf cause) run early = absurd run
+  run_unread log _ run early = absurd run
 
   audit_unread : (bytes : List ℕ) (outcome : Outcome) → IsAuditOf bytes o old new outcome → IsBeforeScript outcome → new.rest ≡ old.rest
   audit_unread bytes outcome (inl h) early = run_unread h.slices outcome h.fact early
@@ -140,15 +104,7 @@ module _ (o : Object) (old new : Streams) where
   run_unwritten log Read run early = absurd early
   run_unwritten log Write run early = absurd early
   run_unwritten log Memory run early = run.written
-  run_unwritten log Usage run early = absurd run
-  run_unwritten log (Platform f) run early = absurd run
-  run_unwritten log Task run early = absurd run
-  run_unwritten log (Unpatched cause) run early = absurd run
-  run_unwritten log (Source f) run early = absurd run
-  run_unwritten log (IllFormed f) run early = absurd run
-  run_unwritten log (Unschedulable sel a b demand) run early = absurd run
-  run_unwritten log (Refused f) run early = absurd run
-  run_unwritten log (Shelf cause) run early = absurd run
+  run_unwritten log _ run early = absurd run
 
   audit_unwritten : (bytes : List ℕ) (outcome : Outcome) → IsAuditOf bytes o old new outcome → IsBeforeRun outcome → new.written ≡ old.written
   audit_unwritten bytes outcome (inl h) early = run_unwritten h.slices outcome h.fact early
@@ -211,18 +167,7 @@ module _ (name log : List ℕ) (shelf : Files) (old new : Streams) where
   narrow none (Shelf cause) s = elim s [ inl x ↦ x | inr x ↦ absurd (none cause x.0 x.1) ]
   narrow none (Refused f) s = s.0
   narrow none Memory s = tt
-  narrow none Done s = absurd s
-  narrow none Usage s = absurd s
-  narrow none (Platform f) s = absurd s
-  narrow none Task s = absurd s
-  narrow none (Unpatched cause) s = absurd s
-  narrow none (Log f) s = absurd s
-  narrow none (Source f) s = absurd s
-  narrow none (IllFormed f) s = absurd s
-  narrow none (Unschedulable sel a b demand) s = absurd s
-  narrow none (Faulty f) s = absurd s
-  narrow none Read s = absurd s
-  narrow none Write s = absurd s
+  narrow none _ s = absurd s
 
   -- a file that is given, of no more bytes than there may be, is no reason to stop
   not_for : (word : List ℕ) (bytes : List ℕ) → IsReadyFile (Some word) shelf.holds shelf.before shelf.after bytes → (cause : ShelfCause) → IsStopped (Some word) shelf (Shelf cause) → ⊥
@@ -262,18 +207,7 @@ module _ (name log : List ℕ) (shelf : Files) (old new : Streams) where
   long_for_log bytes ready others given long (Refused f) s =
       absurd (let short = files.short_bytes (Some log) shelf others given s.1.0 s.1.1 in omega (arith, long, short))
   long_for_log bytes ready others given long Memory s = inr refl
-  long_for_log bytes ready others given long Done s = absurd s
-  long_for_log bytes ready others given long Usage s = absurd s
-  long_for_log bytes ready others given long (Platform f) s = absurd s
-  long_for_log bytes ready others given long Task s = absurd s
-  long_for_log bytes ready others given long (Unpatched cause) s = absurd s
-  long_for_log bytes ready others given long (Log f) s = absurd s
-  long_for_log bytes ready others given long (Source f) s = absurd s
-  long_for_log bytes ready others given long (IllFormed f) s = absurd s
-  long_for_log bytes ready others given long (Unschedulable sel a b demand) s = absurd s
-  long_for_log bytes ready others given long (Faulty f) s = absurd s
-  long_for_log bytes ready others given long Read s = absurd s
-  long_for_log bytes ready others given long Write s = absurd s
+  long_for_log bytes ready others given long _ s = absurd s
 
   pub long_log : (bytes : List ℕ) → IsReadyFile (Some name) shelf.holds shelf.before shelf.after bytes → (others : List ℕ) → IsGiven (Some log) shelf.holds shelf.before shelf.after others
       → 16777216 < length others → (outcome : Outcome) → IsAudit name log shelf old new outcome → IsOrMemory outcome (Shelf (TooLong (length others)))

@@ -144,56 +144,21 @@ module _ (n : ℕ) (old new : Streams) where
   unread Done b = b.0
   unread Write b = b.0
   unread Memory b = b.rest
-  unread Usage b = absurd b
-  unread (Platform f) b = absurd b
-  unread Task b = absurd b
-  unread (Log f) b = absurd b
-  unread (Patch f) b = absurd b
-  unread (Source f) b = absurd b
-  unread (IllFormed f) b = absurd b
-  unread (Unschedulable sel from to demand) b = absurd b
-  unread (Refused f) b = absurd b
-  unread (Script f) b = absurd b
-  unread (Shelf cause) b = absurd b
-  unread Read b = absurd b
+  unread _ b = absurd b
 
   pub unwritten : (outcome : Outcome) → IsBulked n old new outcome → IsBeforeRun outcome → new.written ≡ old.written
   unwritten Done b early = absurd early
   unwritten Write b early = absurd early
   unwritten Memory b early = b.written
-  unwritten Usage b early = absurd b
-  unwritten (Platform f) b early = absurd b
-  unwritten Task b early = absurd b
-  unwritten (Log f) b early = absurd b
-  unwritten (Patch f) b early = absurd b
-  unwritten (Source f) b early = absurd b
-  unwritten (IllFormed f) b early = absurd b
-  unwritten (Unschedulable sel from to demand) b early = absurd b
-  unwritten (Refused f) b early = absurd b
-  unwritten (Script f) b early = absurd b
-  unwritten (Shelf cause) b early = absurd b
-  unwritten Read b early = absurd b
+  unwritten _ b early = absurd b
 
   pub complete : (outcome : Outcome) → (Rose old.write_faults new.write_faults → ⊥) → IsBulked n old new outcome → IsOrMemory outcome Done
   complete Done still b = inl refl
   complete Write still b = absurd (still b.1)
   complete Memory still b = inr refl
-  complete Usage still b = absurd b
-  complete (Platform f) still b = absurd b
-  complete Task still b = absurd b
-  complete (Log f) still b = absurd b
-  complete (Patch f) still b = absurd b
-  complete (Source f) still b = absurd b
-  complete (IllFormed f) still b = absurd b
-  complete (Unschedulable sel from to demand) still b = absurd b
-  complete (Refused f) still b = absurd b
-  complete (Script f) still b = absurd b
-  complete (Shelf cause) still b = absurd b
-  complete Read still b = absurd b
+  complete _ still b = absurd b
 
   -- it has no answer of a source
   pub no_cause : (f : CompileFault) → (f ≡ compile.Memory → ⊥) → IsBulked n old new (answer_of f) → ⊥
-  no_cause (compile.Source f) told b = b
-  no_cause (compile.IllFormed f) told b = b
-  no_cause (compile.Unschedulable sel from to demand) told b = b
   no_cause compile.Memory told b = told refl
+  no_cause _ told b = b

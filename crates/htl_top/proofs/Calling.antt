@@ -79,9 +79,7 @@ platform_usage f e = cc
 
 fault_usage : (f : CompileFault) → answer_of f ≡ Usage → ⊥
 fault_usage (compile.Source f) e = cc
-fault_usage (compile.IllFormed f) e = cc
-fault_usage (compile.Unschedulable sel a b demand) e = cc
-fault_usage compile.Memory e = cc
+fault_usage _ e = cc
 
 module _ (shelf : Files) (old new : Streams) where
   -- ---- of the words
@@ -119,7 +117,6 @@ module _ (shelf : Files) (old new : Streams) where
       ⊎ IsFaultOf (second_file command) shelf.before shelf.after
   shelf_failed None call = absurd (failed_usage call.0)
   shelf_failed (Some (Go name)) call = inl (going.shelf_failed (Some name) shelf old new call)
-  shelf_failed (Some Compile) call = absurd call
   shelf_failed (Some (CompileWith file)) call = inr (inr (inl call.0))
   shelf_failed (Some (Run show name)) call = inr (inl (objects.shelf_failed (RunOf show) (running show) (Some name) shelf old new call))
   shelf_failed (Some (Check name)) call = inr (inl (objects.shelf_failed IsChecked checking (Some name) shelf old new call))
@@ -128,14 +125,13 @@ module _ (shelf : Files) (old new : Streams) where
   shelf_failed (Some (Slack name owner task)) call = inr (inl (objects.shelf_failed (IsSlacked owner task) (slacking owner task) (Some name) shelf old new call))
   shelf_failed (Some (Audit name log)) call = elim (auditing.unfetched name log shelf old new Failed call) [ inl s ↦ inr (inl s) | inr s ↦ inr (inr (inr s.1)) ]
   shelf_failed (Some (Patch name unit mode donor)) call = elim (patching.shelf_failed unit mode (Some name) (Some donor) shelf old new call) [ inl h ↦ inr (inl h) | inr d ↦ inr (inr (inr d)) ]
-  shelf_failed (Some (Bulk n)) call = absurd call
+  shelf_failed _ call = absurd call
 
   pub shelf_long : (command : Option Command) (seen : ℕ) → IsCall command shelf old new (Shelf (TooLong seen))
       → IsLongFile MAX_SOURCE (source_of command) shelf.holds seen ⊎ IsLongFile MAX_OBJECT (command_object command) shelf.holds seen ⊎ IsLongFile MAX_SOURCE (platform_file command) shelf.holds seen
       ⊎ IsLongFile MAX_OBJECT (second_file command) shelf.holds seen
   shelf_long None seen call = absurd (long_usage seen call.0)
   shelf_long (Some (Go name)) seen call = inl (going.shelf_long (Some name) shelf old new seen call)
-  shelf_long (Some Compile) seen call = absurd call
   shelf_long (Some (CompileWith file)) seen call = inr (inr (inl call.0))
   shelf_long (Some (Run show name)) seen call = inr (inl (objects.shelf_long (RunOf show) (running show) (Some name) shelf old new seen call))
   shelf_long (Some (Check name)) seen call = inr (inl (objects.shelf_long IsChecked checking (Some name) shelf old new seen call))
@@ -144,20 +140,16 @@ module _ (shelf : Files) (old new : Streams) where
   shelf_long (Some (Slack name owner task)) seen call = inr (inl (objects.shelf_long (IsSlacked owner task) (slacking owner task) (Some name) shelf old new seen call))
   shelf_long (Some (Audit name log)) seen call = elim (auditing.unfetched name log shelf old new (TooLong seen) call) [ inl s ↦ inr (inl s) | inr s ↦ inr (inr (inr s.1)) ]
   shelf_long (Some (Patch name unit mode donor)) seen call = elim (patching.shelf_long unit mode (Some name) (Some donor) shelf old new seen call) [ inl h ↦ inr (inl h) | inr d ↦ inr (inr (inr d)) ]
-  shelf_long (Some (Bulk n)) seen call = absurd call
+  shelf_long _ seen call = absurd call
 
   -- no object has an answer of a source
   of_no_work : (f : CompileFault) → (f ≡ compile.Memory → ⊥) → objects.IsOfWork (answer_of f) → ⊥
-  of_no_work (compile.Source f) told work = work
-  of_no_work (compile.IllFormed f) told work = work
-  of_no_work (compile.Unschedulable sel a b demand) told work = work
   of_no_work compile.Memory told work = told refl
+  of_no_work _ told work = work
 
   not_stopped : (name : Option (List ℕ)) (f : CompileFault) → (f ≡ compile.Memory → ⊥) → IsStopped name shelf (answer_of f) → ⊥
-  not_stopped name (compile.Source f) told s = s
-  not_stopped name (compile.IllFormed f) told s = s
-  not_stopped name (compile.Unschedulable sel a b demand) told s = s
   not_stopped name compile.Memory told s = told refl
+  not_stopped name _ told s = s
 
   no_source : (Does : Work) (work : IsWork Does) (name : List ℕ) (f : CompileFault) → (f ≡ compile.Memory → ⊥) → IsOnObject Does (Some name) shelf old new (answer_of f) → ⊥
   no_source Does work name f told on = not_stopped (Some name) f told (objects.stopped Does work (Some name) shelf old new (answer_of f) on (of_no_work f told))
@@ -183,7 +175,6 @@ module _ (shelf : Files) (old new : Streams) where
   pub platform : (command : Option Command) (f : PlatformFault) → IsCall command shelf old new (Platform f) → IsPlatformCause command shelf.holds old.rest f
   platform None f call = absurd (platform_usage f call.0)
   platform (Some (Go name)) f call = absurd (going.no_platform (Some name) shelf old new f call)
-  platform (Some Compile) f call = absurd call
   platform (Some (CompileWith file)) f call = call.0
   platform (Some (Run show name)) f call = absurd (no_platform (RunOf show) (running show) name f call)
   platform (Some (Check name)) f call = absurd (no_platform IsChecked checking name f call)
@@ -192,13 +183,11 @@ module _ (shelf : Files) (old new : Streams) where
   platform (Some (Slack name owner task)) f call = absurd (no_platform (IsSlacked owner task) (slacking owner task) name f call)
   platform (Some (Audit name log)) f call = absurd (auditing.no_platform name log shelf old new f call)
   platform (Some (Patch name unit mode donor)) f call = absurd (patching.no_platform unit mode (Some name) (Some donor) shelf old new f call)
-  platform (Some (Bulk n)) f call = absurd call
+  platform _ f call = absurd call
 
   pub object : (command : Option Command) (f : ObjectFault) → IsCall command shelf old new (Refused f) → IsRefusedFile (command_object command) shelf.holds f
   object None f call = absurd (refused_usage f call.0)
   object (Some (Go name)) f call = absurd (going.no_object (Some name) shelf old new f call)
-  object (Some Compile) f call = absurd call
-  object (Some (CompileWith file)) f call = absurd call
   object (Some (Run show name)) f call = objects.object (RunOf show) (running show) (Some name) shelf old new f call
   object (Some (Check name)) f call = objects.object IsChecked checking (Some name) shelf old new f call
   object (Some (Plan name)) f call = objects.object IsPlanned planning (Some name) shelf old new f call
@@ -206,7 +195,7 @@ module _ (shelf : Files) (old new : Streams) where
   object (Some (Slack name owner task)) f call = objects.object (IsSlacked owner task) (slacking owner task) (Some name) shelf old new f call
   object (Some (Audit name log)) f call = auditing.object name log shelf old new f call
   object (Some (Patch name unit mode donor)) f call = patching.object unit mode (Some name) (Some donor) shelf old new f call
-  object (Some (Bulk n)) f call = absurd call
+  object _ f call = absurd call
 
   -- ---- what stays as it was
 
@@ -259,15 +248,7 @@ module _ (shelf : Files) (old new : Streams) where
 
   -- want of memory comes before the first byte of a script is read
   pub memory_unread : (command : Option Command) → IsCall command shelf old new Memory → RunsObject command → new.rest ≡ old.rest
-  memory_unread None call runs = absurd runs
   memory_unread (Some (Go name)) call runs = going.memory_unread (Some name) shelf old new call
-  memory_unread (Some Compile) call runs = absurd runs
-  memory_unread (Some (CompileWith file)) call runs = absurd runs
   memory_unread (Some (Run show name)) call runs = elim call [ inl a ↦ a.fact.rest | inr s ↦ s.1.rest ]
-  memory_unread (Some (Check name)) call runs = absurd runs
-  memory_unread (Some (Plan name)) call runs = absurd runs
-  memory_unread (Some (Show name)) call runs = absurd runs
-  memory_unread (Some (Slack name owner task)) call runs = absurd runs
   memory_unread (Some (Audit name log)) call runs = auditing.memory_unread name log shelf old new call
-  memory_unread (Some (Patch name unit mode donor)) call runs = absurd runs
-  memory_unread (Some (Bulk n)) call runs = absurd runs
+  memory_unread _ call runs = absurd runs

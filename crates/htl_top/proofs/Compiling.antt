@@ -31,11 +31,10 @@ program rest bytes object Fact input c fact =
     record { bytes = bytes; input = input; has = record { tables = c.tables; of = c.of; can = c.can; fact = subst Fact c.is fact } }
 
 uncompiled : (old new : Streams) (bytes : List ℕ) (s : SourceStop) → IsInput old.rest bytes → new.written ≡ old.written → IsNotCompiled bytes s → IsCompiling old new (outcome_of s)
-uncompiled old new bytes (stop.Fault f) input same is = (inr (record { bytes = bytes; input = input; fault = is }), same)
 uncompiled old new bytes (stop.IllFormed f u) input same is = (inr (record { bytes = bytes; input = input; fault = is.0 }), same)
-uncompiled old new bytes (stop.Unschedulable sel a b demand) input same is = (inr (record { bytes = bytes; input = input; fault = is }), same)
 uncompiled old new bytes (stop.Platform f) input same is = absurd is
 uncompiled old new bytes stop.Memory input same is = same
+uncompiled old new bytes _ input same is = (inr (record { bytes = bytes; input = input; fault = is }), same)
 
 pub IsCompiling-bytes : (old new : Streams) (bytes : List ℕ) (outcome : Outcome) → IsInput old.rest bytes → new.rest ≡ none_left old.rest
     → IsBytesCompiled bytes old.written new.written old.write_faults new.write_faults outcome → IsCompiling old new outcome
@@ -55,10 +54,8 @@ IsCompiling-bytes old new bytes outcome input left compiled = elim compiled [
 
 module _ (old new : Streams) where
   pub cause : (f : CompileFault) → (f ≡ compile.Memory → ⊥) → IsCompiling old new (answer_of f) → IsInputFault old.rest f
-  cause (compile.Source f) told compiling = compiling.0
-  cause (compile.IllFormed f) told compiling = compiling.0
-  cause (compile.Unschedulable sel a b demand) told compiling = compiling.0
   cause compile.Memory told compiling = absurd (told refl)
+  cause _ told compiling = compiling.0
 
   pub unwritten : (outcome : Outcome) → IsCompiling old new outcome → IsBeforeRun outcome → new.written ≡ old.written
   unwritten Done compiling early = absurd early
@@ -68,14 +65,7 @@ module _ (old new : Streams) where
   unwritten (IllFormed f) compiling early = compiling.1
   unwritten (Unschedulable sel a b demand) compiling early = compiling.1
   unwritten Memory compiling early = compiling
-  unwritten Usage compiling early = absurd compiling
-  unwritten (Platform f) compiling early = absurd compiling
-  unwritten Task compiling early = absurd compiling
-  unwritten (Log f) compiling early = absurd compiling
-  unwritten (Patch f) compiling early = absurd compiling
-  unwritten (Refused f) compiling early = absurd compiling
-  unwritten (Script f) compiling early = absurd compiling
-  unwritten (Shelf cause) compiling early = absurd compiling
+  unwritten _ compiling early = absurd compiling
 
   -- ---- of an input that is told
 
@@ -109,14 +99,7 @@ module _ (old new : Streams) where
     long_input (IllFormed f) compiling long quiet = inl (long_fault (compile.IllFormed f) long compiling.0)
     long_input (Unschedulable sel a b demand) compiling long quiet = inl (long_fault (compile.Unschedulable sel a b demand) long compiling.0)
     long_input Memory compiling long quiet = inr refl
-    long_input Usage compiling long quiet = absurd compiling
-    long_input (Platform f) compiling long quiet = absurd compiling
-    long_input Task compiling long quiet = absurd compiling
-    long_input (Log f) compiling long quiet = absurd compiling
-    long_input (Patch f) compiling long quiet = absurd compiling
-    long_input (Refused f) compiling long quiet = absurd compiling
-    long_input (Script f) compiling long quiet = absurd compiling
-    long_input (Shelf cause) compiling long quiet = absurd compiling
+    long_input _ compiling long quiet = absurd compiling
 
     -- it has a fault
     module _ (few : length bytes ≤ 1048576) (f : CompileFault) (known : f ≡ compile.Memory → ⊥) (is : IsCompileFault bytes f) where
@@ -137,14 +120,7 @@ module _ (old new : Streams) where
       faulty_input (IllFormed g) compiling quiet = inl (this (compile.IllFormed g) (λ e. cc) compiling.0)
       faulty_input (Unschedulable sel a b demand) compiling quiet = inl (this (compile.Unschedulable sel a b demand) (λ e. cc) compiling.0)
       faulty_input Memory compiling quiet = inr refl
-      faulty_input Usage compiling quiet = absurd compiling
-      faulty_input (Platform f) compiling quiet = absurd compiling
-      faulty_input Task compiling quiet = absurd compiling
-      faulty_input (Log f) compiling quiet = absurd compiling
-      faulty_input (Patch f) compiling quiet = absurd compiling
-      faulty_input (Refused g) compiling quiet = absurd compiling
-      faulty_input (Script g) compiling quiet = absurd compiling
-      faulty_input (Shelf cause) compiling quiet = absurd compiling
+      faulty_input _ compiling quiet = absurd compiling
 
     -- an object is built of it
     module _ (few : length bytes ≤ 1048576) (t : Tables) (of : IsTablesOf bytes t) (typed : AreTyped t) (formed : Formed t) (free : AreSchedulable t) where
@@ -160,11 +136,4 @@ module _ (old new : Streams) where
       complete (IllFormed g) compiling quiet still = absurd (no_fault (compile.IllFormed g) (λ e. cc) compiling.0)
       complete (Unschedulable sel a b demand) compiling quiet still = absurd (no_fault (compile.Unschedulable sel a b demand) (λ e. cc) compiling.0)
       complete Memory compiling quiet still = inr refl
-      complete Usage compiling quiet still = absurd compiling
-      complete (Platform f) compiling quiet still = absurd compiling
-      complete Task compiling quiet still = absurd compiling
-      complete (Log f) compiling quiet still = absurd compiling
-      complete (Patch f) compiling quiet still = absurd compiling
-      complete (Refused g) compiling quiet still = absurd compiling
-      complete (Script g) compiling quiet still = absurd compiling
-      complete (Shelf cause) compiling quiet still = absurd compiling
+      complete _ compiling quiet still = absurd compiling

@@ -80,10 +80,8 @@ module _ (name : Option (List ℕ)) (shelf : Files) (old new : Streams) (file by
 
 module _ (name : Option (List ℕ)) (shelf : Files) (old new : Streams) where
   pub cause : (f : CompileFault) → (f ≡ compile.Memory → ⊥) → IsCompilingOn name shelf old new (answer_of f) → IsInputFaultOn name shelf.holds old.rest (on.Compile f)
-  cause (compile.Source f) told compiling = compiling.0
-  cause (compile.IllFormed f) told compiling = compiling.0
-  cause (compile.Unschedulable sel a b demand) told compiling = compiling.0
   cause compile.Memory told compiling = absurd (told refl)
+  cause _ told compiling = compiling.0
 
   pub unwritten : (outcome : Outcome) → IsCompilingOn name shelf old new outcome → IsBeforeRun outcome → new.written ≡ old.written
   unwritten Done compiling early = absurd early
@@ -91,17 +89,12 @@ module _ (name : Option (List ℕ)) (shelf : Files) (old new : Streams) where
   unwritten Read compiling early = compiling.2
   unwritten (Source f) compiling early = compiling.1
   unwritten (Platform f) compiling early = compiling.1
-  unwritten Task compiling early = absurd compiling
-  unwritten (Log f) compiling early = absurd compiling
-  unwritten (Patch f) compiling early = absurd compiling
   unwritten (IllFormed f) compiling early = compiling.1
   unwritten (Unschedulable sel a b demand) compiling early = compiling.1
   unwritten (Shelf Failed) compiling early = compiling.1.written
   unwritten (Shelf (TooLong seen)) compiling early = compiling.1.written
   unwritten Memory compiling early = compiling
-  unwritten Usage compiling early = absurd compiling
-  unwritten (Refused f) compiling early = absurd compiling
-  unwritten (Script f) compiling early = absurd compiling
+  unwritten _ compiling early = absurd compiling
 
   -- ---- of a platform file that is given
 
@@ -142,17 +135,12 @@ module _ (name : Option (List ℕ)) (shelf : Files) (old new : Streams) where
       long_platform Read compiling = absurd (no_file compiling.0.0 compiling.0.1)
       long_platform (Source f) compiling = absurd (no_input_fault (on.Compile (compile.Source f)) compiling.0)
       long_platform (Platform f) compiling = absurd (no_file compiling.0.file compiling.0.held)
-      long_platform Task compiling = absurd compiling
-      long_platform (Log f) compiling = absurd compiling
-      long_platform (Patch f) compiling = absurd compiling
       long_platform (IllFormed f) compiling = absurd (no_input_fault (on.Compile (compile.IllFormed f)) compiling.0)
       long_platform (Unschedulable sel a b demand) compiling = absurd (no_input_fault (on.Compile (compile.Unschedulable sel a b demand)) compiling.0)
       long_platform (Shelf Failed) compiling = absurd (no_fault compiling.0)
       long_platform (Shelf (TooLong seen)) compiling = inl (ap (λ (n : ℕ). Shelf (TooLong n)) (seen_long seen compiling.0).1)
       long_platform Memory compiling = inr refl
-      long_platform Usage compiling = absurd compiling
-      long_platform (Refused f) compiling = absurd compiling
-      long_platform (Script f) compiling = absurd compiling
+      long_platform _ compiling = absurd compiling
 
     -- ---- and of an input that is told
 
@@ -184,17 +172,12 @@ module _ (name : Option (List ℕ)) (shelf : Files) (old new : Streams) where
         long_input Read compiling quiet = absurd (quiet compiling.1)
         long_input (Source f) compiling quiet = inl (long_fault (compile.Source f) compiling.0)
         long_input (Platform f) compiling quiet = absurd (no_input compiling.0.bytes compiling.0.input)
-        long_input Task compiling quiet = absurd compiling
-        long_input (Log f) compiling quiet = absurd compiling
-        long_input (Patch f) compiling quiet = absurd compiling
         long_input (IllFormed f) compiling quiet = inl (long_fault (compile.IllFormed f) compiling.0)
         long_input (Unschedulable sel a b demand) compiling quiet = inl (long_fault (compile.Unschedulable sel a b demand) compiling.0)
         long_input (Shelf Failed) compiling quiet = absurd (no_fault compiling.0)
         long_input (Shelf (TooLong seen)) compiling quiet = absurd (omega (arith, small, (seen_long seen compiling.0).0))
         long_input Memory compiling quiet = inr refl
-        long_input Usage compiling quiet = absurd compiling
-        long_input (Refused f) compiling quiet = absurd compiling
-        long_input (Script f) compiling quiet = absurd compiling
+        long_input _ compiling quiet = absurd compiling
 
       -- it isn't, so its fault is none of length
       module _ (few : length bytes ≤ 1048576) where
@@ -221,18 +204,13 @@ module _ (name : Option (List ℕ)) (shelf : Files) (old new : Streams) where
           faulty_on Read compiling quiet = absurd (quiet compiling.1)
           faulty_on (Source g) compiling quiet = inl (this (on.Compile (compile.Source g)) (λ e. cc) (fault_told (on.Compile (compile.Source g)) compiling.0))
           faulty_on (Platform g) compiling quiet = inl (this (on.Platform g) (λ e. cc) (fault_of (on.Platform g) compiling.0))
-          faulty_on Task compiling quiet = absurd compiling
-          faulty_on (Log f) compiling quiet = absurd compiling
-          faulty_on (Patch g) compiling quiet = absurd compiling
           faulty_on (IllFormed g) compiling quiet = inl (this (on.Compile (compile.IllFormed g)) (λ e. cc) (fault_told (on.Compile (compile.IllFormed g)) compiling.0))
           faulty_on (Unschedulable sel a b demand) compiling quiet =
               inl (this (on.Compile (compile.Unschedulable sel a b demand)) (λ e. cc) (fault_told (on.Compile (compile.Unschedulable sel a b demand)) compiling.0))
           faulty_on (Shelf Failed) compiling quiet = absurd (no_fault compiling.0)
           faulty_on (Shelf (TooLong seen)) compiling quiet = absurd (omega (arith, small, (seen_long seen compiling.0).0))
           faulty_on Memory compiling quiet = inr refl
-          faulty_on Usage compiling quiet = absurd compiling
-          faulty_on (Refused g) compiling quiet = absurd compiling
-          faulty_on (Script g) compiling quiet = absurd compiling
+          faulty_on _ compiling quiet = absurd compiling
 
         -- an object is built of it on the platform
         module _ (t : Tables) (p : PlatformOf) (of : IsTablesOf bytes t) (typed : AreTyped t) (says : platform_of t file ≡ Ok p)
@@ -247,15 +225,10 @@ module _ (name : Option (List ℕ)) (shelf : Files) (old new : Streams) where
           complete Read compiling quiet still = absurd (quiet compiling.1)
           complete (Source g) compiling quiet still = absurd (none_of (on.Compile (compile.Source g)) (λ e. cc) (fault_told (on.Compile (compile.Source g)) compiling.0))
           complete (Platform g) compiling quiet still = absurd (none_of (on.Platform g) (λ e. cc) (fault_of (on.Platform g) compiling.0))
-          complete Task compiling quiet still = absurd compiling
-          complete (Log f) compiling quiet still = absurd compiling
-          complete (Patch g) compiling quiet still = absurd compiling
           complete (IllFormed g) compiling quiet still = absurd (none_of (on.Compile (compile.IllFormed g)) (λ e. cc) (fault_told (on.Compile (compile.IllFormed g)) compiling.0))
           complete (Unschedulable sel a b demand) compiling quiet still =
               absurd (none_of (on.Compile (compile.Unschedulable sel a b demand)) (λ e. cc) (fault_told (on.Compile (compile.Unschedulable sel a b demand)) compiling.0))
           complete (Shelf Failed) compiling quiet still = absurd (no_fault compiling.0)
           complete (Shelf (TooLong seen)) compiling quiet still = absurd (omega (arith, small, (seen_long seen compiling.0).0))
           complete Memory compiling quiet still = inr refl
-          complete Usage compiling quiet still = absurd compiling
-          complete (Refused g) compiling quiet still = absurd compiling
-          complete (Script g) compiling quiet still = absurd compiling
+          complete _ compiling quiet still = absurd compiling

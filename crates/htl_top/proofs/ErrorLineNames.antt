@@ -32,87 +32,42 @@ use Rattle.htl_top.specs.declared.source.SourceStop.TheVariants as stop
 -- a run breaks no form rule
 pub SpeaksOf-run : (Sources Objects : (Tables → Type 0) → Type 0) (show : Shown) (t : Tables) (o : ObjectOf) (old new : Streams) (outcome : Outcome) (told : Option Tables)
     → IsRun show t o old new outcome → SpeaksOf Sources Objects outcome told
-SpeaksOf-run Sources Objects show t o old new Done told run = tt
-SpeaksOf-run Sources Objects show t o old new Usage told run = tt
-SpeaksOf-run Sources Objects show t o old new (Platform f) told run = tt
-SpeaksOf-run Sources Objects show t o old new Task told run = tt
-SpeaksOf-run Sources Objects show t o old new (Log f) told run = tt
 SpeaksOf-run Sources Objects show t o old new (Unpatched f) told run = absurd run
-SpeaksOf-run Sources Objects show t o old new (Source f) told run = tt
 SpeaksOf-run Sources Objects show t o old new (IllFormed f) told run = absurd run
-SpeaksOf-run Sources Objects show t o old new (Unschedulable sel a b demand) told run = tt
 SpeaksOf-run Sources Objects show t o old new (Object f) told run = absurd run
-SpeaksOf-run Sources Objects show t o old new (Script f) told run = tt
-SpeaksOf-run Sources Objects show t o old new (Shelf cause) told run = tt
-SpeaksOf-run Sources Objects show t o old new Read told run = tt
-SpeaksOf-run Sources Objects show t o old new Write told run = tt
-SpeaksOf-run Sources Objects show t o old new Memory told run = tt
+SpeaksOf-run Sources Objects show t o old new _ told run = tt
 
 -- nor does a generated program
 pub SpeaksOf-bulk : (Sources Objects : (Tables → Type 0) → Type 0) (n : ℕ) (old new : Streams) (outcome : Outcome) (told : Option Tables)
     → IsBulked n old new outcome → SpeaksOf Sources Objects outcome told
-SpeaksOf-bulk Sources Objects n old new Done told b = tt
-SpeaksOf-bulk Sources Objects n old new Usage told b = tt
-SpeaksOf-bulk Sources Objects n old new (Platform f) told b = tt
-SpeaksOf-bulk Sources Objects n old new Task told b = tt
-SpeaksOf-bulk Sources Objects n old new (Log f) told b = tt
 SpeaksOf-bulk Sources Objects n old new (Unpatched f) told b = absurd b
-SpeaksOf-bulk Sources Objects n old new (Source f) told b = tt
 SpeaksOf-bulk Sources Objects n old new (IllFormed f) told b = absurd b
-SpeaksOf-bulk Sources Objects n old new (Unschedulable sel from to demand) told b = tt
 SpeaksOf-bulk Sources Objects n old new (Object f) told b = absurd b
-SpeaksOf-bulk Sources Objects n old new (Script f) told b = tt
-SpeaksOf-bulk Sources Objects n old new (Shelf cause) told b = tt
-SpeaksOf-bulk Sources Objects n old new Read told b = tt
-SpeaksOf-bulk Sources Objects n old new Write told b = tt
-SpeaksOf-bulk Sources Objects n old new Memory told b = tt
+SpeaksOf-bulk Sources Objects n old new _ told b = tt
 
 -- what stops a source speaks of its tables
 pub SpeaksOf-stop : (Objects : (Tables → Type 0) → Type 0) (bytes : List ℕ) (s : SourceStop) → IsNotCompiled bytes s → SpeaksOf (HasTypedTables bytes) Objects (outcome_of s) (tables_of_stop s)
-SpeaksOf-stop Objects bytes (stop.Fault f) is = tt
 SpeaksOf-stop Objects bytes (stop.IllFormed f u) is =
     let t = is.1 in record { tables = t.tables; of = t.of; can = t.can; fact = ap Some t.fact }
-SpeaksOf-stop Objects bytes (stop.Unschedulable sel a b demand) is = tt
-SpeaksOf-stop Objects bytes (stop.Platform f) is = tt
-SpeaksOf-stop Objects bytes stop.Memory is = tt
+SpeaksOf-stop Objects bytes _ is = tt
 
 pub SpeaksOf-stop-on : (Objects : (Tables → Type 0) → Type 0) (bytes file : List ℕ) (s : SourceStop) → IsNotCompiledOn bytes file s → SpeaksOf (HasTypedOn bytes file) Objects (outcome_of s) (tables_of_stop s)
-SpeaksOf-stop-on Objects bytes file (stop.Fault f) is = tt
-SpeaksOf-stop-on Objects bytes file (stop.Platform f) is = tt
 SpeaksOf-stop-on Objects bytes file (stop.IllFormed f u) is =
     let t = is.1 in record { tables = t.tables; of = t.of; platform = t.platform; says = t.says; can = t.can; fact = ap Some t.fact }
-SpeaksOf-stop-on Objects bytes file (stop.Unschedulable sel a b demand) is = tt
-SpeaksOf-stop-on Objects bytes file stop.Memory is = tt
+SpeaksOf-stop-on Objects bytes file _ is = tt
 
 SpeaksOfPatch-source : (Sources Others : (Tables → Type 0) → Type 0) (f : PatchFault) (told : Option Tables) → ((Fact : Tables → Type 0) → Sources Fact → Others Fact)
     → SpeaksOfPatch Sources f told → SpeaksOfPatch Others f told
 SpeaksOfPatch-source Sources Others (patch.IllFormed f) told map speaks = map (λ t. told ≡ Some t) speaks
-SpeaksOfPatch-source Sources Others (patch.Malformed m) told map speaks = tt
-SpeaksOfPatch-source Sources Others patch.Mode told map speaks = tt
-SpeaksOfPatch-source Sources Others (patch.Comms place) told map speaks = tt
-SpeaksOfPatch-source Sources Others (patch.Parent inv) told map speaks = tt
-SpeaksOfPatch-source Sources Others (patch.Twice unit) told map speaks = tt
-SpeaksOfPatch-source Sources Others (patch.Limit which count) told map speaks = tt
-SpeaksOfPatch-source Sources Others (patch.Function k) told map speaks = tt
+SpeaksOfPatch-source Sources Others _ told map speaks = tt
 
 -- the source is another way to say the same
 pub SpeaksOf-source : (Sources Others Objects : (Tables → Type 0) → Type 0) (outcome : Outcome) (told : Option Tables) → ((Fact : Tables → Type 0) → Sources Fact → Others Fact)
     → SpeaksOf Sources Objects outcome told → SpeaksOf Others Objects outcome told
-SpeaksOf-source Sources Others Objects Done told map speaks = tt
-SpeaksOf-source Sources Others Objects Usage told map speaks = tt
-SpeaksOf-source Sources Others Objects (Platform f) told map speaks = tt
-SpeaksOf-source Sources Others Objects Task told map speaks = tt
-SpeaksOf-source Sources Others Objects (Log f) told map speaks = tt
 SpeaksOf-source Sources Others Objects (Unpatched f) told map speaks = SpeaksOfPatch-source Sources Others f told map speaks
-SpeaksOf-source Sources Others Objects (Source f) told map speaks = tt
 SpeaksOf-source Sources Others Objects (IllFormed f) told map speaks = map (λ t. told ≡ Some (coded t)) speaks
-SpeaksOf-source Sources Others Objects (Unschedulable sel a b demand) told map speaks = tt
 SpeaksOf-source Sources Others Objects (Object f) told map speaks = speaks
-SpeaksOf-source Sources Others Objects (Script f) told map speaks = tt
-SpeaksOf-source Sources Others Objects (Shelf cause) told map speaks = tt
-SpeaksOf-source Sources Others Objects Read told map speaks = tt
-SpeaksOf-source Sources Others Objects Write told map speaks = tt
-SpeaksOf-source Sources Others Objects Memory told map speaks = tt
+SpeaksOf-source Sources Others Objects _ told map speaks = tt
 
 pub in_files : (name : Option (List ℕ)) (holds : Option Holdings) (rest : Option (List ℕ)) (file bytes : List ℕ) → IsSource name holds file → IsInput rest bytes
     → (Fact : Tables → Type 0) → HasTypedOn bytes file Fact → IsTypedOn name holds rest Fact
@@ -122,30 +77,16 @@ in_files name holds rest file bytes held input Fact has = record { file = file; 
 pub SpeaksOf-donor : (Sources Others Objects : (Tables → Type 0) → Type 0) (o : ObjectOf) (unit mode bytes : List ℕ) (old new : Option (List ℕ)) (before now : ℕ) (outcome : Outcome)
     (told : Option Tables) → IsDonorTold o unit mode bytes old new before now outcome → ((Fact : Tables → Type 0) → Sources Fact → Others Fact)
     → SpeaksOf Sources (λ fact. ⊥) outcome told → SpeaksOf Others Objects outcome told
-SpeaksOf-donor Sources Others Objects o unit mode bytes old new before now Done told donor map speaks = tt
-SpeaksOf-donor Sources Others Objects o unit mode bytes old new before now Usage told donor map speaks = tt
-SpeaksOf-donor Sources Others Objects o unit mode bytes old new before now (Platform f) told donor map speaks = tt
-SpeaksOf-donor Sources Others Objects o unit mode bytes old new before now (Log illegal) told donor map speaks = tt
-SpeaksOf-donor Sources Others Objects o unit mode bytes old new before now Task told donor map speaks = tt
 SpeaksOf-donor Sources Others Objects o unit mode bytes old new before now (Unpatched f) told donor map speaks = SpeaksOfPatch-source Sources Others f told map speaks
-SpeaksOf-donor Sources Others Objects o unit mode bytes old new before now (Source f) told donor map speaks = tt
 SpeaksOf-donor Sources Others Objects o unit mode bytes old new before now (IllFormed f) told donor map speaks = absurd donor
-SpeaksOf-donor Sources Others Objects o unit mode bytes old new before now (Unschedulable sel a b demand) told donor map speaks = tt
 SpeaksOf-donor Sources Others Objects o unit mode bytes old new before now (Object f) told donor map speaks = absurd donor
-SpeaksOf-donor Sources Others Objects o unit mode bytes old new before now (Script f) told donor map speaks = tt
-SpeaksOf-donor Sources Others Objects o unit mode bytes old new before now (Shelf cause) told donor map speaks = tt
-SpeaksOf-donor Sources Others Objects o unit mode bytes old new before now Read told donor map speaks = tt
-SpeaksOf-donor Sources Others Objects o unit mode bytes old new before now Write told donor map speaks = tt
-SpeaksOf-donor Sources Others Objects o unit mode bytes old new before now Memory told donor map speaks = tt
+SpeaksOf-donor Sources Others Objects o unit mode bytes old new before now _ told donor map speaks = tt
 
 -- the object is that of the words
 pub SpeaksOfObject-file : (name : Option (List ℕ)) (holds : Option Holdings) (bytes : List ℕ) (f : ObjectFault) (told : Option Tables)
     → IsObjectFile name holds bytes → SpeaksOfObject (HasObjectTables bytes) f told → SpeaksOfObject (IsObjectTables name holds) f told
 SpeaksOfObject-file name holds bytes (fault.IllFormed f) told file speaks = record { bytes = bytes; file = file; has = speaks }
-SpeaksOfObject-file name holds bytes (fault.Malformed m) told file speaks = tt
-SpeaksOfObject-file name holds bytes (fault.Function k) told file speaks = tt
-SpeaksOfObject-file name holds bytes (fault.ECode e) told file speaks = tt
-SpeaksOfObject-file name holds bytes (fault.Schedule sel m) told file speaks = tt
+SpeaksOfObject-file name holds bytes _ told file speaks = tt
 
 -- ---- the line
 
@@ -190,32 +131,21 @@ patched_maps name unit mode donor holds Fact Other f a =
     record { bytes = a.bytes; file = a.file; object = a.object; has = a.has; accepted = a.accepted; fact = record { bytes = b.bytes; file = b.file; fact = q } }
 
 source_of_maps : (command : Option Command) (holds : Option Holdings) (rest : Option (List ℕ)) → Maps (HasSource command holds rest)
-source_of_maps None holds rest Fact Other f h = h
 source_of_maps (Some (Go name)) holds rest Fact Other f h = program_maps (Some name) holds Fact Other f h
 source_of_maps (Some Compile) holds rest Fact Other f h = input_maps rest Fact Other f h
 source_of_maps (Some (CompileWith file)) holds rest Fact Other f h = platform_maps (Some file) holds rest Fact Other f h
-source_of_maps (Some (Run show name)) holds rest Fact Other f h = h
-source_of_maps (Some (Check name)) holds rest Fact Other f h = h
-source_of_maps (Some (Plan name)) holds rest Fact Other f h = h
-source_of_maps (Some (Show name)) holds rest Fact Other f h = h
-source_of_maps (Some (Bulk n)) holds rest Fact Other f h = h
-source_of_maps (Some (Slack name owner task)) holds rest Fact Other f h = h
-source_of_maps (Some (Audit name log)) holds rest Fact Other f h = h
 source_of_maps (Some (Patch name unit mode donor)) holds rest Fact Other f h = patched_maps name unit mode donor holds Fact Other f h
+source_of_maps _ holds rest Fact Other f h = h
 
 object_of_maps : (command : Option Command) (holds : Option Holdings) → Maps (HasObject command holds)
-object_of_maps None holds Fact Other f h = h
-object_of_maps (Some (Go name)) holds Fact Other f h = h
-object_of_maps (Some Compile) holds Fact Other f h = h
-object_of_maps (Some (CompileWith file)) holds Fact Other f h = h
 object_of_maps (Some (Run show name)) holds Fact Other f h = object_maps (Some name) holds Fact Other f h
 object_of_maps (Some (Check name)) holds Fact Other f h = object_maps (Some name) holds Fact Other f h
 object_of_maps (Some (Plan name)) holds Fact Other f h = object_maps (Some name) holds Fact Other f h
 object_of_maps (Some (Show name)) holds Fact Other f h = object_maps (Some name) holds Fact Other f h
-object_of_maps (Some (Bulk n)) holds Fact Other f h = h
 object_of_maps (Some (Slack name owner task)) holds Fact Other f h = object_maps (Some name) holds Fact Other f h
 object_of_maps (Some (Audit name log)) holds Fact Other f h = object_maps (Some name) holds Fact Other f h
 object_of_maps (Some (Patch name unit mode donor)) holds Fact Other f h = object_maps (Some name) holds Fact Other f h
+object_of_maps _ holds Fact Other f h = h
 
 -- the names of tables with code are those of the tables
 names_of : (t : Tables) (f : FormFault) → fault_line (Some (coded t)) (IllFormed f) ≡ fault_line (Some t) (IllFormed f)
@@ -226,39 +156,19 @@ module _ (command : Option Command) (holds : Option Holdings) (rest : Option (Li
   fault_told (fault.IllFormed f) speaks told =
       object_of_maps command holds (λ t. tables ≡ Some t) (λ t. Told (fault_line (Some t) (Object (fault.IllFormed f))))
       (λ t same. subst (λ (o : Option Tables). Told (fault_line o (Object (fault.IllFormed f)))) same told) speaks
-  fault_told (fault.Malformed m) speaks told = told
-  fault_told (fault.Function k) speaks told = told
-  fault_told (fault.ECode e) speaks told = told
-  fault_told (fault.Schedule sel m) speaks told = told
+  fault_told _ speaks told = told
 
   patch_told : (f : PatchFault) → SpeaksOfPatch (HasSource command holds rest) f tables → Told (fault_line tables (Unpatched f)) → IsPatchFaultTold (HasSource command holds rest) Told f
   patch_told (patch.IllFormed f) speaks told =
       source_of_maps command holds rest (λ t. tables ≡ Some t) (λ t. Told (fault_line (Some t) (Unpatched (patch.IllFormed f))))
       (λ t same. subst (λ (o : Option Tables). Told (fault_line o (Unpatched (patch.IllFormed f)))) same told) speaks
-  patch_told (patch.Malformed m) speaks told = told
-  patch_told patch.Mode speaks told = told
-  patch_told (patch.Comms place) speaks told = told
-  patch_told (patch.Parent inv) speaks told = told
-  patch_told (patch.Twice unit) speaks told = told
-  patch_told (patch.Limit which count) speaks told = told
-  patch_told (patch.Function k) speaks told = told
+  patch_told _ speaks told = told
 
   pub IsLineTold-report : (outcome : Outcome) → SpeaksOf (HasSource command holds rest) (HasObject command holds) outcome tables → Told (fault_line tables outcome)
       → IsLineTold (HasSource command holds rest) (HasObject command holds) Told outcome
-  IsLineTold-report Done speaks told = told
-  IsLineTold-report Usage speaks told = told
-  IsLineTold-report (Platform f) speaks told = told
-  IsLineTold-report Task speaks told = told
-  IsLineTold-report (Log f) speaks told = told
   IsLineTold-report (Unpatched f) speaks told = patch_told f speaks told
-  IsLineTold-report (Source f) speaks told = told
   IsLineTold-report (IllFormed f) speaks told =
       source_of_maps command holds rest (λ t. tables ≡ Some (coded t)) (λ t. Told (fault_line (Some t) (IllFormed f)))
       (λ t same. subst Told (ap (λ (o : Option Tables). fault_line o (IllFormed f)) same ∙ names_of t f) told) speaks
-  IsLineTold-report (Unschedulable sel a b demand) speaks told = told
   IsLineTold-report (Object f) speaks told = fault_told f speaks told
-  IsLineTold-report (Script f) speaks told = told
-  IsLineTold-report (Shelf cause) speaks told = told
-  IsLineTold-report Read speaks told = told
-  IsLineTold-report Write speaks told = told
-  IsLineTold-report Memory speaks told = told
+  IsLineTold-report _ speaks told = told

@@ -23,50 +23,11 @@ use Rattle.htl_compile.specs.BulkTree.{bulk_tree, bulk_bytes, bulk_comm, bulk_mo
 
 word_short : (w : Word) → length (word_text w) ≤ 12
 word_short word.Program = omega arith
-word_short word.Communicator = omega arith
-word_short word.Sensor = omega arith
-word_short word.Module = omega arith
-word_short word.Start = omega arith
-word_short word.Abstract = omega arith
-word_short word.Task = omega arith
-word_short word.Input = omega arith
-word_short word.Output = omega arith
-word_short word.Worst = omega arith
-word_short word.Mode = omega arith
-word_short word.Period = omega arith
-word_short word.Port = omega arith
-word_short word.Invoke = omega arith
-word_short word.Parent = omega arith
-word_short word.Switch = omega arith
-word_short word.Init = omega arith
-word_short word.Int = omega arith
-word_short word.Bool = omega arith
-word_short word.True = omega arith
-word_short word.False = omega arith
-word_short word.If = omega arith
+word_short _ = omega arith
 
 sign_short : (s : Sign) → length (sign_text s) ≤ 2
 sign_short sign.OpenBrace = omega arith
-sign_short sign.CloseBrace = omega arith
-sign_short sign.OpenParen = omega arith
-sign_short sign.CloseParen = omega arith
-sign_short sign.Semicolon = omega arith
-sign_short sign.Comma = omega arith
-sign_short sign.Assign = omega arith
-sign_short sign.Equal = omega arith
-sign_short sign.NotEqual = omega arith
-sign_short sign.Less = omega arith
-sign_short sign.LessEqual = omega arith
-sign_short sign.Greater = omega arith
-sign_short sign.GreaterEqual = omega arith
-sign_short sign.Plus = omega arith
-sign_short sign.Minus = omega arith
-sign_short sign.Star = omega arith
-sign_short sign.Slash = omega arith
-sign_short sign.Percent = omega arith
-sign_short sign.Not = omega arith
-sign_short sign.And = omega arith
-sign_short sign.Or = omega arith
+sign_short _ = omega arith
 
 name_short : (a b c : Bool) (n : ℕ) → a ≡ nat_lt n 49 → (a && b && c) ≡ true → n ≤ 48
 name_short true b c n is e = grind (arith, nat_tests)

@@ -36,11 +36,10 @@ use Rattle.htl_top.specs.declared.source.SourceStop.TheVariants as stop
 -- ---- from the source to the file
 
 uncompiled : (name : Option (List ℕ)) (shelf : Files) (bytes : List ℕ) (s : SourceStop) → IsSource name shelf.holds bytes → IsNotCompiled bytes s → IsUncompiled name shelf (outcome_of s)
-uncompiled name shelf bytes (stop.Fault f) source is = record { bytes = bytes; source = source; fault = is }
 uncompiled name shelf bytes (stop.IllFormed f u) source is = record { bytes = bytes; source = source; fault = is.0 }
-uncompiled name shelf bytes (stop.Unschedulable sel a b demand) source is = record { bytes = bytes; source = source; fault = is }
 uncompiled name shelf bytes (stop.Platform f) source is = absurd is
 uncompiled name shelf bytes stop.Memory source is = tt
+uncompiled name shelf bytes _ source is = record { bytes = bytes; source = source; fault = is }
 
 pub IsGoing-bytes : (name : Option (List ℕ)) (shelf : Files) (old new : Streams) (bytes : List ℕ) (outcome : Outcome)
     → IsSource name shelf.holds bytes → IsBytesGoing bytes old new outcome → IsGoing name shelf old new outcome
@@ -79,20 +78,11 @@ bytes_run bytes object slice old new outcome result same is compiled run =
 
 uncompiled_before : (name : Option (List ℕ)) (shelf : Files) (outcome : Outcome) → IsUncompiled name shelf outcome → IsOfWork outcome → outcome ≡ Memory
 uncompiled_before name shelf Memory s work = refl
-uncompiled_before name shelf Done s work = absurd s
-uncompiled_before name shelf Usage s work = absurd s
-uncompiled_before name shelf (Platform f) s work = absurd s
-uncompiled_before name shelf Task s work = absurd s
-uncompiled_before name shelf (Log f) s work = absurd s
-uncompiled_before name shelf (Patch f) s work = absurd s
 uncompiled_before name shelf (Source f) s work = absurd work
 uncompiled_before name shelf (IllFormed f) s work = absurd work
 uncompiled_before name shelf (Unschedulable sel a b demand) s work = absurd work
-uncompiled_before name shelf (Refused f) s work = absurd s
-uncompiled_before name shelf (Script f) s work = absurd s
 uncompiled_before name shelf (Shelf cause) s work = absurd work
-uncompiled_before name shelf Read s work = absurd s
-uncompiled_before name shelf Write s work = absurd s
+uncompiled_before name shelf _ s work = absurd s
 
 pub IsProgram-map : (name : Option (List ℕ)) (holds : Option Holdings) (Fact Other : Tables → Type 0) → ((t : Tables) → Fact t → Other t)
     → IsProgram name holds Fact → IsProgram name holds Other
@@ -184,16 +174,7 @@ module _ (name : Option (List ℕ)) (shelf : Files) (old new : Streams) where
     long_stopped (Shelf Failed) long s = absurd (no_fault s)
     long_stopped (Shelf (TooLong seen)) long s = inl (ap (λ (n : ℕ). Shelf (TooLong n)) (seen_long seen s).1)
     long_stopped Memory long s = inr refl
-    long_stopped Done long s = absurd s
-    long_stopped Usage long s = absurd s
-    long_stopped (Platform f) long s = absurd s
-    long_stopped Task long s = absurd s
-    long_stopped (Log f) long s = absurd s
-    long_stopped (Patch f) long s = absurd s
-    long_stopped (Refused f) long s = absurd s
-    long_stopped (Script f) long s = absurd s
-    long_stopped Read long s = absurd s
-    long_stopped Write long s = absurd s
+    long_stopped _ long s = absurd s
 
     pub long_file : (outcome : Outcome) → IsGoing name shelf old new outcome → 1048576 < length bytes → IsOrMemory outcome (Shelf (TooLong (length bytes)))
     long_file outcome going long = elim going [ inl p ↦ absurd (omega (arith, long, short p.bytes p.source)) | inr s ↦ long_stopped outcome long s.0 ]
@@ -210,16 +191,7 @@ module _ (name : Option (List ℕ)) (shelf : Files) (old new : Streams) where
       faulty_stopped (Shelf Failed) s = absurd (no_fault s)
       faulty_stopped (Shelf (TooLong seen)) s = absurd (omega (arith, few, (seen_long seen s).0))
       faulty_stopped Memory s = inr refl
-      faulty_stopped Done s = absurd s
-      faulty_stopped Usage s = absurd s
-      faulty_stopped (Platform f) s = absurd s
-      faulty_stopped Task s = absurd s
-      faulty_stopped (Log f) s = absurd s
-      faulty_stopped (Patch f) s = absurd s
-      faulty_stopped (Refused g) s = absurd s
-      faulty_stopped (Script g) s = absurd s
-      faulty_stopped Read s = absurd s
-      faulty_stopped Write s = absurd s
+      faulty_stopped _ s = absurd s
 
       pub faulty_source : (outcome : Outcome) → IsGoing name shelf old new outcome → IsOrMemory outcome (answer_of f)
       faulty_source outcome going = elim going [
@@ -243,16 +215,7 @@ module _ (name : Option (List ℕ)) (shelf : Files) (old new : Streams) where
     ready_stopped (Shelf Failed) s = absurd (no_fault ready.bytes ready.given s)
     ready_stopped (Shelf (TooLong seen)) s = absurd (omega (arith, ready.short, (seen_long ready.bytes ready.given seen s).0))
     ready_stopped Memory s = refl
-    ready_stopped Done s = absurd s
-    ready_stopped Usage s = absurd s
-    ready_stopped (Platform f) s = absurd s
-    ready_stopped Task s = absurd s
-    ready_stopped (Log f) s = absurd s
-    ready_stopped (Patch f) s = absurd s
-    ready_stopped (Refused g) s = absurd s
-    ready_stopped (Script g) s = absurd s
-    ready_stopped Read s = absurd s
-    ready_stopped Write s = absurd s
+    ready_stopped _ s = absurd s
 
     pub of_ready : (outcome : Outcome) → IsGoing name shelf old new outcome → IsRun Jobs t (built t) old new outcome ⊎ (outcome ≡ Memory)
     of_ready outcome going = elim going [

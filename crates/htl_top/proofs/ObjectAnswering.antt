@@ -92,16 +92,8 @@ IsOfWork (Script f) = Unit {0}
 IsOfWork Read = Unit {0}
 IsOfWork Write = Unit {0}
 IsOfWork Memory = Unit {0}
-IsOfWork Usage = ⊥
-IsOfWork (Platform f) = ⊥
 IsOfWork Task = Unit {0}
-IsOfWork (Log f) = ⊥
-IsOfWork (Patch f) = ⊥
-IsOfWork (Source f) = ⊥
-IsOfWork (IllFormed f) = ⊥
-IsOfWork (Unschedulable sel a b demand) = ⊥
-IsOfWork (Refused f) = ⊥
-IsOfWork (Shelf cause) = ⊥
+IsOfWork _ = ⊥
 
 -- the answers of what is done with an accepted object are such, and some leave the output as it was
 pub record IsWork (Does : Work) : Type 0 where
@@ -112,36 +104,12 @@ pub record IsWork (Does : Work) : Type 0 where
 text_only : (text : List ℕ) (old new : Streams) (outcome : Outcome) → IsTextAnswer text old new outcome → IsOfWork outcome
 text_only text old new Done answer = tt
 text_only text old new Write answer = tt
-text_only text old new Usage answer = absurd answer
-text_only text old new (Platform f) answer = absurd answer
-text_only text old new Task answer = absurd answer
-text_only text old new (Log f) answer = absurd answer
-text_only text old new (Patch f) answer = absurd answer
-text_only text old new (Source f) answer = absurd answer
-text_only text old new (IllFormed f) answer = absurd answer
-text_only text old new (Unschedulable sel a b demand) answer = absurd answer
-text_only text old new (Refused f) answer = absurd answer
-text_only text old new (Script f) answer = absurd answer
-text_only text old new (Shelf cause) answer = absurd answer
-text_only text old new Read answer = absurd answer
-text_only text old new Memory answer = absurd answer
+text_only text old new _ answer = absurd answer
 
 text_unwritten : (text : List ℕ) (old new : Streams) (outcome : Outcome) → IsTextAnswer text old new outcome → IsBeforeRun outcome → new.written ≡ old.written
 text_unwritten text old new Done answer early = absurd early
 text_unwritten text old new Write answer early = absurd early
-text_unwritten text old new Usage answer early = absurd answer
-text_unwritten text old new (Platform f) answer early = absurd answer
-text_unwritten text old new Task answer early = absurd answer
-text_unwritten text old new (Log f) answer early = absurd answer
-text_unwritten text old new (Patch f) answer early = absurd answer
-text_unwritten text old new (Source f) answer early = absurd answer
-text_unwritten text old new (IllFormed f) answer early = absurd answer
-text_unwritten text old new (Unschedulable sel a b demand) answer early = absurd answer
-text_unwritten text old new (Refused f) answer early = absurd answer
-text_unwritten text old new (Script f) answer early = absurd answer
-text_unwritten text old new (Shelf cause) answer early = absurd answer
-text_unwritten text old new Read answer early = absurd answer
-text_unwritten text old new Memory answer early = absurd answer
+text_unwritten text old new _ answer early = absurd answer
 
 pub text_is_work : (text : Object → List ℕ) → IsWork (λ o old new outcome. IsTextAnswer (text o) old new outcome)
 text_is_work text = record {
@@ -154,74 +122,31 @@ text_is_work text = record {
 pub text_unread : (text : List ℕ) (old new : Streams) (outcome : Outcome) → IsTextAnswer text old new outcome → new.rest ≡ old.rest
 text_unread text old new Done answer = answer.0
 text_unread text old new Write answer = answer.0
-text_unread text old new Usage answer = absurd answer
-text_unread text old new (Platform f) answer = absurd answer
-text_unread text old new Task answer = absurd answer
-text_unread text old new (Log f) answer = absurd answer
-text_unread text old new (Patch f) answer = absurd answer
-text_unread text old new (Source f) answer = absurd answer
-text_unread text old new (IllFormed f) answer = absurd answer
-text_unread text old new (Unschedulable sel a b demand) answer = absurd answer
-text_unread text old new (Refused f) answer = absurd answer
-text_unread text old new (Script f) answer = absurd answer
-text_unread text old new (Shelf cause) answer = absurd answer
-text_unread text old new Read answer = absurd answer
-text_unread text old new Memory answer = absurd answer
+text_unread text old new _ answer = absurd answer
 
 -- a text is written where the output doesn't fail
 pub text_done : (text : List ℕ) (old new : Streams) (outcome : Outcome) → IsTextAnswer text old new outcome → (Rose old.write_faults new.write_faults → ⊥) → IsOrMemory outcome Done
 text_done text old new Done answer still = inl refl
 text_done text old new Write answer still = absurd (still answer.1)
-text_done text old new Usage answer still = absurd answer
-text_done text old new (Platform f) answer still = absurd answer
-text_done text old new Task answer still = absurd answer
-text_done text old new (Log f) answer still = absurd answer
-text_done text old new (Patch f) answer still = absurd answer
-text_done text old new (Source f) answer still = absurd answer
-text_done text old new (IllFormed f) answer still = absurd answer
-text_done text old new (Unschedulable sel a b demand) answer still = absurd answer
-text_done text old new (Refused f) answer still = absurd answer
-text_done text old new (Script f) answer still = absurd answer
-text_done text old new (Shelf cause) answer still = absurd answer
-text_done text old new Read answer still = absurd answer
-text_done text old new Memory answer still = absurd answer
+text_done text old new _ answer still = absurd answer
 
 -- ---- the clauses
 
 -- what nothing read and nothing written goes with
 stopped_before : (name : Option (List ℕ)) (shelf : Files) (outcome : Outcome) → IsStopped name shelf outcome → IsOfWork outcome → outcome ≡ Memory
 stopped_before name shelf Memory stopped work = refl
-stopped_before name shelf Done stopped work = absurd stopped
-stopped_before name shelf Usage stopped work = absurd stopped
-stopped_before name shelf (Platform f) stopped work = absurd stopped
-stopped_before name shelf Task stopped work = absurd stopped
-stopped_before name shelf (Log f) stopped work = absurd stopped
-stopped_before name shelf (Patch f) stopped work = absurd stopped
-stopped_before name shelf (Source f) stopped work = absurd stopped
-stopped_before name shelf (IllFormed f) stopped work = absurd stopped
-stopped_before name shelf (Unschedulable sel a b demand) stopped work = absurd stopped
 stopped_before name shelf (Refused f) stopped work = absurd work
-stopped_before name shelf (Script f) stopped work = absurd stopped
 stopped_before name shelf (Shelf cause) stopped work = absurd work
-stopped_before name shelf Read stopped work = absurd stopped
-stopped_before name shelf Write stopped work = absurd stopped
+stopped_before name shelf _ stopped work = absurd stopped
 
 pub early_work : (outcome : Outcome) → IsBeforeScript outcome → IsOfWork outcome → outcome ≡ Task
 early_work Done early work = absurd early
-early_work Usage early work = absurd work
-early_work (Platform f) early work = absurd work
 early_work Task early work = refl
-early_work (Log f) early work = absurd work
-early_work (Patch f) early work = absurd work
-early_work (Source f) early work = absurd work
-early_work (IllFormed f) early work = absurd work
-early_work (Unschedulable sel a b demand) early work = absurd work
-early_work (Refused f) early work = absurd work
 early_work (Script f) early work = absurd early
-early_work (Shelf cause) early work = absurd work
 early_work Read early work = absurd early
 early_work Write early work = absurd early
 early_work Memory early work = absurd early
+early_work _ early work = absurd work
 
 module _ (Does : Work) (work : IsWork Does) (name : Option (List ℕ)) (shelf : Files) (old new : Streams) where
   -- an answer that no work has
@@ -265,18 +190,7 @@ module _ (Does : Work) (work : IsWork Does) (name : Option (List ℕ)) (shelf : 
     long_stopped (Shelf Failed) long s = absurd (files.no_fault name shelf bytes given s)
     long_stopped (Shelf (TooLong seen)) long s = inl (ap (λ (n : ℕ). Shelf (TooLong n)) (files.seen_long name shelf bytes given seen s).1)
     long_stopped Memory long s = inr refl
-    long_stopped Done long s = absurd s
-    long_stopped Usage long s = absurd s
-    long_stopped (Platform f) long s = absurd s
-    long_stopped Task long s = absurd s
-    long_stopped (Log f) long s = absurd s
-    long_stopped (Patch f) long s = absurd s
-    long_stopped (Source f) long s = absurd s
-    long_stopped (IllFormed f) long s = absurd s
-    long_stopped (Unschedulable sel a b demand) long s = absurd s
-    long_stopped (Script f) long s = absurd s
-    long_stopped Read long s = absurd s
-    long_stopped Write long s = absurd s
+    long_stopped _ long s = absurd s
 
     pub long_object : (outcome : Outcome) → IsOnObject Does name shelf old new outcome → 16777216 < length bytes → IsOrMemory outcome (Shelf (TooLong (length bytes)))
     long_object outcome on long = elim on [
@@ -291,18 +205,7 @@ module _ (Does : Work) (work : IsWork Does) (name : Option (List ℕ)) (shelf : 
     faulty_stopped (Shelf Failed) f short refused s = absurd (files.no_fault name shelf bytes given s)
     faulty_stopped (Shelf (TooLong seen)) f short refused s = absurd (omega (arith, short, (files.seen_long name shelf bytes given seen s).0))
     faulty_stopped Memory f short refused s = inr refl
-    faulty_stopped Done f short refused s = absurd s
-    faulty_stopped Usage f short refused s = absurd s
-    faulty_stopped (Platform g) f short refused s = absurd s
-    faulty_stopped Task f short refused s = absurd s
-    faulty_stopped (Log fault) f short refused s = absurd s
-    faulty_stopped (Patch g) f short refused s = absurd s
-    faulty_stopped (Source g) f short refused s = absurd s
-    faulty_stopped (IllFormed g) f short refused s = absurd s
-    faulty_stopped (Unschedulable sel a b demand) f short refused s = absurd s
-    faulty_stopped (Script g) f short refused s = absurd s
-    faulty_stopped Read f short refused s = absurd s
-    faulty_stopped Write f short refused s = absurd s
+    faulty_stopped _ f short refused s = absurd s
 
     pub faulty_object : (outcome : Outcome) → IsOnObject Does name shelf old new outcome → (f : ObjectFault) → length bytes ≤ 16777216 → RefusesBytes bytes f → IsOrMemory outcome (Refused f)
     faulty_object outcome on f short refused = elim on [
@@ -317,18 +220,7 @@ module _ (Does : Work) (work : IsWork Does) (name : Option (List ℕ)) (shelf : 
     ready_stopped (Shelf Failed) o short has accepted s = absurd (files.no_fault name shelf bytes given s)
     ready_stopped (Shelf (TooLong seen)) o short has accepted s = absurd (omega (arith, short, (files.seen_long name shelf bytes given seen s).0))
     ready_stopped Memory o short has accepted s = refl
-    ready_stopped Done o short has accepted s = absurd s
-    ready_stopped Usage o short has accepted s = absurd s
-    ready_stopped (Platform f) o short has accepted s = absurd s
-    ready_stopped Task o short has accepted s = absurd s
-    ready_stopped (Log f) o short has accepted s = absurd s
-    ready_stopped (Patch f) o short has accepted s = absurd s
-    ready_stopped (Source g) o short has accepted s = absurd s
-    ready_stopped (IllFormed g) o short has accepted s = absurd s
-    ready_stopped (Unschedulable sel a b demand) o short has accepted s = absurd s
-    ready_stopped (Script g) o short has accepted s = absurd s
-    ready_stopped Read o short has accepted s = absurd s
-    ready_stopped Write o short has accepted s = absurd s
+    ready_stopped _ o short has accepted s = absurd s
 
   pub ready : (o : Object) → IsReadyObject name shelf.holds shelf.before shelf.after o → (outcome : Outcome) → IsOnObject Does name shelf old new outcome
       → Does o old new outcome ⊎ (outcome ≡ Memory)

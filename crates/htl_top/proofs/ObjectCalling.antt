@@ -43,10 +43,6 @@ module _ (shelf : Files) (old new : Streams) where
 
   pub long_object : (command : Option Command) (bytes : List ℕ) (outcome : Outcome) → IsGiven (command_object command) shelf.holds shelf.before shelf.after bytes
       → IsCall command shelf old new outcome → 16777216 < length bytes → IsOrMemory outcome (Shelf (TooLong (length bytes)))
-  long_object None bytes outcome given call long = absurd (some_not_none (List ℕ) None given.word given.named refl)
-  long_object (Some (Go name)) bytes outcome given call long = absurd (some_not_none (List ℕ) None given.word given.named refl)
-  long_object (Some Compile) bytes outcome given call long = absurd (some_not_none (List ℕ) None given.word given.named refl)
-  long_object (Some (CompileWith file)) bytes outcome given call long = absurd (some_not_none (List ℕ) None given.word given.named refl)
   long_object (Some (Run show name)) bytes outcome given call long = objects.long_object (RunOf show) (running show) (Some name) shelf old new bytes given outcome call long
   long_object (Some (Check name)) bytes outcome given call long = objects.long_object IsChecked checking (Some name) shelf old new bytes given outcome call long
   long_object (Some (Plan name)) bytes outcome given call long = objects.long_object IsPlanned planning (Some name) shelf old new bytes given outcome call long
@@ -54,15 +50,11 @@ module _ (shelf : Files) (old new : Streams) where
   long_object (Some (Slack name owner task)) bytes outcome given call long = objects.long_object (IsSlacked owner task) (slacking owner task) (Some name) shelf old new bytes given outcome call long
   long_object (Some (Audit name log)) bytes outcome given call long = auditing.long_object name log shelf old new bytes given outcome call long
   long_object (Some (Patch name unit mode donor)) bytes outcome given call long = patching.long_object unit mode (Some name) (Some donor) shelf old new bytes given outcome call long
-  long_object (Some (Bulk n)) bytes outcome given call long = absurd (some_not_none (List ℕ) None given.word given.named refl)
+  long_object _ bytes outcome given call long = absurd (some_not_none (List ℕ) None given.word given.named refl)
 
   pub faulty_object : (command : Option Command) (bytes : List ℕ) (outcome : Outcome) → IsGiven (command_object command) shelf.holds shelf.before shelf.after bytes
       → IsCall command shelf old new outcome → ((word : List ℕ) → second_file command ≡ Some word → (others : List ℕ) × IsReadyFile (Some word) shelf.holds shelf.before shelf.after others)
       → (f : ObjectFault) → length bytes ≤ 16777216 → RefusesBytes bytes f → IsOrMemory outcome (Refused f)
-  faulty_object None bytes outcome given call second f short refused = absurd (some_not_none (List ℕ) None given.word given.named refl)
-  faulty_object (Some (Go name)) bytes outcome given call second f short refused = absurd (some_not_none (List ℕ) None given.word given.named refl)
-  faulty_object (Some Compile) bytes outcome given call second f short refused = absurd (some_not_none (List ℕ) None given.word given.named refl)
-  faulty_object (Some (CompileWith file)) bytes outcome given call second f short refused = absurd (some_not_none (List ℕ) None given.word given.named refl)
   faulty_object (Some (Run show name)) bytes outcome given call second f short refused =
       objects.faulty_object (RunOf show) (running show) (Some name) shelf old new bytes given outcome call f short refused
   faulty_object (Some (Check name)) bytes outcome given call second f short refused =
@@ -77,7 +69,7 @@ module _ (shelf : Files) (old new : Streams) where
       auditing.faulty_object name log shelf old new bytes given outcome call (second log refl) f short refused
   faulty_object (Some (Patch name unit mode donor)) bytes outcome given call second f short refused =
       let other = second donor refl in patching.faulty_object unit mode (Some name) (Some donor) shelf old new bytes given other.0 other.1.given other.1.short outcome call f short refused
-  faulty_object (Some (Bulk n)) bytes outcome given call second f short refused = absurd (some_not_none (List ℕ) None given.word given.named refl)
+  faulty_object _ bytes outcome given call second f short refused = absurd (some_not_none (List ℕ) None given.word given.named refl)
 
   -- ---- `run` and `jobs`
 

@@ -82,10 +82,6 @@ module _ (shelf : Files) (old new : Streams) where
   patch_cause (Some (Go name)) f call = elim call [ inl p ↦ p.has.fact | inr s ↦ s.0 ]
   patch_cause (Some Compile) f call = call
   patch_cause (Some (CompileWith file)) f call = call
-  patch_cause (Some (Run show name)) f call = elim call [ inl a ↦ a.fact | inr s ↦ s.0 ]
-  patch_cause (Some (Check name)) f call = elim call [ inl a ↦ a.fact | inr s ↦ s.0 ]
-  patch_cause (Some (Plan name)) f call = elim call [ inl a ↦ a.fact | inr s ↦ s.0 ]
-  patch_cause (Some (Show name)) f call = elim call [ inl a ↦ a.fact | inr s ↦ s.0 ]
   patch_cause (Some (Bulk n)) f call = call
   patch_cause (Some (Slack name owner task)) f call = elim call [ inl a ↦ a.fact.1 | inr s ↦ s.0 ]
   patch_cause (Some (Audit name log)) f call = elim call [ inl a ↦ elim a.fact.fact [ inl h ↦ h.fact | inr r ↦ r.0 ] | inr s ↦ s.0 ]
@@ -95,3 +91,4 @@ module _ (shelf : Files) (old new : Streams) where
         (λ o bytes. IsDonorFault o unit mode bytes f) (λ o bytes t. t.0) a
     | inr s ↦ absurd s.0
   ]
+  patch_cause _ f call = elim call [ inl a ↦ a.fact | inr s ↦ s.0 ]

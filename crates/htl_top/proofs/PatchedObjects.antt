@@ -94,13 +94,7 @@ module _ (o : Object) (unit mode bytes : List ℕ) where
           → HasPatchedTables o unit mode bytes (λ t. told ≡ Some t)
       by None e p q = absurd (let no : fault.IllFormed f ≡ fault.Mode = p in cc)
       by (Some g) e p q = record { donor = d; has = has; graft = g; modes = e; fact = q }
-  SpeaksOfPatch-back d has (fault.Malformed m) told is back = tt
-  SpeaksOfPatch-back d has fault.Mode told is back = tt
-  SpeaksOfPatch-back d has (fault.Comms place) told is back = tt
-  SpeaksOfPatch-back d has (fault.Parent inv) told is back = tt
-  SpeaksOfPatch-back d has (fault.Twice k) told is back = tt
-  SpeaksOfPatch-back d has (fault.Limit which count) told is back = tt
-  SpeaksOfPatch-back d has (fault.Function k) told is back = tt
+  SpeaksOfPatch-back d has _ told is back = tt
 
   -- the donor's refinement isn't taken over
   pub IsDonorTold-stop : (d : Object) → HasBytes bytes d → (written : Option (List ℕ)) (faults : ℕ) (s : PatchStop) (outcome : Outcome) → outcome ≡ unpatched_as s → IsPatchStop o d unit mode s
@@ -129,17 +123,7 @@ module _ (o : Object) (unit mode bytes : List ℕ) where
     told_unwritten Write told early = absurd early
     told_unwritten (Patch f) told early = told.1
     told_unwritten Memory told early = told
-    told_unwritten Usage told early = absurd told
-    told_unwritten (Platform f) told early = absurd told
-    told_unwritten Task told early = absurd told
-    told_unwritten (Log illegal) told early = absurd told
-    told_unwritten (Source f) told early = absurd told
-    told_unwritten (IllFormed f) told early = absurd told
-    told_unwritten (Unschedulable sel a b demand) told early = absurd told
-    told_unwritten (Refused f) told early = absurd told
-    told_unwritten (Script f) told early = absurd told
-    told_unwritten (Shelf cause) told early = absurd told
-    told_unwritten Read told early = absurd told
+    told_unwritten _ told early = absurd told
 
     -- the fault is told
     pub told_faulty : IsAccepted o → (f : PatchFault) → IsDonorFault o unit mode bytes f → (outcome : Outcome) → IsDonorTold o unit mode bytes old new before now outcome
@@ -148,17 +132,7 @@ module _ (o : Object) (unit mode bytes : List ℕ) where
     told_faulty accepted f is Write told = absurd (not_faulty told.1.donor told.1.graft told.1.has told.1.can f is)
     told_faulty accepted f is (Patch h) told = inl (ap (λ (x : PatchFault). Patch x) (one_donor_fault accepted h f told.0 is))
     told_faulty accepted f is Memory told = inr refl
-    told_faulty accepted f is Usage told = absurd told
-    told_faulty accepted f is (Platform h) told = absurd told
-    told_faulty accepted f is Task told = absurd told
-    told_faulty accepted f is (Log illegal) told = absurd told
-    told_faulty accepted f is (Source h) told = absurd told
-    told_faulty accepted f is (IllFormed h) told = absurd told
-    told_faulty accepted f is (Unschedulable sel a b demand) told = absurd told
-    told_faulty accepted f is (Refused h) told = absurd told
-    told_faulty accepted f is (Script h) told = absurd told
-    told_faulty accepted f is (Shelf cause) told = absurd told
-    told_faulty accepted f is Read told = absurd told
+    told_faulty accepted f is _ told = absurd told
 
     -- the new object is written whole, where the output doesn't fail
     pub told_done : (d : Object) (g : Graft) → HasBytes bytes d → CanPatch o d unit mode g → (Rose before now → ⊥) → (outcome : Outcome)
@@ -167,17 +141,7 @@ module _ (o : Object) (unit mode bytes : List ℕ) where
     told_done d g has can still Write told = absurd (still told.0)
     told_done d g has can still (Patch f) told = absurd (not_faulty d g has can f told.0)
     told_done d g has can still Memory told = inr refl
-    told_done d g has can still Usage told = absurd told
-    told_done d g has can still (Platform f) told = absurd told
-    told_done d g has can still Task told = absurd told
-    told_done d g has can still (Log illegal) told = absurd told
-    told_done d g has can still (Source f) told = absurd told
-    told_done d g has can still (IllFormed f) told = absurd told
-    told_done d g has can still (Unschedulable sel a b demand) told = absurd told
-    told_done d g has can still (Refused f) told = absurd told
-    told_done d g has can still (Script f) told = absurd told
-    told_done d g has can still (Shelf cause) told = absurd told
-    told_done d g has can still Read told = absurd told
+    told_done d g has can still _ told = absurd told
 
 -- an answer of writing speaks of no tables
 pub SpeaksOf-put : (Sources Objects : (Tables → Type 0) → Type 0) (p : Object) (old new : Option (List ℕ)) (before now : ℕ) (given outcome : Outcome) (told : Option Tables) → outcome ≡ given

@@ -80,10 +80,9 @@ module _ (unit mode : List ℕ) (name donor : Option (List ℕ)) (shelf : Files)
   no_platform f call = elim call.1 [ inl a ↦ a.fact.fact | inr s ↦ s.0 ]
 
   pub no_source : (f : CompileFault) → (f ≡ compile.Memory → ⊥) → Called (answer_of f) → ⊥
-  no_source (compile.Source f) told call = elim call.1 [ inl a ↦ a.fact.fact | inr s ↦ s.0 ]
-  no_source (compile.IllFormed f) told call = elim call.1 [ inl a ↦ a.fact.fact | inr s ↦ s.0 ]
   no_source (compile.Unschedulable sel a b demand) told call = elim call.1 [ inl a ↦ a.fact.fact | inr s ↦ s.0 ]
   no_source compile.Memory told call = told refl
+  no_source _ told call = elim call.1 [ inl a ↦ a.fact.fact | inr s ↦ s.0 ]
 
   -- ---- of an answer
 
@@ -117,18 +116,7 @@ module _ (unit mode : List ℕ) (name donor : Option (List ℕ)) (shelf : Files)
     ]
     long_unhad (Refused f) long s = absurd (omega (arith, long, files.short_bytes name shelf bytes given s.0.bytes s.0.file))
     long_unhad Memory long s = inr refl
-    long_unhad Done long s = absurd s
-    long_unhad Usage long s = absurd s
-    long_unhad (Platform f) long s = absurd s
-    long_unhad Task long s = absurd s
-    long_unhad (Log illegal) long s = absurd s
-    long_unhad (Patch f) long s = absurd s
-    long_unhad (Source f) long s = absurd s
-    long_unhad (IllFormed f) long s = absurd s
-    long_unhad (Unschedulable sel a b demand) long s = absurd s
-    long_unhad (Script f) long s = absurd s
-    long_unhad Read long s = absurd s
-    long_unhad Write long s = absurd s
+    long_unhad _ long s = absurd s
 
     pub long_object : (outcome : Outcome) → Called outcome → 16777216 < length bytes → IsOrMemory outcome (Shelf (TooLong (length bytes)))
     long_object outcome call long = elim call.1 [
@@ -150,18 +138,7 @@ module _ (unit mode : List ℕ) (name donor : Option (List ℕ)) (shelf : Files)
       ]
       donor_unhad (Refused f) short long s = absurd (omega (arith, long, files.short_bytes donor shelf others gift s.1.0 s.1.1))
       donor_unhad Memory short long s = inr refl
-      donor_unhad Done short long s = absurd s
-      donor_unhad Usage short long s = absurd s
-      donor_unhad (Platform f) short long s = absurd s
-      donor_unhad Task short long s = absurd s
-      donor_unhad (Log illegal) short long s = absurd s
-      donor_unhad (Patch f) short long s = absurd s
-      donor_unhad (Source f) short long s = absurd s
-      donor_unhad (IllFormed f) short long s = absurd s
-      donor_unhad (Unschedulable sel a b demand) short long s = absurd s
-      donor_unhad (Script f) short long s = absurd s
-      donor_unhad Read short long s = absurd s
-      donor_unhad Write short long s = absurd s
+      donor_unhad _ short long s = absurd s
 
       pub long_donor : (outcome : Outcome) → Called outcome → length bytes ≤ 16777216 → 16777216 < length others → IsOrMemory outcome (Shelf (TooLong (length others)))
       long_donor outcome call short long = elim call.1 [
@@ -181,18 +158,7 @@ module _ (unit mode : List ℕ) (name donor : Option (List ℕ)) (shelf : Files)
             inl (ap (λ (h : ObjectFault). Refused h)
             (one_refusal bytes g f (subst (λ (bs : List ℕ). RefusesBytes bs g) (files.same_bytes name shelf bytes given s.0.bytes s.0.file) s.0.refused) refused))
         faulty_unhad Memory f short refused s = inr refl
-        faulty_unhad Done f short refused s = absurd s
-        faulty_unhad Usage f short refused s = absurd s
-        faulty_unhad (Platform g) f short refused s = absurd s
-        faulty_unhad Task f short refused s = absurd s
-        faulty_unhad (Log illegal) f short refused s = absurd s
-        faulty_unhad (Patch g) f short refused s = absurd s
-        faulty_unhad (Source g) f short refused s = absurd s
-        faulty_unhad (IllFormed g) f short refused s = absurd s
-        faulty_unhad (Unschedulable sel a b demand) f short refused s = absurd s
-        faulty_unhad (Script g) f short refused s = absurd s
-        faulty_unhad Read f short refused s = absurd s
-        faulty_unhad Write f short refused s = absurd s
+        faulty_unhad _ f short refused s = absurd s
 
         pub faulty_object : (outcome : Outcome) → Called outcome → (f : ObjectFault) → length bytes ≤ 16777216 → RefusesBytes bytes f → IsOrMemory outcome (Refused f)
         faulty_object outcome call f short refused = elim call.1 [
@@ -211,18 +177,7 @@ module _ (unit mode : List ℕ) (name donor : Option (List ℕ)) (shelf : Files)
         ready_unhad (Refused g) o short has accepted s =
             absurd (accepted_or_refused bytes o g has accepted (subst (λ (bs : List ℕ). RefusesBytes bs g) (files.same_bytes name shelf bytes given s.0.bytes s.0.file) s.0.refused))
         ready_unhad Memory o short has accepted s = refl
-        ready_unhad Done o short has accepted s = absurd s
-        ready_unhad Usage o short has accepted s = absurd s
-        ready_unhad (Platform f) o short has accepted s = absurd s
-        ready_unhad Task o short has accepted s = absurd s
-        ready_unhad (Log illegal) o short has accepted s = absurd s
-        ready_unhad (Patch f) o short has accepted s = absurd s
-        ready_unhad (Source f) o short has accepted s = absurd s
-        ready_unhad (IllFormed f) o short has accepted s = absurd s
-        ready_unhad (Unschedulable sel a b demand) o short has accepted s = absurd s
-        ready_unhad (Script f) o short has accepted s = absurd s
-        ready_unhad Read o short has accepted s = absurd s
-        ready_unhad Write o short has accepted s = absurd s
+        ready_unhad _ o short has accepted s = absurd s
 
   -- what was done with an accepted object and a donor's bytes that are given
   pub ready : (o : Object) (is : IsReadyObject name shelf.holds shelf.before shelf.after o) (others : List ℕ) → IsGiven donor shelf.holds shelf.before shelf.after others

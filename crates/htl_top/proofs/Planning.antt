@@ -20,16 +20,7 @@ plan_only o old new (Script f) answer = tt
 plan_only o old new Read answer = tt
 plan_only o old new Write answer = tt
 plan_only o old new Memory answer = tt
-plan_only o old new Usage answer = absurd answer
-plan_only o old new (Platform f) answer = absurd answer
-plan_only o old new Task answer = absurd answer
-plan_only o old new (Log f) answer = absurd answer
-plan_only o old new (Patch f) answer = absurd answer
-plan_only o old new (Source f) answer = absurd answer
-plan_only o old new (IllFormed f) answer = absurd answer
-plan_only o old new (Unschedulable sel a b demand) answer = absurd answer
-plan_only o old new (Refused f) answer = absurd answer
-plan_only o old new (Shelf cause) answer = absurd answer
+plan_only o old new _ answer = absurd answer
 
 plan_unwritten : (o : Object) (old new : Streams) (outcome : Outcome) → IsPlanned o old new outcome → IsBeforeRun outcome → new.written ≡ old.written
 plan_unwritten o old new Done answer early = absurd early
@@ -37,16 +28,7 @@ plan_unwritten o old new (Script f) answer early = absurd early
 plan_unwritten o old new Read answer early = answer.1
 plan_unwritten o old new Write answer early = absurd early
 plan_unwritten o old new Memory answer early = answer.written
-plan_unwritten o old new Usage answer early = absurd answer
-plan_unwritten o old new (Platform f) answer early = absurd answer
-plan_unwritten o old new Task answer early = absurd answer
-plan_unwritten o old new (Log f) answer early = absurd answer
-plan_unwritten o old new (Patch f) answer early = absurd answer
-plan_unwritten o old new (Source f) answer early = absurd answer
-plan_unwritten o old new (IllFormed f) answer early = absurd answer
-plan_unwritten o old new (Unschedulable sel a b demand) answer early = absurd answer
-plan_unwritten o old new (Refused f) answer early = absurd answer
-plan_unwritten o old new (Shelf cause) answer early = absurd answer
+plan_unwritten o old new _ answer early = absurd answer
 
 pub planning : IsWork IsPlanned
 planning = record { only = plan_only; unwritten = plan_unwritten; unread = λ o old new answer. absurd answer }
@@ -81,16 +63,7 @@ module _ (o : Object) (old new : Streams) (script : List ℕ) where
   bad_input f told bad quiet still Read answer = absurd (quiet answer.0)
   bad_input f told bad quiet still Write answer = absurd (still answer.0)
   bad_input f told bad quiet still Memory answer = inr refl
-  bad_input f told bad quiet still Usage answer = absurd answer
-  bad_input f told bad quiet still (Platform g) answer = absurd answer
-  bad_input f told bad quiet still Task answer = absurd answer
-  bad_input f told bad quiet still (Log fault) answer = absurd answer
-  bad_input f told bad quiet still (Patch g) answer = absurd answer
-  bad_input f told bad quiet still (Source g) answer = absurd answer
-  bad_input f told bad quiet still (IllFormed g) answer = absurd answer
-  bad_input f told bad quiet still (Unschedulable sel a b demand) answer = absurd answer
-  bad_input f told bad quiet still (Refused g) answer = absurd answer
-  bad_input f told bad quiet still (Shelf cause) answer = absurd answer
+  bad_input f told bad quiet still _ answer = absurd answer
 
   pub whole_input : (modes : List (Option ℕ)) → old.rest ≡ Some script → input_of o.tables script ≡ Whole modes → (Rose old.read_faults new.read_faults → ⊥)
       → (Rose old.write_faults new.write_faults → ⊥) → (outcome : Outcome) → IsPlanned o old new outcome → IsOrMemory outcome Done
@@ -100,13 +73,4 @@ module _ (o : Object) (old new : Streams) (script : List ℕ) where
   whole_input modes told whole quiet still Read answer = absurd (quiet answer.0)
   whole_input modes told whole quiet still Write answer = absurd (still answer.0)
   whole_input modes told whole quiet still Memory answer = inr refl
-  whole_input modes told whole quiet still Usage answer = absurd answer
-  whole_input modes told whole quiet still (Platform f) answer = absurd answer
-  whole_input modes told whole quiet still Task answer = absurd answer
-  whole_input modes told whole quiet still (Log f) answer = absurd answer
-  whole_input modes told whole quiet still (Patch f) answer = absurd answer
-  whole_input modes told whole quiet still (Source g) answer = absurd answer
-  whole_input modes told whole quiet still (IllFormed g) answer = absurd answer
-  whole_input modes told whole quiet still (Unschedulable sel a b demand) answer = absurd answer
-  whole_input modes told whole quiet still (Refused g) answer = absurd answer
-  whole_input modes told whole quiet still (Shelf cause) answer = absurd answer
+  whole_input modes told whole quiet still _ answer = absurd answer

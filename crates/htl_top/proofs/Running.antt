@@ -56,16 +56,7 @@ IsRun-source show t o old new (Faulty fault) run = record {
 IsRun-source show t o old new Read run = (run.0, cut_source show t o old new run.1)
 IsRun-source show t o old new Write run = (run.0, cut_source show t o old new run.1)
 IsRun-source show t o old new Memory run = run
-IsRun-source show t o old new Usage run = absurd run
-IsRun-source show t o old new (Platform f) run = absurd run
-IsRun-source show t o old new Task run = absurd run
-IsRun-source show t o old new (Log f) run = absurd run
-IsRun-source show t o old new (Patch f) run = absurd run
-IsRun-source show t o old new (Source f) run = absurd run
-IsRun-source show t o old new (IllFormed f) run = absurd run
-IsRun-source show t o old new (Unschedulable sel a b demand) run = absurd run
-IsRun-source show t o old new (Refused f) run = absurd run
-IsRun-source show t o old new (Shelf cause) run = absurd run
+IsRun-source show t o old new _ run = absurd run
 
 -- ---- the answers of a run
 
@@ -75,16 +66,7 @@ run_only show t o old new (Faulty f) run = tt
 run_only show t o old new Read run = tt
 run_only show t o old new Write run = tt
 run_only show t o old new Memory run = tt
-run_only show t o old new Usage run = absurd run
-run_only show t o old new (Platform f) run = absurd run
-run_only show t o old new Task run = absurd run
-run_only show t o old new (Log f) run = absurd run
-run_only show t o old new (Patch f) run = absurd run
-run_only show t o old new (Source f) run = absurd run
-run_only show t o old new (IllFormed f) run = absurd run
-run_only show t o old new (Unschedulable sel a b demand) run = absurd run
-run_only show t o old new (Refused f) run = absurd run
-run_only show t o old new (Shelf cause) run = absurd run
+run_only show t o old new _ run = absurd run
 
 pub run_unwritten : (show : Shown) (t : Tables) (o : Object) (old new : Streams) (outcome : Outcome) → IsRun show t o old new outcome → IsBeforeRun outcome → new.written ≡ old.written
 run_unwritten show t o old new Done run early = absurd early
@@ -92,16 +74,7 @@ run_unwritten show t o old new (Faulty f) run early = absurd early
 run_unwritten show t o old new Read run early = absurd early
 run_unwritten show t o old new Write run early = absurd early
 run_unwritten show t o old new Memory run early = run.written
-run_unwritten show t o old new Usage run early = absurd run
-run_unwritten show t o old new (Platform f) run early = absurd run
-run_unwritten show t o old new Task run early = absurd run
-run_unwritten show t o old new (Log f) run early = absurd run
-run_unwritten show t o old new (Patch f) run early = absurd run
-run_unwritten show t o old new (Source f) run early = absurd run
-run_unwritten show t o old new (IllFormed f) run early = absurd run
-run_unwritten show t o old new (Unschedulable sel a b demand) run early = absurd run
-run_unwritten show t o old new (Refused f) run early = absurd run
-run_unwritten show t o old new (Shelf cause) run early = absurd run
+run_unwritten show t o old new _ run early = absurd run
 
 pub running : (show : Shown) → IsWork (λ o. IsRun show o.tables o)
 running show = record {
@@ -141,16 +114,7 @@ module _ (show : Shown) (t : Tables) (o : Object) (old new : Streams) (script : 
   bad_run f events bad quiet still Read run = absurd (quiet run.0)
   bad_run f events bad quiet still Write run = absurd (still run.0)
   bad_run f events bad quiet still Memory run = inr refl
-  bad_run f events bad quiet still Usage run = absurd run
-  bad_run f events bad quiet still (Platform g) run = absurd run
-  bad_run f events bad quiet still Task run = absurd run
-  bad_run f events bad quiet still (Log fault) run = absurd run
-  bad_run f events bad quiet still (Patch g) run = absurd run
-  bad_run f events bad quiet still (Source g) run = absurd run
-  bad_run f events bad quiet still (IllFormed g) run = absurd run
-  bad_run f events bad quiet still (Unschedulable sel a b demand) run = absurd run
-  bad_run f events bad quiet still (Refused g) run = absurd run
-  bad_run f events bad quiet still (Shelf cause) run = absurd run
+  bad_run f events bad quiet still _ run = absurd run
 
   pub whole_run : (events : List Event) (end : ℕ) → IsWhole t script events end → (Rose old.read_faults new.read_faults → ⊥)
       → (Rose old.write_faults new.write_faults → ⊥) → (outcome : Outcome) → IsRun show t o old new outcome → IsOrMemory outcome Done
@@ -160,13 +124,4 @@ module _ (show : Shown) (t : Tables) (o : Object) (old new : Streams) (script : 
   whole_run events end whole quiet still Read run = absurd (quiet run.0)
   whole_run events end whole quiet still Write run = absurd (still run.0)
   whole_run events end whole quiet still Memory run = inr refl
-  whole_run events end whole quiet still Usage run = absurd run
-  whole_run events end whole quiet still (Platform f) run = absurd run
-  whole_run events end whole quiet still Task run = absurd run
-  whole_run events end whole quiet still (Log f) run = absurd run
-  whole_run events end whole quiet still (Patch f) run = absurd run
-  whole_run events end whole quiet still (Source g) run = absurd run
-  whole_run events end whole quiet still (IllFormed g) run = absurd run
-  whole_run events end whole quiet still (Unschedulable sel a b demand) run = absurd run
-  whole_run events end whole quiet still (Refused g) run = absurd run
-  whole_run events end whole quiet still (Shelf cause) run = absurd run
+  whole_run events end whole quiet still _ run = absurd run

@@ -73,10 +73,6 @@ module _ (shelf : Files) (old new : Streams) where
   task_cause (Some (Go name)) call = elim call [ inl p ↦ p.has.fact | inr s ↦ s.0 ]
   task_cause (Some Compile) call = call
   task_cause (Some (CompileWith file)) call = call
-  task_cause (Some (Run show name)) call = elim call [ inl a ↦ a.fact | inr s ↦ s.0 ]
-  task_cause (Some (Check name)) call = elim call [ inl a ↦ a.fact | inr s ↦ s.0 ]
-  task_cause (Some (Plan name)) call = elim call [ inl a ↦ a.fact | inr s ↦ s.0 ]
-  task_cause (Some (Show name)) call = elim call [ inl a ↦ a.fact | inr s ↦ s.0 ]
   task_cause (Some (Bulk n)) call = call
   task_cause (Some (Audit name log)) call = auditing.no_task name log shelf old new call
   task_cause (Some (Patch name unit mode donor)) call = patching.no_task unit mode (Some name) (Some donor) shelf old new call
@@ -85,3 +81,4 @@ module _ (shelf : Files) (old new : Streams) where
         objects.IsAcceptedFile-map (Some name) shelf.holds (λ o. IsSlacked owner task o old new Task) (λ o. NamesNoTask o.tables owner task) (λ o d. d.1.0) a
     | inr s ↦ absurd s.0
   ]
+  task_cause _ call = elim call [ inl a ↦ a.fact | inr s ↦ s.0 ]

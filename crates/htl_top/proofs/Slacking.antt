@@ -56,35 +56,15 @@ module _ (owner name : List ℕ) where
   slack_only o old new Done answer = tt
   slack_only o old new Write answer = tt
   slack_only o old new Task answer = tt
-  slack_only o old new (Log f) answer = absurd answer.1
-  slack_only o old new (Patch f) answer = absurd answer.1
   slack_only o old new Memory answer = tt
-  slack_only o old new Usage answer = absurd answer.1
-  slack_only o old new (Platform f) answer = absurd answer.1
-  slack_only o old new (Source f) answer = absurd answer.1
-  slack_only o old new (IllFormed f) answer = absurd answer.1
-  slack_only o old new (Unschedulable sel a b demand) answer = absurd answer.1
-  slack_only o old new (Refused f) answer = absurd answer.1
-  slack_only o old new (Script f) answer = absurd answer.1
-  slack_only o old new (Shelf cause) answer = absurd answer.1
-  slack_only o old new Read answer = absurd answer.1
+  slack_only o old new _ answer = absurd answer.1
 
   slack_unwritten : (o : Object) (old new : Streams) (outcome : Outcome) → IsSlacked owner name o old new outcome → IsBeforeRun outcome → new.written ≡ old.written
   slack_unwritten o old new Done answer early = absurd early
   slack_unwritten o old new Write answer early = absurd early
   slack_unwritten o old new Task answer early = answer.1.1
-  slack_unwritten o old new (Log f) answer early = absurd answer.1
-  slack_unwritten o old new (Patch f) answer early = absurd answer.1
   slack_unwritten o old new Memory answer early = answer.1
-  slack_unwritten o old new Usage answer early = absurd answer.1
-  slack_unwritten o old new (Platform f) answer early = absurd answer.1
-  slack_unwritten o old new (Source f) answer early = absurd answer.1
-  slack_unwritten o old new (IllFormed f) answer early = absurd answer.1
-  slack_unwritten o old new (Unschedulable sel a b demand) answer early = absurd answer.1
-  slack_unwritten o old new (Refused f) answer early = absurd answer.1
-  slack_unwritten o old new (Script f) answer early = absurd answer.1
-  slack_unwritten o old new (Shelf cause) answer early = absurd answer.1
-  slack_unwritten o old new Read answer early = absurd answer.1
+  slack_unwritten o old new _ answer early = absurd answer.1
 
   pub slacking : IsWork (IsSlacked owner name)
   slacking = record { only = slack_only; unwritten = slack_unwritten; unread = λ o old new answer. answer.0 }
@@ -95,36 +75,16 @@ module _ (owner name : List ℕ) where
   slack_done o old new task Done is still answer = inl refl
   slack_done o old new task Write is still answer = absurd (still answer.1.0)
   slack_done o old new task Task is still answer = absurd (answer.1.0 task is)
-  slack_done o old new task (Log f) is still answer = absurd answer.1
-  slack_done o old new task (Patch f) is still answer = absurd answer.1
   slack_done o old new task Memory is still answer = inr refl
-  slack_done o old new task Usage is still answer = absurd answer.1
-  slack_done o old new task (Platform f) is still answer = absurd answer.1
-  slack_done o old new task (Source f) is still answer = absurd answer.1
-  slack_done o old new task (IllFormed f) is still answer = absurd answer.1
-  slack_done o old new task (Unschedulable sel a b demand) is still answer = absurd answer.1
-  slack_done o old new task (Refused f) is still answer = absurd answer.1
-  slack_done o old new task (Script f) is still answer = absurd answer.1
-  slack_done o old new task (Shelf cause) is still answer = absurd answer.1
-  slack_done o old new task Read is still answer = absurd answer.1
+  slack_done o old new task _ is still answer = absurd answer.1
 
   -- where none has, that is the answer
   pub no_task : (o : Object) (old new : Streams) (outcome : Outcome) → NamesNoTask o.tables owner name → IsSlacked owner name o old new outcome → IsOrMemory outcome Task
   no_task o old new Done none answer = absurd (none answer.1.task answer.1.named)
   no_task o old new Write none answer = absurd (none answer.1.1.task answer.1.1.named)
   no_task o old new Task none answer = inl refl
-  no_task o old new (Log f) none answer = absurd answer.1
-  no_task o old new (Patch f) none answer = absurd answer.1
   no_task o old new Memory none answer = inr refl
-  no_task o old new Usage none answer = absurd answer.1
-  no_task o old new (Platform f) none answer = absurd answer.1
-  no_task o old new (Source f) none answer = absurd answer.1
-  no_task o old new (IllFormed f) none answer = absurd answer.1
-  no_task o old new (Unschedulable sel a b demand) none answer = absurd answer.1
-  no_task o old new (Refused f) none answer = absurd answer.1
-  no_task o old new (Script f) none answer = absurd answer.1
-  no_task o old new (Shelf cause) none answer = absurd answer.1
-  no_task o old new Read none answer = absurd answer.1
+  no_task o old new _ none answer = absurd answer.1
 
   -- an accepted object was had, and its answer told
   pub IsSlackOnObject-opened : (file : Option (List ℕ)) (shelf : Files) (old new : Option (List ℕ)) (before now : ℕ) (loaded : Object) (given outcome : Outcome) → outcome ≡ given

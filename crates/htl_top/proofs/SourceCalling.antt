@@ -47,18 +47,8 @@ module _ (shelf : Files) (old new : Streams) where
 
   pub of_source : (command : Option Command) (word : List ℕ) (outcome : Outcome) → source_of command ≡ Some word → IsCall command shelf old new outcome
       → IsGoing (source_of command) shelf old new outcome
-  of_source None word outcome named call = absurd (some_not_none (List ℕ) None word named refl)
   of_source (Some (Go name)) word outcome named call = call
-  of_source (Some Compile) word outcome named call = absurd (some_not_none (List ℕ) None word named refl)
-  of_source (Some (CompileWith file)) word outcome named call = absurd (some_not_none (List ℕ) None word named refl)
-  of_source (Some (Run show name)) word outcome named call = absurd (some_not_none (List ℕ) None word named refl)
-  of_source (Some (Check name)) word outcome named call = absurd (some_not_none (List ℕ) None word named refl)
-  of_source (Some (Plan name)) word outcome named call = absurd (some_not_none (List ℕ) None word named refl)
-  of_source (Some (Show name)) word outcome named call = absurd (some_not_none (List ℕ) None word named refl)
-  of_source (Some (Slack name owner task)) word outcome named call = absurd (some_not_none (List ℕ) None word named refl)
-  of_source (Some (Audit name log)) word outcome named call = absurd (some_not_none (List ℕ) None word named refl)
-  of_source (Some (Patch name unit mode donor)) word outcome named call = absurd (some_not_none (List ℕ) None word named refl)
-  of_source (Some (Bulk n)) word outcome named call = absurd (some_not_none (List ℕ) None word named refl)
+  of_source _ word outcome named call = absurd (some_not_none (List ℕ) None word named refl)
 
   pub long_file : (command : Option Command) (bytes : List ℕ) (outcome : Outcome) → IsGiven (source_of command) shelf.holds shelf.before shelf.after bytes
       → IsCall command shelf old new outcome → 1048576 < length bytes → IsOrMemory outcome (Shelf (TooLong (length bytes)))
@@ -186,18 +176,8 @@ module _ (shelf : Files) (old new : Streams) where
   -- the command names the platform file that is given
   of_platform : (command : Option Command) (word : List ℕ) (outcome : Outcome) → platform_file command ≡ Some word → IsCall command shelf old new outcome
       → IsCompilingOn (platform_file command) shelf old new outcome
-  of_platform None word outcome named call = absurd (some_not_none (List ℕ) None word named refl)
-  of_platform (Some (Go name)) word outcome named call = absurd (some_not_none (List ℕ) None word named refl)
-  of_platform (Some Compile) word outcome named call = absurd (some_not_none (List ℕ) None word named refl)
   of_platform (Some (CompileWith file)) word outcome named call = call
-  of_platform (Some (Run show name)) word outcome named call = absurd (some_not_none (List ℕ) None word named refl)
-  of_platform (Some (Check name)) word outcome named call = absurd (some_not_none (List ℕ) None word named refl)
-  of_platform (Some (Plan name)) word outcome named call = absurd (some_not_none (List ℕ) None word named refl)
-  of_platform (Some (Show name)) word outcome named call = absurd (some_not_none (List ℕ) None word named refl)
-  of_platform (Some (Slack name owner task)) word outcome named call = absurd (some_not_none (List ℕ) None word named refl)
-  of_platform (Some (Audit name log)) word outcome named call = absurd (some_not_none (List ℕ) None word named refl)
-  of_platform (Some (Patch name unit mode donor)) word outcome named call = absurd (some_not_none (List ℕ) None word named refl)
-  of_platform (Some (Bulk n)) word outcome named call = absurd (some_not_none (List ℕ) None word named refl)
+  of_platform _ word outcome named call = absurd (some_not_none (List ℕ) None word named refl)
 
   pub long_platform : (command : Option Command) (outcome : Outcome) → IsCall command shelf old new outcome → (file : List ℕ)
       → IsGiven (platform_file command) shelf.holds shelf.before shelf.after file → 1048576 < length file → IsOrMemory outcome (Shelf (TooLong (length file)))

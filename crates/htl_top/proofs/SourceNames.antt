@@ -92,8 +92,7 @@ type_passed bool h = h.1
 const_passed : {ts rest : List Placed} {c : ConstNode} → SpellsConst ts c rest → Fit ts → Fit rest
 const_passed positive h = h.1
 const_passed negative h = h.1.1
-const_passed true_const h = h.1
-const_passed false_const h = h.1
+const_passed _ h = h.1
 
 comm_spelled : {ts rest : List Placed} {c : CommNode} → SpellsComm ts c rest → Fit ts → IsNamed c.name × Fit rest
 comm_spelled (communicator t c) h = let head = type_passed t h.1 in (head.0, (const_passed c head.1.1.1.1).1)
@@ -112,12 +111,9 @@ expr_passed (unary x) h = expr_passed x h
 expr_passed (multiply x is y) h = expr_passed y (expr_passed x h).1
 expr_passed (atom x) h = expr_passed x h
 expr_passed (prefix is x) h = expr_passed x h.1
-expr_passed number h = h.1
-expr_passed true_word h = h.1
-expr_passed false_word h = h.1
-expr_passed name h = h.1
 expr_passed (brackets x) h = (expr_passed x h.1).1
 expr_passed (choice x y z) h = (expr_passed z (expr_passed y (expr_passed x h.1.1).1).1).1
+expr_passed _ h = h.1
 
 param_passed : {ts rest : List Placed} {p : ParamNode} → SpellsParam ts p rest → Fit ts → Fit rest
 param_passed (param t) h = (type_passed t h).1

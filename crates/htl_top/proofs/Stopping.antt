@@ -26,20 +26,17 @@ pub IsNotCompiled-unbuilt : (bytes : List ℕ) (u : Tables) (s : SourceStop) →
 IsNotCompiled-unbuilt bytes u s short front h = subst (IsNotCompiled bytes) (sym h.is) (by_fault bytes u h.fault short front h.has)
 
 pub IsNotCompiled-unread : (bytes : List ℕ) (s : SourceStop) → IsUnread bytes s → IsNotCompiled bytes s
-IsNotCompiled-unread bytes (stop.Fault f) h = h
-IsNotCompiled-unread bytes (stop.Platform f) h = h
 IsNotCompiled-unread bytes (stop.IllFormed f tables) h = absurd h
 IsNotCompiled-unread bytes (stop.Unschedulable sel a b demand) h = absurd h
 IsNotCompiled-unread bytes stop.Memory h = tt
+IsNotCompiled-unread bytes _ h = h
 
 -- ---- for a platform
 
 pub IsNotCompiledOn-unread : (bytes file : List ℕ) (s : SourceStop) → IsUnread bytes s → IsNotCompiledOn bytes file s
 IsNotCompiledOn-unread bytes file (stop.Fault f) h = h
-IsNotCompiledOn-unread bytes file (stop.Platform f) h = absurd h
-IsNotCompiledOn-unread bytes file (stop.IllFormed f tables) h = absurd h
-IsNotCompiledOn-unread bytes file (stop.Unschedulable sel a b demand) h = absurd h
 IsNotCompiledOn-unread bytes file stop.Memory h = tt
+IsNotCompiledOn-unread bytes file _ h = absurd h
 
 module _ (bytes file : List ℕ) (u v : Tables) (name : List ℕ) (short : length bytes ≤ 1048576) (front : IsFront bytes u) (on : IsOn u file v name) where
   by_fault_on : (f : BackFault) → IsBackFault v f → IsNotCompiledOn bytes file (stop_of v f)

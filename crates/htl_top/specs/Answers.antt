@@ -47,47 +47,26 @@ IsWritten text whole old new before now result =
 abbrev pub IsOfReading : LogKind → Type 0
 IsOfReading kind.Form = Unit {0}
 IsOfReading kind.Unknown = Unit {0}
-IsOfReading kind.Order = ⊥
-IsOfReading kind.Outside = ⊥
-IsOfReading kind.Over = ⊥
-IsOfReading kind.Before = ⊥
-IsOfReading kind.Short = ⊥
+IsOfReading _ = ⊥
 
 -- answers after which nothing was read
 abbrev pub IsBeforeScript : Outcome → Type 0
-IsBeforeScript Usage = Unit {0}
-IsBeforeScript (Platform f) = Unit {0}
-IsBeforeScript Task = Unit {0}
 IsBeforeScript (Log f) = IsOfReading f.kind
-IsBeforeScript (Patch f) = Unit {0}
-IsBeforeScript (Shelf cause) = Unit {0}
-IsBeforeScript (Source fault) = Unit {0}
-IsBeforeScript (IllFormed fault) = Unit {0}
-IsBeforeScript (Unschedulable sel a b demand) = Unit {0}
-IsBeforeScript (Object fault) = Unit {0}
 IsBeforeScript Done = ⊥
 IsBeforeScript (Script fault) = ⊥
 IsBeforeScript Read = ⊥
 IsBeforeScript Write = ⊥
 IsBeforeScript Memory = ⊥
+IsBeforeScript _ = Unit {0}
 
 -- answers after which nothing was written, whatever the command
 abbrev pub IsBeforeRun : Outcome → Type 0
-IsBeforeRun Usage = Unit {0}
-IsBeforeRun (Platform f) = Unit {0}
-IsBeforeRun Task = Unit {0}
 IsBeforeRun (Log f) = IsOfReading f.kind
-IsBeforeRun (Patch f) = Unit {0}
-IsBeforeRun (Shelf cause) = Unit {0}
-IsBeforeRun (Source fault) = Unit {0}
-IsBeforeRun (IllFormed fault) = Unit {0}
-IsBeforeRun (Unschedulable sel a b demand) = Unit {0}
-IsBeforeRun (Object fault) = Unit {0}
-IsBeforeRun Memory = Unit {0}
 IsBeforeRun Done = ⊥
 IsBeforeRun (Script fault) = ⊥
 IsBeforeRun Read = ⊥
 IsBeforeRun Write = ⊥
+IsBeforeRun _ = Unit {0}
 
 -- ---- the counts of faults
 

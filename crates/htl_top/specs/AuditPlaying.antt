@@ -39,15 +39,4 @@ abbrev pub IsConcluded : Tables → List Event → ℕ → List Slice → Option
 IsConcluded t es end log old new before now Done = (first_fault t es end log ≡ None) × (new ≡ append_known old (audited_text t es end log))
 IsConcluded t es end log old new before now Write = Rose before now × (first_fault t es end log ≡ None) × AppendsPrefix old new (audited_text t es end log)
 IsConcluded t es end log old new before now (Log f) = (first_fault t es end log ≡ Some f) × (new ≡ old)
-IsConcluded t es end log old new before now Usage = ⊥
-IsConcluded t es end log old new before now (Unpatched f) = ⊥
-IsConcluded t es end log old new before now (Platform f) = ⊥
-IsConcluded t es end log old new before now Task = ⊥
-IsConcluded t es end log old new before now (Source f) = ⊥
-IsConcluded t es end log old new before now (IllFormed f) = ⊥
-IsConcluded t es end log old new before now (Unschedulable sel a b demand) = ⊥
-IsConcluded t es end log old new before now (Refused f) = ⊥
-IsConcluded t es end log old new before now (Faulty f) = ⊥
-IsConcluded t es end log old new before now (Shelf cause) = ⊥
-IsConcluded t es end log old new before now Read = ⊥
-IsConcluded t es end log old new before now Memory = ⊥
+IsConcluded t es end log old new before now _ = ⊥

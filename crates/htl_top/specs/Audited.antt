@@ -95,15 +95,7 @@ IsAuditRun log o old new (Faulty f) = IsFaultyRun Values o.tables o old.rest old
 IsAuditRun log o old new Read = Rose old.read_faults new.read_faults × IsCutAudit o log old.rest old.written new.written
 IsAuditRun log o old new Write = Rose old.write_faults new.write_faults × IsCutAudit o log old.rest old.written new.written
 IsAuditRun log o old new Memory = IsUntouched old new
-IsAuditRun log o old new Usage = ⊥
-IsAuditRun log o old new (Unpatched f) = ⊥
-IsAuditRun log o old new (Platform f) = ⊥
-IsAuditRun log o old new Task = ⊥
-IsAuditRun log o old new (Source f) = ⊥
-IsAuditRun log o old new (IllFormed f) = ⊥
-IsAuditRun log o old new (Unschedulable sel a b demand) = ⊥
-IsAuditRun log o old new (Refused f) = ⊥
-IsAuditRun log o old new (Shelf cause) = ⊥
+IsAuditRun log o old new _ = ⊥
 
 -- ---- the bytes of a log
 
@@ -111,19 +103,7 @@ IsAuditRun log o old new (Shelf cause) = ⊥
 abbrev pub IsLogRefused : Tables → List ℕ → Outcome → Type 0
 IsLogRefused t bytes (Log f) = log_of t bytes ≡ RefusedLog f.line f.kind
 IsLogRefused t bytes Memory = Unit {0}
-IsLogRefused t bytes Done = ⊥
-IsLogRefused t bytes Usage = ⊥
-IsLogRefused t bytes (Unpatched f) = ⊥
-IsLogRefused t bytes (Platform f) = ⊥
-IsLogRefused t bytes Task = ⊥
-IsLogRefused t bytes (Source f) = ⊥
-IsLogRefused t bytes (IllFormed f) = ⊥
-IsLogRefused t bytes (Unschedulable sel a b demand) = ⊥
-IsLogRefused t bytes (Refused f) = ⊥
-IsLogRefused t bytes (Faulty f) = ⊥
-IsLogRefused t bytes (Shelf cause) = ⊥
-IsLogRefused t bytes Read = ⊥
-IsLogRefused t bytes Write = ⊥
+IsLogRefused t bytes _ = ⊥
 
 -- They are a log, which is audited; or they are refused, nothing was read and nothing written.
 abbrev pub IsAuditOf : List ℕ → Object → Streams → Streams → Outcome → Type 0
@@ -150,14 +130,4 @@ IsLogFault bytes o old new f =
 -- The command audits a log for an accepted object, and the log has this fault.
 abbrev pub IsLogCause : Option Command → Option Holdings → Streams → Streams → LogFault → Type 0
 IsLogCause (Some (Audit name log)) holds old new f = IsAcceptedFile (Some name) holds (λ o. IsFileOf (Some log) holds (λ bytes. IsLogFault bytes o old new f))
-IsLogCause (Some (Go name)) holds old new f = ⊥
-IsLogCause (Some Compile) holds old new f = ⊥
-IsLogCause (Some (CompileWith platform)) holds old new f = ⊥
-IsLogCause (Some (Run show name)) holds old new f = ⊥
-IsLogCause (Some (Check name)) holds old new f = ⊥
-IsLogCause (Some (Plan name)) holds old new f = ⊥
-IsLogCause (Some (Show name)) holds old new f = ⊥
-IsLogCause (Some (Bulk n)) holds old new f = ⊥
-IsLogCause (Some (Slack name owner task)) holds old new f = ⊥
-IsLogCause (Some (Patch name unit mode donor)) holds old new f = ⊥
-IsLogCause None holds old new f = ⊥
+IsLogCause _ holds old new f = ⊥

@@ -39,30 +39,19 @@ IsCall (Some (Patch name unit mode donor)) shelf old new outcome = IsPatching un
 -- The source that a command compiles has tables whose functions are typed, and the fact holds of them, with the worst cases of the
 -- platform where one is named; or the fact holds of the tables with a donor's refinement.
 abbrev pub HasSource : Option Command → Option Holdings → Option (List ℕ) → (Tables → Type 0) → Type 0
-HasSource None holds rest Fact = ⊥
 HasSource (Some (Go name)) holds rest Fact = IsTypedProgram (Some name) holds Fact
 HasSource (Some Compile) holds rest Fact = IsTypedInput rest Fact
 HasSource (Some (CompileWith platform)) holds rest Fact = IsTypedOn (Some platform) holds rest Fact
-HasSource (Some (Run show name)) holds rest Fact = ⊥
-HasSource (Some (Check name)) holds rest Fact = ⊥
-HasSource (Some (Plan name)) holds rest Fact = ⊥
-HasSource (Some (Show name)) holds rest Fact = ⊥
-HasSource (Some (Bulk n)) holds rest Fact = ⊥
-HasSource (Some (Slack name owner task)) holds rest Fact = ⊥
-HasSource (Some (Audit name log)) holds rest Fact = ⊥
 HasSource (Some (Patch name unit mode donor)) holds rest Fact = IsPatchedTables name unit mode donor holds Fact
+HasSource _ holds rest Fact = ⊥
 
 -- The object that a command is about has tables of which the fact holds.
 abbrev pub HasObject : Option Command → Option Holdings → (Tables → Type 0) → Type 0
-HasObject None holds Fact = ⊥
-HasObject (Some (Go name)) holds Fact = ⊥
-HasObject (Some Compile) holds Fact = ⊥
-HasObject (Some (CompileWith platform)) holds Fact = ⊥
 HasObject (Some (Run show name)) holds Fact = IsObjectTables (Some name) holds Fact
 HasObject (Some (Check name)) holds Fact = IsObjectTables (Some name) holds Fact
 HasObject (Some (Plan name)) holds Fact = IsObjectTables (Some name) holds Fact
 HasObject (Some (Show name)) holds Fact = IsObjectTables (Some name) holds Fact
-HasObject (Some (Bulk n)) holds Fact = ⊥
 HasObject (Some (Slack name owner task)) holds Fact = IsObjectTables (Some name) holds Fact
 HasObject (Some (Audit name log)) holds Fact = IsObjectTables (Some name) holds Fact
 HasObject (Some (Patch name unit mode donor)) holds Fact = IsObjectTables (Some name) holds Fact
+HasObject _ holds Fact = ⊥

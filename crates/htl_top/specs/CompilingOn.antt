@@ -46,34 +46,21 @@ IsCompilingOn name shelf old new (Shelf (TooLong seen)) = IsLongFile MAX_SOURCE 
 IsCompilingOn name shelf old new Read = HasFile name shelf.holds × Rose old.read_faults new.read_faults × (new.written ≡ old.written)
 IsCompilingOn name shelf old new (Source f) = IsInputFaultOn name shelf.holds old.rest (on.Compile (compile.Source f)) × (new.written ≡ old.written)
 IsCompilingOn name shelf old new (Platform f) = IsFaultyOn name shelf.holds old.rest (on.Platform f) × (new.written ≡ old.written)
-IsCompilingOn name shelf old new Task = ⊥
-IsCompilingOn name shelf old new (Log f) = ⊥
-IsCompilingOn name shelf old new (Unpatched f) = ⊥
 IsCompilingOn name shelf old new (IllFormed f) = IsInputFaultOn name shelf.holds old.rest (on.Compile (compile.IllFormed f)) × (new.written ≡ old.written)
 IsCompilingOn name shelf old new (Unschedulable sel a b demand) =
     IsInputFaultOn name shelf.holds old.rest (on.Compile (compile.Unschedulable sel a b demand)) × (new.written ≡ old.written)
 IsCompilingOn name shelf old new Memory = new.written ≡ old.written
-IsCompilingOn name shelf old new Usage = ⊥
-IsCompilingOn name shelf old new (Object f) = ⊥
-IsCompilingOn name shelf old new (Script f) = ⊥
+IsCompilingOn name shelf old new _ = ⊥
 
 -- ---- of a command
 
 -- Why no object is built of the source that a command compiles: it is that of a file, or the input, which may be compiled
 -- for a platform.
 abbrev pub IsCompileCause : Option Command → Option Holdings → Option (List ℕ) → CompileFault → Type 0
-IsCompileCause None holds rest f = ⊥
 IsCompileCause (Some (Go name)) holds rest f = IsFaultyProgram (Some name) holds f
 IsCompileCause (Some Compile) holds rest f = IsInputFault rest f
 IsCompileCause (Some (CompileWith platform)) holds rest f = IsInputFaultOn (Some platform) holds rest (on.Compile f)
-IsCompileCause (Some (Run show name)) holds rest f = ⊥
-IsCompileCause (Some (Check name)) holds rest f = ⊥
-IsCompileCause (Some (Plan name)) holds rest f = ⊥
-IsCompileCause (Some (Show name)) holds rest f = ⊥
-IsCompileCause (Some (Bulk n)) holds rest f = ⊥
-IsCompileCause (Some (Slack name owner task)) holds rest f = ⊥
-IsCompileCause (Some (Audit name log)) holds rest f = ⊥
-IsCompileCause (Some (Patch name unit mode donor)) holds rest f = ⊥
+IsCompileCause _ holds rest f = ⊥
 
 -- The first fault of the platform file that a command compiles for: the source has none.
 abbrev pub IsPlatformCause : Option Command → Option Holdings → Option (List ℕ) → PlatformFault → Type 0

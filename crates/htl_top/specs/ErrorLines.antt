@@ -17,19 +17,8 @@ use Rattle.htl_top.specs.declared.outcome.Outcome.TheVariants.{Done, Usage, Sour
 abbrev pub SpeaksOf : ((Tables → Type 0) → Type 0) → ((Tables → Type 0) → Type 0) → Outcome → Option Tables → Type 0
 SpeaksOf HasSource HasObject (IllFormed f) tables = HasSource (λ t. tables ≡ Some (coded t))
 SpeaksOf HasSource HasObject (Object f) tables = SpeaksOfObject HasObject f tables
-SpeaksOf HasSource HasObject Done tables = Unit {0}
-SpeaksOf HasSource HasObject Usage tables = Unit {0}
-SpeaksOf HasSource HasObject (Platform f) tables = Unit {0}
-SpeaksOf HasSource HasObject Task tables = Unit {0}
-SpeaksOf HasSource HasObject (Log f) tables = Unit {0}
 SpeaksOf HasSource HasObject (Patch f) tables = SpeaksOfPatch HasSource f tables
-SpeaksOf HasSource HasObject (Source f) tables = Unit {0}
-SpeaksOf HasSource HasObject (Unschedulable sel a b demand) tables = Unit {0}
-SpeaksOf HasSource HasObject (Script f) tables = Unit {0}
-SpeaksOf HasSource HasObject (Shelf cause) tables = Unit {0}
-SpeaksOf HasSource HasObject Read tables = Unit {0}
-SpeaksOf HasSource HasObject Write tables = Unit {0}
-SpeaksOf HasSource HasObject Memory tables = Unit {0}
+SpeaksOf HasSource HasObject _ tables = Unit {0}
 
 -- The line of a fault of an object was told. Where it breaks a form rule, the line has names of its tables.
 abbrev pub IsFaultTold : ((Tables → Type 0) → Type 0) → (List ℕ → Type 0) → ObjectFault → Type 0

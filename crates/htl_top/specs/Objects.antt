@@ -31,10 +31,7 @@ pub record HasObjectTables (bytes : List ℕ) (Fact : Tables → Type 0) : Type 
 -- The tables that the line of a fault speaks of: those of the object, where they break a form rule.
 abbrev pub SpeaksOfObject : ((Tables → Type 0) → Type 0) → ObjectFault → Option Tables → Type 0
 SpeaksOfObject HasObject (fault.IllFormed f) tables = HasObject (λ t. tables ≡ Some t)
-SpeaksOfObject HasObject (fault.Malformed m) tables = Unit {0}
-SpeaksOfObject HasObject (fault.Function k) tables = Unit {0}
-SpeaksOfObject HasObject (fault.ECode e) tables = Unit {0}
-SpeaksOfObject HasObject (fault.Schedule sel m) tables = Unit {0}
+SpeaksOfObject HasObject _ tables = Unit {0}
 
 -- what reading bytes as an accepted object answers
 abbrev pub IsObjectRead : List ℕ → Result Object ObjectStop → Type 0
@@ -80,18 +77,7 @@ IsStopped name shelf (Refused f) = IsRefusedFile name shelf.holds f
 IsStopped name shelf (Shelf Failed) = IsFaultOf name shelf.before shelf.after
 IsStopped name shelf (Shelf (TooLong seen)) = IsLongFile MAX_OBJECT name shelf.holds seen
 IsStopped name shelf Memory = Unit {0}
-IsStopped name shelf Done = ⊥
-IsStopped name shelf Usage = ⊥
-IsStopped name shelf (Platform f) = ⊥
-IsStopped name shelf Task = ⊥
-IsStopped name shelf (Log f) = ⊥
-IsStopped name shelf (Patch f) = ⊥
-IsStopped name shelf (Source f) = ⊥
-IsStopped name shelf (IllFormed f) = ⊥
-IsStopped name shelf (Unschedulable sel a b demand) = ⊥
-IsStopped name shelf (Script f) = ⊥
-IsStopped name shelf Read = ⊥
-IsStopped name shelf Write = ⊥
+IsStopped name shelf _ = ⊥
 
 -- what is done with an accepted object, before and after, and the answer
 abbrev pub Work : Type 1
@@ -106,19 +92,7 @@ IsOnObject Does name shelf old new outcome =
 abbrev pub IsTextAnswer : List ℕ → Streams → Streams → Outcome → Type 0
 IsTextAnswer text old new Done = (new.rest ≡ old.rest) × (new.written ≡ append_known old.written text)
 IsTextAnswer text old new Write = (new.rest ≡ old.rest) × Rose old.write_faults new.write_faults × AppendsPrefix old.written new.written text
-IsTextAnswer text old new Usage = ⊥
-IsTextAnswer text old new (Platform f) = ⊥
-IsTextAnswer text old new Task = ⊥
-IsTextAnswer text old new (Log f) = ⊥
-IsTextAnswer text old new (Patch f) = ⊥
-IsTextAnswer text old new (Source f) = ⊥
-IsTextAnswer text old new (IllFormed f) = ⊥
-IsTextAnswer text old new (Unschedulable sel a b demand) = ⊥
-IsTextAnswer text old new (Refused f) = ⊥
-IsTextAnswer text old new (Script f) = ⊥
-IsTextAnswer text old new (Shelf cause) = ⊥
-IsTextAnswer text old new Read = ⊥
-IsTextAnswer text old new Memory = ⊥
+IsTextAnswer text old new _ = ⊥
 
 -- A command wrote a text of an accepted object; or none was had, and nothing was written.
 abbrev pub IsTextOnObject : (Object → List ℕ) → Option (List ℕ) → Files → Option (List ℕ) → Option (List ℕ) → ℕ → ℕ → Outcome → Type 0

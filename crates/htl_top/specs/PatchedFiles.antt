@@ -76,13 +76,7 @@ IsPatchedTables name unit mode donor holds Fact = AreFilesOf (Some name) (Some d
 -- the tables that the line of a fault speaks of: the new ones, where they break a form rule
 abbrev pub SpeaksOfPatch : ((Tables → Type 0) → Type 0) → PatchFault → Option Tables → Type 0
 SpeaksOfPatch HasNew (fault.IllFormed f) tables = HasNew (λ t. tables ≡ Some t)
-SpeaksOfPatch HasNew (fault.Malformed m) tables = Unit {0}
-SpeaksOfPatch HasNew fault.Mode tables = Unit {0}
-SpeaksOfPatch HasNew (fault.Comms place) tables = Unit {0}
-SpeaksOfPatch HasNew (fault.Parent inv) tables = Unit {0}
-SpeaksOfPatch HasNew (fault.Twice unit) tables = Unit {0}
-SpeaksOfPatch HasNew (fault.Limit which count) tables = Unit {0}
-SpeaksOfPatch HasNew (fault.Function k) tables = Unit {0}
+SpeaksOfPatch HasNew _ tables = Unit {0}
 
 -- ---- the answers
 
@@ -97,17 +91,7 @@ IsDonorTold o unit mode bytes old new before now Done = HasPatch o unit mode byt
 IsDonorTold o unit mode bytes old new before now Write = Rose before now × HasPatch o unit mode bytes (λ p. AppendsPrefix old new (object_bytes p))
 IsDonorTold o unit mode bytes old new before now (Unpatched f) = IsDonorFault o unit mode bytes f × (new ≡ old)
 IsDonorTold o unit mode bytes old new before now Memory = new ≡ old
-IsDonorTold o unit mode bytes old new before now Usage = ⊥
-IsDonorTold o unit mode bytes old new before now (Platform f) = ⊥
-IsDonorTold o unit mode bytes old new before now Task = ⊥
-IsDonorTold o unit mode bytes old new before now (Log f) = ⊥
-IsDonorTold o unit mode bytes old new before now (Source f) = ⊥
-IsDonorTold o unit mode bytes old new before now (IllFormed f) = ⊥
-IsDonorTold o unit mode bytes old new before now (Unschedulable sel a b demand) = ⊥
-IsDonorTold o unit mode bytes old new before now (Refused f) = ⊥
-IsDonorTold o unit mode bytes old new before now (Script f) = ⊥
-IsDonorTold o unit mode bytes old new before now (Shelf cause) = ⊥
-IsDonorTold o unit mode bytes old new before now Read = ⊥
+IsDonorTold o unit mode bytes old new before now _ = ⊥
 
 -- Both files were had, and the donor's refinement was taken over or not; or they weren't, and nothing was written.
 abbrev pub IsPatchOfFiles : List ℕ → List ℕ → Option (List ℕ) → Option (List ℕ) → Files → Option (List ℕ) → Option (List ℕ) → ℕ → ℕ → Outcome → Type 0
@@ -122,14 +106,4 @@ IsPatching unit mode name donor shelf old new outcome =
 -- The command replaces a refinement of an accepted object by that of a donor's file, which isn't taken over for this fault.
 abbrev pub IsPatchCause : Option Command → Option Holdings → PatchFault → Type 0
 IsPatchCause (Some (Patch name unit mode donor)) holds f = AreFilesOf (Some name) (Some donor) holds (λ o bytes. IsDonorFault o unit mode bytes f)
-IsPatchCause (Some (Go name)) holds f = ⊥
-IsPatchCause (Some Compile) holds f = ⊥
-IsPatchCause (Some (CompileWith platform)) holds f = ⊥
-IsPatchCause (Some (Run show name)) holds f = ⊥
-IsPatchCause (Some (Check name)) holds f = ⊥
-IsPatchCause (Some (Plan name)) holds f = ⊥
-IsPatchCause (Some (Show name)) holds f = ⊥
-IsPatchCause (Some (Bulk n)) holds f = ⊥
-IsPatchCause (Some (Slack name owner task)) holds f = ⊥
-IsPatchCause (Some (Audit name log)) holds f = ⊥
-IsPatchCause None holds f = ⊥
+IsPatchCause _ holds f = ⊥

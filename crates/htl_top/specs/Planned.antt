@@ -106,16 +106,7 @@ IsPlanned o old new (Script f) = IsBadSelection o old.rest f × (new.written ≡
 IsPlanned o old new Read = Rose old.read_faults new.read_faults × (new.written ≡ old.written)
 IsPlanned o old new Write = Rose old.write_faults new.write_faults × IsCutPlan o old.rest old.written new.written
 IsPlanned o old new Memory = IsUntouched old new
-IsPlanned o old new Usage = ⊥
-IsPlanned o old new (Platform f) = ⊥
-IsPlanned o old new Task = ⊥
-IsPlanned o old new (Log f) = ⊥
-IsPlanned o old new (Patch f) = ⊥
-IsPlanned o old new (Source f) = ⊥
-IsPlanned o old new (IllFormed f) = ⊥
-IsPlanned o old new (Unschedulable sel a b demand) = ⊥
-IsPlanned o old new (Refused f) = ⊥
-IsPlanned o old new (Shelf cause) = ⊥
+IsPlanned o old new _ = ⊥
 
 -- ---- the walk
 

@@ -26,9 +26,8 @@ IsNext t reading (event.End to) = (reading ≤ to) × (to ≤ MAX_INSTANT)
 -- what is written then
 abbrev pub text_more : Object → Shown → List Event → Event → List ℕ
 text_more o show told (event.At to) = text_between o told show (reading_of 0 told) to
-text_more o show told (event.Sense c x) = []
-text_more o show told (event.Took i n) = []
 text_more o show told (event.End to) = text_between o told show (reading_of 0 told) (suc to)
+text_more o show told _ = []
 
 -- the machine behind an event: it follows one more, or it is finished
 abbrev pub IsBehind : Seen → List Event → Event → Type 0

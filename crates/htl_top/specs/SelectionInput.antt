@@ -30,11 +30,8 @@ named_mode word unit mode =
     else None
 
 abbrev pub named_by : List (List ℕ) → Option (List ℕ × List ℕ)
-named_by [] = None
-named_by (word ∷ []) = None
-named_by (word ∷ unit ∷ []) = None
 named_by (word ∷ unit ∷ mode ∷ []) = named_mode word unit mode
-named_by (word ∷ unit ∷ mode ∷ more ∷ fields) = None
+named_by _ = None
 
 -- the module with this name
 abbrev pub module_is_named : List ℕ → Module → Bool

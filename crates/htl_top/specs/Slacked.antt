@@ -95,18 +95,8 @@ abbrev pub IsSlackTold : List ℕ → List ℕ → Tables → Option (List ℕ) 
 IsSlackTold owner name t old new before now Done = HasSlack t owner name (λ text. new ≡ append_known old text)
 IsSlackTold owner name t old new before now Write = Rose before now × HasSlack t owner name (λ text. AppendsPrefix old new text)
 IsSlackTold owner name t old new before now Task = NamesNoTask t owner name × (new ≡ old)
-IsSlackTold owner name t old new before now (Log f) = ⊥
-IsSlackTold owner name t old new before now (Unpatched f) = ⊥
 IsSlackTold owner name t old new before now Memory = new ≡ old
-IsSlackTold owner name t old new before now Usage = ⊥
-IsSlackTold owner name t old new before now (Platform f) = ⊥
-IsSlackTold owner name t old new before now (Source f) = ⊥
-IsSlackTold owner name t old new before now (IllFormed f) = ⊥
-IsSlackTold owner name t old new before now (Unschedulable sel a b demand) = ⊥
-IsSlackTold owner name t old new before now (Refused f) = ⊥
-IsSlackTold owner name t old new before now (Script f) = ⊥
-IsSlackTold owner name t old new before now (Shelf cause) = ⊥
-IsSlackTold owner name t old new before now Read = ⊥
+IsSlackTold owner name t old new before now _ = ⊥
 
 -- and nothing is read
 abbrev pub IsSlacked : List ℕ → List ℕ → Work
@@ -121,17 +111,7 @@ IsSlackOnObject owner name file shelf old new before now outcome =
 -- The command asks for the slack of a task of an accepted object, and no task that is invoked in a root module has the names.
 abbrev pub IsTaskCause : Option Command → Option Holdings → Type 0
 IsTaskCause (Some (Slack name owner task)) holds = IsAcceptedFile (Some name) holds (λ o. NamesNoTask o.tables owner task)
-IsTaskCause (Some (Go name)) holds = ⊥
-IsTaskCause (Some Compile) holds = ⊥
-IsTaskCause (Some (CompileWith platform)) holds = ⊥
-IsTaskCause (Some (Run show name)) holds = ⊥
-IsTaskCause (Some (Check name)) holds = ⊥
-IsTaskCause (Some (Plan name)) holds = ⊥
-IsTaskCause (Some (Show name)) holds = ⊥
-IsTaskCause (Some (Bulk n)) holds = ⊥
-IsTaskCause (Some (Audit name log)) holds = ⊥
-IsTaskCause (Some (Patch file unit mode donor)) holds = ⊥
-IsTaskCause None holds = ⊥
+IsTaskCause _ holds = ⊥
 
 -- ---- as the code finds the task
 

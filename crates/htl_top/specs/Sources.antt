@@ -59,10 +59,8 @@ stop_of u back.Memory = stop.Memory
 -- what stops a source alone
 abbrev pub IsUnread : List ℕ → SourceStop → Type 0
 IsUnread bytes (stop.Fault f) = IsSourceFault bytes f
-IsUnread bytes (stop.Platform f) = ⊥
-IsUnread bytes (stop.IllFormed f tables) = ⊥
-IsUnread bytes (stop.Unschedulable sel a b demand) = ⊥
 IsUnread bytes stop.Memory = Unit {0}
+IsUnread bytes _ = ⊥
 
 -- what stops tables with code is a fault of theirs
 pub record IsUnbuiltSource (u : Tables) (s : SourceStop) : Type 0 where
@@ -79,11 +77,8 @@ outcome_of (stop.Platform f) = Platform f
 outcome_of stop.Memory = Memory
 
 abbrev pub tables_of_stop : SourceStop → Option Tables
-tables_of_stop (stop.Fault f) = None
 tables_of_stop (stop.IllFormed f u) = Some u
-tables_of_stop (stop.Unschedulable sel a b demand) = None
-tables_of_stop (stop.Platform f) = None
-tables_of_stop stop.Memory = None
+tables_of_stop _ = None
 
 -- ---- of a file
 

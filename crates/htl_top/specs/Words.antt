@@ -110,9 +110,8 @@ abbrev pub command_of : List (List ℕ) → Option Command
 command_of (word ∷ other ∷ []) = of_two word other
 command_of (first ∷ second ∷ third ∷ []) = of_three first second third
 command_of (first ∷ second ∷ third ∷ fourth ∷ []) = of_four first second third fourth
-command_of (first ∷ second ∷ third ∷ fourth ∷ other ∷ others) = None
 command_of (word ∷ []) = if bytes_eq word (codes "compile") then Some Compile else None
-command_of [] = None
+command_of _ = None
 
 -- the same of words that are lent
 abbrev pub command_in : List (Bor (List ℕ)) → Option Command
@@ -123,62 +122,29 @@ command_in words = command_of (map (λ (word : Bor (List ℕ)). word.now) words)
 -- the source in a file that a command runs
 abbrev pub source_of : Option Command → Option (List ℕ)
 source_of (Some (Go name)) = Some name
-source_of (Some Compile) = None
-source_of (Some (CompileWith platform)) = None
-source_of (Some (Run show name)) = None
-source_of (Some (Check name)) = None
-source_of (Some (Plan name)) = None
-source_of (Some (Show name)) = None
-source_of (Some (Bulk n)) = None
-source_of (Some (Slack name owner task)) = None
-source_of (Some (Audit name log)) = None
-source_of (Some (Patch name unit mode donor)) = None
-source_of None = None
+source_of _ = None
 
 -- the object that a command is about
 abbrev pub command_object : Option Command → Option (List ℕ)
-command_object (Some (Go name)) = None
-command_object (Some Compile) = None
-command_object (Some (CompileWith platform)) = None
 command_object (Some (Run show name)) = Some name
 command_object (Some (Check name)) = Some name
 command_object (Some (Plan name)) = Some name
 command_object (Some (Show name)) = Some name
-command_object (Some (Bulk n)) = None
 command_object (Some (Slack name owner task)) = Some name
 command_object (Some (Audit name log)) = Some name
 command_object (Some (Patch name unit mode donor)) = Some name
-command_object None = None
+command_object _ = None
 
 -- the platform file that a command compiles for
 abbrev pub platform_file : Option Command → Option (List ℕ)
-platform_file (Some (Go name)) = None
-platform_file (Some Compile) = None
 platform_file (Some (CompileWith platform)) = Some platform
-platform_file (Some (Run show name)) = None
-platform_file (Some (Check name)) = None
-platform_file (Some (Plan name)) = None
-platform_file (Some (Show name)) = None
-platform_file (Some (Bulk n)) = None
-platform_file (Some (Slack name owner task)) = None
-platform_file (Some (Audit name log)) = None
-platform_file (Some (Patch name unit mode donor)) = None
-platform_file None = None
+platform_file _ = None
 
 -- the file that a command needs beside an object: a log, or a donor
 abbrev pub second_file : Option Command → Option (List ℕ)
-second_file (Some (Go name)) = None
-second_file (Some Compile) = None
-second_file (Some (CompileWith platform)) = None
-second_file (Some (Run show name)) = None
-second_file (Some (Check name)) = None
-second_file (Some (Plan name)) = None
-second_file (Some (Show name)) = None
-second_file (Some (Bulk n)) = None
-second_file (Some (Slack name owner task)) = None
 second_file (Some (Audit name log)) = Some log
 second_file (Some (Patch name unit mode donor)) = Some donor
-second_file None = None
+second_file _ = None
 
 abbrev pub source_in : List (Bor (List ℕ)) → Option (List ℕ)
 source_in words = source_of (command_in words)
@@ -195,17 +161,9 @@ second_in words = second_file (command_in words)
 -- the commands that run an object, or the audit of one
 abbrev pub RunsObject : Option Command → Type 0
 RunsObject (Some (Go name)) = Unit {0}
-RunsObject (Some Compile) = ⊥
-RunsObject (Some (CompileWith platform)) = ⊥
 RunsObject (Some (Run show name)) = Unit {0}
-RunsObject (Some (Check name)) = ⊥
-RunsObject (Some (Plan name)) = ⊥
-RunsObject (Some (Show name)) = ⊥
-RunsObject (Some (Bulk n)) = ⊥
-RunsObject (Some (Slack name owner task)) = ⊥
 RunsObject (Some (Audit name log)) = Unit {0}
-RunsObject (Some (Patch name unit mode donor)) = ⊥
-RunsObject None = ⊥
+RunsObject _ = ⊥
 
 -- ---- the input
 
@@ -215,14 +173,9 @@ most_taken (Some (Go name)) = MAX_SCRIPT + 4096
 most_taken (Some Compile) = MAX_SOURCE + 4096
 most_taken (Some (CompileWith platform)) = MAX_SOURCE + 4096
 most_taken (Some (Run show name)) = MAX_SCRIPT + 4096
-most_taken (Some (Check name)) = 0
 most_taken (Some (Plan name)) = MAX_SCRIPT + 4096
-most_taken (Some (Show name)) = 0
-most_taken (Some (Bulk n)) = 0
-most_taken (Some (Slack name owner task)) = 0
 most_taken (Some (Audit name log)) = MAX_SCRIPT + 4096
-most_taken (Some (Patch name unit mode donor)) = 0
-most_taken None = 0
+most_taken _ = 0
 
 -- ---- the words as they were read
 
@@ -238,10 +191,5 @@ asked_for (ask.Patch name unit mode donor) = Patch name.now unit mode donor.now
 
 -- the modules that are asked for, where they are, are 1 to 64
 abbrev pub AreFewModules : Asked → Type 0
-AreFewModules ask.Compile = Unit {0}
-AreFewModules (ask.CompileWith platform) = Unit {0}
-AreFewModules (ask.File v name) = Unit {0}
 AreFewModules (ask.Bulk n) = (1 ≤ n) × (n ≤ MAX_MODULES)
-AreFewModules (ask.Slack name owner task) = Unit {0}
-AreFewModules (ask.Audit name log) = Unit {0}
-AreFewModules (ask.Patch name unit mode donor) = Unit {0}
+AreFewModules _ = Unit {0}

@@ -74,15 +74,13 @@ module _ (count period : ℕ) where
 
   -- what departs nowhere and ends in `End` is in form
   pub in_form : (s : List SInstr) → ((k : ℕ) → k < length s → DepartsAt count period s k → ⊥) → slice_get s (length s - 1) ≡ Some End → InForm count period s
-  in_form [] n e = cc
   in_form (End ∷ []) n e = tt
-  in_form (Dispatch p until ∷ []) n e = cc
-  in_form (Idle until ∷ []) n e = cc
   in_form (End ∷ j ∷ is) n e = absurd (n 0 (omega arith) (omega arith))
   in_form (Dispatch p until ∷ j ∷ is) n e =
       (is_step_dispatch p until (n 0 (omega arith)), in_form (j ∷ is) (λ k h d. n (suc k) (omega arith) (departs_shifted (Dispatch p until) (j ∷ is) k h d)) (ends_shifted (Dispatch p until) j is e))
   in_form (Idle until ∷ j ∷ is) n e =
       (is_step_idle until (n 0 (omega arith)), in_form (j ∷ is) (λ k h d. n (suc k) (omega arith) (departs_shifted (Idle until) (j ∷ is) k h d)) (ends_shifted (Idle until) j is e))
+  in_form _ n e = cc
 
 -- a list without departures that doesn't end in `End` departs at its length
 pub departs_at_length : (count period : ℕ) (s : List SInstr) → ((k : ℕ) → k < length s → DepartsAt count period s k → ⊥)
@@ -123,11 +121,10 @@ pub done_in_order : (jobs : List Job) (s : List SInstr) (x : Point) (k p until :
 done_in_order jobs [] x k p until o e = cc
 done_in_order jobs (Dispatch r h ∷ is) x zero p until o e =
     let same : r ≡ p = cc in subst (λ r. AreDone jobs (job_at jobs r) x) same o.0
-done_in_order jobs (Idle h ∷ is) x zero p until o e = cc
-done_in_order jobs (End ∷ is) x zero p until o e = cc
 done_in_order jobs (Dispatch r h ∷ is) x (suc k) p until o e = done_in_order jobs is (next_point jobs (Dispatch r h) x) k p until o.1 e
 done_in_order jobs (Idle h ∷ is) x (suc k) p until o e = done_in_order jobs is (next_point jobs (Idle h) x) k p until o e
 done_in_order jobs (End ∷ is) x (suc k) p until o e = done_in_order jobs is (next_point jobs End x) k p until o e
+done_in_order jobs _ x zero p until o e = cc
 
 -- the instruction that does the last work of a position tells when it finishes
 pub finish_at : (jobs : List Job) (s : List SInstr) (x : Point) (k p : ℕ) (i : SInstr) → slice_get s k ≡ Some i

@@ -27,8 +27,7 @@ ahead_left js ks (Dispatch p h) x y a q =
             a.left q,
           )
     ]
-ahead_left js ks (Idle h) x y a q = a.left q
-ahead_left js ks End x y a q = a.left q
+ahead_left js ks _ x y a q = a.left q
 
 ahead_time : (js ks : List Job) (i : SInstr) (x y : Point) → Ahead js ks x y → (next_point js i x).time ≤ (next_point ks i y).time
 ahead_time js ks (Dispatch p h) x y a =

@@ -33,8 +33,7 @@ orderly_next ks (Dispatch p h) is y o d r q a b =
           let z : get_or y.left q 0 ≡ 0 = o r q (omega arith) b in
           omega (arith, left_falls ks (Dispatch p h) y q)
     ]
-orderly_next ks (Idle h) is y o d r q a b = o r q a b
-orderly_next ks End is y o d r q a b = o r q a b
+orderly_next ks _ is y o d r q a b = o r q a b
 
 module _ (ks : List Job) (busy : (q r : ℕ) → precedes q (job_at ks r) ≡ true → 0 < (job_at ks r).worst) where
   all_done : (y : Point) (q p : ℕ) → IsOrderly ks y → AreDone ks (job_at ks p) y → LeadsTo ks q p → get_or y.left q 0 ≡ 0

@@ -36,8 +36,7 @@ finish_now jobs (Dispatch r h) is x p a e =
           (subst (λ z. finishes_by (get_or x.left z 0) (get_or y.left z 0) ≡ true) (sym q) (finishes_yes _ _ a e)))
       | inr n ↦ absurd (omega (arith, left_other x.left r p (work_after x.time (get_or x.left r 0) (job_at jobs r).release h) n))
     ]
-finish_now jobs (Idle h) is x p a e = absurd (omega arith)
-finish_now jobs End is x p a e = absurd (omega arith)
+finish_now jobs _ is x p a e = absurd (omega arith)
 
 pub finish_later : (jobs : List Job) (i : SInstr) (is : List SInstr) (x : Point) (p : ℕ) →
     (get_or x.left p 0 ≡ 0) ⊎ (0 < get_or (next_point jobs i x).left p 0) → finish (walk_from jobs (i ∷ is) x) p ≡ finish (walk_from jobs is (next_point jobs i x)) p
@@ -51,8 +50,7 @@ finish_later jobs (Dispatch r h) is x p c =
       | inr n ↦ and_left (eqb r p) test (ne_eqb r p n)
     ] in
     ap (λ b. cond b (Some y.time) rest) fact
-finish_later jobs (Idle h) is x p c = refl
-finish_later jobs End is x p c = refl
+finish_later jobs _ is x p c = refl
 
 pub finish_after : (jobs : List Job) (is : List SInstr) (x : Point) (p f : ℕ) → finish (walk_from jobs is x) p ≡ Some f → x.time ≤ f
 finish_after jobs [] x p f e = cc

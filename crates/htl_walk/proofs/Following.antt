@@ -92,12 +92,11 @@ module _ (jobs : List Job) (s : List SInstr) (k : ℕ) (i : SInstr) (at : slice_
 
   -- the miss of instruction k, where nothing went wrong before it, is the first
   pub missed_here : (period : ℕ) (x : Point) (fs : List ℕ) (m : Miss) → InForm (length jobs) period s → IsFollowedTo jobs s k x fs → IsMissAt jobs i k x m → IsFirstMiss jobs period s m
-  missed_here period x fs (miss.Order at) form f d = absurd d
-  missed_here period x fs (miss.Unfinished p left) form f d = absurd d
   missed_here period x fs (miss.Before p q place) form f d =
       before_to jobs s period p q place (walked.missed_here jobs s (first_point jobs (worst_cases jobs)) k i at (length jobs) period x (miss.Before p q place) form (as_walked x fs f) d)
   missed_here period x fs (miss.Late p g window_end) form f d =
       late_miss_to jobs s period p g window_end (walked.missed_here jobs s (first_point jobs (worst_cases jobs)) k i at (length jobs) period x (miss.Late p g window_end) form (as_walked x fs f) d)
+  missed_here period x fs _ form f d = absurd d
 
 -- work that is left at the end
 pub unfinished : (jobs : List Job) (period : ℕ) (s : List SInstr) (x : Point) (fs : List ℕ) (p left : ℕ) → InForm (length jobs) period s → IsFollowedTo jobs s (length s) x fs
@@ -120,13 +119,12 @@ followed_all jobs period s x fs all form f none =
 
 pub known_at : (count period : ℕ) (s : List SInstr) (k : ℕ) (i : SInstr) → InForm count period s → slice_get s k ≡ Some i → IsKnown count i
 known_at count period [] k i f e = cc
-known_at count period (End ∷ []) zero i f e = subst (IsKnown count) (same_Some _ _ e) tt
 known_at count period (End ∷ []) (suc k) i f e = cc
 known_at count period (End ∷ j ∷ is) k i f e = absurd f.0
 known_at count period (Dispatch p until ∷ is) zero i f e = subst (IsKnown count) (same_Some _ _ e) f.0.0
 known_at count period (Dispatch p until ∷ is) (suc k) i f e = known_at count period is k i f.1 e
-known_at count period (Idle until ∷ is) zero i f e = subst (IsKnown count) (same_Some _ _ e) tt
 known_at count period (Idle until ∷ is) (suc k) i f e = known_at count period is k i f.1 e
+known_at count period _ zero i f e = subst (IsKnown count) (same_Some _ _ e) tt
 
 pub worst_filled : (jobs : List Job) (left : List ℕ) → All HasWork jobs → length left ≡ length jobs → ((q : ℕ) → q < length jobs → get_or left q 0 ≡ get_or (worst_cases jobs) q 0)
     → left ≡ work jobs (worst_cases jobs)

@@ -24,12 +24,9 @@ use Rattle.htl_walk.proofs.Starts.{no_place, get_map}
 -- ---- bits
 
 both_bits : (a b : ℕ) → a ≤ 1 → b ≤ 1 → eqb (min a b) 1 ≡ (eqb a 1 && eqb b 1)
-both_bits zero zero l m = refl
-both_bits zero (suc zero) l m = refl
-both_bits (suc zero) zero l m = refl
-both_bits (suc zero) (suc zero) l m = refl
 both_bits (suc (suc a)) b l m = absurd (omega (arith, l))
 both_bits a (suc (suc b)) l m = absurd (omega (arith, m))
+both_bits _ _ l m = refl
 
 pub has_bit_and : (a b q : ℕ) → has_bit (bit_and a b) q ≡ (has_bit a q && has_bit b q)
 has_bit_and a b q = ap (λ n. eqb n 1) (bit_at_and a b q) ∙ both_bits (bit_at a q) (bit_at b q) (omega arith) (omega arith)

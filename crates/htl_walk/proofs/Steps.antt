@@ -51,10 +51,8 @@ left_falls jobs (Dispatch p h) x q =
           (omega (arith, left_same x.left p x.time (job_at jobs p).release h))
       | inr n ↦ omega (arith, left_other x.left p q (work_after x.time (get_or x.left p 0) (job_at jobs p).release h) n)
     ]
-left_falls jobs (Idle h) x q = omega arith
-left_falls jobs End x q = omega arith
+left_falls jobs _ x q = omega arith
 
 pub time_rises : (jobs : List Job) (i : SInstr) (x : Point) → x.time ≤ (next_point jobs i x).time
 time_rises jobs (Dispatch p h) x = time_passes x.time (get_or x.left p 0) (job_at jobs p).release h
-time_rises jobs (Idle h) x = omega arith
-time_rises jobs End x = omega arith
+time_rises jobs _ x = omega arith

@@ -16,20 +16,17 @@ ArePending row left = (q : ℕ) → has_bit row q ≡ ltb 0 (get_or left q 0)
 -- the position of a dispatch is one of so many
 abbrev pub IsKnown : ℕ → SInstr → Type 0
 IsKnown count (Dispatch p until) = p < count
-IsKnown count (Idle until) = Unit {0}
-IsKnown count End = Unit {0}
+IsKnown count _ = Unit {0}
 
 -- the predecessors of the position that is dispatched are done
 abbrev pub IsReady : List Job → SInstr → Point → Type 0
 IsReady jobs (Dispatch p until) x = AreDone jobs (job_at jobs p) x
-IsReady jobs (Idle until) x = Unit {0}
-IsReady jobs End x = Unit {0}
+IsReady jobs _ x = Unit {0}
 
 -- a position that is finished is finished in its window
 abbrev pub IsInTime : List Job → SInstr → Point → Point → Type 0
 IsInTime jobs (Dispatch p until) x y = 0 < get_or x.left p 0 → get_or y.left p 0 ≡ 0 → y.time ≤ (job_at jobs p).end
-IsInTime jobs (Idle until) x y = Unit {0}
-IsInTime jobs End x y = Unit {0}
+IsInTime jobs _ x y = Unit {0}
 
 -- the finish offsets before and after an instruction between these points: that of a position that it finishes is the time after it
 pub record AreFinishesAfter (count : ℕ) (x y : Point) (old new : List ℕ) : Type 0 where
@@ -63,5 +60,4 @@ pub record IsLateAt (jobs : List Job) (i : SInstr) (x : Point) (p f window_end :
 abbrev pub IsMissAt : List Job → SInstr → ℕ → Point → Miss → Type 0
 IsMissAt jobs i k x (miss.Before p q at) = (at ≡ k) × IsBeforeAt jobs i x p q
 IsMissAt jobs i k x (miss.Late p f window_end) = IsLateAt jobs i x p f window_end
-IsMissAt jobs i k x (miss.Unfinished p left) = ⊥
-IsMissAt jobs i k x (miss.Order at) = ⊥
+IsMissAt jobs i k x _ = ⊥

@@ -57,18 +57,15 @@ finishes_by _ _ = false
 
 abbrev pub position_of : SInstr → Option ℕ
 position_of (Dispatch p until) = Some p
-position_of (Idle until) = None
-position_of End = None
+position_of _ = None
 
 abbrev pub slice_of : List Job → SInstr → Point → ℕ → Option (ℕ × ℕ)
 slice_of jobs (Dispatch p until) x to = slice_between (dispatch_begins x.time (job_at jobs p).release until) until (get_or x.left p 0) to
-slice_of jobs (Idle until) x to = None
-slice_of jobs End x to = None
+slice_of jobs _ x to = None
 
 abbrev pub finished_by : SInstr → Point → Point → Bool
 finished_by (Dispatch p until) x y = finishes_by (get_or x.left p 0) (get_or y.left p 0)
-finished_by (Idle until) x y = false
-finished_by End x y = false
+finished_by _ x y = false
 
 -- what is told of an instruction, by the points before and after it
 abbrev pub left_by : List Job → SInstr → Point → Point → Left
