@@ -5,7 +5,7 @@ use Rattle.std.proofs.lemmas.Bool.{eqb-true, ltb-true, ltb-false, lt-ltb, le-ltb
 use Rattle.htl_model.specs.Lists.{all_some, numbered}
 use Rattle.htl_walk.specs.declared.job.Job.{Job}
 use Rattle.htl_walk.specs.declared.schedule.SInstr.{SInstr}
-use Rattle.htl_walk.specs.declared.schedule.SInstr.TheVariants.{Dispatch, Idle, End}
+use Rattle.htl_walk.specs.declared.schedule.SInstr.TheVariants.{Dispatch}
 use Rattle.htl_walk.specs.Walk.{Point, Left, job_at, dispatch_begins, time_after, slice_between, slice_of, slice_onto, position_of, next_point, left_by, walk_from, is_position, slices, finish}
 use Rattle.htl_walk.proofs.Steps.{time_rises, left_falls}
 use Rattle.htl_refine.specs.Records.{shifted}

@@ -17,7 +17,7 @@ use Rattle.htl_console.specs.declared.shown.Shown.{Shown}
 use Rattle.htl_console.specs.Lines.{slice_line}
 use Rattle.htl_console.specs.Shows.{shows_jobs}
 use Rattle.htl_machine.specs.JobLines.{RunLine, printed, text_lines, HasNames}
-use Rattle.htl_machine.specs.JobLines.RunLine.{SliceLine, DoneLine, InstrLine, ChangeLine, StepLine, TotalsLine}
+use Rattle.htl_machine.specs.JobLines.RunLine.{SliceLine}
 use Rattle.htl_machine.specs.Programs.{schedules_of, text_of}
 use Rattle.htl_audit.specs.declared.slice.Slice.{Slice}
 use Rattle.htl_audit.specs.Legal.{first_fault, IsLegal}

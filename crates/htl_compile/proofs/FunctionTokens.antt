@@ -10,7 +10,7 @@ use Rattle.htl_func.specs.Expressions.{or_else, at_fault, first_ill, unless_type
 use Rattle.htl_func.specs.declared.compiler.FnFault.{FnFault}
 use Rattle.htl_func.specs.declared.compiler.FnFault.TheVariants as fn_fault
 use Rattle.htl_model.specs.FunctionTypes.{FunctionType, function_types}
-use Rattle.htl_model.specs.Functions.{Term, Number, Truth, Arg, Unary, Binary, Choose, type_of, type_one, type_two, type_choose}
+use Rattle.htl_model.specs.Functions.{Term, Unary, Binary, Choose, type_of, type_one, type_two, type_choose}
 use Rattle.htl_model.specs.Tables.{Tables, Fun, Formula, Compiled}
 use Rattle.htl_base.proofs.Numbers.{cases_less_same}
 

@@ -8,7 +8,7 @@ use Rattle.htl_names.specs.Order.{modules_at, module_at, tasks_at, modes_at, mod
 use Rattle.htl_names.specs.declared.place.ModeAt.{ModeAt}
 use Rattle.htl_names.specs.declared.place.ModuleAt.{ModuleAt}
 use Rattle.htl_parse.specs.Answers.{Spell}
-use Rattle.htl_text.specs.Expressions.{Expr, Number, Flag, Variable, Prefix, Infix, Choice}
+use Rattle.htl_text.specs.Expressions.{Expr, Prefix, Infix, Choice}
 use Rattle.htl_text.specs.Nodes.{PlainOuts, Concrete, Abstract, PlainSwitch, PlainMode, PlainModule, PlainProgram}
 use Rattle.htl_text.specs.declared.token.Token.{Token}
 use Rattle.htl_text.specs.declared.tree.Id.{Id}

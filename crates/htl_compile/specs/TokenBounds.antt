@@ -1,6 +1,6 @@
 -- Functions whose tokens are tokens of a source.
 use Rattle.std.specs.Prelude.{◌≡◌, ◌<◌, ℕ, Some, slice_get}
-use Rattle.htl_model.specs.Functions.{Term, Number, Truth, Arg, Unary, Binary, Choose}
+use Rattle.htl_model.specs.Functions.{Term, Unary, Binary, Choose}
 use Rattle.htl_model.specs.Tables.{Tables, Fun, Formula, Compiled}
 
 -- the tokens of an expression's operators are among so many

@@ -1,11 +1,11 @@
 -- What a shelf holds, where it tells it.
-use Rattle.std.specs.Prelude.{ℕ, ◌≡◌, ◌<◌, Option, Some, Ok, Err, List, length, IfSome}
+use Rattle.std.specs.Prelude.{ℕ, ◌≡◌, ◌<◌, Option, Some, Err, List, length, IfSome}
 use Rattle.std.specs.declared.result.Result.{Result}
 use Rattle.std.specs.Ordering.{nat_cmp}
 use Rattle.std.specs.Cmp.Lexicographic.{slice_cmp}
 use Rattle.std.specs.FinMap.{FinMap, get, from_entries}
 use Rattle.htl_edge.specs.declared.shelf.ShelfFault.{ShelfFault}
-use Rattle.htl_edge.specs.declared.shelf.ShelfFault.TheVariants.{Failed, TooLong, Memory}
+use Rattle.htl_edge.specs.declared.shelf.ShelfFault.TheVariants.{Failed, TooLong}
 
 -- bytes by name
 abbrev pub Holdings : Type 0

@@ -3,7 +3,7 @@ use Rattle.std.proofs.Common.{◌≡◌, ℕ, suc, Bool, true, false, cond, List
 use Rattle.htl_ecode.specs.declared.instr.EInstr.{EInstr}
 use Rattle.htl_ecode.specs.declared.instr.EInstr.TheVariants as I
 use Rattle.htl_ecode.specs.declared.fault.EFault.{EFault}
-use Rattle.htl_ecode.specs.Chains.{Want, Does, Waits, Turns, Tests, Asks, Arrives}
+use Rattle.htl_ecode.specs.Chains.{Want, Does, Tests, Asks, Arrives}
 use Rattle.htl_ecode.specs.Steps.{Step, Reached, read, passed_by}
 use Rattle.htl_ecode.proofs.Reading.{Jumps, IsReached, IsInstr, reach_is, anchor_is, read_is}
 use Rattle.htl_emach.specs.Calendars.{goes}

@@ -8,7 +8,7 @@ use Rattle.htl_ecode.specs.declared.instr.EInstr.{EInstr}
 use Rattle.htl_ecode.specs.declared.instr.EInstr.TheVariants as I
 use Rattle.htl_ecode.specs.declared.fault.EFault.{EFault}
 use Rattle.htl_ecode.specs.Offsets.{counts, ends_in, places_at, next_offset}
-use Rattle.htl_ecode.specs.Chains.{Want, Does, Waits, Turns, Tests, Asks, Arrives, all_do, waits_for, call_of, calls_of, release_of, releases, calls, block_chain}
+use Rattle.htl_ecode.specs.Chains.{Want, Does, all_do, waits_for, call_of, calls_of, release_of, releases, calls, block_chain}
 use Rattle.htl_ecode.specs.Steps.{Step, read, target_of}
 use Rattle.htl_ecode.proofs.Reading.{read_is}
 use Rattle.htl_ecode.proofs.Kept.{instrs_of}

@@ -8,7 +8,7 @@ use Rattle.htl_ecode.specs.declared.ecode.ECode.{ECode}
 use Rattle.htl_ecode.specs.declared.instr.EInstr.{EInstr}
 use Rattle.htl_ecode.specs.declared.instr.EInstr.TheVariants as I
 use Rattle.htl_ecode.specs.Offsets.{counts, meets, ends_in, places_at, next_offset, phase_offsets, holds}
-use Rattle.htl_ecode.specs.Chains.{Want, Does, Waits, Turns, Tests, Asks, Arrives, all_do, waits_for, call_of, calls_of, release_of, releases, calls, block_chain}
+use Rattle.htl_ecode.specs.Chains.{Want, Does, Waits, all_do, waits_for, call_of, calls_of, release_of, releases, calls, block_chain}
 use Rattle.htl_ecode.specs.Steps.{Step, read, steps_of, passed_by, target_of}
 use Rattle.htl_ecode.specs.Departure.{blocks, block_at}
 use Rattle.htl_ecode.specs.Paths.{block_path}

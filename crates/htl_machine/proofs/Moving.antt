@@ -4,7 +4,7 @@ use Rattle.std.proofs.lemmas.List.{get_or-set_same, get_or-set_other, length-set
 use Rattle.htl_model.specs.declared.parts.Inv.{Inv}
 use Rattle.htl_model.specs.Tables.{Tables}
 use Rattle.htl_ecode.specs.declared.instr.EInstr.TheVariants as I
-use Rattle.htl_ecode.specs.Chains.{Want, Does, Waits, Turns, Tests, Asks, Arrives}
+use Rattle.htl_ecode.specs.Chains.{Want, Does}
 use Rattle.htl_emach.specs.Contents.{Content, buffer, put_in, comm_of, call_write, call_read}
 use Rattle.htl_machine.specs.Worlds.{want_effect, effects}
 use Rattle.htl_emach.specs.Contents as contents

@@ -17,12 +17,9 @@ use Rattle.htl_machine.specs.Timing.{some_round_begins, opens}
 use Rattle.htl_machine.specs.declared.numbering.Numbering.{Numbering}
 use Rattle.htl_machine.proofs.Accepted.{accepted_is_loaded}
 use Rattle.htl_machine.proofs.NextLists.{begins_at}
+use Rattle.htl_base.proofs.Tests.{or_with_false}
 
 -- ---- among the starts below an end
-
-nothing : (b : Bool) → (b || false) ≡ b
-nothing true = refl
-nothing false = refl
 
 -- the last of them
 one : (b : Bool) (h a : ℕ) (same : Bool) → eqb h a ≡ same → list_any (λ s. eqb s a) (cond b (h ∷ []) []) ≡ cond same b false
@@ -41,7 +38,7 @@ any_below : (ps : List ℕ) (a h : ℕ) → a < h → list_any (λ s. eqb s a) (
 any_below ps a zero l = absurd (omega (arith, l))
 any_below ps a (suc h) l = list_any-append (λ s. eqb s a) (starts_below ps h) (cond (frames.begins ps h) (h ∷ []) []) ∙ elim (cases_eq h a) [
   | inl e ↦ ap₂ (λ x y. x || y) (none_below ps a h (omega (arith, e))) (one (frames.begins ps h) h a true (eq-eqb h a e)) ∙ ap (frames.begins ps) e
-  | inr d ↦ ap₂ (λ x y. x || y) (any_below ps a h (before h a l d)) (one (frames.begins ps h) h a false (ne_eqb h a d)) ∙ nothing (frames.begins ps a)
+  | inr d ↦ ap₂ (λ x y. x || y) (any_below ps a h (before h a l d)) (one (frames.begins ps h) h a false (ne_eqb h a d)) ∙ or_with_false (frames.begins ps a)
 ]
   where
     before : (h a : ℕ) → a < suc h → h ≢ a → a < h

@@ -1,7 +1,7 @@
 -- The read phase goes on by one instruction, and what it releases is told.
 use Rattle.std.proofs.Common.{◌≡◌, ℕ, List, [], ◌∷◌, slice_get, Option, Some, None, refl, ap, ◌∙◌}
 use Rattle.htl_smach.specs.declared.state.PosState.{PosState}
-use Rattle.htl_smach.specs.declared.state.PosState.TheVariants.{Absent, Pending, Ready, Done as Finished}
+use Rattle.htl_smach.specs.declared.state.PosState.TheVariants.{Pending}
 use Rattle.htl_smach.specs.Rounds.{Round, state_of}
 use Rattle.htl_ecode.specs.declared.ecode.ECode.{ECode}
 use Rattle.htl_ecode.specs.declared.instr.EInstr.{EInstr}

@@ -10,7 +10,7 @@ use Rattle.htl_model.specs.Meaning.{stay_of}
 use Rattle.htl_walk.specs.declared.job.Job.{Job}
 use Rattle.htl_ecode.specs.declared.instr.EInstr.TheVariants as I
 use Rattle.htl_ecode.specs.Offsets.{counts, next_offset}
-use Rattle.htl_ecode.specs.Chains.{Want, Does, Waits, Turns, Tests, Asks, Arrives, all_do, waits_for, block_chain}
+use Rattle.htl_ecode.specs.Chains.{Want, Does, all_do, waits_for, block_chain}
 use Rattle.htl_ecode.specs.Chains as C
 use Rattle.htl_machine.specs.Worlds.{wanted_reads, all_reads}
 use Rattle.htl_machine.specs.Values.{InvStands}

@@ -13,7 +13,7 @@ use Rattle.htl_smach.specs.declared.state.PosState.TheVariants.{Done as Finished
 use Rattle.htl_smach.specs.Rounds.{Round, state_by, state_of}
 use Rattle.htl_ecode.specs.declared.ecode.ECode.{ECode}
 use Rattle.htl_ecode.specs.declared.instr.EInstr.TheVariants as I
-use Rattle.htl_ecode.specs.Chains.{Want, Does, Waits, Turns, Tests, Asks, Arrives}
+use Rattle.htl_ecode.specs.Chains.{Want, Does}
 use Rattle.htl_ecode.proofs.Spelled.{ModeReads}
 use Rattle.htl_emach.specs.Following.{phase_path}
 use Rattle.htl_machine.specs.Worlds.{all_reads}

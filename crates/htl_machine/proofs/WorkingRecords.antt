@@ -3,7 +3,7 @@ use Rattle.std.proofs.Common.{◌≡◌, ◌<◌, ◌≤◌, ◌⊎◌, inl, inr
 use Rattle.std.proofs.lemmas.Bool.{cases_lt, ltb-true}
 use Rattle.htl_walk.specs.declared.job.Job.{Job}
 use Rattle.htl_walk.specs.declared.schedule.SInstr.{SInstr}
-use Rattle.htl_walk.specs.declared.schedule.SInstr.TheVariants.{Dispatch, Idle, End}
+use Rattle.htl_walk.specs.declared.schedule.SInstr.TheVariants.{Dispatch}
 use Rattle.htl_walk.specs.Paths.{Leg, list_point, walks_from, end_to_end}
 use Rattle.htl_walk.specs.Walk.{Point, Left, job_at, dispatch_begins, time_after, work_after, slice_between, finishes_by, next_point, left_by, walk_from, last_point}
 use Rattle.htl_walk.proofs.Acceptance.{left_falls_to}

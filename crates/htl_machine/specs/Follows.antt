@@ -11,7 +11,7 @@ use Rattle.htl_emach.specs.Shapes.{HasValues, IsShaped}
 use Rattle.htl_smach.specs.Rounds as rounds
 use Rattle.htl_smach.specs.Rounds.{Round, no_round, state_of}
 use Rattle.htl_smach.specs.declared.state.PosState.{PosState}
-use Rattle.htl_smach.specs.declared.state.PosState.TheVariants.{Absent, Pending, Ready, Done}
+use Rattle.htl_smach.specs.declared.state.PosState.TheVariants.{Pending}
 use Rattle.htl_model.specs.Ranges.{AreInRange}
 use Rattle.htl_model.specs.FrameRules.{KeptApart}
 use Rattle.htl_walk.specs.Feasible.{AreFeasible}

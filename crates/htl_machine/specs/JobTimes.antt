@@ -10,7 +10,7 @@ use Rattle.htl_walk.specs.Walk.{AllWithin}
 use Rattle.htl_refine.specs.FrameRuns.{frame_modes, frame_places, frame_at}
 use Rattle.htl_refine.specs.ServedJobs.{spent}
 use Rattle.htl_machine.specs.JobLines.{RunLine}
-use Rattle.htl_machine.specs.JobLines.RunLine.{SliceLine, DoneLine, InstrLine, ChangeLine, StepLine, TotalsLine}
+use Rattle.htl_machine.specs.JobLines.RunLine.{SliceLine, DoneLine}
 
 -- a line of invocation i about an instant after `start`, and at `end` or before
 abbrev pub is_in : ℕ → ℕ → ℕ → ℕ → ℕ → Bool

@@ -1,7 +1,7 @@
 -- The S machine while the read phase of an instant is done: its releases make jobs ready.
 use Rattle.std.specs.Prelude.{ℕ, true, List, [], ◌∷◌, slice_get, set, Option, Some, None}
 use Rattle.htl_smach.specs.declared.state.PosState.{PosState}
-use Rattle.htl_smach.specs.declared.state.PosState.TheVariants.{Absent, Pending, Ready, Done as Finished}
+use Rattle.htl_smach.specs.declared.state.PosState.TheVariants.{Pending}
 use Rattle.htl_smach.specs.Rounds.{Round, state_of}
 use Rattle.htl_ecode.specs.declared.ecode.ECode.{ECode}
 use Rattle.htl_ecode.specs.declared.instr.EInstr.{EInstr}

@@ -1,8 +1,6 @@
 -- A product that is capped as it grows.
-use Rattle.std.proofs.Common.{◌≡◌, ◌≤◌, ◌<◌, ◌⊎◌, ◌*◌, ◌+◌, ℕ, zero, suc, min, sym, ◌∙◌, ap, arith, inl, inr}
-
-pub order : (x c : ℕ) → (x ≤ c) ⊎ (c < x)
-order x c = grind arith
+use Rattle.std.proofs.Common.{◌≡◌, ◌≤◌, ◌*◌, ◌+◌, ℕ, zero, suc, min, sym, ◌∙◌, ap, arith, inl, inr}
+use Rattle.htl_base.proofs.Numbers.{cases_le}
 
 at_least : (a r : ℕ) → a ≤ a * suc r
 at_least a r = omega (arith, more a r)
@@ -20,7 +18,7 @@ least_right x c h = omega arith
 pub capped : (x c rest : ℕ) → min (min x c * rest) c ≡ min (x * rest) c
 capped x c zero = let a : min x c * 0 ≡ 0 = omega arith in let b : x * 0 ≡ 0 = omega arith in ap (λ y. min y c) (a ∙ sym b)
 capped x c (suc r) =
-    elim (order x c) [
+    elim (cases_le x c) [
       | inl h ↦ ap (λ y. min (y * suc r) c) (least_left x c h)
       | inr h ↦
           ap (λ y. min (y * suc r) c) (least_right x c (omega arith)) ∙ least_right (c * suc r) c (at_least c r)

@@ -6,8 +6,7 @@ use Rattle.htl_model.specs.declared.event.Event.{Event}
 use Rattle.htl_model.specs.Tables.{Tables}
 use Rattle.htl_model.specs.declared.state.State.{State}
 use Rattle.htl_model.specs.Meaning.{History, history, state, newest, state_after, past, sense, val}
-use Rattle.htl_model.proofs.ChoiceLaws.{order}
-use Rattle.htl_base.proofs.Numbers.{cases_at_most}
+use Rattle.htl_base.proofs.Numbers.{cases_at_most, cases_le}
 
 pub length-history : (t : Tables) (f : ℕ → ℕ → ℤ) (n : ℕ) → length (history t f n) ≡ suc n
 length-history t f zero = refl
@@ -51,7 +50,7 @@ seen_before t es now c u = cond (ltb u now) (val t es c u) (pos 0)
 
 past_is_val : (t : Tables) (es : List Event) (n c u : ℕ) → past (history t (sense t es) n) c u ≡ seen_before t es (suc n) c u
 past_is_val t es n c u =
-    elim (order u n) [
+    elim (cases_le u n) [
       | inl q ↦ past_is t (sense t es) n c u q ∙ sym (ap (λ b. cond b (val t es c u) (pos 0)) (lt-ltb u (suc n) (omega arith)))
       | inr q ↦ past_later t (sense t es) n c u q ∙ sym (ap (λ b. cond b (val t es c u) (pos 0)) (le-ltb u (suc n) (omega arith)))
     ]

@@ -8,7 +8,7 @@ use Rattle.htl_model.specs.declared.parts.End.TheVariants as E
 use Rattle.htl_model.specs.Broken.{Breach, breach, PartBreaks, ModeBreaks, BreaksAt, Broken, Formed, IsFirstBroken, site_of}
 use Rattle.htl_model.specs.declared.form_fault.FormFault.{FormFault}
 use Rattle.htl_model.specs.EndRules.{ReadLate, WriteOutside, TypeDiffers, WindowEmpty, AbstractRead, SensorWritten, input_types, output_types}
-use Rattle.htl_model.specs.FormRules.{FormRule, ModulePeriod, FrameLimits, Divides, Offsets, Ends, Windows, WorstCases, PortWriters, PortCycles, AbstractPorts, Sensors, ConcreteWriters, AbstractPlaces, Parents, SharedParents, Inheritance, Part, Itself, Input, Output, Test, Site}
+use Rattle.htl_model.specs.FormRules.{FormRule, FrameLimits, Divides, Offsets, Ends, Windows, PortWriters, PortCycles, AbstractPorts, Sensors, ConcreteWriters, AbstractPlaces, Parents, SharedParents, Inheritance, Part, Itself, Input, Output, Test, Site}
 use Rattle.htl_model.specs.PeriodRules.{FrameExceeds, EndNotDivided}
 use Rattle.htl_model.specs.PortOrder.{IsOnCycle, AreOnCycles, InCycle}
 use Rattle.htl_model.specs.PortWriters.{Unwritten, Rewritten}

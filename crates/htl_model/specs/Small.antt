@@ -1,7 +1,7 @@
 -- Functions of a size that can be compiled.
 use Rattle.std.specs.Prelude.{◌≡◌, ◌≤◌, ◌<◌, ℕ, ◌+◌, length, slice_get, Some}
 use Rattle.htl_base.specs.declared.limits.TheConstants.{MAX_INSTRUCTIONS, MAX_ARGUMENTS}
-use Rattle.htl_model.specs.Functions.{Term, Number, Truth, Arg, Unary, Binary, Choose}
+use Rattle.htl_model.specs.Functions.{Term, Arg, Unary, Binary, Choose}
 use Rattle.htl_model.specs.FunctionTypes.{FunctionType, function_types}
 use Rattle.htl_model.specs.Tables.{Tables, Fun, Formula, Compiled}
 

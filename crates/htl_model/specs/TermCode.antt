@@ -5,7 +5,7 @@ use Rattle.std.proofs.Common.{ap, sym, ◌∙◌, append_assoc, append-nil}
 use Rattle.htl_base.specs.declared.operator.UnOp.{UnOp}
 use Rattle.htl_base.specs.declared.operator.UnOp.TheVariants.{Neg, Not}
 use Rattle.htl_base.specs.declared.operator.BinOp.{BinOp}
-use Rattle.htl_base.specs.declared.operator.BinOp.TheVariants.{Add, Sub, Mul, Div, Rem, Lt, Le, Gt, Ge, Eq, Ne, And, Or}
+use Rattle.htl_base.specs.declared.operator.BinOp.TheVariants.{Add}
 use Rattle.htl_model.specs.declared.function.FInstr.{FInstr}
 use Rattle.htl_model.specs.declared.function.FInstr.TheVariants as I
 use Rattle.htl_model.specs.contracts.function.FInstr as instr

@@ -1,6 +1,6 @@
 -- A source has one first name fault at most.
 use Rattle.std.proofs.Common.{arith, ◌≡◌, ℕ, ◌⊎◌, inl, inr, List, sym, ◌∙◌, subst}
-use Rattle.htl_names.proofs.Words.{PlainProgram, NameRule, RepeatedName, UnknownName, WrongKind, ProgramTree, ParentName, Limits, NameBroken, TriedBefore, IsFirstNameFault, NameFault}
+use Rattle.htl_names.proofs.Words.{PlainProgram, NameRule, ProgramTree, NameBroken, TriedBefore, IsFirstNameFault, NameFault}
 
 -- a place is tried before another, or it is the other, or tried after it
 tried : (r s : NameRule) (j k : ℕ) → TriedBefore r j s k ⊎ ((r ≡ s) × (j ≡ k)) ⊎ TriedBefore s k r j

@@ -6,8 +6,8 @@ use Rattle.std.proofs.lemmas.List.Elements.{All-nil, All-cons}
 use Rattle.std.proofs.lemmas.List.Sums.{sum_by-cons}
 use Rattle.htl_base.specs.declared.operator.BinOp.{BinOp}
 use Rattle.htl_text.specs.Bounds.{tree_nodes, names_of, HasLiterals, IsBoundedExpr, IsBoundedEnd}
-use Rattle.htl_text.specs.Expressions.{Expr, Number, Flag, Variable, Prefix, Infix, Choice}
-use Rattle.htl_text.specs.Grammar.{Level, Spells, prefix_of, or_of, and_of, compare_of, sum_of, product_of, conj, or, cmp, and, sum, compare, prod, add, unary, multiply, atom, prefix, number, true_word, false_word, name, brackets, choice}
+use Rattle.htl_text.specs.Expressions.{Expr, Prefix, Infix, Choice}
+use Rattle.htl_text.specs.Grammar.{Level, Spells, prefix_of, or_of, and_of, compare_of, sum_of, product_of, conj, or, cmp, and, sum, compare, prod, add, unary, multiply, atom, prefix, number, brackets, choice}
 use Rattle.htl_text.specs.Nodes.{PlainOut}
 use Rattle.htl_text.specs.Placed.{Placed, Put, tokens_numbered}
 use Rattle.htl_text.specs.Spellable.{AreSpellable}

@@ -5,7 +5,7 @@ use Rattle.htl_text.specs.Placed.{Placed, Put}
 use Rattle.htl_text.specs.Expressions.{Expr}
 use Rattle.htl_text.specs.Grammar.{Spells, Or}
 use Rattle.htl_text.specs.Nodes.{PlainOuts, Concrete, Abstract, PlainTask, PlainSwitch}
-use Rattle.htl_text.specs.Statements.{SpellsType, SpellsList, SpellsConst, positive, negative, true_word, false_word, SpellsClause, absent, present, SpellsParam, SpellsOut, SpellsEnd, SpellsComm, communicator, sensor, SpellsTask, concrete, abstract_task, SpellsPort, port, SpellsInvoke, invoke, SpellsSwitch, switch}
+use Rattle.htl_text.specs.Statements.{SpellsType, SpellsList, SpellsConst, positive, SpellsClause, absent, present, SpellsParam, SpellsOut, SpellsEnd, SpellsComm, communicator, sensor, SpellsTask, concrete, abstract_task, SpellsPort, port, SpellsInvoke, invoke, SpellsSwitch, switch}
 use Rattle.htl_parse.specs.Reading.{Read, after_sign, after_word, place_at, name_at, number_at, type_at, const_at, clause_at}
 use Rattle.htl_parse.specs.ReadingExpressions.{read_expr}
 use Rattle.htl_parse.specs.ReadingLists.{list_at}

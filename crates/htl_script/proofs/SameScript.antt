@@ -9,7 +9,7 @@ use Rattle.htl_script.specs.Laws.{FunctionsDecideNoScript}
 use Rattle.htl_script.specs.Judging.{is_unknown, is_out_of_range, is_out_of_order, overrun_of, fault_of, event_of, event_unless, judged_statement, judged_text, judged, as_some, past_of}
 use Rattle.htl_script.specs.Lines.{ScriptLine, lines_of, size_of, is_past_limit, is_long, is_passed_over}
 use Rattle.htl_script.specs.Script.{Script, Bad, listed, script_of_lines}
-use Rattle.htl_script.specs.Statements.{Statement, At, Sense, Took, End, statement_of}
+use Rattle.htl_script.specs.Statements.{Statement, At, statement_of}
 use Rattle.htl_script.specs.declared.fault.ScriptKind.{ScriptKind}
 use Rattle.htl_script.specs.declared.fault.ScriptKind.TheVariants as kind
 use Rattle.htl_script.specs.declared.judge.Past.{Past}

@@ -15,13 +15,14 @@ use Rattle.htl_text.specs.Spans.{Gap, IsSpan, Item, Cuts, Tokens, IsFault, Fault
 use Rattle.htl_text.specs.Scanning.{skip, token_len}
 use Rattle.htl_text.proofs.Lengths.{token-taken, token_len-fits, sign-short, word-short}
 use Rattle.htl_text.proofs.Skipping.{IsSolid}
-use Rattle.htl_text.proofs.OneCut.{gap-skip, skip-solid, span-solid, span-len, Found, found, gap-nothing, span-some, and-false, Tokens-unique}
+use Rattle.htl_text.proofs.OneCut.{gap-skip, skip-solid, span-solid, span-len, Found, found, gap-nothing, span-some, Tokens-unique}
 use Rattle.htl_text.specs.declared.token.Token.{Token}
 use Rattle.htl_text.specs.declared.token.Token.TheVariants.{Ident, Number, Word, Sign}
 use Rattle.htl_text.specs.declared.token.Word.{Word as AWord}
 use Rattle.htl_text.specs.declared.token.Sign.{Sign as ASign}
 use Rattle.htl_text.specs.declared.lexer.LexFault.{LexFault}
 use Rattle.htl_text.specs.declared.lexer.LexFault.TheVariants as fault
+use Rattle.htl_base.proofs.Tests.{and_none}
 
 -- the fault of a place, by the longest token there
 abbrev fault_at : ℕ → List ℕ → LexFault
@@ -96,7 +97,7 @@ identifier-number (b ∷ bs) e = by (is_letter b) refl e
   where
     by : (t : Bool) → is_letter b ≡ t → (t && list_all is_word_byte (b ∷ bs)) ≡ true → is_numeral (b ∷ bs) ≡ false
     by true f all =
-        ap (λ (t : Bool). nat_lt 0 (length (b ∷ bs)) && (t && list_all is_ascii_digit bs)) (letter-digit b f) ∙ and-false (nat_lt 0 (length (b ∷ bs)))
+        ap (λ (t : Bool). nat_lt 0 (length (b ∷ bs)) && (t && list_all is_ascii_digit bs)) (letter-digit b f) ∙ and_none (nat_lt 0 (length (b ∷ bs)))
     by false f all = absurd cc
 
 unknown : {T : Type 0} (o : Option T) (n m : ℕ) → m < n → (is_some o ≡ true → n ≤ m) → o ≡ None

@@ -15,6 +15,7 @@ use Rattle.htl_text.proofs.Lengths.{token-most, token-taken, token_len-fits}
 use Rattle.htl_text.proofs.Skipping.{IsSolid}
 use Rattle.htl_text.specs.declared.token.Token.{Token}
 use Rattle.htl_base.proofs.Numbers.{cases_le}
+use Rattle.htl_base.proofs.Tests.{and_none}
 
 -- a gap is passed whole
 pub gap-skip : {from to : Bool} {gap : List ℕ} → Gap from to gap → (rest : List ℕ) → skip from (gap ++ rest) ≡ skip to rest
@@ -32,10 +33,6 @@ skip-solid (b ∷ bs) solid =
     ap (λ (t : Bool). cond t (skip false bs) (cond ((b == 47) && (slice_index bs 0 == 47)) (skip true bs) (b ∷ bs))) solid.0
     ∙ ap (λ (t : Bool). cond t (skip true bs) (b ∷ bs)) solid.1
 
-pub and-false : (a : Bool) → (a && false) ≡ false
-and-false true = refl
-and-false false = refl
-
 -- no token begins with a blank
 no_token : (b : ℕ) (bs : List ℕ) → is_identifier (b ∷ bs) ≡ false → (is_ascii_digit b) ≡ false → is_some (sign_of (b ∷ bs)) ≡ false → is_token (b ∷ bs) ≡ false
 no_token b bs i d s = by (is_identifier (b ∷ bs)) (is_numeral (b ∷ bs)) (is_some (sign_of (b ∷ bs))) i (number d) s
@@ -45,7 +42,7 @@ no_token b bs i d s = by (is_identifier (b ∷ bs)) (is_numeral (b ∷ bs)) (is_
     digits false e = refl
 
     number : is_ascii_digit b ≡ false → is_numeral (b ∷ bs) ≡ false
-    number e = ap (λ (t : Bool). nat_lt 0 (length (b ∷ bs)) && t) (digits (is_ascii_digit b) e) ∙ and-false (nat_lt 0 (length (b ∷ bs)))
+    number e = ap (λ (t : Bool). nat_lt 0 (length (b ∷ bs)) && t) (digits (is_ascii_digit b) e) ∙ and_none (nat_lt 0 (length (b ∷ bs)))
 
     by : (x y z : Bool) → x ≡ false → y ≡ false → z ≡ false → (x || y || z) ≡ false
     by false false false e f g = refl

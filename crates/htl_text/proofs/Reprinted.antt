@@ -16,7 +16,6 @@ use Rattle.htl_text.specs.Texts.{is_token, is_numeral, token_of, words, word_of,
 use Rattle.htl_text.specs.Spans.{Gap, none, blank, IsSpan, Cuts, Tokens, is_blank}
 use Rattle.htl_text.proofs.FirstFault.{identifier-number}
 use Rattle.htl_text.proofs.Numbers.{own, digits_of_number}
-use Rattle.htl_text.proofs.OneCut.{and-false}
 use Rattle.htl_text.proofs.Writing.{printed_bytes-cons, printed_bytes-nil}
 use Rattle.htl_text.specs.declared.token.Token.{Token}
 use Rattle.htl_text.specs.declared.token.Token.TheVariants.{Ident, Number, Word, Sign}
@@ -25,6 +24,7 @@ use Rattle.htl_text.specs.declared.token.Word.TheVariants as word
 use Rattle.htl_text.specs.declared.token.Sign.{Sign as ASign}
 use Rattle.htl_text.specs.declared.token.Sign.TheVariants as sign
 use Rattle.std.proofs.lemmas.Bool.{and_parts, not-true}
+use Rattle.htl_base.proofs.Tests.{and_none}
 
 -- what all spellings of a table have, a text has that is found there
 look_up-kept : {T : Type 0} (q : List ℕ → Bool) (es : List (List ℕ × T)) (text : List ℕ) → list_all (λ (e : List ℕ × T). q e.0) es ≡ true → is_some (look_up es text) ≡ true
@@ -70,7 +70,7 @@ token-solid bs is = by (is_identifier bs) refl (is_numeral bs) refl is
 
 blank-found : (xs ys : List ℕ) (b : ℕ) → is_blank b ≡ true → list_all is_solid (xs ++ b ∷ ys) ≡ false
 blank-found [] ys b e = ap (λ (c : Bool). not c && list_all is_solid ys) e
-blank-found (x ∷ xs) ys b e = ap (λ (c : Bool). is_solid x && c) (blank-found xs ys b e) ∙ and-false (is_solid x)
+blank-found (x ∷ xs) ys b e = ap (λ (c : Bool). is_solid x && c) (blank-found xs ys b e) ∙ and_none (is_solid x)
 
 -- what goes on with a blank is no token
 blank-ends : (xs more : List ℕ) (b k : ℕ) → is_blank b ≡ true → length xs < k → is_token (take k (xs ++ b ∷ more)) ≡ false

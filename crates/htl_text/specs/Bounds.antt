@@ -2,7 +2,7 @@
 -- 1,048,576 tokens of a text, of which at most 512 stand in a row without `;`, `{` and `}`, is bounded.
 use Rattle.std.specs.Prelude.{ℕ, ◌+◌, ◌≡◌, ◌≤◌, ◌<◌, ◌^◌, ℤ, pos, List, [], ◌∷◌, ◌++◌, length, map}
 use Rattle.std.specs.List.{All, flat_map, sum_by}
-use Rattle.htl_text.specs.Expressions.{Expr, Number, Flag, Variable, Prefix, Infix, Choice}
+use Rattle.htl_text.specs.Expressions.{Expr, Number, Variable, Prefix, Infix, Choice}
 use Rattle.htl_text.specs.Nodes.{PlainOut, PlainOuts, Concrete, Abstract, PlainTask, PlainSwitch, PlainMode, PlainModule, PlainProgram}
 use Rattle.htl_text.specs.declared.tree.Id.{Id}
 use Rattle.htl_text.specs.declared.tree.ParamNode.{ParamNode}

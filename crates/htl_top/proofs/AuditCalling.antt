@@ -23,7 +23,7 @@ use Rattle.htl_top.specs.Causes.{IsGiven, IsOrMemory}
 use Rattle.htl_top.specs.Objects.{IsAcceptedFile, IsReadyObject}
 use Rattle.htl_top.specs.Runs.{IsFaultyRun}
 use Rattle.htl_top.specs.Scripts.{IsWhole, IsBad}
-use Rattle.htl_top.specs.Words.{Command, Go, Compile, CompileWith, Run, Check, Plan, Show, Bulk, Slack, Audit, Patch}
+use Rattle.htl_top.specs.Words.{Command, Go, Compile, CompileWith, Bulk, Slack, Audit, Patch}
 use Rattle.htl_top.specs.declared.outcome.Outcome.{Outcome}
 use Rattle.htl_top.specs.declared.outcome.Outcome.TheVariants.{Done, Usage, Log, Script as Faulty, Shelf, Read, Write, Memory}
 use Rattle.htl_top.specs.declared.outcome.ShelfCause.TheVariants.{TooLong}

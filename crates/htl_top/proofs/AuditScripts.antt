@@ -20,7 +20,7 @@ use Rattle.htl_top.specs.Audited.{IsAuditOf, IsAuditRun, IsLogRefused}
 use Rattle.htl_top.specs.Causes.{IsOrMemory}
 use Rattle.htl_top.specs.Scripts.{IsWhole, IsBad}
 use Rattle.htl_top.specs.declared.outcome.Outcome.{Outcome}
-use Rattle.htl_top.specs.declared.outcome.Outcome.TheVariants.{Done, Usage, Source, IllFormed, Unschedulable, Platform, Task, Log, Patch as Unpatched, Object as Refused, Script as Faulty, Shelf, Read, Write, Memory}
+use Rattle.htl_top.specs.declared.outcome.Outcome.TheVariants.{Done, Log, Script as Faulty, Read, Write, Memory}
 
 -- ---- the bytes of a log
 

@@ -41,7 +41,7 @@ use Rattle.htl_top.specs.Playing.{HaveNoEnd, IsBehind, IsPlaying, text_more}
 use Rattle.htl_top.specs.Runs.{IsFaultyRun}
 use Rattle.htl_top.specs.Texts.{text_before_fault}
 use Rattle.htl_top.specs.declared.outcome.Outcome.{Outcome}
-use Rattle.htl_top.specs.declared.outcome.Outcome.TheVariants.{Done, Usage, Source, IllFormed, Unschedulable, Platform, Task, Log, Patch as Unpatched, Object as Refused, Script as Faulty, Shelf, Read, Write, Memory}
+use Rattle.htl_top.specs.declared.outcome.Outcome.TheVariants.{Done, Log, Write}
 
 -- ---- the end among the events changes nothing of an audit
 

@@ -26,7 +26,7 @@ use Rattle.htl_top.specs.Causes.{IsGiven, IsOrMemory}
 use Rattle.htl_top.specs.Objects.{IsReadyObject, IsRefusedFile, IsStopped, Work}
 use Rattle.htl_top.specs.Sources.{answer_of}
 use Rattle.htl_top.specs.declared.outcome.Outcome.{Outcome}
-use Rattle.htl_top.specs.declared.outcome.Outcome.TheVariants.{Done, Usage, Source, IllFormed, Unschedulable, Platform, Task, Log, Patch as Unpatched, Object as Refused, Script as Faulty, Shelf, Read, Write, Memory}
+use Rattle.htl_top.specs.declared.outcome.Outcome.TheVariants.{Done, Usage, Source, IllFormed, Unschedulable, Platform, Task, Log, Object as Refused, Script as Faulty, Shelf, Read, Write, Memory}
 use Rattle.htl_top.specs.declared.outcome.ShelfCause.{ShelfCause}
 use Rattle.htl_top.specs.declared.outcome.ShelfCause.TheVariants.{Failed, TooLong}
 

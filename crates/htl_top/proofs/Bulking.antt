@@ -37,7 +37,7 @@ use Rattle.htl_top.specs.Bulk.{bulk_events, readings_of, value_at, values_text, 
 use Rattle.htl_top.specs.Causes.{IsOrMemory}
 use Rattle.htl_top.specs.Sources.{HasTables, answer_of}
 use Rattle.htl_top.specs.declared.outcome.Outcome.{Outcome}
-use Rattle.htl_top.specs.declared.outcome.Outcome.TheVariants.{Done, Usage, Source, IllFormed, Unschedulable, Platform, Task, Log, Patch, Object as Refused, Script, Shelf, Read, Write, Memory}
+use Rattle.htl_top.specs.declared.outcome.Outcome.TheVariants.{Done, Write, Memory}
 
 -- ---- what a finished machine has
 

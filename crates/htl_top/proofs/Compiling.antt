@@ -19,7 +19,7 @@ use Rattle.htl_top.specs.Causes.{IsOrMemory}
 use Rattle.htl_top.specs.Compiling.{IsCompiling, IsBytesCompiled, compiled_bytes}
 use Rattle.htl_top.specs.Sources.{IsInput, IsInputProgram, IsFaultyInput, IsLongInput, IsInputFault, IsNotCompiled, answer_of, outcome_of}
 use Rattle.htl_top.specs.declared.outcome.Outcome.{Outcome}
-use Rattle.htl_top.specs.declared.outcome.Outcome.TheVariants.{Done, Usage, Source, IllFormed, Unschedulable, Platform, Task, Log, Patch, Object as Refused, Script, Shelf, Read, Write, Memory}
+use Rattle.htl_top.specs.declared.outcome.Outcome.TheVariants.{Done, Source, IllFormed, Unschedulable, Platform, Read, Write, Memory}
 use Rattle.htl_top.specs.declared.source.SourceStop.{SourceStop}
 use Rattle.htl_top.specs.declared.source.SourceStop.TheVariants as stop
 

@@ -28,7 +28,7 @@ use Rattle.htl_top.specs.CompilingOn.{IsCompilingOn, IsBytesCompiledOn, compiled
 use Rattle.htl_top.specs.Sources.{IsInput, answer_of, outcome_of}
 use Rattle.htl_top.specs.SourcesOn.{IsProgramOn, IsFaultyOn, IsInputFaultOn, IsNotCompiledOn, answer_on}
 use Rattle.htl_top.specs.declared.outcome.Outcome.{Outcome}
-use Rattle.htl_top.specs.declared.outcome.Outcome.TheVariants.{Done, Usage, Source, IllFormed, Unschedulable, Platform, Task, Log, Patch, Object as Refused, Script, Shelf, Read, Write, Memory}
+use Rattle.htl_top.specs.declared.outcome.Outcome.TheVariants.{Done, Source, IllFormed, Unschedulable, Platform, Shelf, Read, Write, Memory}
 use Rattle.htl_top.specs.declared.outcome.ShelfCause.TheVariants.{Failed, TooLong}
 use Rattle.htl_top.specs.declared.source.SourceStop.{SourceStop}
 use Rattle.htl_top.specs.declared.source.SourceStop.TheVariants as stop

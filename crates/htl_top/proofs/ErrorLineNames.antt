@@ -1,5 +1,5 @@
 -- The line that tells of an answer has names of the tables that it speaks of.
-use Rattle.std.proofs.Common.{◌≡◌, List, ℕ, Option, None, Some, refl, ap, ◌∙◌, subst}
+use Rattle.std.proofs.Common.{◌≡◌, List, ℕ, Option, Some, refl, ap, ◌∙◌, subst}
 use Rattle.htl_compile.specs.Coded.{coded}
 use Rattle.htl_console.specs.declared.shown.Shown.{Shown}
 use Rattle.htl_edge.specs.Holdings.{Holdings}
@@ -23,9 +23,9 @@ use Rattle.htl_top.specs.Sources.{HasTypedTables, IsInput, IsNotCompiled, IsType
 use Rattle.htl_top.specs.SourcesOn.{HasTypedOn, IsTypedOn, IsNotCompiledOn}
 use Rattle.htl_top.specs.Status.{fault_line}
 use Rattle.htl_top.specs.ErrorLines.{SpeaksOf, IsFaultTold, IsPatchFaultTold, IsLineTold}
-use Rattle.htl_top.specs.Words.{Command, Go, Compile, CompileWith, Run, Check, Plan, Show, Bulk, Slack, Audit, Patch}
+use Rattle.htl_top.specs.Words.{Command, Go, Compile, CompileWith, Run, Check, Plan, Show, Slack, Audit, Patch}
 use Rattle.htl_top.specs.declared.outcome.Outcome.{Outcome}
-use Rattle.htl_top.specs.declared.outcome.Outcome.TheVariants.{Done, Usage, Source, IllFormed, Unschedulable, Platform, Task, Log, Patch as Unpatched, Object, Script, Shelf, Read, Write, Memory}
+use Rattle.htl_top.specs.declared.outcome.Outcome.TheVariants.{IllFormed, Patch as Unpatched, Object}
 use Rattle.htl_top.specs.declared.source.SourceStop.{SourceStop}
 use Rattle.htl_top.specs.declared.source.SourceStop.TheVariants as stop
 

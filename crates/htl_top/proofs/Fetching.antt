@@ -6,7 +6,7 @@ use Rattle.htl_top.specs.Fetching.{IsOfFetch, IsUnfetched}
 use Rattle.htl_top.specs.Objects.{IsStopped}
 use Rattle.htl_top.specs.ErrorLines.{SpeaksOf}
 use Rattle.htl_top.specs.declared.outcome.Outcome.{Outcome}
-use Rattle.htl_top.specs.declared.outcome.Outcome.TheVariants.{Done, Usage, Source, IllFormed, Unschedulable, Platform, Task, Log, Patch, Object as Refused, Script, Shelf, Read, Write, Memory}
+use Rattle.htl_top.specs.declared.outcome.Outcome.TheVariants.{Shelf, Memory}
 
 pub fetching_speaks : (Sources Objects : (Tables → Type 0) → Type 0) (outcome : Outcome) (tables : Option Tables) → IsOfFetch outcome → SpeaksOf Sources Objects outcome tables
 fetching_speaks Sources Objects (Shelf cause) tables is = tt

@@ -28,7 +28,7 @@ use Rattle.htl_top.specs.Going.{IsUncompiled, IsGoing, IsBytesGoing, IsReadySour
 use Rattle.htl_top.specs.Runs.{IsRun}
 use Rattle.htl_top.specs.Sources.{HasTables, IsProgram, IsFaultyProgram, IsNotCompiled, answer_of, outcome_of}
 use Rattle.htl_top.specs.declared.outcome.Outcome.{Outcome}
-use Rattle.htl_top.specs.declared.outcome.Outcome.TheVariants.{Done, Usage, Source, IllFormed, Unschedulable, Platform, Task, Log, Patch, Object as Refused, Script, Shelf, Read, Write, Memory}
+use Rattle.htl_top.specs.declared.outcome.Outcome.TheVariants.{Usage, Source, IllFormed, Unschedulable, Platform, Object as Refused, Shelf, Memory}
 use Rattle.htl_top.specs.declared.outcome.ShelfCause.TheVariants.{Failed, TooLong}
 use Rattle.htl_top.specs.declared.source.SourceStop.{SourceStop}
 use Rattle.htl_top.specs.declared.source.SourceStop.TheVariants as stop

@@ -20,7 +20,7 @@ use Rattle.htl_top.specs.Answers.{Files, Streams, IsWritten, IsBeforeScript, IsB
 use Rattle.htl_top.specs.Causes.{IsFaultOf, IsLongFile, IsGiven, IsOrMemory}
 use Rattle.htl_top.specs.Objects.{IsRefusedFile, IsAcceptedFile, IsStopped, IsOnObject, IsTextAnswer, IsTextOnObject, IsReadyObject, Work}
 use Rattle.htl_top.specs.declared.outcome.Outcome.{Outcome}
-use Rattle.htl_top.specs.declared.outcome.Outcome.TheVariants.{Done, Usage, Source, IllFormed, Unschedulable, Platform, Task, Log, Patch, Object as Refused, Script, Shelf, Read, Write, Memory}
+use Rattle.htl_top.specs.declared.outcome.Outcome.TheVariants.{Done, Usage, IllFormed, Task, Object as Refused, Script, Shelf, Read, Write, Memory}
 use Rattle.htl_top.specs.declared.outcome.ShelfCause.TheVariants.{Failed, TooLong}
 
 -- ---- bytes have one object, or one fault

@@ -33,7 +33,7 @@ use Rattle.htl_top.specs.SelectionInput.{Whole, Bad, input_of}
 use Rattle.htl_top.specs.Shown.{show_text, IsShown}
 use Rattle.htl_top.specs.Slacked.{IsSlacked}
 use Rattle.htl_top.specs.Sources.{HasTables}
-use Rattle.htl_top.specs.Words.{Command, Go, Compile, CompileWith, Run, Check, Plan, Show, Bulk, Slack, Audit, Patch, command_object, second_file}
+use Rattle.htl_top.specs.Words.{Command, Run, Check, Plan, Show, Bulk, Slack, Audit, Patch, command_object, second_file}
 use Rattle.htl_top.specs.declared.outcome.Outcome.{Outcome}
 use Rattle.htl_top.specs.declared.outcome.Outcome.TheVariants.{Done, Object as Refused, Script, Shelf, Read, Write, Memory}
 use Rattle.htl_top.specs.declared.outcome.ShelfCause.TheVariants.{TooLong}

@@ -16,7 +16,7 @@ use Rattle.htl_top.specs.Causes.{IsGiven, IsOrMemory}
 use Rattle.htl_top.specs.Files.{IsReadyFile}
 use Rattle.htl_top.specs.Objects.{IsReadyObject}
 use Rattle.htl_top.specs.PatchedFiles.{AreFilesOf, HasPatch, IsDonorFault, IsDonorTold, IsPatchCause, IsPatching}
-use Rattle.htl_top.specs.Words.{Command, Go, Compile, CompileWith, Run, Check, Plan, Show, Bulk, Slack, Audit, Patch}
+use Rattle.htl_top.specs.Words.{Command, Go, Compile, CompileWith, Bulk, Slack, Audit, Patch}
 use Rattle.htl_top.specs.declared.outcome.Outcome.{Outcome}
 use Rattle.htl_top.specs.declared.outcome.Outcome.TheVariants.{Done, Usage, Patch as Unpatched, Shelf, Write}
 use Rattle.htl_top.specs.declared.outcome.ShelfCause.TheVariants.{TooLong}

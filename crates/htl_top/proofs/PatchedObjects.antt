@@ -28,7 +28,7 @@ use Rattle.htl_top.specs.PatchedFiles.{HasPatchedTables, IsBadDonor, IsDonorFaul
 use Rattle.htl_top.specs.PatchStops.{new_tables, unpatched_as}
 use Rattle.htl_top.specs.ErrorLines.{SpeaksOf}
 use Rattle.htl_top.specs.declared.outcome.Outcome.{Outcome}
-use Rattle.htl_top.specs.declared.outcome.Outcome.TheVariants.{Done, Usage, Source, IllFormed, Unschedulable, Platform, Task, Log, Patch, Object as Refused, Script, Shelf, Read, Write, Memory}
+use Rattle.htl_top.specs.declared.outcome.Outcome.TheVariants.{Done, IllFormed, Patch, Object as Refused, Write, Memory}
 use Rattle.htl_load.proofs.OneAnswer.{one_bad_field}
 
 -- the bytes of an accepted object were written

@@ -30,7 +30,7 @@ use Rattle.htl_top.specs.ErrorLines.{SpeaksOf}
 use Rattle.htl_top.specs.declared.object.ObjectStop.{ObjectStop}
 use Rattle.htl_top.specs.declared.object.ObjectStop.TheVariants as load
 use Rattle.htl_top.specs.declared.outcome.Outcome.{Outcome}
-use Rattle.htl_top.specs.declared.outcome.Outcome.TheVariants.{Done, Usage, Source, IllFormed, Unschedulable, Platform, Task, Log, Patch, Object as Refused, Script, Shelf, Read, Write, Memory}
+use Rattle.htl_top.specs.declared.outcome.Outcome.TheVariants.{Done, Usage, Unschedulable, Platform, Task, Patch, Object as Refused, Shelf, Memory}
 use Rattle.htl_top.specs.declared.outcome.ShelfCause.TheVariants.{Failed, TooLong}
 
 pub AreFilesOf-map : (name donor : Option (List ℕ)) (shelf : Files) (Fact Other : Object → List ℕ → Type 0) → ((o : Object) (bytes : List ℕ) → Fact o bytes → Other o bytes)

@@ -12,7 +12,7 @@ use Rattle.htl_top.specs.Causes.{IsOrMemory}
 use Rattle.htl_top.specs.Planned.{IsPlanned}
 use Rattle.htl_top.specs.SelectionInput.{Input, Whole, Bad, input_of}
 use Rattle.htl_top.specs.declared.outcome.Outcome.{Outcome}
-use Rattle.htl_top.specs.declared.outcome.Outcome.TheVariants.{Done, Usage, Source, IllFormed, Unschedulable, Platform, Task, Log, Patch, Object as Refused, Script, Shelf, Read, Write, Memory}
+use Rattle.htl_top.specs.declared.outcome.Outcome.TheVariants.{Done, Script, Read, Write, Memory}
 
 plan_only : (o : Object) (old new : Streams) (outcome : Outcome) → IsPlanned o old new outcome → IsOfWork outcome
 plan_only o old new Done answer = tt

@@ -18,7 +18,7 @@ use Rattle.htl_top.specs.Causes.{IsOrMemory}
 use Rattle.htl_top.specs.Runs.{IsRun, IsCutRun}
 use Rattle.htl_top.specs.Scripts.{IsWhole, IsBad}
 use Rattle.htl_top.specs.declared.outcome.Outcome.{Outcome}
-use Rattle.htl_top.specs.declared.outcome.Outcome.TheVariants.{Done, Usage, Source, IllFormed, Unschedulable, Platform, Task, Log, Patch, Object as Refused, Script as Faulty, Shelf, Read, Write, Memory}
+use Rattle.htl_top.specs.declared.outcome.Outcome.TheVariants.{Done, Script as Faulty, Read, Write, Memory}
 
 -- ---- the machine and its object
 

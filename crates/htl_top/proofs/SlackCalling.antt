@@ -13,7 +13,7 @@ use Rattle.htl_top.specs.Calls.{IsCall}
 use Rattle.htl_top.specs.Causes.{IsOrMemory}
 use Rattle.htl_top.specs.Objects.{IsAcceptedFile, IsOnObject, IsReadyObject}
 use Rattle.htl_top.specs.Slacked.{HasSlack, IsRootNamed, NamesNoTask, IsSlacked, IsTaskCause}
-use Rattle.htl_top.specs.Words.{Command, Go, Compile, CompileWith, Run, Check, Plan, Show, Bulk, Slack, Audit, Patch}
+use Rattle.htl_top.specs.Words.{Command, Go, Compile, CompileWith, Bulk, Slack, Audit, Patch}
 use Rattle.htl_top.specs.declared.outcome.Outcome.{Outcome}
 use Rattle.htl_top.specs.declared.outcome.Outcome.TheVariants.{Done, Usage, Task, Write, Memory}
 use Rattle.htl_top.proofs.Calling.{done_memory, write_memory}

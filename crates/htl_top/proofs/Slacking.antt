@@ -15,7 +15,7 @@ use Rattle.htl_top.specs.Causes.{IsOrMemory}
 use Rattle.htl_top.specs.Objects.{IsOnObject, IsAcceptedFile}
 use Rattle.htl_top.specs.Slacked.{IsNamed, IsRootNamed, NamesNoTask, has_names, IsSlackTold, IsSlacked, IsSlackOnObject}
 use Rattle.htl_top.specs.declared.outcome.Outcome.{Outcome}
-use Rattle.htl_top.specs.declared.outcome.Outcome.TheVariants.{Done, Usage, Source, IllFormed, Unschedulable, Platform, Task, Log, Patch, Object as Refused, Script, Shelf, Read, Write, Memory}
+use Rattle.htl_top.specs.declared.outcome.Outcome.TheVariants.{Done, Task, Write, Memory}
 
 -- ---- the names
 

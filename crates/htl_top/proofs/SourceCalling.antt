@@ -37,7 +37,7 @@ use Rattle.htl_top.specs.Runs.{IsRun, IsWholeRun, IsFaultyRun, IsCutRun}
 use Rattle.htl_top.specs.Scripts.{IsWhole, IsBad}
 use Rattle.htl_top.specs.Sources.{IsProgram, IsInputProgram, answer_of}
 use Rattle.htl_top.specs.SourcesOn.{IsProgramOn, answer_on}
-use Rattle.htl_top.specs.Words.{Command, Go, Compile, CompileWith, Run, Check, Plan, Show, Bulk, Slack, Audit, Patch, source_of, platform_file}
+use Rattle.htl_top.specs.Words.{Command, Go, Compile, CompileWith, source_of, platform_file}
 use Rattle.htl_top.specs.declared.outcome.Outcome.{Outcome}
 use Rattle.htl_top.specs.declared.outcome.Outcome.TheVariants.{Done, Source, Script, Shelf, Read, Write, Memory}
 use Rattle.htl_top.specs.declared.outcome.ShelfCause.TheVariants.{TooLong}

@@ -14,7 +14,7 @@ use Rattle.htl_script.specs.Streaming.{Ahead}
 use Rattle.htl_top.specs.Audited.{audited_text}
 use Rattle.htl_top.specs.Playing.{IsPlaying}
 use Rattle.htl_top.specs.declared.outcome.Outcome.{Outcome}
-use Rattle.htl_top.specs.declared.outcome.Outcome.TheVariants.{Done, Usage, Source, IllFormed, Unschedulable, Platform, Task, Log, Patch as Unpatched, Object as Refused, Script as Faulty, Shelf, Read, Write, Memory}
+use Rattle.htl_top.specs.declared.outcome.Outcome.TheVariants.{Done, Log, Write}
 
 -- the auditor behind an event: it follows one more, or its run has ended
 abbrev pub IsAuditBehind : Audit → List Event → Event → Type 0

@@ -24,9 +24,9 @@ use Rattle.htl_top.specs.Objects.{IsAcceptedFile}
 use Rattle.htl_top.specs.Runs.{IsFaultyRun}
 use Rattle.htl_top.specs.Scripts.{IsWhole}
 use Rattle.htl_top.specs.Texts.{text_before_fault}
-use Rattle.htl_top.specs.Words.{Command, Go, Compile, CompileWith, Run, Check, Plan, Show, Bulk, Slack, Audit, Patch}
+use Rattle.htl_top.specs.Words.{Command, Audit}
 use Rattle.htl_top.specs.declared.outcome.Outcome.{Outcome}
-use Rattle.htl_top.specs.declared.outcome.Outcome.TheVariants.{Done, Usage, Source, IllFormed, Unschedulable, Platform, Task, Log, Patch as Unpatched, Object as Refused, Script as Faulty, Shelf, Read, Write, Memory}
+use Rattle.htl_top.specs.declared.outcome.Outcome.TheVariants.{Done, Log, Script as Faulty, Read, Write, Memory}
 
 -- ---- the files
 

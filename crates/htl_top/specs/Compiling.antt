@@ -12,7 +12,7 @@ use Rattle.htl_top.specs.Answers.{Streams, IsWritten}
 use Rattle.htl_top.specs.Sources.{IsInputProgram, IsInputFault, IsNotCompiled, outcome_of}
 use Rattle.htl_top.specs.declared.source.SourceStop.{SourceStop}
 use Rattle.htl_top.specs.declared.outcome.Outcome.{Outcome}
-use Rattle.htl_top.specs.declared.outcome.Outcome.TheVariants.{Done, Usage, Source, IllFormed, Unschedulable, Platform, Task, Log, Patch, Object, Script, Shelf, Read, Write, Memory}
+use Rattle.htl_top.specs.declared.outcome.Outcome.TheVariants.{Done, Source, IllFormed, Unschedulable, Read, Write, Memory}
 
 -- the bytes of the object of tables
 abbrev pub compiled_bytes : Tables → List ℕ

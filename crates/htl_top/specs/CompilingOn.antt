@@ -1,5 +1,5 @@
 -- What `compile with` answers: the source that the input is, as the bytes of its object on the platform that a file says.
-use Rattle.std.specs.Prelude.{◌≡◌, ◌⊎◌, ℕ, List, Option, None, Some}
+use Rattle.std.specs.Prelude.{◌≡◌, ◌⊎◌, ℕ, List, Option, Some}
 use Rattle.std.specs.Io.KnownBytes.{append_known}
 use Rattle.htl_base.specs.declared.limits.TheConstants.{MAX_SOURCE}
 use Rattle.htl_compile.specs.OnPlatform.{built_on, IsCompiledOn}
@@ -17,9 +17,9 @@ use Rattle.htl_top.specs.Answers.{Files, Streams, IsUntouched, IsWritten}
 use Rattle.htl_top.specs.Causes.{IsFaultOf, IsLongFile}
 use Rattle.htl_top.specs.Sources.{IsInputFault, IsFaultyProgram, outcome_of}
 use Rattle.htl_top.specs.SourcesOn.{HasFile, IsProgramOn, IsInputFaultOn, IsFaultyOn, IsNotCompiledOn}
-use Rattle.htl_top.specs.Words.{Command, Go, Compile, CompileWith, Run, Check, Plan, Show, Bulk, Slack, Audit, Patch, platform_file}
+use Rattle.htl_top.specs.Words.{Command, Go, Compile, CompileWith, platform_file}
 use Rattle.htl_top.specs.declared.outcome.Outcome.{Outcome}
-use Rattle.htl_top.specs.declared.outcome.Outcome.TheVariants.{Done, Usage, Source, IllFormed, Unschedulable, Platform, Task, Log, Patch as Unpatched, Object, Script, Shelf, Read, Write, Memory}
+use Rattle.htl_top.specs.declared.outcome.Outcome.TheVariants.{Done, Source, IllFormed, Unschedulable, Platform, Shelf, Read, Write, Memory}
 use Rattle.htl_top.specs.declared.outcome.ShelfCause.TheVariants.{Failed, TooLong}
 use Rattle.htl_top.specs.declared.source.SourceStop.{SourceStop}
 

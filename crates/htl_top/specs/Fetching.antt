@@ -4,7 +4,7 @@ use Rattle.htl_top.specs.Answers.{Files}
 use Rattle.htl_top.specs.Files.{IsHad}
 use Rattle.htl_top.specs.Objects.{IsStopped}
 use Rattle.htl_top.specs.declared.outcome.Outcome.{Outcome}
-use Rattle.htl_top.specs.declared.outcome.Outcome.TheVariants.{Done, Usage, Source, IllFormed, Unschedulable, Platform, Task, Log, Patch, Object as Refused, Script, Shelf, Read, Write, Memory}
+use Rattle.htl_top.specs.declared.outcome.Outcome.TheVariants.{Object as Refused, Shelf, Memory}
 
 -- why a file wasn't fetched
 abbrev pub IsUnfetched : Option (List ℕ) → Files → Outcome → Type 0

@@ -17,7 +17,7 @@ use Rattle.htl_top.specs.Causes.{IsFaultOf, IsLongFile, IsGiven}
 use Rattle.htl_top.specs.declared.object.ObjectStop.{ObjectStop}
 use Rattle.htl_top.specs.declared.object.ObjectStop.TheVariants as stop
 use Rattle.htl_top.specs.declared.outcome.Outcome.{Outcome}
-use Rattle.htl_top.specs.declared.outcome.Outcome.TheVariants.{Done, Usage, Source, IllFormed, Unschedulable, Platform, Task, Log, Patch, Object as Refused, Script, Shelf, Read, Write, Memory}
+use Rattle.htl_top.specs.declared.outcome.Outcome.TheVariants.{Done, IllFormed, Object as Refused, Shelf, Write, Memory}
 use Rattle.htl_top.specs.declared.outcome.ShelfCause.TheVariants.{Failed, TooLong}
 
 -- ---- reading bytes

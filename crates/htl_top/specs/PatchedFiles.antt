@@ -1,5 +1,5 @@
 -- What `patch` answers of two files: an object of which a mode gets another refinement, and the donor that has it.
-use Rattle.std.specs.Prelude.{◌≡◌, ◌⊎◌, ℕ, List, Option, None, Some}
+use Rattle.std.specs.Prelude.{◌≡◌, ◌⊎◌, ℕ, List, Option, Some}
 use Rattle.std.specs.Io.KnownBytes.{append_known}
 use Rattle.htl_edge.specs.Causes.{Rose}
 use Rattle.htl_edge.specs.Content.{AppendsPrefix}
@@ -22,9 +22,9 @@ use Rattle.htl_top.specs.Answers.{Files, Streams, IsWritten}
 use Rattle.htl_top.specs.Fetching.{IsUnhad}
 use Rattle.htl_top.specs.Files.{IsFileOf}
 use Rattle.htl_top.specs.Objects.{IsAcceptedFile}
-use Rattle.htl_top.specs.Words.{Command, Go, Compile, CompileWith, Run, Check, Plan, Show, Bulk, Slack, Audit, Patch}
+use Rattle.htl_top.specs.Words.{Command, Patch}
 use Rattle.htl_top.specs.declared.outcome.Outcome.{Outcome}
-use Rattle.htl_top.specs.declared.outcome.Outcome.TheVariants.{Done, Usage, Source, IllFormed, Unschedulable, Platform, Task, Log, Patch as Unpatched, Object as Refused, Script, Shelf, Read, Write, Memory}
+use Rattle.htl_top.specs.declared.outcome.Outcome.TheVariants.{Done, IllFormed, Patch as Unpatched, Write, Memory}
 
 -- ---- the donor
 

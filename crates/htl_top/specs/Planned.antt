@@ -22,7 +22,7 @@ use Rattle.htl_walk.specs.Walk.{Left, job_at, worst_cases}
 use Rattle.htl_top.specs.Answers.{IsUntouched}
 use Rattle.htl_top.specs.Objects.{Work}
 use Rattle.htl_top.specs.SelectionInput.{Whole, Bad, input_of}
-use Rattle.htl_top.specs.declared.outcome.Outcome.TheVariants.{Done, Usage, Source, IllFormed, Unschedulable, Platform, Task, Log, Patch, Object as Refused, Script, Shelf, Read, Write, Memory}
+use Rattle.htl_top.specs.declared.outcome.Outcome.TheVariants.{Done, Script, Read, Write, Memory}
 
 -- ---- the text
 

@@ -20,9 +20,9 @@ use Rattle.htl_walk.specs.NodeWalks.{instrs_of}
 use Rattle.htl_walk.specs.declared.schedule.Schedule.{Schedule}
 use Rattle.htl_top.specs.Answers.{Files}
 use Rattle.htl_top.specs.Objects.{Work, IsAcceptedFile, IsStopped}
-use Rattle.htl_top.specs.Words.{Command, Go, Compile, CompileWith, Run, Check, Plan, Show, Bulk, Slack, Audit, Patch}
+use Rattle.htl_top.specs.Words.{Command, Slack}
 use Rattle.htl_top.specs.declared.outcome.Outcome.{Outcome}
-use Rattle.htl_top.specs.declared.outcome.Outcome.TheVariants.{Done, Usage, Source, IllFormed, Unschedulable, Platform, Task, Log, Patch as Unpatched, Object as Refused, Script, Shelf, Read, Write, Memory}
+use Rattle.htl_top.specs.declared.outcome.Outcome.TheVariants.{Done, Task, Write, Memory}
 
 -- ---- the task
 

@@ -4,7 +4,7 @@ use Rattle.std.proofs.lemmas.List.{get_or_past}
 use Rattle.std.proofs.Math.ListN.{length-set}
 use Rattle.htl_walk.specs.declared.job.Job.{Job}
 use Rattle.htl_walk.specs.declared.schedule.SInstr.{SInstr}
-use Rattle.htl_walk.specs.declared.schedule.SInstr.TheVariants.{Dispatch, Idle, End}
+use Rattle.htl_walk.specs.declared.schedule.SInstr.TheVariants.{Dispatch}
 use Rattle.htl_walk.specs.Walk.{Point, job_at, dispatch_begins, time_after, work_after, next_point}
 use Rattle.std.proofs.lemmas.Bool.{cases_eq, cases_lt}
 
