@@ -1,20 +1,9 @@
 -- Rounds that agree before an instant judge the lines that end by it alike.
 use Rattle.std.proofs.Common.{◌≡◌, ℕ, suc, ◌+◌, ◌-◌, ◌≤◌, ◌<◌, inl, inr, Bool, true, false, cond, not, ◌&&◌, ◌||◌, eqb, leb, ltb, List, [], ◌∷◌, ◌++◌, Some, refl, sym, ◌∙◌, ap, ap₂, subst, arith}
-use Rattle.std.specs.Prelude.{slice_get}
-use Rattle.std.specs.List.{list_all}
-use Rattle.std.proofs.lemmas.Bool.Decides.{nat_tests}
-use Rattle.htl_model.specs.Lists.{numbered}
-use Rattle.htl_walk.specs.declared.job.Job.{Job}
-use Rattle.htl_walk.specs.Jobs.{precedes}
-use Rattle.htl_audit.specs.declared.slice.Slice.{Slice}
+use Rattle.htl_audit.proofs.Words.{slice_get, list_all, nat_tests, numbered, Job, precedes, Slice, BeginningJobs, lies_in, ticks, job_length, is_done, is_free, is_over, is_short, any_job, any_short, last_end, slice_is_out_of_order, line_fault, Matches, Agree, AreEarly, and_parts, cases_lt, leb-false, lt-leb, ltb-true, same_truth}
 use Rattle.htl_audit.specs.declared.slice.LogKind.TheVariants as kind
-use Rattle.htl_audit.specs.Jobs.{BeginningJobs}
-use Rattle.htl_audit.specs.Legal.{lies_in, ticks, job_length, is_done, is_free, is_over, is_short, any_job, any_short, last_end, slice_is_out_of_order, line_fault}
-use Rattle.htl_audit.specs.Agreeing.{Matches, Agree, AreEarly}
 use Rattle.htl_audit.proofs.JobTests.{all_at_0, all_pass_0, job_found, job_there}
 use Rattle.htl_audit.proofs.Judging.{lies, rest}
-use Rattle.std.proofs.lemmas.Bool.{and_parts, cases_lt, leb-false, lt-leb, ltb-true}
-use Rattle.htl_base.proofs.Tests.{same_truth}
 
 -- ticks depend on a round by its start alone
 lies_start : (r s : BeginningJobs) (j : Job) (x : Slice) → r.start ≡ s.start → lies_in r j x ≡ lies_in s j x

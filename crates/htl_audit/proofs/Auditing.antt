@@ -1,22 +1,8 @@
 -- The calls of an auditor: each carries what it follows, and the verdict tells the first fault.
 use Rattle.std.proofs.Common.{◌≡◌, ℕ, suc, ◌<◌, cond, ◌&&◌, eqb, leb, false, List, [], ◌∷◌, ◌++◌, length, Some, None, Result, Ok, Err, IfOk, IfErr, ℤ, refl, sym, ◌∙◌, ap, subst, arith}
-use Rattle.std.proofs.lemmas.Bool.Decides.{nat_tests}
-use Rattle.htl_model.specs.declared.event.Event.{Event}
+use Rattle.htl_audit.proofs.Words.{nat_tests, Event, sense, Tables, reading_of, shown_as, sense_sense, took_sense, AuditTotals, Slice, LogFault, Audit, AuditFollows, IsAudited, all_rounds, Kept, first_fault, jobs_done, Says, LogFollows, LogEnds, Numbers, verdict_of, fault_in}
 use Rattle.htl_model.specs.declared.event.Event.TheVariants as V
-use Rattle.htl_model.specs.Meaning.{sense}
-use Rattle.htl_model.specs.Tables.{Tables}
 use Rattle.htl_machine.specs.Calls as machines
-use Rattle.htl_machine.specs.Follows.{reading_of, shown_as}
-use Rattle.htl_machine.proofs.Events.{sense_sense, took_sense}
-use Rattle.htl_audit.specs.declared.auditor.AuditTotals.{AuditTotals}
-use Rattle.htl_audit.specs.declared.slice.Slice.{Slice}
-use Rattle.htl_audit.specs.declared.slice.LogFault.{LogFault}
-use Rattle.htl_audit.specs.Auditing.{Audit, AuditFollows, IsAudited}
-use Rattle.htl_audit.specs.Jobs.{all_rounds}
-use Rattle.htl_audit.specs.Keeping.{Kept}
-use Rattle.htl_audit.specs.Legal.{first_fault, jobs_done}
-use Rattle.htl_audit.specs.Saying.{Says}
-use Rattle.htl_audit.specs.Verdicts.{LogFollows, LogEnds, Numbers, verdict_of, fault_in}
 use Rattle.htl_audit.proofs.Growing.{rounds_same}
 use Rattle.htl_audit.proofs.Verdicts.{verdict_is, numbers_are}
 

@@ -1,30 +1,11 @@
 -- Where rounds begin, what is kept of the invocations that begin one are the jobs of the new rounds, and the windows of their jobs before have
 -- ended; all others keep what they had.
 use Rattle.std.proofs.Common.{◌≡◌, ℕ, zero, suc, ◌+◌, ◌-◌, ◌*◌, ◌/◌, ◌%◌, ◌≤◌, ◌<◌, ◌⊎◌, inl, inr, Bool, true, false, cond, List, [], ◌∷◌, ◌++◌, length, get_or, map, Some, refl, sym, ◌∙◌, ap, subst, arith}
-use Rattle.std.specs.Prelude.{slice_get}
-use Rattle.std.proofs.lemmas.Bool.{eqb-true, cases_lt}
-use Rattle.std.proofs.lemmas.List.{map-append}
-use Rattle.std.proofs.lemmas.Option.{slice_get_within, none-some}
-use Rattle.std.proofs.Math.Nat.{div-add-mod}
-use Rattle.htl_model.specs.declared.event.Event.{Event}
-use Rattle.htl_model.specs.declared.parts.Inv.{Inv}
-use Rattle.htl_model.specs.FrameRules.{KeptApart}
-use Rattle.htl_model.specs.Frames.{root_periods, begins}
-use Rattle.htl_model.specs.PortOrder.{feeds}
-use Rattle.htl_model.specs.Ranges.{AreInRange}
-use Rattle.htl_model.specs.Tables.{Tables, mode_period}
-use Rattle.htl_walk.specs.declared.job.Job.{Job}
-use Rattle.htl_walk.specs.Jobs.{precedes}
-use Rattle.htl_refine.specs.Records.{took, modes_at}
-use Rattle.htl_audit.specs.Growing.{HaveRounds}
-use Rattle.htl_audit.specs.Jobs.{BeginningJobs, round_of, starts_before, all_rounds}
-use Rattle.htl_audit.specs.Keeping.{Kept, has_job, start_at, begins_round, lengths_begun}
-use Rattle.htl_audit.specs.Rosters.{IsIn, IsCurrent, HasJob, AreKept, IsSized}
+use Rattle.htl_audit.proofs.Words.{slice_get, eqb-true, cases_lt, map-append, slice_get_within, none-some, div-add-mod, Event, Inv, KeptApart, root_periods, begins, feeds, AreInRange, Tables, mode_period, Job, precedes, took, modes_at, HaveRounds, BeginningJobs, round_of, starts_before, all_rounds, Kept, has_job, start_at, begins_round, lengths_begun, IsIn, IsCurrent, HasJob, AreKept, IsSized, get_either, get_front, into_back, marked_within}
 use Rattle.htl_audit.proofs.Growing.{start_is, round_is}
 use Rattle.htl_audit.proofs.Renewing.{IsNew, IsStill, all_new, all_still, runs_is}
 use Rattle.htl_audit.proofs.RoundJobs.{begins_is, fresh, fresh_begins, has_fresh, precedes_is, feeds_begin}
 use Rattle.htl_audit.proofs.RoundJobs as jobs
-use Rattle.htl_base.proofs.Places.{get_either, get_front, into_back, marked_within}
 
 -- two multiples of a period are a period apart at least
 pub multiples : (p a b : ℕ) → a % p ≡ 0 → b % p ≡ 0 → a < b → a + p ≤ b

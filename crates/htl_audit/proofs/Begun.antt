@@ -1,29 +1,7 @@
 -- What an auditor follows of a log, over an instant at which rounds begin.
 use Rattle.std.proofs.Common.{◌≡◌, ℕ, suc, ◌+◌, ◌≤◌, ◌<◌, ◌⊎◌, inl, inr, Bool, true, false, cond, ◌&&◌, eqb, ltb, List, [], ◌∷◌, ◌++◌, length, get_or, take, Option, Some, None, IfSome, refl, sym, ◌∙◌, ap, ap₂, subst, arith}
-use Rattle.std.specs.Prelude.{slice_get}
-use Rattle.std.proofs.lemmas.Bool.Decides.{nat_tests}
-use Rattle.std.proofs.lemmas.Option.{slice_get_within}
-use Rattle.htl_model.specs.declared.event.Event.{Event}
-use Rattle.htl_model.specs.declared.parts.Inv.{Inv}
-use Rattle.htl_model.specs.FrameRules.{KeptApart}
-use Rattle.htl_model.specs.Frames.{root_periods, begins}
-use Rattle.htl_model.specs.Lists.{numbered}
-use Rattle.htl_model.specs.Ranges.{AreInRange}
-use Rattle.htl_model.specs.Tables.{Tables}
-use Rattle.htl_walk.specs.declared.job.Job.{Job}
-use Rattle.htl_refine.specs.Records.{took, inv_worst, modes_at, AreTookWithin}
-use Rattle.htl_refine.proofs.RoundLaws.{took_within, worst_some}
-use Rattle.htl_audit.specs.declared.slice.Slice.{Slice}
-use Rattle.htl_audit.specs.declared.slice.LogFault.{LogFault}
-use Rattle.htl_audit.specs.Agreeing.{Agree, AreEarly}
-use Rattle.htl_audit.specs.Growing.{AgreeBefore, HaveRounds}
-use Rattle.htl_audit.specs.Jobs.{BeginningJobs, round_of, all_rounds}
-use Rattle.htl_audit.specs.Keeping.{Kept, sum_at, lengths_begun}
+use Rattle.htl_audit.proofs.Words.{slice_get, nat_tests, slice_get_within, Event, Inv, KeptApart, root_periods, begins, numbered, AreInRange, Tables, Job, took, inv_worst, modes_at, AreTookWithin, took_within, worst_some, Slice, LogFault, Agree, AreEarly, AgreeBefore, HaveRounds, BeginningJobs, round_of, all_rounds, Kept, sum_at, lengths_begun, ticks, line_fault, is_short, any_short, how_many, jobs_done, IsNext, IsLast, BeganBefore, IsIn, IsCurrent, AreSummed, IsSized, LogFollows, LogEnds, and_parts, cases_lt, ltb-true, get_front, same_truth}
 use Rattle.htl_audit.specs.Legal as rules
-use Rattle.htl_audit.specs.Legal.{ticks, line_fault, is_short, any_short, how_many, jobs_done}
-use Rattle.htl_audit.specs.Lines.{IsNext, IsLast, BeganBefore}
-use Rattle.htl_audit.specs.Rosters.{IsIn, IsCurrent, AreSummed, IsSized}
-use Rattle.htl_audit.specs.Verdicts.{LogFollows, LogEnds}
 use Rattle.htl_audit.proofs.Agreeing.{fault_alike, no_ticks}
 use Rattle.htl_audit.proofs.Beginning.{grown, split, is_new, is_still, begins_or_not, old_current, kept_new}
 use Rattle.htl_audit.proofs.RoundJobs.{fresh, fresh_begins}
@@ -32,9 +10,6 @@ use Rattle.htl_audit.proofs.Onward.{early, kept_then}
 use Rattle.htl_audit.proofs.Renewing.{renewed_sized, renewed_else, start_past}
 use Rattle.htl_audit.proofs.Summing.{passes}
 use Rattle.htl_audit.proofs.JobTests.{job_found, job_there}
-use Rattle.std.proofs.lemmas.Bool.{and_parts, cases_lt, ltb-true}
-use Rattle.htl_base.proofs.Places.{get_front}
-use Rattle.htl_base.proofs.Tests.{same_truth}
 
 -- a job takes at least one tick
 pub some_took : (t : Tables) → AreInRange t → (es : List Event) → AreTookWithin t es → (i u : ℕ) (x : Inv) → slice_get t.invs i ≡ Some x → 1 ≤ took t es i u

@@ -1,52 +1,8 @@
 -- A machine that follows events follows others that tell the same: a reading between two others changes nothing.
 use Rattle.std.proofs.Common.{◌≡◌, ℕ, zero, suc, ◌+◌, ◌-◌, ◌*◌, ◌/◌, Bool, List, [], ◌∷◌, ◌++◌, length, map, Option, Some, None, refl, sym, ap, ap₂, ◌∙◌, subst, arith, get_or}
-use Rattle.std.specs.List.{filter, count_by}
-use Rattle.std.specs.Prelude.{option_map}
-use Rattle.std.proofs.lemmas.List.{append_cancel_left, ext_get_or}
+use Rattle.htl_audit.proofs.Words.{filter, count_by, append_cancel_left, ext_get_or, Event, State, Stay, frame_of, hyper, starts, node, joined, AreInRange, Tables, sense, state, stay_of, mode_of, up_to_same, Job, SInstr, lists_of, legs_of, Left, Round, ECode, e_path, instant_path, Calendar, list_at, Pending, Entry, Object, IsAccepted, RunningList, lists_from, lists_at, left_in, begun_before, begins_at, in_frame, old_records_by, new_records_by, records, Frame, frame_modes, frame_places, frame_jobs, frame_at, path_of, walks_of, took, AreTookWithin, modes_at, rounds_before, states_are_selections, Shown, turn_list, ListAt, Seen, Follows, GoesBy, IsFinished, text_between, reading_of, SMachineStands, SMachineFollows, IsLoaded, all_records, e_done, Turn, left_before, turn_finished_by, finished_before, schedules_of, before_of, lines_of, turn_at, capped, ValuesFollow, accepted_is_loaded, Alike, state_same, before_same, values_alike, reading_more, sense_at, took_at, turn_same, all_read, within_more, later_leave, triggers_alike, option_map}
 use mathlib.Core.Path.{fun_ext}
-use Rattle.htl_model.specs.declared.event.Event.{Event}
 use Rattle.htl_model.specs.declared.event.Event.TheVariants as V
-use Rattle.htl_model.specs.declared.state.State.{State}
-use Rattle.htl_model.specs.declared.state.Stay.{Stay}
-use Rattle.htl_model.specs.Frames.{frame_of, hyper, starts, node}
-use Rattle.htl_model.specs.Lists.{joined}
-use Rattle.htl_model.specs.Ranges.{AreInRange}
-use Rattle.htl_model.specs.Tables.{Tables}
-use Rattle.htl_model.specs.Meaning.{sense, state, stay_of, mode_of}
-use Rattle.htl_model.proofs.Locality.{up_to_same}
-use Rattle.htl_walk.specs.declared.job.Job.{Job}
-use Rattle.htl_walk.specs.declared.schedule.SInstr.{SInstr}
-use Rattle.htl_walk.specs.Feasible.{lists_of}
-use Rattle.htl_walk.specs.PathJobs.{legs_of}
-use Rattle.htl_walk.specs.Walk.{Left}
-use Rattle.htl_smach.specs.Rounds.{Round}
-use Rattle.htl_ecode.specs.declared.ecode.ECode.{ECode}
-use Rattle.htl_ecode.specs.Paths.{e_path, instant_path}
-use Rattle.htl_emach.specs.Calendars.{Calendar, list_at}
-use Rattle.htl_emach.specs.Pending.{Between as Pending, Entry}
-use Rattle.htl_object.specs.declared.object.Object.{Object}
-use Rattle.htl_object.specs.Accepted.{IsAccepted}
-use Rattle.htl_refine.specs.FrameRecords.{RunningList, lists_from, lists_at, left_in, begun_before, begins_at, in_frame, old_records_by, new_records_by, records}
-use Rattle.htl_refine.specs.FrameRuns.{Frame, frame_modes, frame_places, frame_jobs, frame_at, path_of, walks_of}
-use Rattle.htl_refine.specs.Records.{took, AreTookWithin, modes_at, rounds_before}
-use Rattle.htl_refine.proofs.StateLaws.{states_are_selections}
-use Rattle.htl_console.specs.declared.shown.Shown.{Shown}
-use Rattle.htl_machine.specs.StandingList.{turn_list}
-use Rattle.htl_machine.specs.declared.numbering.ListAt.{ListAt}
-use Rattle.htl_machine.specs.Calls.{Seen, Follows, GoesBy, IsFinished, text_between}
-use Rattle.htl_machine.specs.Follows.{reading_of, SMachineStands, SMachineFollows, IsLoaded}
-use Rattle.htl_machine.specs.Lines.{all_records, e_done}
-use Rattle.htl_machine.specs.ListTurns.{Turn, left_before, turn_finished_by}
-use Rattle.htl_machine.specs.Plans.{finished_before}
-use Rattle.htl_machine.specs.Programs.{schedules_of, before_of, lines_of}
-use Rattle.htl_machine.specs.RunLists.{turn_at}
-use Rattle.htl_machine.specs.Texts.{capped}
-use Rattle.htl_machine.specs.Values.{ValuesFollow}
-use Rattle.htl_machine.proofs.Accepted.{accepted_is_loaded}
-use Rattle.htl_machine.proofs.Events.{Alike, state_same, before_same, values_alike, reading_more, sense_at, took_at}
-use Rattle.htl_machine.proofs.Following.{turn_same, all_read, within_more}
-use Rattle.htl_machine.proofs.TextSoFar.{later_leave}
-use Rattle.htl_machine.proofs.Waking.{triggers_alike}
 
 -- the same sensors and lengths
 pub record TellAlike (t : Tables) (es fs : List Event) : Type 0 where

@@ -1,24 +1,6 @@
 -- The slices of a walk that close at an instant: one at most, and how many ticks those before an instant have.
 use Rattle.std.proofs.Common.{◌≡◌, ◌≤◌, ◌<◌, ℕ, zero, suc, ◌+◌, ◌-◌, Bool, true, false, cond, eqb, ltb, List, [], ◌∷◌, length, map, take, slice_get, get_or, Option, Some, None, option_map, refl, sym, ap, ap₂, ◌∙◌, arith}
-use Rattle.std.specs.List.{filter}
-use Rattle.std.proofs.lemmas.Bool.{eqb-true, ltb-true, ltb-false, lt-ltb, le-ltb}
-use Rattle.htl_model.specs.Lists.{all_some, numbered}
-use Rattle.htl_walk.specs.declared.job.Job.{Job}
-use Rattle.htl_walk.specs.declared.schedule.SInstr.{SInstr}
-use Rattle.htl_walk.specs.declared.schedule.SInstr.TheVariants.{Dispatch}
-use Rattle.htl_walk.specs.Walk.{Point, Left, job_at, dispatch_begins, time_after, slice_between, slice_of, slice_onto, position_of, next_point, left_by, walk_from, is_position, slices, finish}
-use Rattle.htl_walk.proofs.Steps.{time_rises, left_falls}
-use Rattle.htl_refine.specs.Records.{shifted}
-use Rattle.htl_refine.specs.ServedJobs.{spent}
-use Rattle.htl_refine.specs.RecordCounts.{count_left_before, Rises}
-use Rattle.htl_refine.proofs.DoneRecords.{done_some}
-use Rattle.htl_refine.proofs.RecordOrder.{walk_rises, not_some}
-use Rattle.htl_refine.proofs.SliceOrder.{slice_inside}
-use Rattle.htl_refine.proofs.SliceSums.{spent_is}
-use Rattle.htl_machine.proofs.Turning.{done_exactly}
-use Rattle.htl_audit.specs.declared.slice.Slice.{Slice}
-use Rattle.htl_audit.specs.Own.{own_slice}
-use Rattle.std.proofs.lemmas.Option.{same_Some}
+use Rattle.htl_audit.proofs.Words.{filter, eqb-true, ltb-true, ltb-false, lt-ltb, le-ltb, all_some, numbered, Job, SInstr, Dispatch, Point, Left, job_at, dispatch_begins, time_after, slice_between, slice_of, slice_onto, position_of, next_point, left_by, walk_from, is_position, slices, finish, time_rises, left_falls, shifted, spent, count_left_before, Rises, done_some, walk_rises, not_some, slice_inside, spent_is, done_exactly, Slice, own_slice, same_Some}
 
 -- ---- slices have room
 

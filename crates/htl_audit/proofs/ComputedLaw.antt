@@ -1,36 +1,11 @@
 -- The values that a legal log gives are those of logical execution time, instant by instant.
 use Rattle.std.proofs.Common.{◌≡◌, ◌≤◌, ◌<◌, ◌⊎◌, inl, inr, ℕ, zero, suc, ◌-◌, Bool, true, false, cond, ◌||◌, eqb, List, [], ◌∷◌, ◌++◌, length, slice_get, Option, Some, ℤ, refl, sym, ap, ap₂, ◌∙◌, subst, arith}
-use Rattle.std.proofs.lemmas.Bool.{eqb-true, eqb-false, ne_eqb}
-use Rattle.htl_model.specs.declared.event.Event.{Event}
-use Rattle.htl_model.specs.declared.parts.Inv.{Inv}
-use Rattle.htl_model.specs.declared.state.Stay.{Stay}
-use Rattle.htl_model.specs.declared.state.State.{State}
-use Rattle.htl_model.specs.FrameRules.{KeptApart}
-use Rattle.htl_model.specs.Meaning.{state, before, sense, stays_at}
-use Rattle.htl_model.specs.Ranges.{AreInRange}
-use Rattle.htl_model.specs.Tables.{Tables}
-use Rattle.htl_walk.specs.declared.schedule.SInstr.{SInstr}
-use Rattle.htl_walk.specs.Feasible.{AreFeasible}
-use Rattle.htl_emach.specs.Contents.{Content, first_content, completed}
-use Rattle.htl_emach.proofs.Keeping.{first_shaped}
-use Rattle.htl_refine.specs.Records.{AreTookWithin}
-use Rattle.htl_machine.specs.Programs.{schedules_of}
-use Rattle.htl_machine.specs.Values.{InvStands, Ready, ValuesFollow, HasPlaces, and_also}
-use Rattle.htl_machine.specs.Worlds.{effects, all_reads, all_writes, with_sensors}
-use Rattle.htl_machine.proofs.Carrying.{follows_on, after_shape, holds_values}
-use Rattle.htl_machine.proofs.Finishing.{finish_follows, completed_shape}
-use Rattle.htl_machine.proofs.Shaping.{has_places}
-use Rattle.htl_audit.specs.declared.slice.Slice.{Slice}
-use Rattle.htl_audit.specs.Computed.{ended, ending, is_finished, with_lines, Known, next_known, known, GivesTheMeaning, LegalLogGivesTheMeaning}
-use Rattle.htl_audit.specs.Growing.{HaveRounds}
-use Rattle.htl_audit.specs.Jobs.{round_of, all_rounds}
-use Rattle.htl_audit.specs.Legal.{lies_in, ticks, job_length, IsLegal}
+use Rattle.htl_audit.proofs.Words.{eqb-true, eqb-false, ne_eqb, Event, Inv, Stay, State, KeptApart, state, before, sense, stays_at, AreInRange, Tables, SInstr, AreFeasible, Content, first_content, completed, first_shaped, AreTookWithin, schedules_of, InvStands, Ready, ValuesFollow, HasPlaces, and_also, effects, all_reads, all_writes, with_sensors, follows_on, after_shape, holds_values, finish_follows, completed_shape, has_places, Slice, ended, ending, is_finished, with_lines, Known, next_known, known, GivesTheMeaning, LegalLogGivesTheMeaning, HaveRounds, round_of, all_rounds, lies_in, ticks, job_length, IsLegal, none-some}
 use Rattle.htl_audit.proofs.FinishedByLog.{finished_is, finished_stands, alike, own_job, never, lies_own, has_read, all_ready, none_ready, all_carried}
 use Rattle.htl_audit.proofs.Judging.{lies, ticks_more}
 use Rattle.htl_audit.proofs.LegalLogs.{ended_next, ending_at, kept, one_ending, none_first}
 use Rattle.htl_audit.proofs.Rounds.{accepted_range, accepted_kept, first_rules, have_rounds}
 use Rattle.htl_audit.proofs.StandingJobs.{HasJobFrom, stands_order}
-use Rattle.std.proofs.lemmas.Option.{none-some}
 
 module _ (t : Tables) (lists : List (List SInstr)) (range : AreInRange t) (kept16 : KeptApart t 16) (feasible : AreFeasible t lists) (rounds : HaveRounds t) (es : List Event) (within : AreTookWithin t es) (end : ℕ) (log : List Slice) (legal : IsLegal t es end log) where
   first12 : KeptApart t 12

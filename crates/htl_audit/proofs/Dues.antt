@@ -1,18 +1,9 @@
 -- From when on a job may fall short that isn't noted yet.
 use Rattle.std.proofs.Common.{◌≡◌, ◌≤◌, ◌<◌, ◌⊎◌, inl, inr, ℕ, zero, suc, ◌+◌, Bool, true, false, cond, ◌&&◌, ◌||◌, eqb, leb, ltb, min, List, [], ◌∷◌, length, get_or, set, Option, Some, None, refl, sym, ◌∙◌, ap, subst, arith}
-use Rattle.std.proofs.lemmas.Bool.{eqb-true, lt-ltb, ltb-true, and_from, and_parts}
-use Rattle.htl_model.specs.Tables.{Tables}
-use Rattle.htl_audit.specs.declared.slice.Slice.{Slice}
-use Rattle.htl_audit.specs.declared.slice.LogKind.{LogKind}
-use Rattle.htl_audit.specs.declared.slice.LogFault.{LogFault}
-use Rattle.htl_audit.specs.Auditing.{AreDue}
-use Rattle.htl_audit.specs.Keeping.{Kept, Roster, has_job, sum_at, length_at, start_at, end_at, release_at, ticks_of, kind_of, with_kind, judged, judged_to, fell_short, any_fell_short, settled, inv_takes}
+use Rattle.htl_audit.proofs.Words.{eqb-true, lt-ltb, ltb-true, and_from, and_parts, Tables, Slice, LogKind, LogFault, AreDue, Kept, Roster, has_job, sum_at, length_at, start_at, end_at, release_at, ticks_of, kind_of, with_kind, judged, judged_to, fell_short, any_fell_short, settled, inv_takes, marked_within, or_with_false, cases_below_next}
 use Rattle.htl_audit.proofs.Passing.{judged_leaves}
 use Rattle.htl_audit.proofs.Settling.{short_found, short_there}
 use Rattle.htl_audit.proofs.Taking.{taken_leaves, taken_length}
-use Rattle.htl_base.proofs.Places.{marked_within}
-use Rattle.htl_base.proofs.Tests.{or_with_false}
-use Rattle.htl_base.proofs.Numbers.{cases_below_next}
 
 -- ---- lines
 

@@ -1,16 +1,7 @@
 -- A log has one first fault at most, and none exactly where it is legal.
 use Rattle.std.proofs.Common.{◌≡◌, ℕ, zero, suc, ◌+◌, ◌<◌, inl, inr, Bool, true, false, List, [], ◌∷◌, ◌++◌, length, slice_get, take, Option, Some, None, refl, sym, ◌∙◌, ap, arith}
-use Rattle.std.proofs.lemmas.List.{append_assoc, append-nil}
-use Rattle.std.proofs.lemmas.Option.{slice_get_within, none-some}
-use Rattle.htl_model.specs.declared.event.Event.{Event}
-use Rattle.htl_model.specs.Tables.{Tables}
-use Rattle.htl_audit.specs.declared.slice.Slice.{Slice}
-use Rattle.htl_audit.specs.declared.slice.LogKind.{LogKind}
+use Rattle.htl_audit.proofs.Words.{append_assoc, append-nil, slice_get_within, none-some, Event, Tables, Slice, LogKind, LogFault, BeginningJobs, all_rounds, line_fault, first_line_fault, first_fault_in, first_fault, end_fault, fault_at, any_short, IsLegalIn, IsLegal, IsFirstFaultIn, IsFirstFault}
 use Rattle.htl_audit.specs.declared.slice.LogKind.TheVariants as kind
-use Rattle.htl_audit.specs.declared.slice.LogFault.{LogFault}
-use Rattle.htl_audit.specs.Jobs.{BeginningJobs, all_rounds}
-use Rattle.htl_audit.specs.Legal.{line_fault, first_line_fault, first_fault_in, first_fault, end_fault, fault_at, any_short, IsLegalIn, IsLegal}
-use Rattle.htl_audit.specs.Faults.{IsFirstFaultIn, IsFirstFault}
 
 module _ (rounds : List BeginningJobs) (now : ℕ) where
   -- a line of those behind the lines `log`, with the lines between

@@ -1,17 +1,8 @@
 -- Whether all that feeds a job is done, by the list of those that do.
 use Rattle.std.proofs.Common.{◌≡◌, ◌<◌, ◌≤◌, ℕ, zero, suc, ◌+◌, Bool, true, false, cond, not, ◌&&◌, ◌||◌, leb, ltb, List, [], ◌∷◌, ◌++◌, length, drop, get_or, Option, Some, None, All, refl, sym, ◌∙◌, ap, ap₂, arith}
-use Rattle.std.proofs.lemmas.Bool.{le-ltb, lt-leb}
-use Rattle.std.proofs.lemmas.List.{append_assoc}
-use Rattle.htl_model.specs.declared.parts.Inv.{Inv}
-use Rattle.htl_model.specs.PortOrder.{feeds}
-use Rattle.htl_model.specs.Tables.{Tables}
-use Rattle.htl_model.proofs.Listed.{get_list_to}
-use Rattle.htl_audit.specs.declared.slice.Slice.{Slice}
-use Rattle.htl_audit.specs.declared.slice.LogKind.{LogKind}
+use Rattle.htl_audit.proofs.Words.{le-ltb, lt-leb, append_assoc, Inv, feeds, Tables, get_list_to, Slice, LogKind, feeders_from, feeders_of, all_feeders, is_done_at, are_done, Roster, Kept, has_job, sum_at, length_at, ticks_of, is_inside, is_full, is_clear_of, is_free_from, is_free_at, kind_of}
 use Rattle.htl_audit.specs.declared.slice.LogKind.TheVariants as kind
-use Rattle.htl_audit.specs.Feeders.{feeders_from, feeders_of, all_feeders, is_done_at, are_done}
 use Rattle.htl_audit.proofs.Steps.{drop_at}
-use Rattle.htl_audit.specs.Keeping.{Roster, Kept, has_job, sum_at, length_at, ticks_of, is_inside, is_full, is_clear_of, is_free_from, is_free_at, kind_of}
 
 -- ---- the list
 

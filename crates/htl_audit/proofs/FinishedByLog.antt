@@ -1,33 +1,13 @@
 -- What a legal log says of finished jobs: they have read all, and are finished when an output is due.
 use Rattle.std.proofs.Common.{◌≡◌, ◌≤◌, ◌<◌, ℕ, suc, ◌+◌, Bool, true, false, cond, ◌&&◌, eqb, List, slice_get, Option, Some, None, refl, sym, ap, ap₂, ◌∙◌, arith}
-use Rattle.std.proofs.lemmas.Bool.{eqb-true, eq-eqb, ne_eqb, and_from, and_parts}
-use Rattle.htl_model.specs.declared.event.Event.{Event}
-use Rattle.htl_model.specs.declared.parts.Inv.{Inv}
+use Rattle.htl_audit.proofs.Words.{eqb-true, eq-eqb, ne_eqb, and_from, and_parts, Event, Inv, Stay, KeptApart, state, before, stay_of, in_round, writer_from, AreInRange, Tables, mode_module, mode_period, is_concrete, Job, Content, AreTookWithin, InvStands, IsDue, IsPast, HasReadInputs, Ready, AreCarried, ValuesFollow, reads_before_release, end_before_writes, standing_at, Slice, ended, is_done_in, is_done_from, is_finished, HaveRounds, BeginningJobs, round_of, all_rounds, lies_in, ticks, job_length, is_done, IsLegal, none-some, same_Some, same_truth}
 use Rattle.htl_model.specs.declared.parts.End.{End}
 use Rattle.htl_model.specs.declared.parts.End.TheVariants as E
-use Rattle.htl_model.specs.declared.state.Stay.{Stay}
-use Rattle.htl_model.specs.FrameRules.{KeptApart}
 use Rattle.htl_model.specs.Meaning as meaning
-use Rattle.htl_model.specs.Meaning.{state, before, stay_of, in_round, writer_from}
-use Rattle.htl_model.specs.Ranges.{AreInRange}
-use Rattle.htl_model.specs.Tables.{Tables, mode_module, mode_period, is_concrete}
-use Rattle.htl_walk.specs.declared.job.Job.{Job}
-use Rattle.htl_emach.specs.Contents.{Content}
-use Rattle.htl_refine.specs.Records.{AreTookWithin}
-use Rattle.htl_machine.specs.Values.{InvStands, IsDue, IsPast, HasReadInputs, Ready, AreCarried, ValuesFollow}
-use Rattle.htl_machine.proofs.JobWindows.{reads_before_release, end_before_writes}
-use Rattle.htl_refine.proofs.Standing.{standing_at}
-use Rattle.htl_audit.specs.declared.slice.Slice.{Slice}
-use Rattle.htl_audit.specs.Computed.{ended, is_done_in, is_done_from, is_finished}
-use Rattle.htl_audit.specs.Growing.{HaveRounds}
-use Rattle.htl_audit.specs.Jobs.{BeginningJobs, round_of, all_rounds}
-use Rattle.htl_audit.specs.Legal.{lies_in, ticks, job_length, is_done, IsLegal}
 use Rattle.htl_audit.proofs.JobTests.{item_found, item_there, IsJobOf, job_found}
 use Rattle.htl_audit.proofs.Judging.{Lies, lies}
 use Rattle.htl_audit.proofs.LegalLogs.{ended_less, ended_front, ended_all, ended_some, kept, ordered, never_more, window_done, waited}
 use Rattle.htl_audit.proofs.StandingJobs.{HasJobFrom, stands_job, stands_fed, same_start}
-use Rattle.std.proofs.lemmas.Option.{none-some, same_Some}
-use Rattle.htl_base.proofs.Tests.{same_truth}
 
 -- ---- whoever stands is finished where the slices of his job add up
 

@@ -1,52 +1,7 @@
 -- The jobs of a frame are those of the rounds that begin in it, and each frame of a run is sound.
 use Rattle.std.proofs.Common.{◌≡◌, ◌≤◌, ◌<◌, ℕ, zero, suc, ◌+◌, ◌-◌, ◌*◌, ◌/◌, ◌%◌, max, Bool, true, false, ◌&&◌, eqb, List, [], ◌∷◌, cond, length, get_or, map, take, slice_get, Option, Some, None, option_map, refl, sym, ap, ap₂, ◌∙◌, subst, arith}
-use Rattle.std.proofs.Math.Nat.{div-add-mod, mul-mod_right}
-use Rattle.std.proofs.lemmas.Bool.{eq-eqb, and_from}
-use Rattle.std.proofs.lemmas.Option.{get_or_from_slice_get, slice_get_within, none-some, same_Some}
-use Rattle.htl_model.specs.declared.event.Event.{Event}
-use Rattle.htl_model.specs.declared.frame.Place.{Place}
-use Rattle.htl_model.specs.declared.frame.Round.{Round as FrameRound}
-use Rattle.htl_model.specs.declared.parts.Inv.{Inv}
-use Rattle.htl_model.specs.declared.state.Stay.{Stay}
-use Rattle.htl_model.specs.Frames.{frame_of, root_periods, unit_period, starts, rounds, rounds_at, rounds_of, known_by, no_place}
-use Rattle.htl_model.specs.Meaning.{state, stay_of}
-use Rattle.htl_model.specs.PortOrder.{feeds}
-use Rattle.htl_model.specs.Selections.{root_modules}
-use Rattle.htl_model.specs.Tables.{Tables, mode_module, mode_period, release, window_end}
-use Rattle.htl_model.proofs.FrameRules.{frame_divided}
-use Rattle.htl_walk.specs.declared.job.Job.{Job}
-use Rattle.htl_walk.specs.declared.schedule.SInstr.{SInstr}
-use Rattle.htl_walk.specs.Jobs.{is_fed_by, precedes}
-use Rattle.htl_walk.specs.PathJobs.{job_in, placed_job}
-use Rattle.htl_walk.specs.Paths.{end_to_end, walks_from}
-use Rattle.htl_walk.specs.Walk.{first_point, walk_from}
-use Rattle.htl_walk.proofs.Accepted.{met_same, form_joined}
+use Rattle.htl_audit.proofs.Words.{div-add-mod, mul-mod_right, eq-eqb, and_from, get_or_from_slice_get, slice_get_within, none-some, same_Some, Event, Place, FrameRound, Inv, Stay, frame_of, root_periods, unit_period, starts, rounds, rounds_at, rounds_of, known_by, no_place, state, stay_of, feeds, root_modules, Tables, mode_module, mode_period, release, window_end, frame_divided, Job, SInstr, is_fed_by, precedes, job_in, placed_job, end_to_end, walks_from, first_point, walk_from, met_same, form_joined, mask_bit, get_mapped, derived_place, place, standing_places, AreOrdered, frame_modes, frame_places, frame_jobs, frame_at, took, lengths_of, IsServing, IsFeasibleRun, front_there, mapped, of_flat, own_starts, placed_present, places_ordered, times_within, run_of, frames_are_served, AreJobsSoFar, frame_start, begun_by, AreFrames, now_of, InvStands, entry_is, there_front, feasible_runs, HaveRounds, round_of, job_length, and_none}
 use Rattle.htl_walk.proofs.Joining.{joined, show_joined}
-use Rattle.htl_walk.proofs.Masks.{mask_bit, get_mapped}
-use Rattle.htl_refine.specs.DerivedPaths.{derived_place}
-use Rattle.htl_refine.specs.FramePlaces.{place, standing_places, AreOrdered}
-use Rattle.htl_refine.specs.FrameRuns.{frame_modes, frame_places, frame_jobs, frame_at}
-use Rattle.htl_refine.specs.Records.{took, lengths_of}
-use Rattle.htl_refine.specs.ServedFrames.{IsServing, IsFeasibleRun}
-use Rattle.htl_refine.proofs.Fronts.{front_there}
-use Rattle.htl_refine.proofs.Inherit.{mapped}
-use Rattle.htl_refine.proofs.Members.{of_flat}
-use Rattle.htl_refine.proofs.OwnRounds.{own_starts}
-use Rattle.htl_refine.proofs.PathDerived.{placed_present}
-use Rattle.htl_refine.proofs.PlaceOrder.{places_ordered}
-use Rattle.htl_refine.proofs.RecordOrder.{times_within}
-use Rattle.htl_refine.proofs.RoundOrder.{run_of}
-use Rattle.htl_refine.proofs.ServedFrames.{frames_are_served}
-use Rattle.htl_machine.specs.JobsSoFar.{AreJobsSoFar}
-use Rattle.htl_machine.specs.FramePlacing.{frame_start, begun_by}
-use Rattle.htl_machine.specs.FramesGoOn.{AreFrames}
-use Rattle.htl_machine.specs.RunFrames.{now_of}
-use Rattle.htl_machine.specs.Values.{InvStands}
-use Rattle.htl_machine.proofs.FramePlaced.{entry_is, there_front}
-use Rattle.htl_machine.proofs.RunFrames.{feasible_runs}
-use Rattle.htl_audit.specs.Growing.{HaveRounds}
-use Rattle.htl_audit.specs.Jobs.{round_of}
-use Rattle.htl_audit.specs.Legal.{job_length}
 use Rattle.htl_audit.proofs.Beginning.{multiples}
 use Rattle.htl_audit.proofs.FrameSlices.{frame_plan}
 use Rattle.htl_audit.proofs.Growing.{start_is, length_is}
@@ -56,7 +11,6 @@ use Rattle.htl_audit.proofs.OwnTicks.{IsSound}
 use Rattle.htl_audit.proofs.RoundJobs.{fresh, precedes_is}
 use Rattle.htl_audit.proofs.Rounds.{first_rules}
 use Rattle.htl_audit.proofs.StandingJobs.{stands_job}
-use Rattle.htl_base.proofs.Tests.{and_none}
 
 -- the rounds at a start begin there
 starts_there : (t : Tables) (a : ℕ) (us : List ℕ) (q : ℕ) (r : FrameRound) → slice_get (rounds_of t a us) q ≡ Some r → r.at ≡ a

@@ -1,28 +1,9 @@
 -- The slices that close at an instant are those of the walks of frames, each over one list.
 use Rattle.std.proofs.Common.{◌≡◌, ◌≤◌, ◌<◌, ℕ, suc, ◌+◌, ◌*◌, Bool, true, false, cond, eqb, ltb, List, [], ◌∷◌, ◌++◌, length, slice_get, Option, Some, None, refl, sym, ap, ap₂, ◌∙◌, arith}
-use Rattle.std.specs.List.{filter}
-use Rattle.std.proofs.lemmas.Bool.{ltb-false, ne_eqb}
-use Rattle.htl_model.specs.declared.event.Event.{Event}
-use Rattle.htl_model.specs.Frames.{frame_of, node}
-use Rattle.htl_model.specs.Lists.{all_some, joined, up_to}
-use Rattle.htl_model.specs.Tables.{Tables}
-use Rattle.htl_model.proofs.Locality.{up_to_same}
-use Rattle.htl_walk.specs.declared.job.Job.{Job}
-use Rattle.htl_walk.specs.declared.schedule.SInstr.{SInstr}
-use Rattle.htl_walk.specs.declared.schedule.SInstr.TheVariants.{Dispatch, Idle, End}
-use Rattle.htl_walk.specs.Paths.{Leg, list_point, walks_from, end_to_end, AreInForm, AreChained}
-use Rattle.htl_walk.specs.Walk.{Point, Left, next_point, walk_from, last_point, first_point, slice_of}
+use Rattle.htl_audit.proofs.Words.{filter, ltb-false, ne_eqb, Event, frame_of, node, all_some, joined, up_to, Tables, up_to_same, Job, SInstr, Dispatch, Idle, End, Leg, list_point, walks_from, end_to_end, AreInForm, AreChained, Point, Left, next_point, walk_from, last_point, first_point, slice_of, body, begun_idle, stays, RunningList, lists_from, begun_before, left_in, Frame, frame_modes, path_of, frame_at, rounds_before, IsServing, Slice, own_slice, own_of, own_at, cond_same}
 use Rattle.htl_walk.proofs.Joining as joining
-use Rattle.htl_walk.proofs.Joining.{body, begun_idle, stays}
-use Rattle.htl_refine.specs.FrameRecords.{RunningList, lists_from, begun_before, left_in}
-use Rattle.htl_refine.specs.FrameRuns.{Frame, frame_modes, path_of, frame_at}
-use Rattle.htl_refine.specs.Records.{rounds_before}
-use Rattle.htl_refine.specs.ServedFrames.{IsServing}
-use Rattle.htl_audit.specs.declared.slice.Slice.{Slice}
-use Rattle.htl_audit.specs.Own.{own_slice, own_of, own_at}
 use Rattle.htl_audit.proofs.ClosedSlices.{mine, onto, closed, closed_is, none_closed}
 use Rattle.htl_audit.proofs.OwnTicks.{Plan, walk_of}
-use Rattle.htl_base.proofs.Tests.{cond_same}
 
 -- the lists of a frame as one
 abbrev pub plan_in : Frame → Plan

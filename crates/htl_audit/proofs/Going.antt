@@ -1,30 +1,9 @@
 -- An auditor goes from one start of rounds to the next, and on to a reading or to the end.
 use Rattle.std.proofs.Common.{◌≡◌, ℕ, suc, ◌+◌, ◌-◌, ◌≤◌, ◌<◌, true, false, List, [], ◌∷◌, ◌++◌, length, drop, map, Option, Result, Ok, Err, OnOk, refl, sym, ◌∙◌, ap, subst, arith}
 use mathlib.Core.Path.{fun_ext}
-use Rattle.htl_model.specs.declared.event.Event.{Event}
+use Rattle.htl_audit.proofs.Words.{Event, State, Stay, root_periods, begins, up_to, Object, IsAccepted, Shown, Values, Puts, append_known-start, Puts-second, Puts-failed, append_known, modes_at, took, AreTookWithin, text_between, lines_of, state_same, reading_more, sense_at, took_at, up_to_more, Audit, AuditFollows, IsStopped, IsAudited, AreSized, all_rounds, Kept, passed, lengths_begun, LogFollows, LogEnds, option_map}
 use Rattle.htl_model.specs.declared.event.Event.TheVariants as V
-use Rattle.htl_model.specs.declared.state.State.{State}
-use Rattle.htl_model.specs.declared.state.Stay.{Stay}
-use Rattle.htl_model.specs.Frames.{root_periods, begins}
-use Rattle.htl_model.specs.Lists.{up_to}
-use Rattle.std.specs.Prelude.{option_map}
-use Rattle.htl_object.specs.declared.object.Object.{Object}
-use Rattle.htl_object.specs.Accepted.{IsAccepted}
-use Rattle.htl_console.specs.declared.shown.Shown.{Shown}
-use Rattle.htl_console.specs.declared.shown.Shown.TheVariants.{Values}
-use Rattle.htl_edge.specs.Content.{Puts}
-use Rattle.htl_edge.proofs.Puts.{append_known-start, Puts-second, Puts-failed}
-use Rattle.std.specs.Io.KnownBytes.{append_known}
-use Rattle.htl_refine.specs.Records.{modes_at, took, AreTookWithin}
 use Rattle.htl_machine.specs.Calls as machines
-use Rattle.htl_machine.specs.Calls.{text_between}
-use Rattle.htl_machine.specs.Programs.{lines_of}
-use Rattle.htl_machine.proofs.Events.{state_same, reading_more, sense_at, took_at}
-use Rattle.htl_machine.proofs.Passing.{up_to_more}
-use Rattle.htl_audit.specs.Auditing.{Audit, AuditFollows, IsStopped, IsAudited, AreSized}
-use Rattle.htl_audit.specs.Jobs.{all_rounds}
-use Rattle.htl_audit.specs.Keeping.{Kept, passed, lengths_begun}
-use Rattle.htl_audit.specs.Verdicts.{LogFollows, LogEnds}
 use Rattle.htl_audit.proofs.Begun.{agrees, begun_follows, ends}
 use Rattle.htl_audit.proofs.Between.{text_same, passes_between, reads_again, ends_between, modes_before}
 use Rattle.htl_audit.proofs.Growing.{rounds_agree, rounds_still, rounds_same}

@@ -1,30 +1,7 @@
 -- Later rounds and later events: the rounds agree for all that is judged before.
 use Rattle.std.proofs.Common.{◌≡◌, ℕ, zero, suc, ◌+◌, ◌-◌, ◌≤◌, ◌<◌, ◌⊎◌, inl, inr, Bool, true, false, cond, List, [], ◌∷◌, ◌++◌, length, get_or, map, Option, Some, None, refl, sym, ap, ◌∙◌, subst, arith}
-use Rattle.std.specs.Prelude.{slice_get, option_map}
-use Rattle.std.specs.List.{flat_map}
-use Rattle.std.proofs.lemmas.List.{append-nil}
-use Rattle.std.proofs.lemmas.Option.{get_or_from_slice_get, none-some}
+use Rattle.htl_audit.proofs.Words.{flat_map, append-nil, get_or_from_slice_get, none-some, Event, Inv, Stay, State, chosen, root_periods, begins, starts_below, sense, newest, Tables, release, task_worst, window_end, history_local, Job, absent_job, is_fed_by, job_of, mask, running_invs, took, lengths_of, modes_at, mapped, map_at, BeginningJobs, beginning, jobs_from, round_of, starts_before, all_rounds, Matches, HasMatch, IsMatched, Agree, AgreeBefore, HaveRounds, get_either, map_same, below_start, cases_lt, slice_get, option_map}
 use mathlib.Core.Path.{fun_ext}
-use Rattle.htl_model.specs.declared.event.Event.{Event}
-use Rattle.htl_model.specs.declared.parts.Inv.{Inv}
-use Rattle.htl_model.specs.declared.state.Stay.{Stay}
-use Rattle.htl_model.specs.declared.state.State.{State}
-use Rattle.htl_model.specs.Chosen.{chosen}
-use Rattle.htl_model.specs.Frames.{root_periods, begins, starts_below}
-use Rattle.htl_model.specs.Meaning.{sense, newest}
-use Rattle.htl_model.specs.Tables.{Tables, release, task_worst, window_end}
-use Rattle.htl_model.proofs.Locality.{history_local}
-use Rattle.htl_walk.specs.declared.job.Job.{Job}
-use Rattle.htl_walk.specs.Jobs.{absent_job, is_fed_by, job_of, mask}
-use Rattle.htl_refine.specs.ConcreteJobs.{running_invs}
-use Rattle.htl_refine.specs.Records.{took, lengths_of, modes_at}
-use Rattle.htl_refine.proofs.Inherit.{mapped, map_at}
-use Rattle.htl_audit.specs.Jobs.{BeginningJobs, beginning, jobs_from, round_of, starts_before, all_rounds}
-use Rattle.htl_audit.specs.Agreeing.{Matches, HasMatch, IsMatched, Agree}
-use Rattle.htl_audit.specs.Growing.{AgreeBefore, HaveRounds}
-use Rattle.htl_base.proofs.Places.{get_either, map_same}
-use Rattle.htl_machine.proofs.FrameMembers.{below_start}
-use Rattle.std.proofs.lemmas.Bool.{cases_lt}
 
 -- ---- items of lists that are put together
 

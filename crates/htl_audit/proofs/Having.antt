@@ -1,30 +1,6 @@
 -- Who has a job in the rounds that begin at an instant: each concrete invocation whose mode runs then and begins a round, and it has one.
 use Rattle.std.proofs.Common.{◌≡◌, ℕ, zero, suc, ◌+◌, ◌%◌, ◌<◌, inl, inr, Bool, true, false, cond, eqb, List, [], ◌∷◌, ◌++◌, length, map, Option, Some, None, refl, sym, ◌∙◌, ap, subst, arith}
-use Rattle.std.specs.Prelude.{slice_get}
-use Rattle.std.specs.List.{filter, flat_map}
-use Rattle.std.proofs.lemmas.Bool.{eqb-true, eq-eqb}
-use Rattle.std.proofs.lemmas.Option.{slice_get_within, none-some}
-use Rattle.htl_model.specs.declared.parts.Inv.{Inv}
-use Rattle.htl_model.specs.declared.parts.Mode.{Mode}
-use Rattle.htl_model.specs.declared.parts.Module.{Module}
-use Rattle.htl_model.specs.Chosen.{StandsFor, itself, below, chosen}
-use Rattle.htl_model.specs.FrameRules.{KeptApart}
-use Rattle.htl_model.specs.Frames.{unit_period}
-use Rattle.htl_model.specs.Ranges.{AreInRange, IsInvInRange}
-use Rattle.htl_model.specs.SecondWriters.{parent_mode}
-use Rattle.htl_model.specs.Selected.{entry, Runs, IsEntry, IsSelection}
-use Rattle.htl_model.specs.Selections.{is_root, root_modules, inv_of_mode, invs_of}
-use Rattle.htl_model.specs.Tables.{Tables, is_concrete, mode_module, mode_period}
-use Rattle.htl_refine.specs.ConcreteJobs.{running_invs}
-use Rattle.htl_refine.proofs.Chains.{Under, same, under_more, one_top, no_parent}
-use Rattle.htl_refine.proofs.Exact.{chosen_exact_apart}
-use Rattle.htl_refine.proofs.Inherit.{mapped, map_at}
-use Rattle.htl_refine.proofs.Members.{of_flat, in_flat, of_places, at_place}
-use Rattle.htl_refine.proofs.RisingPositions.{AreRising, running_rise}
-use Rattle.htl_machine.proofs.RootModes.{unit_period_is, has_root}
-use Rattle.htl_machine.proofs.Tops.{climb, down}
-use Rattle.htl_audit.specs.Jobs.{beginning}
-use Rattle.htl_base.proofs.Places.{each_at, get_either, get_front, into_back}
+use Rattle.htl_audit.proofs.Words.{slice_get, filter, flat_map, eqb-true, eq-eqb, slice_get_within, none-some, Inv, Mode, Module, StandsFor, itself, below, chosen, KeptApart, unit_period, AreInRange, IsInvInRange, parent_mode, entry, Runs, IsEntry, IsSelection, is_root, root_modules, inv_of_mode, invs_of, Tables, is_concrete, mode_module, mode_period, running_invs, Under, same, under_more, one_top, no_parent, chosen_exact_apart, mapped, map_at, of_flat, in_flat, of_places, at_place, AreRising, running_rise, unit_period_is, has_root, climb, down, beginning, each_at, get_either, get_front, into_back}
 
 -- ---- the items that pass a test
 

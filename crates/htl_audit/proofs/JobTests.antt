@@ -1,13 +1,6 @@
 -- Tests over the jobs of rounds.
 use Rattle.std.proofs.Common.{◌≡◌, ℕ, zero, suc, ◌+◌, Bool, true, false, ◌||◌, List, [], ◌∷◌, Some, refl, sym, ◌∙◌, ap, subst, arith}
-use Rattle.std.specs.Prelude.{slice_get}
-use Rattle.std.specs.List.{list_all, list_any}
-use Rattle.htl_model.specs.Lists.{numbered}
-use Rattle.htl_walk.specs.declared.job.Job.{Job}
-use Rattle.htl_audit.specs.Jobs.{BeginningJobs}
-use Rattle.htl_audit.specs.Legal.{any_job}
-use Rattle.std.proofs.lemmas.Bool.{and_from, and_parts, or_left, or_right}
-use Rattle.std.proofs.lemmas.Option.{none-some}
+use Rattle.htl_audit.proofs.Words.{slice_get, list_all, list_any, numbered, Job, BeginningJobs, any_job, and_from, and_parts, or_left, or_right, none-some}
 
 -- an item of a list that passes
 pub item_found : {A : Type 0} (test : ℕ × A → Bool) (q : ℕ) (js : List A) → list_any test (numbered q js) ≡ true → (d : ℕ) × (j : A) × (slice_get js d ≡ Some j) × (test (q + d, j) ≡ true)

@@ -1,23 +1,9 @@
 -- The auditor judges the next line by what it keeps as the definition does by all lines before.
 use Rattle.std.proofs.Common.{◌≡◌, ℕ, zero, suc, ◌+◌, ◌-◌, ◌≤◌, ◌<◌, inl, inr, Bool, true, false, cond, not, ◌&&◌, ◌||◌, eqb, leb, ltb, List, [], ◌∷◌, ◌++◌, Option, Some, None, refl, sym, ◌∙◌, ap, ap₂, subst, arith}
-use Rattle.std.specs.Prelude.{slice_get}
-use Rattle.std.proofs.lemmas.Bool.{eqb-true, leb-true, and_from, and_parts, or_parts, eq-eqb, leb-false, ltb-false}
-use Rattle.htl_model.specs.declared.parts.Inv.{Inv}
-use Rattle.htl_model.specs.PortOrder.{feeds, feeds_at}
-use Rattle.htl_model.specs.Tables.{Tables}
-use Rattle.htl_walk.specs.declared.job.Job.{Job}
-use Rattle.htl_walk.specs.Jobs.{precedes}
-use Rattle.htl_audit.specs.declared.slice.Slice.{Slice}
-use Rattle.htl_audit.specs.declared.slice.LogKind.{LogKind}
+use Rattle.htl_audit.proofs.Words.{slice_get, eqb-true, leb-true, and_from, and_parts, or_parts, eq-eqb, leb-false, ltb-false, Inv, feeds, feeds_at, Tables, Job, precedes, Slice, LogKind, BeginningJobs, lies_in, ticks, is_done, is_free, is_over, any_job, last_end, slice_is_out_of_order, line_fault, Roster, Kept, has_job, sum_at, length_at, start_at, release_at, end_at, is_inside, is_full, is_clear_of, is_free_from, is_free_at, ticks_of, kind_of, IsIn, IsCurrent, AreKept, AreSummed, none-some, same_truth}
 use Rattle.htl_audit.specs.declared.slice.LogKind.TheVariants as kind
-use Rattle.htl_audit.specs.Jobs.{BeginningJobs}
 use Rattle.htl_audit.specs.Legal as rules
-use Rattle.htl_audit.specs.Legal.{lies_in, ticks, is_done, is_free, is_over, any_job, last_end, slice_is_out_of_order, line_fault}
-use Rattle.htl_audit.specs.Keeping.{Roster, Kept, has_job, sum_at, length_at, start_at, release_at, end_at, is_inside, is_full, is_clear_of, is_free_from, is_free_at, ticks_of, kind_of}
-use Rattle.htl_audit.specs.Rosters.{IsIn, IsCurrent, AreKept, AreSummed}
 use Rattle.htl_audit.proofs.JobTests.{all_at_0, all_pass_0, IsJobOf, job_found, job_there}
-use Rattle.std.proofs.lemmas.Option.{none-some}
-use Rattle.htl_base.proofs.Tests.{same_truth}
 
 -- ---- one job and one slice
 

@@ -1,40 +1,13 @@
 -- What holds of all that an auditor keeps, from call to call.
 use Rattle.std.proofs.Common.{◌≡◌, ℕ, zero, suc, ◌≤◌, ◌<◌, inr, Bool, true, false, cond, ◌&&◌, eqb, leb, ltb, List, [], ◌∷◌, ◌++◌, length, get_or, set, map, drop, replicate, Option, Some, None, IfSome, All, refl, sym, ◌∙◌, ap, ap₂, subst, arith}
-use Rattle.std.specs.Prelude.{slice_get}
-use Rattle.std.proofs.lemmas.Bool.{eqb-true}
-use Rattle.std.proofs.lemmas.Bool.Decides.{nat_tests}
-use Rattle.std.proofs.lemmas.List.{get_or-set_same, get_or-set_other, length-set, length-drop}
-use Rattle.std.proofs.lemmas.Option.{get_or_from_slice_get, slice_get_within, none-some}
-use Rattle.htl_model.specs.declared.event.Event.{Event}
+use Rattle.htl_audit.proofs.Words.{slice_get, eqb-true, nat_tests, get_or-set_same, get_or-set_other, length-set, length-drop, get_or_from_slice_get, slice_get_within, none-some, Event, Inv, Task, AreInRange, IsInvInRange, IsTaskInRange, Tables, task_worst, Object, IsAccepted, took, IsTookWithin, map_at, worst_some, Values, IsLength, reading_of, taken_as, took_took, Slice, LogKind, LogFault, Audit, AuditFollows, IsAuditor, all_rounds, Kept, judged_to, judged, with_kind, kind_of, passed, lengths_begun, inv_takes, first_kept, AreKept, AreSummed, IsSized, LogFollows, all_zero, each_at, item_at, length_mapped, none_marked}
 use Rattle.htl_model.specs.declared.event.Event.TheVariants as V
-use Rattle.htl_model.specs.declared.parts.Inv.{Inv}
-use Rattle.htl_model.specs.declared.parts.Task.{Task}
-use Rattle.htl_model.specs.Ranges.{AreInRange, IsInvInRange, IsTaskInRange}
-use Rattle.htl_model.specs.Tables.{Tables, task_worst}
-use Rattle.htl_object.specs.declared.object.Object.{Object}
-use Rattle.htl_object.specs.Accepted.{IsAccepted}
-use Rattle.htl_refine.specs.Records.{took, IsTookWithin}
-use Rattle.htl_refine.proofs.Inherit.{map_at}
-use Rattle.htl_refine.proofs.RoundLaws.{worst_some}
-use Rattle.htl_console.specs.declared.shown.Shown.TheVariants.{Values}
 use Rattle.htl_machine.specs.Calls as machines
-use Rattle.htl_machine.specs.Calls.{IsLength}
-use Rattle.htl_machine.specs.Follows.{reading_of, taken_as}
-use Rattle.htl_machine.proofs.Events.{took_took}
-use Rattle.htl_audit.specs.declared.slice.Slice.{Slice}
-use Rattle.htl_audit.specs.declared.slice.LogKind.{LogKind}
-use Rattle.htl_audit.specs.declared.slice.LogFault.{LogFault}
-use Rattle.htl_audit.specs.Auditing.{Audit, AuditFollows, IsAuditor}
-use Rattle.htl_audit.specs.Jobs.{all_rounds}
-use Rattle.htl_audit.specs.Keeping.{Kept, judged_to, judged, with_kind, kind_of, passed, lengths_begun, inv_takes, first_kept}
-use Rattle.htl_audit.specs.Rosters.{AreKept, AreSummed, IsSized}
-use Rattle.htl_audit.specs.Verdicts.{LogFollows}
 use Rattle.htl_audit.proofs.Passing.{judged_leaves}
 use Rattle.htl_audit.proofs.Renewing.{renewed_sized, renewed_else}
 use Rattle.htl_audit.proofs.Rounds.{accepted_range, have_rounds}
 use Rattle.htl_audit.proofs.Steps.{judged_within}
 use Rattle.htl_audit.proofs.Taking.{taken_leaves, taken_follows}
-use Rattle.htl_base.proofs.Places.{all_zero, each_at, item_at, length_mapped, none_marked}
 
 -- ---- a beginning
 

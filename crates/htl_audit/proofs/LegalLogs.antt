@@ -1,20 +1,11 @@
 -- Legal logs line by line: in order of time, never more ticks than a job takes, and all of them where its window ended.
 use Rattle.std.proofs.Common.{◌≡◌, ◌≤◌, ◌<◌, ◌⊎◌, inl, inr, ℕ, zero, suc, ◌+◌, ◌-◌, Bool, true, false, cond, not, ◌&&◌, ◌||◌, eqb, leb, ltb, List, [], ◌∷◌, ◌++◌, length, get_or, take, slice_get, Some, None, refl, sym, ap, ◌∙◌, arith}
-use Rattle.std.proofs.Math.Seq.{take-length}
-use Rattle.std.proofs.lemmas.Bool.{eqb-true, eqb-false, ltb-true, ltb-false, lt-ltb, and_from, or_parts, leb-false}
-use Rattle.std.proofs.lemmas.Option.{slice_get_cases, none-some}
-use Rattle.htl_walk.specs.declared.job.Job.{Job}
-use Rattle.htl_walk.specs.Jobs.{precedes}
-use Rattle.htl_audit.specs.declared.slice.Slice.{Slice}
+use Rattle.htl_audit.proofs.Words.{take-length, eqb-true, eqb-false, ltb-true, ltb-false, lt-ltb, and_from, or_parts, leb-false, slice_get_cases, none-some, Job, precedes, Slice, ended, ending, BeginningJobs, lies_in, ticks, job_length, is_done, is_free, is_over, is_short, any_job, last_end, slice_is_out_of_order, line_fault, IsLegalIn, order}
 use Rattle.htl_audit.specs.declared.slice.LogKind.TheVariants as kind
-use Rattle.htl_audit.specs.Computed.{ended, ending}
-use Rattle.htl_audit.specs.Jobs.{BeginningJobs}
-use Rattle.htl_audit.specs.Legal.{lies_in, ticks, job_length, is_done, is_free, is_over, is_short, any_job, last_end, slice_is_out_of_order, line_fault, IsLegalIn}
 use Rattle.htl_audit.proofs.JobTests.{all_at_0, IsJobOf, job_there}
 use Rattle.htl_audit.proofs.Judging.{rest, applied, ticks_more}
 use Rattle.htl_audit.proofs.Passing.{take_next, get_before}
 use Rattle.htl_audit.proofs.Summing.{last_more}
-use Rattle.htl_base.proofs.Numbers.{cases_below as order}
 
 -- ---- the lines that end before an instant
 

@@ -1,19 +1,8 @@
 -- The lines up to an instant are judged as the definition judges them.
 use Rattle.std.proofs.Common.{◌≡◌, ℕ, zero, suc, ◌≤◌, ◌<◌, inl, inr, Bool, true, false, cond, ltb, List, [], ◌∷◌, ◌++◌, length, take, Option, Some, None, IfSome, refl, sym, ◌∙◌, ap, subst, arith}
-use Rattle.std.specs.Prelude.{slice_get}
-use Rattle.std.proofs.lemmas.List.{append_assoc, append-nil}
-use Rattle.htl_model.specs.Tables.{Tables}
-use Rattle.htl_audit.specs.declared.slice.Slice.{Slice}
-use Rattle.htl_audit.specs.declared.slice.LogKind.{LogKind}
-use Rattle.htl_audit.specs.declared.slice.LogFault.{LogFault}
-use Rattle.htl_audit.specs.Jobs.{BeginningJobs}
-use Rattle.htl_audit.specs.Legal.{line_fault, fault_at}
-use Rattle.htl_audit.specs.Keeping.{Kept, start_at, kind_of, with_slice, with_kind, judged, judged_to}
-use Rattle.htl_audit.specs.Rosters.{AreSummed}
-use Rattle.htl_audit.specs.Lines.{IsNext, AreJudged, IsLate, BeganBefore}
+use Rattle.htl_audit.proofs.Words.{slice_get, append_assoc, append-nil, Tables, Slice, LogKind, LogFault, BeginningJobs, line_fault, fault_at, Kept, start_at, kind_of, with_slice, with_kind, judged, judged_to, AreSummed, IsNext, AreJudged, IsLate, BeganBefore, ltb-false, ltb-true}
 use Rattle.htl_audit.proofs.Judging.{kind_is}
 use Rattle.htl_audit.proofs.Summing.{Keeps, keeps, summed_more}
-use Rattle.std.proofs.lemmas.Bool.{ltb-false, ltb-true}
 
 -- behind a fault nothing is judged
 stopped : (t : Tables) (now : ℕ) (xs : List Slice) (k : Kept) (f : LogFault) → k.fault ≡ Some f → judged_to t now xs k ≡ k

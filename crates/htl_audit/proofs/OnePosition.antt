@@ -1,12 +1,6 @@
 -- Nobody has two positions in a round.
 use Rattle.std.proofs.Common.{◌≡◌, ◌<◌, ℕ, ◌+◌, true, List, slice_get, Option, Some, sym, ap, ◌∙◌, subst}
-use Rattle.htl_model.specs.declared.parts.Inv.{Inv}
-use Rattle.htl_model.specs.declared.state.Stay.{Stay}
-use Rattle.htl_model.specs.Meaning.{stay_of}
-use Rattle.htl_model.specs.Tables.{Tables, mode_module}
-use Rattle.htl_walk.specs.declared.job.Job.{Job}
-use Rattle.htl_machine.specs.JobsSoFar.{AreJobsSoFar, IsJob}
-use Rattle.std.proofs.lemmas.Option.{same_Some}
+use Rattle.htl_audit.proofs.Words.{Inv, Stay, stay_of, Tables, mode_module, Job, AreJobsSoFar, IsJob, same_Some}
 
 pub one_position : (t : Tables) (stays : List (Option Stay)) (frame n : ℕ) (jobs : List Job) → AreJobsSoFar t stays frame n jobs → (p q : ℕ) (j k : Job) → slice_get jobs p ≡ Some j → slice_get jobs q ≡ Some k
     → j.present ≡ true → k.present ≡ true → j.inv ≡ k.inv → n < frame + j.end → n < frame + k.end → p ≡ q

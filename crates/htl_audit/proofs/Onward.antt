@@ -1,22 +1,10 @@
 -- From one instant to a later one: what was judged stays, and the lines between are judged behind it.
 use Rattle.std.proofs.Common.{◌≡◌, ℕ, zero, suc, ◌+◌, ◌-◌, ◌≤◌, ◌<◌, ◌⊎◌, inl, inr, Bool, true, false, cond, not, ◌&&◌, ◌||◌, leb, ltb, List, [], ◌∷◌, ◌++◌, take, drop, Some, None, refl, sym, ◌∙◌, ap, subst, arith}
-use Rattle.std.specs.Prelude.{slice_get}
-use Rattle.std.proofs.lemmas.List.{length-drop}
-use Rattle.htl_model.specs.Tables.{Tables}
-use Rattle.htl_audit.specs.declared.slice.Slice.{Slice}
+use Rattle.htl_audit.proofs.Words.{slice_get, length-drop, Tables, Slice, LogFault, Agree, AreEarly, BeginningJobs, Kept, judged_to, line_fault, lies_in, any_job, is_over, is_free, last_end, slice_is_out_of_order, IsNext, AreJudged, IsLate, BeganBefore, AreSummed, none-some, leb-false}
 use Rattle.htl_audit.specs.declared.slice.LogKind.TheVariants as kind
-use Rattle.htl_audit.specs.declared.slice.LogFault.{LogFault}
-use Rattle.htl_audit.specs.Agreeing.{Agree, AreEarly}
-use Rattle.htl_audit.specs.Jobs.{BeginningJobs}
-use Rattle.htl_audit.specs.Keeping.{Kept, judged_to}
-use Rattle.htl_audit.specs.Legal.{line_fault, lies_in, any_job, is_over, is_free, last_end, slice_is_out_of_order}
-use Rattle.htl_audit.specs.Lines.{IsNext, AreJudged, IsLate, BeganBefore}
-use Rattle.htl_audit.specs.Rosters.{AreSummed}
 use Rattle.htl_audit.proofs.Agreeing.{fault_alike}
 use Rattle.htl_audit.proofs.Judging.{rest}
 use Rattle.htl_audit.proofs.Lines.{lines_judged}
-use Rattle.std.proofs.lemmas.Option.{none-some}
-use Rattle.std.proofs.lemmas.Bool.{leb-false}
 
 -- ---- lists
 

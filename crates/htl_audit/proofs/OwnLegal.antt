@@ -1,26 +1,6 @@
 -- The job lines of a run make a legal log.
 use Rattle.std.proofs.Common.{◌≡◌, ◌≤◌, ◌<◌, inl, inr, ℕ, suc, ◌+◌, ◌-◌, ◌*◌, ◌/◌, Bool, true, false, cond, not, ◌&&◌, ◌||◌, eqb, leb, ltb, List, [], ◌∷◌, ◌++◌, length, map, take, slice_get, get_or, Option, Some, None, refl, sym, ap, ap₂, ◌∙◌, subst, arith}
-use Rattle.std.proofs.lemmas.Bool.{eq-eqb, ltb-true, and_parts, cases_lt}
-use Rattle.htl_model.specs.declared.event.Event.{Event}
-use Rattle.htl_model.specs.Frames.{root_periods, begins, unit_period, hyper, frame_of, multiple_of}
-use Rattle.htl_model.specs.Lists.{up_to}
-use Rattle.htl_model.specs.Selections.{root_modules}
-use Rattle.htl_model.specs.Tables.{Tables}
-use Rattle.htl_model.proofs.FrameBuild.{frame_some}
-use Rattle.htl_model.proofs.Locality.{up_to_same}
-use Rattle.htl_walk.specs.declared.job.Job.{Job}
-use Rattle.htl_walk.specs.declared.schedule.SInstr.{SInstr}
-use Rattle.htl_walk.specs.Jobs.{precedes}
-use Rattle.htl_walk.specs.Walk.{job_at}
-use Rattle.htl_walk.proofs.Work.{job_is}
-use Rattle.htl_refine.specs.ServedFrames.{IsFeasibleRun}
-use Rattle.htl_refine.proofs.ServedFrames.{frames_are_served}
-use Rattle.htl_machine.specs.Programs.{schedules_of}
-use Rattle.htl_audit.specs.declared.slice.Slice.{Slice}
-use Rattle.htl_audit.specs.Growing.{HaveRounds}
-use Rattle.htl_audit.specs.Jobs.{BeginningJobs, round_of, all_rounds}
-use Rattle.htl_audit.specs.Legal.{lies_in, ticks, job_length, is_done, is_free, is_over, is_short, any_job, any_short, last_end, line_fault, IsLegal, IsLegalIn}
-use Rattle.htl_audit.specs.Own.{own_at, own_log, OwnLogIsLegal}
+use Rattle.htl_audit.proofs.Words.{eq-eqb, ltb-true, and_parts, cases_lt, Event, root_periods, begins, unit_period, hyper, frame_of, multiple_of, up_to, root_modules, Tables, frame_some, up_to_same, Job, SInstr, precedes, job_at, job_is, IsFeasibleRun, frames_are_served, schedules_of, Slice, HaveRounds, BeginningJobs, round_of, all_rounds, lies_in, ticks, job_length, is_done, is_free, is_over, is_short, any_job, any_short, last_end, line_fault, IsLegal, IsLegalIn, own_at, own_log, OwnLogIsLegal, none-some, up_to_none}
 use Rattle.htl_audit.proofs.FaultLaws.{is_legal}
 use Rattle.htl_audit.proofs.ClosedSlices.{given}
 use Rattle.htl_audit.proofs.FrameJobs.{IsFramed, of_round, of_frame, framed_precedes, frames_run}
@@ -33,8 +13,6 @@ use Rattle.htl_audit.proofs.OwnTicks.{Plan, walk_of, IsSound, audited, IsOwn, ow
 use Rattle.htl_audit.proofs.RoundJobs.{fresh}
 use Rattle.htl_audit.proofs.Rounds.{accepted_range, accepted_kept, have_rounds}
 use Rattle.htl_audit.proofs.StandingJobs.{round_there}
-use Rattle.std.proofs.lemmas.Option.{none-some}
-use Rattle.htl_refine.proofs.RecordLists.{up_to_none}
 
 -- ---- a job by its rounds and by its frame
 

@@ -1,27 +1,6 @@
 -- The j lines of a run's text are the slices of its own log, in order.
 use Rattle.std.proofs.Common.{◌≡◌, ℕ, zero, suc, ◌+◌, ◌*◌, ◌/◌, Bool, true, false, cond, ◌||◌, eqb, ltb, List, [], ◌∷◌, ◌++◌, map, slice_get, Option, Some, None, option_map, refl, sym, ap, ap₂, ◌∙◌}
-use Rattle.std.specs.List.{filter}
-use Rattle.std.proofs.lemmas.List.{append-nil}
-use Rattle.htl_model.specs.declared.event.Event.{Event}
-use Rattle.htl_model.specs.Frames.{hyper, node}
-use Rattle.htl_model.specs.Lists.{all_some, joined, up_to}
-use Rattle.htl_model.specs.Tables.{Tables}
-use Rattle.htl_model.proofs.Locality.{up_to_same}
-use Rattle.htl_walk.specs.declared.job.Job.{Job}
-use Rattle.htl_walk.specs.declared.schedule.SInstr.{SInstr}
-use Rattle.htl_walk.specs.Paths.{Leg, list_point, walks_from}
-use Rattle.htl_walk.specs.Walk.{Left, Point, first_point, last_point, walk_from}
-use Rattle.htl_refine.specs.FrameRecords.{RunningList, lists_from, lists_at, left_in, begun_before}
-use Rattle.htl_refine.specs.FrameRuns.{frame_modes, path_of, frame_at}
-use Rattle.htl_refine.specs.Records.{rounds_before, shifted}
-use Rattle.htl_machine.specs.JobLines.{RunLine, printed, is_job_line, begins_as_job, text_lines, closed_slice_line, job_lines_of, list_job_lines, frame_job_lines, job_lines_at, job_lines_to}
-use Rattle.htl_machine.specs.JobLines.RunLine.{SliceLine, DoneLine, InstrLine, ChangeLine, StepLine, TotalsLine}
-use Rattle.htl_machine.specs.Programs.{schedules_of, text_of}
-use Rattle.htl_machine.specs.Texts.{inv_at}
-use Rattle.htl_machine.proofs.JobLines.{begins_silent, run_shows, jobs_are_found}
-use Rattle.htl_refine.proofs.RecordOrder.{not_some}
-use Rattle.htl_audit.specs.declared.slice.Slice.{Slice}
-use Rattle.htl_audit.specs.Own.{own_slice, own_of, own_at, own_log, line_slice, begins_as_slice, slice_text, OwnLogIsPrinted, OwnLogIsFound}
+use Rattle.htl_audit.proofs.Words.{filter, append-nil, Event, hyper, node, all_some, joined, up_to, Tables, up_to_same, Job, SInstr, Leg, list_point, walks_from, Left, Point, first_point, last_point, walk_from, RunningList, lists_from, lists_at, left_in, begun_before, frame_modes, path_of, frame_at, rounds_before, shifted, RunLine, printed, is_job_line, begins_as_job, text_lines, closed_slice_line, job_lines_of, list_job_lines, frame_job_lines, job_lines_at, job_lines_to, SliceLine, DoneLine, InstrLine, ChangeLine, StepLine, TotalsLine, schedules_of, text_of, inv_at, begins_silent, run_shows, jobs_are_found, not_some, Slice, own_slice, own_of, own_at, own_log, line_slice, begins_as_slice, slice_text, OwnLogIsPrinted, OwnLogIsFound}
 use Rattle.htl_audit.proofs.ClosedSlices.{runs_at, mine, onto, closed, told, at_now, closed_is}
 
 -- ---- the values that a function gives

@@ -1,24 +1,11 @@
 -- The slices of a run, instant by instant, and the ticks that a job has of those before an instant.
 use Rattle.std.proofs.Common.{◌≡◌, ◌≤◌, ◌<◌, ◌⊎◌, inl, inr, ℕ, zero, suc, ◌+◌, ◌*◌, ◌/◌, true, false, cond, not, ◌&&◌, ◌||◌, leb, List, [], ◌∷◌, ◌++◌, length, take, slice_get, Some, None, refl, sym, ap, ap₂, ◌∙◌, subst, arith}
-use Rattle.std.proofs.Math.Nat.{div-add-mod, mod-lt, mul-div-le, mul-div_cancel_left}
-use Rattle.std.proofs.lemmas.Bool.{le-ltb, lt-leb, cases_eq, false_from_ne_true}
-use Rattle.std.proofs.lemmas.List.{take-append-le}
-use Rattle.std.proofs.lemmas.Option.{slice_get_within, none-some}
-use Rattle.std.proofs.Math.Seq.{take-append_seam}
-use Rattle.htl_model.specs.Lists.{up_to}
-use Rattle.htl_walk.specs.declared.job.Job.{Job}
-use Rattle.htl_walk.specs.Walk.{first_point}
-use Rattle.htl_machine.proofs.InstantRecords.{none_at_first, rounds_are, up_to_last}
-use Rattle.htl_audit.specs.declared.slice.Slice.{Slice}
+use Rattle.htl_audit.proofs.Words.{div-add-mod, mod-lt, mul-div-le, mul-div_cancel_left, le-ltb, lt-leb, cases_eq, false_from_ne_true, take-append-le, slice_get_within, none-some, take-append_seam, up_to, Job, first_point, none_at_first, rounds_are, up_to_last, Slice, BeginningJobs, lies_in, ticks, is_free, is_over, any_job, last_end, slice_is_out_of_order, line_fault, get_either, times_grow}
 use Rattle.htl_audit.specs.declared.slice.LogKind.TheVariants as kind
-use Rattle.htl_audit.specs.Jobs.{BeginningJobs}
-use Rattle.htl_audit.specs.Legal.{lies_in, ticks, is_free, is_over, any_job, last_end, slice_is_out_of_order, line_fault}
 use Rattle.htl_audit.proofs.ClosedSlices.{closed, one_closed, given, given_first}
 use Rattle.htl_audit.proofs.FrameSlices.{frame_slices_at, none_past}
 use Rattle.htl_audit.proofs.Judging.{lies, rest}
 use Rattle.htl_audit.proofs.OwnTicks.{ticks_both, no_ticks, Plan, walk_of, IsSound, audited, IsOwn, own, ticks_now}
-use Rattle.htl_base.proofs.Places.{get_either}
-use Rattle.htl_base.proofs.Numbers.{times_grow}
 
 -- ---- lists of at most one item, end to end
 

@@ -1,21 +1,8 @@
 -- A frame that meets: where its slices lie, whose ticks they are, and what they have before an instant.
 use Rattle.std.proofs.Common.{◌≡◌, ◌≤◌, ◌<◌, inl, inr, ℕ, zero, suc, ◌+◌, ◌-◌, Bool, true, false, cond, ◌&&◌, eqb, leb, ltb, List, [], ◌∷◌, ◌++◌, slice_get, get_or, Option, Some, None, refl, sym, ap, ap₂, ◌∙◌, subst, arith}
-use Rattle.std.proofs.lemmas.Bool.{eqb-true, eqb-false, eq-eqb, ltb-true, ltb-false, le-leb, and_from}
-use Rattle.htl_walk.specs.declared.job.Job.{Job}
-use Rattle.htl_walk.specs.Jobs.{precedes}
-use Rattle.htl_walk.specs.declared.schedule.SInstr.{SInstr}
-use Rattle.htl_walk.specs.Walk.{Left, job_at, walk, first_point, is_position, slice_onto, slices, finish, AllWithin, Meets}
-use Rattle.htl_walk.proofs.Work.{job_is, job_there, work_some, work_present}
-use Rattle.htl_refine.proofs.SliceOrder.{slices_apart}
-use Rattle.htl_refine.proofs.SliceSums.{spent_is}
-use Rattle.htl_refine.proofs.RecordOrder.{not_some}
-use Rattle.htl_audit.specs.declared.slice.Slice.{Slice}
-use Rattle.htl_audit.specs.Jobs.{BeginningJobs}
-use Rattle.htl_audit.specs.Legal.{lies_in, ticks}
+use Rattle.htl_audit.proofs.Words.{eqb-true, eqb-false, eq-eqb, ltb-true, ltb-false, le-leb, and_from, Job, precedes, SInstr, Left, job_at, walk, first_point, is_position, slice_onto, slices, finish, AllWithin, Meets, job_is, job_there, work_some, work_present, slices_apart, spent_is, not_some, Slice, BeginningJobs, lies_in, ticks, cases_less_more, same_Some}
 use Rattle.htl_audit.proofs.ClosedSlices.{Runs, runs_at, mine, onto, closed, IsClosed, closed_from, gives, given, given_less, given_all}
 use Rattle.htl_audit.proofs.Judging.{lies}
-use Rattle.htl_base.proofs.Numbers.{cases_less_more}
-use Rattle.std.proofs.lemmas.Option.{same_Some}
 
 -- what the processor is given: jobs, how long each takes, and one list
 pub record Plan : Type 0 where

@@ -1,26 +1,13 @@
 -- From an instant to a later one over the same rounds: what an auditor follows of a log carries over.
 use Rattle.std.proofs.Common.{◌≡◌, ℕ, zero, suc, ◌+◌, ◌-◌, ◌≤◌, ◌<◌, ◌⊎◌, inl, inr, Bool, true, false, cond, not, ◌&&◌, ◌||◌, ltb, List, [], ◌∷◌, ◌++◌, length, take, drop, Option, Some, None, IfSome, is_some, refl, sym, ◌∙◌, ap, subst, arith}
-use Rattle.std.specs.Prelude.{slice_get}
-use Rattle.htl_model.specs.Tables.{Tables}
-use Rattle.htl_audit.specs.declared.slice.Slice.{Slice}
-use Rattle.htl_audit.specs.declared.slice.LogKind.{LogKind}
+use Rattle.htl_audit.proofs.Words.{slice_get, Tables, Slice, LogKind, LogFault, BeginningJobs, any_short, last_end, line_fault, slice_is_out_of_order, any_job, lies_in, is_over, is_free, Agree, Kept, start_at, kind_of, with_kind, judged, judged_to, settled, passed, any_fell_short, IsNext, AreJudged, IsLate, BeganBefore, AreSummed, LogFollows, none-some, ltb-false}
 use Rattle.htl_audit.specs.declared.slice.LogKind.TheVariants as kind
-use Rattle.htl_audit.specs.declared.slice.LogFault.{LogFault}
-use Rattle.htl_audit.specs.Jobs.{BeginningJobs}
-use Rattle.htl_audit.specs.Legal.{any_short, last_end, line_fault, slice_is_out_of_order, any_job, lies_in, is_over, is_free}
-use Rattle.htl_audit.specs.Agreeing.{Agree}
-use Rattle.htl_audit.specs.Keeping.{Kept, start_at, kind_of, with_kind, judged, judged_to, settled, passed, any_fell_short}
-use Rattle.htl_audit.specs.Lines.{IsNext, AreJudged, IsLate, BeganBefore}
-use Rattle.htl_audit.specs.Rosters.{AreSummed}
-use Rattle.htl_audit.specs.Verdicts.{LogFollows}
 use Rattle.htl_audit.proofs.Judging.{rest}
 use Rattle.htl_audit.proofs.Onward.{fault_stays, lines_between, take_both, get_drop, in_front, is_some_slice}
 use Rattle.htl_audit.proofs.Settling.{short_later}
 use Rattle.htl_audit.proofs.Steps.{judged_stopped, judged_roster}
 use Rattle.htl_audit.proofs.Summing.{last_more}
 use Rattle.htl_audit.proofs.Verdicts.{length_take}
-use Rattle.std.proofs.lemmas.Option.{none-some}
-use Rattle.std.proofs.lemmas.Bool.{ltb-false}
 
 -- ---- judging leaves the roster and the jobs that fell short, and passes on no fault
 

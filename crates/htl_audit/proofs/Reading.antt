@@ -1,19 +1,8 @@
 -- The lines of a log, one by one.
 use Rattle.std.proofs.Common.{◌≡◌, ◌+◌, ◌≤◌, ℕ, true, false, List, [], ◌∷◌, length, take, drop, Some, None, Err, refl, sym, ap, ◌∙◌, subst, arith, ◌<◌}
-use Rattle.std.specs.List.{slice_split, position_from, position_or_len}
-use Rattle.std.proofs.lemmas.List.Quantifiers.{position-Some}
-use Rattle.std.proofs.lemmas.List.Sums.{position_or_len_is}
-use Rattle.std.proofs.lemmas.List.Splits.{slice_split_first, length-slice_split}
-use Rattle.std.proofs.lemmas.Iterator.Adapters.{position_from-zero}
-use Rattle.htl_model.specs.declared.parts.Inv.{Inv}
-use Rattle.htl_model.specs.Tables.{Tables}
+use Rattle.htl_audit.proofs.Words.{slice_split, position_from, position_or_len, position-Some, position_or_len_is, slice_split_first, length-slice_split, position_from-zero, Inv, Tables, is_space, fields_of, none_found, lines_of-last, is_invocation, invocation_of, line_of_fields, line_of, IsFirstLine}
 use Rattle.htl_script.specs.Lines.{is_line_feed, lines_of_parts, lines_of}
-use Rattle.htl_script.specs.Statements.{is_space, fields_of}
-use Rattle.htl_script.proofs.Places.{none_found}
-use Rattle.htl_script.proofs.Splitting.{lines_of-last}
-use Rattle.htl_script.specs.Judging.{is_invocation, invocation_of}
 use Rattle.htl_audit.specs.declared.slice.LogKind.TheVariants as kind
-use Rattle.htl_audit.specs.Logs.{line_of_fields, line_of, IsFirstLine}
 
 -- five fields or more
 pub many_fields : (t : Tables) (text a b name word from to more last : List ℕ) → fields_of text ≡ word ∷ fields_of a → fields_of a ≡ from ∷ fields_of b → fields_of b ≡ to ∷ fields_of name → fields_of name ≡ more ∷ fields_of last

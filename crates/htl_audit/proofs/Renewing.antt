@@ -1,17 +1,6 @@
 -- What is kept of the invocations whose rounds begin.
 use Rattle.std.proofs.Common.{◌≡◌, ◌≢◌, ℕ, zero, suc, ◌≤◌, ◌<◌, ◌⊎◌, inl, inr, Bool, true, false, cond, ◌&&◌, eqb, List, [], ◌∷◌, length, get_or, Option, Some, None, refl, sym, ◌∙◌, ap, subst, arith}
-use Rattle.std.specs.Prelude.{slice_get}
-use Rattle.std.proofs.lemmas.Bool.{eqb-true, and_from, and_parts}
-use Rattle.std.proofs.lemmas.Bool.Decides.{nat_tests}
-use Rattle.std.proofs.lemmas.List.{get_or-set_same, get_or-set_other, length-set}
-use Rattle.htl_emach.specs.Calendars.{list_at}
-use Rattle.htl_model.specs.declared.parts.Inv.{Inv}
-use Rattle.htl_model.specs.Selected.{is_at, Runs}
-use Rattle.htl_model.specs.Tables.{Tables, is_concrete, mode_module}
-use Rattle.htl_audit.specs.Keeping.{Kept, has_job, sum_at, length_at, start_at, inv_runs_in, begins_round, renewed, renewed_to}
-use Rattle.htl_audit.specs.Rosters.{IsSized}
-use Rattle.htl_machine.proofs.Settling.{list_is}
-use Rattle.htl_base.proofs.Numbers.{cases_below}
+use Rattle.htl_audit.proofs.Words.{slice_get, eqb-true, and_from, and_parts, nat_tests, get_or-set_same, get_or-set_other, length-set, list_at, Inv, is_at, Runs, Tables, is_concrete, mode_module, Kept, has_job, sum_at, length_at, start_at, inv_runs_in, begins_round, renewed, renewed_to, IsSized, list_is, cases_below}
 
 -- ---- whose mode runs
 

@@ -1,30 +1,6 @@
 -- The jobs of the rounds that begin at an instant: of whom they are, and who has one.
 use Rattle.std.proofs.Common.{◌≡◌, ℕ, ◌+◌, ◌%◌, ◌≤◌, ◌<◌, Bool, true, false, eqb, List, map, Option, Some, None, refl, sym, ◌∙◌, ap, arith}
-use Rattle.std.specs.Prelude.{slice_get}
-use Rattle.std.specs.List.{flat_map, list_any}
-use Rattle.std.proofs.lemmas.Bool.{eqb-true, eq-eqb, and_parts}
-use Rattle.std.proofs.lemmas.Option.{get_or_from_slice_get}
-use Rattle.htl_model.specs.declared.event.Event.{Event}
-use Rattle.htl_model.specs.declared.parts.Inv.{Inv}
-use Rattle.htl_model.specs.Chosen.{chosen}
-use Rattle.htl_model.specs.FrameRules.{KeptApart}
-use Rattle.htl_model.specs.Frames.{root_periods, begins, unit_period}
-use Rattle.htl_model.specs.PortOrder.{feeds, feeds_at, is_read_from}
-use Rattle.htl_model.specs.Ranges.{AreInRange}
-use Rattle.htl_model.specs.Selected.{Runs, IsSelection}
-use Rattle.htl_model.specs.Selections.{root_modules}
-use Rattle.htl_model.specs.Tables.{Tables, is_concrete, mode_period, release, window_end}
-use Rattle.htl_walk.specs.declared.job.Job.{Job}
-use Rattle.htl_walk.specs.Jobs.{absent_job, is_fed_by, job_of, precedes}
-use Rattle.htl_walk.proofs.JobLaws.{preds_of}
-use Rattle.htl_refine.specs.ConcreteJobs.{running_invs}
-use Rattle.htl_refine.specs.Records.{took, modes_at}
-use Rattle.htl_refine.proofs.Inherit.{mapped, map_at}
-use Rattle.htl_refine.proofs.StateLaws.{states_are_selections}
-use Rattle.htl_refine.proofs.ListsFollow.{begins_by}
-use Rattle.htl_audit.specs.Growing.{HaveRounds}
-use Rattle.htl_audit.specs.Jobs.{beginning, round_of}
-use Rattle.htl_audit.specs.Keeping.{release_at, end_at, begins_round, inv_runs_in}
+use Rattle.htl_audit.proofs.Words.{slice_get, flat_map, list_any, eqb-true, eq-eqb, and_parts, get_or_from_slice_get, Event, Inv, chosen, KeptApart, root_periods, begins, unit_period, feeds, feeds_at, is_read_from, AreInRange, Runs, IsSelection, root_modules, Tables, is_concrete, mode_period, release, window_end, Job, absent_job, is_fed_by, job_of, precedes, preds_of, running_invs, took, modes_at, mapped, map_at, states_are_selections, begins_by, HaveRounds, beginning, round_of, release_at, end_at, begins_round, inv_runs_in}
 use Rattle.htl_audit.specs.Legal as rules
 use Rattle.htl_audit.proofs.Growing.{round_job, length_is, placed}
 use Rattle.htl_audit.proofs.Having.{IsRootAt, whose_round, has_position_of, one_place}

@@ -1,22 +1,6 @@
 -- The rounds of an accepted object: windows have room and lie in their rounds; and the periods of root modules.
 use Rattle.std.proofs.Common.{◌≡◌, ℕ, ◌≤◌, ◌<◌, length, get_or, Option, Some, None, All, ◌∙◌, ap, subst, arith}
-use Rattle.std.specs.Prelude.{slice_get}
-use Rattle.std.proofs.lemmas.Option.{get_or_from_slice_get, slice_get-get_or, slice_get_within}
-use Rattle.htl_model.specs.declared.parts.Mode.{Mode}
-use Rattle.htl_model.specs.declared.parts.Module.{Module}
-use Rattle.htl_model.specs.FrameRules.{KeptApart}
-use Rattle.htl_model.specs.Frames.{unit_start, unit_period}
-use Rattle.htl_model.specs.Ranges.{AreInRange, IsModeInRange}
-use Rattle.htl_model.specs.Selections.{is_root, root_modules}
-use Rattle.htl_model.specs.Tables.{Tables, mode_period}
-use Rattle.htl_model.proofs.SelectionLaws.{all_places_below}
-use Rattle.htl_object.specs.declared.object.Object.{Object}
-use Rattle.htl_object.specs.Accepted.{IsAccepted}
-use Rattle.htl_refine.proofs.Kept.{kept_apart}
-use Rattle.htl_refine.proofs.OneFault.{kept_all}
-use Rattle.htl_walk.proofs.PathReady.{window_small, window_within}
-use Rattle.htl_audit.specs.Growing.{HaveRounds}
-use Rattle.htl_base.proofs.Places.{each_at, item_at}
+use Rattle.htl_audit.proofs.Words.{slice_get, get_or_from_slice_get, slice_get-get_or, slice_get_within, Mode, Module, KeptApart, unit_start, unit_period, AreInRange, IsModeInRange, is_root, root_modules, Tables, mode_period, all_places_below, Object, IsAccepted, kept_apart, kept_all, window_small, window_within, HaveRounds, each_at, item_at}
 
 -- ---- periods
 

@@ -1,22 +1,9 @@
 -- A job falls short at the end of its window: by what is kept exactly where it does by the lines.
 use Rattle.std.proofs.Common.{◌≡◌, ℕ, zero, suc, ◌+◌, ◌-◌, ◌≤◌, ◌<◌, ◌⊎◌, inl, inr, Bool, true, false, cond, ◌&&◌, ◌||◌, ltb, List, [], ◌∷◌, ◌++◌, length, Some, refl, sym, ◌∙◌, ap, ap₂, subst, arith}
-use Rattle.std.specs.Prelude.{slice_get}
-use Rattle.htl_model.specs.declared.parts.Inv.{Inv}
-use Rattle.htl_model.specs.Tables.{Tables}
-use Rattle.htl_walk.specs.declared.job.Job.{Job}
-use Rattle.htl_audit.specs.declared.slice.Slice.{Slice}
-use Rattle.htl_audit.specs.Jobs.{BeginningJobs}
+use Rattle.htl_audit.proofs.Words.{slice_get, Inv, Tables, Job, Slice, BeginningJobs, lies_in, ticks, is_short, any_short, Agree, Kept, has_job, sum_at, length_at, start_at, end_at, fell_short, any_fell_short_from, any_fell_short, BeganBefore, IsIn, IsCurrent, AreSummed, and_from, and_parts, lt-ltb, ltb-true, or_left, or_right, same_truth, marked_within}
 use Rattle.htl_audit.specs.Legal as rules
-use Rattle.htl_audit.specs.Legal.{lies_in, ticks, is_short, any_short}
-use Rattle.htl_audit.specs.Agreeing.{Agree}
-use Rattle.htl_audit.specs.Keeping.{Kept, has_job, sum_at, length_at, start_at, end_at, fell_short, any_fell_short_from, any_fell_short}
-use Rattle.htl_audit.specs.Lines.{BeganBefore}
-use Rattle.htl_audit.specs.Rosters.{IsIn, IsCurrent, AreSummed}
 use Rattle.htl_audit.proofs.Judging.{lies}
 use Rattle.htl_audit.proofs.JobTests.{IsFound, job_found, job_there}
-use Rattle.std.proofs.lemmas.Bool.{and_from, and_parts, lt-ltb, ltb-true, or_left, or_right}
-use Rattle.htl_base.proofs.Tests.{same_truth}
-use Rattle.htl_base.proofs.Places.{marked_within}
 use Rattle.htl_audit.proofs.OwnTicks.{ticks_both}
 
 -- ---- the test of the invocations

@@ -1,50 +1,13 @@
 -- The job of an invocation that stands: its round is one of the audit's, it has one, and it follows those that it reads from.
 use Rattle.std.proofs.Common.{◌≡◌, ◌≤◌, ◌<◌, inl, inr, ℕ, ◌+◌, ◌*◌, ◌/◌, ◌%◌, true, List, length, slice_get, Some, option_map, sym, ap, ap₂, ◌∙◌, arith}
-use Rattle.std.proofs.Math.Nat.{div-add-mod, mod-lt, mul-mod_right}
-use Rattle.std.proofs.lemmas.Bool.{eq-eqb}
-use Rattle.std.proofs.lemmas.Option.{slice_get_within, same_Some}
-use Rattle.htl_model.specs.declared.event.Event.{Event}
-use Rattle.htl_model.specs.declared.parts.Inv.{Inv}
+use Rattle.htl_audit.proofs.Words.{div-add-mod, mod-lt, mul-mod_right, eq-eqb, slice_get_within, same_Some, Event, Inv, Stay, KeptApart, root_periods, state, stay_of, writer_from, feeds, AreInRange, Runs, root_modules, Tables, mode_module, mode_period, release, window_end, frame_some, Job, SInstr, AreFeasible, precedes, AreTookWithin, modes_at, IsFeasibleRun, map_at, some_time, own_starts, since, rank, now_of, InvStands, Orders, entry_is, writer_is, writer_stands, in_order, fed, feasible_runs, standing_at, HaveRounds, BeginningJobs, round_of, starts_before, all_rounds, job_length, below_start, cases_less_more}
 use Rattle.htl_model.specs.declared.parts.End.TheVariants as E
-use Rattle.htl_model.specs.declared.state.Stay.{Stay}
-use Rattle.htl_model.specs.FrameRules.{KeptApart}
-use Rattle.htl_model.specs.Frames.{root_periods}
-use Rattle.htl_model.specs.Meaning.{state, stay_of, writer_from}
-use Rattle.htl_model.specs.PortOrder.{feeds}
-use Rattle.htl_model.specs.Ranges.{AreInRange}
-use Rattle.htl_model.specs.Selected.{Runs}
-use Rattle.htl_model.specs.Selections.{root_modules}
-use Rattle.htl_model.specs.Tables.{Tables, mode_module, mode_period, release, window_end}
-use Rattle.htl_model.proofs.FrameBuild.{frame_some}
-use Rattle.htl_walk.specs.declared.job.Job.{Job}
-use Rattle.htl_walk.specs.declared.schedule.SInstr.{SInstr}
-use Rattle.htl_walk.specs.Feasible.{AreFeasible}
-use Rattle.htl_walk.specs.Jobs.{precedes}
-use Rattle.htl_refine.specs.Records.{AreTookWithin, modes_at}
-use Rattle.htl_refine.specs.ServedFrames.{IsFeasibleRun}
-use Rattle.htl_refine.proofs.Inherit.{map_at}
-use Rattle.htl_refine.proofs.OwnPeriods.{some_time}
-use Rattle.htl_refine.proofs.OwnRounds.{own_starts, since}
-use Rattle.htl_machine.specs.JobsSoFar.{rank}
-use Rattle.htl_machine.specs.RunFrames.{now_of}
-use Rattle.htl_machine.specs.Values.{InvStands, Orders}
-use Rattle.htl_machine.proofs.FramePlaced.{entry_is}
-use Rattle.htl_machine.proofs.Outs.{writer_is, writer_stands}
-use Rattle.htl_machine.proofs.Owing.{in_order}
-use Rattle.htl_machine.proofs.Placing.{fed}
-use Rattle.htl_machine.proofs.RunFrames.{feasible_runs}
-use Rattle.htl_refine.proofs.Standing.{standing_at}
-use Rattle.htl_audit.specs.Growing.{HaveRounds}
-use Rattle.htl_audit.specs.Jobs.{BeginningJobs, round_of, starts_before, all_rounds}
-use Rattle.htl_audit.specs.Legal.{job_length}
 use Rattle.htl_audit.proofs.Beginning.{multiples}
 use Rattle.htl_audit.proofs.Begun.{some_took}
 use Rattle.htl_audit.proofs.Growing.{round_is}
 use Rattle.htl_audit.proofs.Renewing.{runs_is}
 use Rattle.htl_audit.proofs.Rounds.{first_rules}
 use Rattle.htl_audit.proofs.RoundJobs.{IsFresh, begins_is, fresh, fresh_start, has_fresh, once, precedes_is}
-use Rattle.htl_machine.proofs.FrameMembers.{below_start}
-use Rattle.htl_base.proofs.Numbers.{cases_less_more}
 
 -- the job of an invocation in the rounds from s
 pub record HasJobFrom (t : Tables) (es : List Event) (s i : ℕ) (x : Inv) : Type 0 where

@@ -1,12 +1,6 @@
 -- One step of the loops over invocations and lines.
 use Rattle.std.proofs.Common.{◌≡◌, ℕ, zero, suc, ◌+◌, ◌≤◌, ◌<◌, Bool, true, false, cond, ltb, List, [], ◌∷◌, length, drop, get_or, Option, Some, None, is_some, refl, sym, ◌∙◌, ap, arith, ◌||◌}
-use Rattle.htl_model.specs.declared.parts.Inv.{Inv}
-use Rattle.htl_model.specs.Tables.{Tables}
-use Rattle.htl_audit.specs.declared.slice.Slice.{Slice}
-use Rattle.htl_audit.specs.declared.slice.LogFault.{LogFault}
-use Rattle.htl_audit.specs.declared.slice.LogKind.{LogKind}
-use Rattle.htl_audit.specs.Keeping.{Kept, kind_of, with_kind, judged, judged_to, fell_short, any_fell_short_from}
-use Rattle.std.proofs.lemmas.Bool.{le-ltb, lt-ltb}
+use Rattle.htl_audit.proofs.Words.{Inv, Tables, Slice, LogFault, LogKind, Kept, kind_of, with_kind, judged, judged_to, fell_short, any_fell_short_from, le-ltb, lt-ltb}
 
 drop_suc : {A : Type 0} (d : A) (xs : List A) (n : ℕ) → n < length xs → drop n xs ≡ get_or xs n d ∷ drop (suc n) xs
 drop_suc d [] n h = absurd (omega arith)

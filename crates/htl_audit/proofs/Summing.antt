@@ -1,23 +1,9 @@
 -- What is kept once one more line keeps the rules.
 use Rattle.std.proofs.Common.{◌≡◌, ◌≢◌, ℕ, zero, suc, ◌+◌, ◌-◌, ◌≤◌, ◌<◌, Bool, true, false, cond, not, ◌&&◌, ◌||◌, eqb, leb, ltb, List, [], ◌∷◌, ◌++◌, length, set, Some, None, refl, sym, ◌∙◌, ap, ap₂, subst, arith}
-use Rattle.std.specs.Prelude.{slice_get}
-use Rattle.std.proofs.lemmas.Bool.{eqb-true, and_parts, or_parts, eq-eqb, leb-false, ltb-false}
-use Rattle.std.proofs.lemmas.List.{get_or-set_same, get_or-set_other, length-set, length-append}
-use Rattle.htl_model.specs.Functions.{of_bool}
-use Rattle.htl_model.specs.Lists.{numbered}
-use Rattle.htl_model.specs.Tables.{Tables}
-use Rattle.htl_walk.specs.declared.job.Job.{Job}
-use Rattle.htl_audit.specs.declared.slice.Slice.{Slice}
+use Rattle.htl_audit.proofs.Words.{slice_get, eqb-true, and_parts, or_parts, eq-eqb, leb-false, ltb-false, get_or-set_same, get_or-set_other, length-set, length-append, of_bool, numbered, Tables, Job, Slice, BeginningJobs, lies_in, ticks, is_done, last_end, how_many, jobs_done, Kept, has_job, sum_at, length_at, start_at, is_inside, is_free_at, ticks_of, kind_of, with_slice, IsIn, IsCurrent, HasJob, AreSummed, none-some, marked_within, eqb_less}
 use Rattle.htl_audit.specs.declared.slice.LogKind.TheVariants as kind
-use Rattle.htl_audit.specs.Jobs.{BeginningJobs}
 use Rattle.htl_audit.specs.Legal as rules
-use Rattle.htl_audit.specs.Legal.{lies_in, ticks, is_done, last_end, how_many, jobs_done}
-use Rattle.htl_audit.specs.Keeping.{Kept, has_job, sum_at, length_at, start_at, is_inside, is_free_at, ticks_of, kind_of, with_slice}
-use Rattle.htl_audit.specs.Rosters.{IsIn, IsCurrent, HasJob, AreSummed}
 use Rattle.htl_audit.proofs.Judging.{lies, ticks_more, lies_current, lies_inside}
-use Rattle.std.proofs.lemmas.Option.{none-some}
-use Rattle.htl_base.proofs.Places.{marked_within}
-use Rattle.htl_base.proofs.Tests.{eqb_less}
 
 -- ---- counts
 

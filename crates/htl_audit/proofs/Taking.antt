@@ -1,33 +1,8 @@
 -- What an auditor follows of a log, where a length comes for the jobs that are released from now on.
 use Rattle.std.proofs.Common.{◌≡◌, ℕ, suc, ◌+◌, ◌≤◌, ◌<◌, ◌⊎◌, inl, inr, Bool, true, false, cond, ◌&&◌, eqb, leb, List, [], ◌∷◌, ◌++◌, length, get_or, map, set, take, Option, Some, None, IfSome, refl, sym, ◌∙◌, ap, ap₂, subst, arith}
-use Rattle.std.specs.Prelude.{slice_get}
-use Rattle.std.proofs.lemmas.Bool.{eqb-true, eq-eqb, lt-leb}
-use Rattle.std.proofs.lemmas.List.{get_or-set_same, get_or-set_other, length-set}
-use Rattle.htl_model.specs.declared.event.Event.{Event}
+use Rattle.htl_audit.proofs.Words.{slice_get, eqb-true, eq-eqb, lt-leb, get_or-set_same, get_or-set_other, length-set, Event, root_periods, numbered, feeds, AreInRange, Tables, Job, precedes, took, modes_at, AreTookWithin, IsTookWithin, map_at, reading_of, sense_took, took_took, within_more, Slice, LogFault, Agree, AreEarly, Matches, AgreeBefore, HaveRounds, BeginningJobs, beginning, round_of, starts_before, all_rounds, Kept, has_job, sum_at, length_at, start_at, release_at, inv_takes, ticks, line_fault, how_many, jobs_done, IsNext, IsIn, IsCurrent, HasJob, AreKept, AreSummed, LogFollows}
 use Rattle.htl_model.specs.declared.event.Event.TheVariants as V
-use Rattle.htl_model.specs.Frames.{root_periods}
-use Rattle.htl_model.specs.Lists.{numbered}
-use Rattle.htl_model.specs.PortOrder.{feeds}
-use Rattle.htl_model.specs.Ranges.{AreInRange}
-use Rattle.htl_model.specs.Tables.{Tables}
-use Rattle.htl_walk.specs.declared.job.Job.{Job}
-use Rattle.htl_walk.specs.Jobs.{precedes}
-use Rattle.htl_refine.specs.Records.{took, modes_at, AreTookWithin, IsTookWithin}
-use Rattle.htl_refine.proofs.Inherit.{map_at}
-use Rattle.htl_machine.specs.Follows.{reading_of}
-use Rattle.htl_machine.proofs.Events.{sense_took, took_took}
-use Rattle.htl_machine.proofs.Following.{within_more}
-use Rattle.htl_audit.specs.declared.slice.Slice.{Slice}
-use Rattle.htl_audit.specs.declared.slice.LogFault.{LogFault}
-use Rattle.htl_audit.specs.Agreeing.{Agree, AreEarly, Matches}
-use Rattle.htl_audit.specs.Growing.{AgreeBefore, HaveRounds}
-use Rattle.htl_audit.specs.Jobs.{BeginningJobs, beginning, round_of, starts_before, all_rounds}
-use Rattle.htl_audit.specs.Keeping.{Kept, has_job, sum_at, length_at, start_at, release_at, inv_takes}
 use Rattle.htl_audit.specs.Legal as rules
-use Rattle.htl_audit.specs.Legal.{ticks, line_fault, how_many, jobs_done}
-use Rattle.htl_audit.specs.Lines.{IsNext}
-use Rattle.htl_audit.specs.Rosters.{IsIn, IsCurrent, HasJob, AreKept, AreSummed}
-use Rattle.htl_audit.specs.Verdicts.{LogFollows}
 use Rattle.htl_audit.proofs.Agreeing.{fault_alike, short_alike, done_alike, ticks_start}
 use Rattle.htl_audit.proofs.Begun.{some_took}
 use Rattle.htl_audit.proofs.Growing.{start_is, round_is, round_job, length_is, matched, rounds_agree}

@@ -1,20 +1,11 @@
 -- The verdict is the first fault of the log, or none where the log is legal.
 use Rattle.std.proofs.Common.{◌≡◌, ℕ, zero, suc, ◌≤◌, ◌<◌, inl, inr, Bool, true, false, cond, not, ◌&&◌, ◌||◌, leb, ltb, List, [], ◌∷◌, ◌++◌, length, take, Option, Some, None, Ok, Err, IfSome, refl, sym, ◌∙◌, ap, subst, arith}
-use Rattle.std.specs.Prelude.{slice_get}
+use Rattle.htl_audit.proofs.Words.{slice_get, nat_tests, slice_get_within, none-some, Slice, LogFault, BeginningJobs, line_fault, any_short, fault_at, first_fault_in, jobs_done, last_end, any_job, lies_in, is_over, is_free, Kept, IsLast, le-leb, ltb-false, ltb-true, or_right}
 use Rattle.std.specs.declared.result.Result.{Result}
-use Rattle.std.proofs.lemmas.Bool.Decides.{nat_tests}
-use Rattle.std.proofs.lemmas.Option.{slice_get_within, none-some}
-use Rattle.htl_audit.specs.declared.slice.Slice.{Slice}
 use Rattle.htl_audit.specs.declared.slice.LogKind.TheVariants as kind
-use Rattle.htl_audit.specs.declared.slice.LogFault.{LogFault}
-use Rattle.htl_audit.specs.Jobs.{BeginningJobs}
-use Rattle.htl_audit.specs.Legal.{line_fault, any_short, fault_at, first_fault_in, jobs_done, last_end, any_job, lies_in, is_over, is_free}
-use Rattle.htl_audit.specs.Keeping.{Kept}
-use Rattle.htl_audit.specs.Lines.{IsLast}
 use Rattle.htl_audit.specs.Verdicts.{LogEnds, Numbers, ended, verdict_of, fault_in}
 use Rattle.htl_audit.proofs.FaultLaws.{is_fault, is_legal}
 use Rattle.htl_audit.proofs.Judging.{rest}
-use Rattle.std.proofs.lemmas.Bool.{le-leb, ltb-false, ltb-true, or_right}
 
 pub whole_take : (xs : List Slice) (n : ℕ) → length xs ≤ n → take n xs ≡ xs
 whole_take [] zero h = refl

@@ -4,3 +4,4 @@ pub mod Places
 pub mod Numbers
 pub mod Options
 pub mod Tests
+pub mod Words

@@ -2,21 +2,10 @@
 use Rattle.std.proofs.Common.{◌≡◌, ◌⊎◌, ℕ, List, Result, Ok, Err, IfOk, IfErr, MatchResult, refl, ◌∙◌, ap, inl, inr}
 use Rattle.htl_compile.proofs.Completeness.{back_only_memory, compile_only_memory, one_back_fault, one_compile_fault}
 use Rattle.htl_compile.proofs.SourceLaws.{tables_unique, typed_or_fault, fault_unique}
-use Rattle.htl_compile.specs.Building.{IsBackFault, IsCompileFault, IsCompiledTo}
-use Rattle.htl_compile.specs.Built.{built, AreSchedulable}
-use Rattle.htl_compile.specs.Coded.{coded, AreTyped}
-use Rattle.htl_compile.specs.Sources.{IsTablesOf, IsFrontFault, IsRead}
-use Rattle.htl_compile.specs.declared.building.BackFault.{BackFault}
+use Rattle.htl_compile.proofs.Words.{IsBackFault, IsCompileFault, IsCompiledTo, built, AreSchedulable, coded, AreTyped, IsTablesOf, IsFrontFault, IsRead, BackFault, CompileFault, FrontFault, Formed, AreInRange, Tables, object_bytes, Object}
 use Rattle.htl_compile.specs.declared.building.BackFault.TheVariants as back
-use Rattle.htl_compile.specs.declared.compiling.CompileFault.{CompileFault}
 use Rattle.htl_compile.specs.declared.compiling.CompileFault.TheVariants as compile
-use Rattle.htl_compile.specs.declared.source.FrontFault.{FrontFault}
 use Rattle.htl_compile.specs.declared.source.FrontFault.TheVariants as front
-use Rattle.htl_model.specs.Broken.{Formed}
-use Rattle.htl_model.specs.Ranges.{AreInRange}
-use Rattle.htl_model.specs.Tables.{Tables}
-use Rattle.htl_object.specs.Objects.{object_bytes}
-use Rattle.htl_object.specs.declared.object.Object.{Object}
 
 -- ---- front
 

@@ -2,36 +2,8 @@
 use Rattle.std.proofs.Common.{◌≡◌, ◌≤◌, ◌<◌, ℕ, List, length, Option, None, All, sym, subst, arith}
 use Rattle.htl_compile.proofs.CodedLaws.{coded_fit, coded_in_range, codes_are_code}
 use Rattle.htl_compile.proofs.NodeSchedules.{node_lists, schedules_short}
-use Rattle.htl_object.proofs.PhaseLaws.{layout_phased}
+use Rattle.htl_compile.proofs.Words.{layout_phased, node_schedule, schedules, object_for, AreSchedulable, codes, coded, BuiltIsAccepted, layout_departs_not, modes_length, place_room, spells_or_departs, layout, enter_places, mode_place, begin_place, decide_place, Spells, nodes_accepted, ready, tightened, AreReady, NoOverload, kept_12, frames_kept, kept_apart, length-list_to, limits_same, formed_same, Formed, KeepsLimits, nodes, frame_limit, FitPlaces, AreInRange, Tables, IsAccepted, IsFunctionCode, IsInRange, AreFeasible, instrs_of, Job}
 use Rattle.htl_compile.proofs.SamePaths.{paths_same, path_jobs_same}
-use Rattle.htl_compile.specs.Built.{node_schedule, schedules, object_for, AreSchedulable}
-use Rattle.htl_compile.specs.Coded.{codes, coded}
-use Rattle.htl_compile.specs.Laws.{BuiltIsAccepted}
-use Rattle.htl_ecode.proofs.LayoutLaw.{layout_departs_not, modes_length}
-use Rattle.htl_ecode.proofs.Sizes.{place_room}
-use Rattle.htl_ecode.proofs.SpellingLaws.{spells_or_departs}
-use Rattle.htl_ecode.specs.Layout.{layout, enter_places, mode_place, begin_place, decide_place}
-use Rattle.htl_ecode.specs.Spelling.{Spells}
-use Rattle.htl_edf.proofs.NodeLists.{nodes_accepted}
-use Rattle.htl_edf.proofs.PathOrder.{ready}
-use Rattle.htl_edf.specs.Lists.{tightened}
-use Rattle.htl_edf.specs.NodePlans.{AreReady}
-use Rattle.htl_edf.specs.Windows.{NoOverload}
-use Rattle.htl_form.proofs.SearchLaws.{kept_12}
-use Rattle.htl_model.proofs.FrameRules.{frames_kept, kept_apart}
-use Rattle.htl_model.proofs.Listed.{length-list_to}
-use Rattle.htl_model.proofs.SameRanges.{limits_same}
-use Rattle.htl_model.proofs.SameRules.{formed_same}
-use Rattle.htl_model.specs.Broken.{Formed, KeepsLimits}
-use Rattle.htl_model.specs.Frames.{nodes, frame_limit}
-use Rattle.htl_model.specs.FunctionTypes.{FitPlaces}
-use Rattle.htl_model.specs.Ranges.{AreInRange}
-use Rattle.htl_model.specs.Tables.{Tables}
-use Rattle.htl_object.specs.Accepted.{IsAccepted}
-use Rattle.htl_object.specs.Ranges.{IsFunctionCode, IsInRange}
-use Rattle.htl_walk.specs.Feasible.{AreFeasible}
-use Rattle.htl_walk.specs.NodeWalks.{instrs_of}
-use Rattle.htl_walk.specs.declared.job.Job.{Job}
 
 -- ---- schedules
 

@@ -1,20 +1,10 @@
 -- Numbers of one digit or two as text, the nodes of a generated task's expression, and lists one longer.
 use Rattle.std.proofs.Common.{◌≡◌, ◌<◌, ◌≤◌, ◌+◌, ◌/◌, ◌%◌, ◌^◌, ◌++◌, ◌∷◌, ◌∙◌, ℕ, suc, List, [], None, map, ap, sym, arith}
-use Rattle.std.proofs.lemmas.Fmt.{decimal_digit, decimal_step}
-use Rattle.std.proofs.lemmas.List.{map-append}
-use Rattle.std.specs.Fmt.{decimal}
+use Rattle.htl_compile.proofs.Words.{decimal_digit, decimal_step, map-append, decimal, list_to, Node, PlainMode, PlainSwitch, Id, InvokeNode, Num, ParamNode, named, number, int_named, scaling_invoke, copying_invoke, bulk_mode, scaled_sum}
 use Rattle.std.specs.Prelude.{ℤ, pos, codes}
 use Rattle.htl_base.specs.declared.operator.BinOp.TheVariants as op
-use Rattle.htl_model.specs.Lists.{list_to}
 use Rattle.htl_text.specs.Postfix.{nodes_of}
-use Rattle.htl_text.specs.declared.expression.Node.{Node}
 use Rattle.htl_text.specs.declared.expression.Node.TheVariants as node
-use Rattle.htl_text.specs.Nodes.{PlainMode, PlainSwitch}
-use Rattle.htl_text.specs.declared.tree.Id.{Id}
-use Rattle.htl_text.specs.declared.tree.InvokeNode.{InvokeNode}
-use Rattle.htl_text.specs.declared.tree.Num.{Num}
-use Rattle.htl_text.specs.declared.tree.ParamNode.{ParamNode}
-use Rattle.htl_compile.specs.BulkTree.{named, number, int_named, scaling_invoke, copying_invoke, bulk_mode, scaled_sum}
 
 -- ---- digits
 

@@ -1,27 +1,6 @@
 -- Code in the place of functions means the same, and fits its place.
 use Rattle.std.proofs.Common.{◌≡◌, ◌≤◌, ◌<◌, ◌⊎◌, ℕ, zero, suc, List, [], ◌∷◌, ◌++◌, length, get_or, slice_get, Option, Some, None, All, refl, sym, ◌∙◌, ap, subst, arith, inl, inr}
-use Rattle.std.proofs.lemmas.Option.{slice_get_cases, slice_get-get_or}
-use Rattle.std.specs.Prelude.{ℤ, pos}
-use Rattle.htl_model.proofs.PlaceLaws.{count_function_types}
-use Rattle.htl_model.proofs.SameMeaning.{same_runs}
-use Rattle.htl_model.proofs.SameRules.{first_same}
-use Rattle.htl_model.proofs.SameRanges.{in_range}
-use Rattle.htl_model.specs.Exchanged.{MeanTheSame, SameRuns}
-use Rattle.htl_model.specs.FunctionTypes.{FunctionType, function_types, IsFunctionOf, FitPlaces}
-use Rattle.htl_compile.specs.Coded.{code_of, code_by, code_at, codes, coded, IsTyped, AreTyped}
-use Rattle.htl_func.proofs.CodeMeans.{code_means, IsCompiled-postfix}
-use Rattle.htl_func.specs.Compiled.{IsCompiled}
-use Rattle.htl_model.proofs.Listed.{length-list_to}
-use Rattle.htl_model.specs.Broken.{IsFirstBroken}
-use Rattle.htl_model.specs.Functions.{postfix}
-use Rattle.htl_model.specs.Lists.{list_to}
-use Rattle.htl_model.specs.Ranges.{AreInRange, IsFunInRange}
-use Rattle.htl_model.specs.Small.{IsSmallFunction, AreSmall}
-use Rattle.htl_model.specs.Tables.{Tables, Fun, Formula, Compiled, fun}
-use Rattle.htl_model.specs.declared.form_fault.FormFault.{FormFault}
-use Rattle.htl_object.specs.Ranges.{IsFunctionCode}
-use Rattle.htl_base.proofs.Places.{within_front}
-use Rattle.htl_base.proofs.Numbers.{cases_below}
+use Rattle.htl_compile.proofs.Words.{slice_get_cases, slice_get-get_or, ℤ, pos, count_function_types, same_runs, first_same, in_range, MeanTheSame, SameRuns, FunctionType, function_types, IsFunctionOf, FitPlaces, code_of, code_by, code_at, codes, coded, IsTyped, AreTyped, code_means, IsCompiled-postfix, IsCompiled, length-list_to, IsFirstBroken, postfix, list_to, AreInRange, IsFunInRange, IsSmallFunction, AreSmall, Tables, Fun, Formula, Compiled, fun, FormFault, IsFunctionCode, within_front, cases_below}
 
 -- ---- lists by places
 

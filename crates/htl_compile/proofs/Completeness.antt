@@ -2,23 +2,10 @@
 use Rattle.std.proofs.Common.{◌≡◌, ◌<◌, ◌⊎◌, ℕ, List, refl, sym, ◌∙◌, ap, subst, pos, inl, inr}
 use Rattle.htl_compile.proofs.SourceLaws.{tables_unique, typed_or_fault, fault_unique}
 use Rattle.htl_compile.proofs.SourceTables.{source_tables_fit}
-use Rattle.htl_compile.specs.Building.{IsBackFault, IsFirstOverload, HasBackFault, unbuilt_of}
-use Rattle.htl_compile.specs.Laws.{FrontOnlyMemory, BackOnlyMemory, CompileOnlyMemory, OneFrontFault, OneBackFault, OneCompileFault}
-use Rattle.htl_compile.specs.Sources.{IsTablesOf, IsSourceFault}
-use Rattle.htl_compile.specs.declared.source_fault.SourceFault.{SourceFault}
-use Rattle.htl_compile.specs.declared.building.BackFault.{BackFault}
+use Rattle.htl_compile.proofs.Words.{IsBackFault, IsFirstOverload, HasBackFault, unbuilt_of, FrontOnlyMemory, BackOnlyMemory, CompileOnlyMemory, OneFrontFault, OneBackFault, OneCompileFault, IsTablesOf, IsSourceFault, SourceFault, BackFault, one_report, tightened, Reported, site_of, Tables, FormFault, formed, one_first_broken, path_jobs, cases_less_same}
 use Rattle.htl_compile.specs.declared.building.BackFault.TheVariants as back
 use Rattle.htl_compile.specs.declared.compiling.CompileFault.TheVariants as compile
 use Rattle.htl_compile.specs.declared.source.FrontFault.TheVariants as front
-use Rattle.htl_edf.proofs.Kept.{one_report}
-use Rattle.htl_edf.specs.Lists.{tightened}
-use Rattle.htl_edf.specs.Windows.{Reported}
-use Rattle.htl_model.specs.Broken.{site_of}
-use Rattle.htl_model.specs.Tables.{Tables}
-use Rattle.htl_model.specs.declared.form_fault.FormFault.{FormFault}
-use Rattle.htl_refine.proofs.OneFault.{formed, one_first_broken}
-use Rattle.htl_walk.specs.PathJobs.{path_jobs}
-use Rattle.htl_base.proofs.Numbers.{cases_less_same}
 
 -- ---- completeness
 

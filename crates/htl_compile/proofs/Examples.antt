@@ -1,22 +1,9 @@
 -- Small tables, compiled and built by hand.
 use Rattle.std.proofs.Common.{◌≡◌, false, [], ◌∷◌, ◌++◌, pos, codes as text, refl}
-use Rattle.htl_base.specs.declared.Ty.TheVariants.{Int as IntTy, Bool as BoolTy}
-use Rattle.htl_base.specs.declared.operator.BinOp.TheVariants.{Mul, Lt}
-use Rattle.htl_compile.specs.Building.{unplanned_of, unbuilt_of}
-use Rattle.htl_compile.specs.Built.{built}
-use Rattle.htl_compile.specs.Coded.{code_of, coded}
-use Rattle.htl_compile.specs.FunctionFaults.{IsFaultOf}
+use Rattle.htl_compile.proofs.Words.{IntTy, BoolTy, Mul, Lt, unplanned_of, unbuilt_of, built, code_of, coded, IsFaultOf, Overload, output_type, Term, Number, Arg, Binary, Tables, Formula, Compiled, Comm, Switch, Task, object_bytes}
 use Rattle.htl_compile.specs.declared.compiling.CompileFault.TheVariants as compile
-use Rattle.htl_edf.specs.declared.plan.PlanFault.TheVariants.{Overload}
 use Rattle.htl_func.specs.declared.compiler.FnFault.TheVariants as fn_fault
-use Rattle.htl_model.specs.FunctionTypes.{output_type}
-use Rattle.htl_model.specs.Functions.{Term, Number, Arg, Binary}
-use Rattle.htl_model.specs.Tables.{Tables, Formula, Compiled}
 use Rattle.htl_model.specs.declared.function.FInstr.TheVariants as I
-use Rattle.htl_model.specs.declared.parts.Comm.{Comm}
-use Rattle.htl_model.specs.declared.parts.Switch.{Switch}
-use Rattle.htl_model.specs.declared.parts.Task.{Task}
-use Rattle.htl_object.specs.Objects.{object_bytes}
 
 -- x * 2, whose first token is 9
 doubling : Term

@@ -2,21 +2,9 @@
 use Rattle.std.proofs.Common.{◌≡◌, ◌≤◌, List, ℕ, length, Option, None, Result, Ok, Err, IfOk, IfErr, refl, sym, ◌∙◌, ap, subst}
 use Rattle.htl_compile.proofs.CodedLaws.{first_coded}
 use Rattle.htl_compile.proofs.PlanLaws.{overload_same, free_same}
-use Rattle.htl_compile.specs.Building.{IsBackFault, HasBackFault, IsCompileFault, IsCompiledTo, IsObjectOf, IsUnbuilt, unbuilt_of, unread_of}
-use Rattle.htl_compile.specs.Built.{object_for, object_of, built, AreSchedulable, CanBuild}
-use Rattle.htl_compile.specs.Coded.{coded, codes, CanCode}
-use Rattle.htl_compile.specs.Sources.{IsFront, IsRead}
-use Rattle.htl_compile.specs.declared.building.BackFault.{BackFault}
+use Rattle.htl_compile.proofs.Words.{IsBackFault, HasBackFault, IsCompileFault, IsCompiledTo, IsObjectOf, IsUnbuilt, unbuilt_of, unread_of, object_for, object_of, built, AreSchedulable, CanBuild, coded, codes, CanCode, IsFront, IsRead, BackFault, CompileFault, FrontFault, formed_same, Formed, Tables, IsObject, object_bytes, Object, formed}
 use Rattle.htl_compile.specs.declared.building.BackFault.TheVariants as back
-use Rattle.htl_compile.specs.declared.compiling.CompileFault.{CompileFault}
-use Rattle.htl_compile.specs.declared.source.FrontFault.{FrontFault}
 use Rattle.htl_compile.specs.declared.source.FrontFault.TheVariants as front
-use Rattle.htl_model.proofs.SameRules.{formed_same}
-use Rattle.htl_model.specs.Broken.{Formed}
-use Rattle.htl_model.specs.Tables.{Tables}
-use Rattle.htl_object.specs.Objects.{IsObject, object_bytes}
-use Rattle.htl_object.specs.declared.object.Object.{Object}
-use Rattle.htl_refine.proofs.OneFault.{formed}
 
 -- a fault of the tables with code is one of the tables
 pub uncoded : (t : Tables) (f : BackFault) → IsBackFault (coded t) f → IsBackFault t f

@@ -1,26 +1,8 @@
 -- Compiling the functions one after the other.
 use Rattle.std.proofs.Common.{◌≡◌, ◌<◌, ◌+◌, ◌↔◌, ℕ, Bool, true, cond, List, [], length, map, get_or, slice_get, Some, Result, Err, sym, ◌∙◌, ap, ap₂, subst, arith, inl, inr}
-use Rattle.std.proofs.lemmas.Option.{slice_get_within}
-use Rattle.htl_base.specs.declared.Ty.{Ty}
-use Rattle.htl_model.specs.Exchanged.{with_functions}
-use Rattle.htl_model.specs.FunctionTypes.{FunctionType, function_types}
+use Rattle.htl_compile.proofs.Words.{slice_get_within, Ty, with_functions, FunctionType, function_types, code_at, codes, coded, AreTyped, IsTyped, IsTypedAt, TypedBetween, IsFaultOf, IsFunction, IsCompiled, ill_typed, FnFault, function_at, outputs_count, IsSmallFunction, AreSmall, Term, type_of, held, list_to, Tables, Fun, Formula, Compiled, fun_of, tables_of, function_count, count_at, Task, Parts, Code, Function, cases_lt}
 use Rattle.htl_compile.proofs.CodedLaws.{code_is}
-use Rattle.htl_compile.specs.Coded.{code_at, codes, coded, AreTyped, IsTyped, IsTypedAt, TypedBetween}
-use Rattle.htl_compile.specs.FunctionFaults.{IsFaultOf}
-use Rattle.htl_func.specs.Compiled.{IsFunction, IsCompiled}
-use Rattle.htl_func.specs.Expressions.{ill_typed}
-use Rattle.htl_func.specs.declared.compiler.FnFault.{FnFault}
 use Rattle.htl_func.specs.declared.compiler.FnFault.TheVariants as fn_fault
-use Rattle.htl_object.proofs.FunctionPlaces.{function_at, outputs_count}
-use Rattle.htl_model.specs.Small.{IsSmallFunction, AreSmall}
-use Rattle.htl_model.specs.Functions.{Term, type_of, held}
-use Rattle.htl_model.specs.Lists.{list_to}
-use Rattle.htl_model.specs.Tables.{Tables, Fun, Formula, Compiled, fun_of, tables_of, function_count, count_at}
-use Rattle.htl_model.specs.declared.parts.Task.{Task}
-use Rattle.htl_model.specs.declared.parts.Parts.{Parts}
-use Rattle.htl_model.specs.declared.function.Code.{Code}
-use Rattle.htl_model.specs.declared.function.Function.{Function}
-use Rattle.std.proofs.lemmas.Bool.{cases_lt}
 
 -- ---- one function
 

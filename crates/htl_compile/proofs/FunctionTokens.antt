@@ -1,18 +1,7 @@
 -- The fault of a function is told by one of its tokens, and is one.
 use Rattle.std.proofs.Common.{◌≡◌, ◌<◌, ◌⊎◌, ℕ, List, Option, Some, None, slice_get, sym, ◌∙◌, ap, subst, arith, inl, inr}
-use Rattle.htl_base.specs.declared.Ty.{Ty}
-use Rattle.htl_base.specs.declared.Ty.TheVariants.{Int as IntTy, Bool as BoolTy}
-use Rattle.htl_compile.specs.Coded.{IsTyped, AreTyped}
-use Rattle.htl_compile.specs.FunctionFaults.{IsFaultOf, IsFaultAt, IsFirstFault}
-use Rattle.htl_compile.specs.TokenBounds.{AreOperatorsBelow, IsFunctionBelow, AreFunctionsBelow}
-use Rattle.htl_func.proofs.Causes.{no_function, ill_typed-typed}
-use Rattle.htl_func.specs.Expressions.{or_else, at_fault, first_ill, unless_type, ill_typed}
-use Rattle.htl_func.specs.declared.compiler.FnFault.{FnFault}
+use Rattle.htl_compile.proofs.Words.{Ty, IntTy, BoolTy, IsTyped, AreTyped, IsFaultOf, IsFaultAt, IsFirstFault, AreOperatorsBelow, IsFunctionBelow, AreFunctionsBelow, no_function, ill_typed-typed, or_else, at_fault, first_ill, unless_type, ill_typed, FnFault, FunctionType, function_types, Term, Unary, Binary, Choose, type_of, type_one, type_two, type_choose, Tables, Fun, Formula, Compiled, cases_less_same}
 use Rattle.htl_func.specs.declared.compiler.FnFault.TheVariants as fn_fault
-use Rattle.htl_model.specs.FunctionTypes.{FunctionType, function_types}
-use Rattle.htl_model.specs.Functions.{Term, Unary, Binary, Choose, type_of, type_one, type_two, type_choose}
-use Rattle.htl_model.specs.Tables.{Tables, Fun, Formula, Compiled}
-use Rattle.htl_base.proofs.Numbers.{cases_less_same}
 
 -- ---- the token of an ill-typed function
 

@@ -17,3 +17,4 @@ pub mod SourceTables
 pub mod TokenPlaces
 pub mod NameTokens
 pub mod PlacedFunctions
+pub mod Words

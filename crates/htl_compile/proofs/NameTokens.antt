@@ -1,29 +1,9 @@
 -- What a tree tells of names by places is told by places of tokens, and so a name fault by a token of the source.
 use Rattle.std.proofs.Common.{◌<◌, ℕ, suc, ◌+◌, List, [], ◌∷◌, ◌++◌, length, map, Option, Some, None, sym, subst, arith}
-use Rattle.std.specs.List.{flat_map}
-use Rattle.htl_names.proofs.Members.{Each, each_at, each_append}
-use Rattle.htl_names.specs.Entries.{params_of, param_entry, task_entries, port_entry, invoke_entry, mode_entries, module_entries, comm_entry, program_entries, entries_from, entries}
-use Rattle.htl_names.specs.Kinds.{Judged, Initial, token_of, comm_kinds, end_kinds, invoke_kinds, mode_kinds, task_kind, module_kinds, program_kinds, kinds}
-use Rattle.htl_names.specs.Lists.{flat_map_at, map_at}
-use Rattle.htl_names.specs.NameRules.{NameRule, RepeatedName, UnknownName, WrongKind, ProgramTree, ParentName, Limits, NameBroken, IsFirstNameFault}
-use Rattle.htl_names.specs.Parents.{ParentUse, invoke_parent, mode_parents, module_parents, program_parents, parents}
-use Rattle.htl_names.specs.Uses.{input_use, output_uses, outputs_uses, task_uses, comm_use, end_use, invoke_uses, switch_uses, program_use, mode_uses, module_uses, program_uses, uses}
-use Rattle.htl_names.specs.declared.fault.NameFault.{NameFault}
+use Rattle.htl_compile.proofs.Words.{flat_map, Each, each_at, each_append, params_of, param_entry, task_entries, port_entry, invoke_entry, mode_entries, module_entries, comm_entry, program_entries, entries_from, entries, Judged, Initial, token_of, comm_kinds, end_kinds, invoke_kinds, mode_kinds, task_kind, module_kinds, program_kinds, kinds, flat_map_at, map_at, NameRule, RepeatedName, UnknownName, WrongKind, ProgramTree, ParentName, Limits, NameBroken, IsFirstNameFault, ParentUse, invoke_parent, mode_parents, module_parents, program_parents, parents, input_use, output_uses, outputs_uses, task_uses, comm_use, end_use, invoke_uses, switch_uses, program_use, mode_uses, module_uses, program_uses, uses, NameFault, Entry, Use, Spell, names_of, out_params, PlainOut, PlainOuts, Concrete, Abstract, PlainTask, PlainSwitch, PlainMode, PlainModule, PlainProgram, Token, CommNode, ConstNode, EndNode, Id, InvokeNode, Ty}
 use Rattle.htl_names.specs.declared.fault.NameFault.TheVariants as fault
-use Rattle.htl_names.specs.declared.key.Entry.{Entry}
-use Rattle.htl_names.specs.declared.key.Use.{Use}
-use Rattle.htl_parse.specs.Answers.{Spell}
-use Rattle.htl_text.specs.Bounds.{names_of, out_params}
-use Rattle.htl_text.specs.Nodes.{PlainOut, PlainOuts, Concrete, Abstract, PlainTask, PlainSwitch, PlainMode, PlainModule, PlainProgram}
-use Rattle.htl_text.specs.declared.token.Token.{Token}
-use Rattle.htl_text.specs.declared.tree.CommNode.{CommNode}
-use Rattle.htl_text.specs.declared.tree.ConstNode.{ConstNode}
 use Rattle.htl_text.specs.declared.tree.ConstNode.TheVariants as const
-use Rattle.htl_text.specs.declared.tree.EndNode.{EndNode}
 use Rattle.htl_text.specs.declared.tree.EndNode.TheVariants as end
-use Rattle.htl_text.specs.declared.tree.Id.{Id}
-use Rattle.htl_text.specs.declared.tree.InvokeNode.{InvokeNode}
-use Rattle.htl_base.specs.declared.Ty.{Ty}
 use Rattle.htl_compile.proofs.TokenPlaces.{AreOuts, IsClause, IsComm, IsConst, IsEnd, IsId, IsInvoke, IsMode, IsModule, IsOut, IsParam, IsProgramNode, IsSwitch, IsTask, each_flat, each_flat_at, each_map, each_map_at, numbered_below, source_spelled}
 
 module _ (n : ℕ) where

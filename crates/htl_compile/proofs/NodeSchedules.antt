@@ -1,34 +1,6 @@
 -- The schedules of all nodes: each node is that of a path behind a start, and the parts of paths through one node are the same.
 use Rattle.std.proofs.Common.{◌≡◌, ◌<◌, ◌≤◌, ℕ, zero, suc, ◌+◌, ◌-◌, ◌*◌, ◌/◌, ◌%◌, Bool, true, false, cond, ◌&&◌, eqb, List, [], ◌∷◌, ◌++◌, length, length-append, map, drop, get_or, Option, Some, None, All, ⊎_elim, refl, sym, ◌∙◌, ap, subst, arith}
-use Rattle.std.proofs.Math.Nat.{mul_assoc, mul_comm, div-lt_iff_lt-mul}
-use Rattle.std.proofs.lemmas.Bool.{cases_Bool}
-use Rattle.std.proofs.lemmas.List.{length-map}
-use Rattle.std.proofs.lemmas.Nat.{div-add-mod', div-mul-add, mod-mul-add, mul-add-lt}
-use Rattle.htl_compile.specs.Built.{through, node_schedule, schedules}
-use Rattle.htl_edf.proofs.Cutting.{from_none, from_more}
-use Rattle.htl_edf.proofs.NodeCode.{depth_same}
-use Rattle.htl_edf.proofs.NodeLists.{one_list_of_node}
-use Rattle.htl_edf.specs.Code.{dispatches_of as slice_instrs}
-use Rattle.htl_edf.specs.Edf.{Slice, longer, edf}
-use Rattle.htl_edf.specs.Lists.{tightened}
-use Rattle.htl_edf.specs.NodePlans.{AreReady, AreNodeLists}
-use Rattle.htl_edf.specs.Parts.{slices_from, part}
-use Rattle.htl_model.proofs.FrameLimits.{rounds_have, choices_some, choices_starts, limits_kept}
-use Rattle.htl_model.proofs.Listed.{length-list_to, get_list_to}
-use Rattle.htl_model.specs.Frames.{frame_of, root_periods, begins, frame_limit, multiple_of, unit_period, starts_below, starts, rounds, rounds_at, choices, paths, radices, ways, nodes_of, nodes, node_of, node}
-use Rattle.htl_model.specs.Ranges.{AreInRange}
-use Rattle.htl_model.specs.Selections.{root_modules}
-use Rattle.htl_model.specs.Tables.{Tables}
-use Rattle.htl_object.specs.Ranges.{IsShort}
-use Rattle.htl_walk.proofs.CodeWalk.{list_read}
-use Rattle.htl_walk.proofs.Nodes.{nodes_within}
-use Rattle.htl_walk.specs.FrameLaws.{start_at, start_end_at}
-use Rattle.htl_walk.specs.NodeWalks.{instrs_of}
-use Rattle.htl_walk.specs.PathJobs.{path_jobs, next_of}
-use Rattle.htl_walk.specs.declared.job.Job.{Job}
-use Rattle.htl_walk.specs.declared.schedule.SInstr.TheVariants.{Dispatch, End}
-use Rattle.htl_walk.specs.declared.schedule.Schedule.{Schedule}
-use Rattle.htl_base.proofs.Numbers.{product_parts}
+use Rattle.htl_compile.proofs.Words.{mul_assoc, mul_comm, div-lt_iff_lt-mul, cases_Bool, length-map, div-add-mod', div-mul-add, mod-mul-add, mul-add-lt, through, node_schedule, schedules, from_none, from_more, depth_same, one_list_of_node, slice_instrs, Slice, longer, edf, tightened, AreReady, AreNodeLists, slices_from, part, rounds_have, choices_some, choices_starts, limits_kept, length-list_to, get_list_to, frame_of, root_periods, begins, frame_limit, multiple_of, unit_period, starts_below, starts, rounds, rounds_at, choices, paths, radices, ways, nodes_of, nodes, node_of, node, AreInRange, root_modules, Tables, IsShort, list_read, nodes_within, start_at, start_end_at, instrs_of, path_jobs, next_of, Job, Dispatch, End, Schedule, product_parts}
 
 -- ---- the node of a number
 

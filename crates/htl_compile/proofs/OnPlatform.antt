@@ -5,30 +5,12 @@ use Rattle.htl_compile.proofs.FromSource.{uncoded, uncoded_built}
 use Rattle.htl_compile.proofs.PlatformTables.{platform_spans, coded_with, source_tables_with, can_code_with}
 use Rattle.htl_compile.proofs.SourceLaws.{tables_unique, typed_or_fault, fault_unique}
 use Rattle.htl_compile.proofs.SourceTables.{source_tables_fit}
-use Rattle.htl_compile.specs.Building.{IsBackFault, IsObjectOf, IsUnbuilt, unbuilt_of, unread_of}
-use Rattle.htl_compile.specs.Built.{object_for, AreSchedulable}
-use Rattle.htl_compile.specs.Coded.{coded, AreTyped, CanCode}
-use Rattle.htl_compile.specs.OnPlatform.{built_on, IsOn, IsNoPlatform, IsCompiledOn, HasPlatformFault, HasBackFaultOn, IsWithFault}
-use Rattle.htl_compile.specs.Sources.{IsTablesOf, IsFront, IsRead, IsSourceFault}
-use Rattle.htl_compile.specs.declared.building.BackFault.{BackFault}
+use Rattle.htl_compile.proofs.Words.{IsBackFault, IsObjectOf, IsUnbuilt, unbuilt_of, unread_of, object_for, AreSchedulable, coded, AreTyped, CanCode, built_on, IsOn, IsNoPlatform, IsCompiledOn, HasPlatformFault, HasBackFaultOn, IsWithFault, IsTablesOf, IsFront, IsRead, IsSourceFault, BackFault, CompileFault, WithFault, FrontFault, SourceFault, Formed, Tables, IsObject, object_bytes, IsPlatform, with_worst, platform_of, PlatformFault, PlatformStop, Platform}
 use Rattle.htl_compile.specs.declared.building.BackFault.TheVariants as back
-use Rattle.htl_compile.specs.declared.compiling.CompileFault.{CompileFault}
 use Rattle.htl_compile.specs.declared.compiling.CompileFault.TheVariants as compile
-use Rattle.htl_compile.specs.declared.compiling_on.WithFault.{WithFault}
 use Rattle.htl_compile.specs.declared.compiling_on.WithFault.TheVariants as on
-use Rattle.htl_compile.specs.declared.source.FrontFault.{FrontFault}
 use Rattle.htl_compile.specs.declared.source.FrontFault.TheVariants as front
-use Rattle.htl_compile.specs.declared.source_fault.SourceFault.{SourceFault}
-use Rattle.htl_model.specs.Broken.{Formed}
-use Rattle.htl_model.specs.Tables.{Tables}
-use Rattle.htl_object.specs.Objects.{IsObject, object_bytes}
-use Rattle.htl_platform.specs.Answers.{IsPlatform}
-use Rattle.htl_platform.specs.Applied.{with_worst}
-use Rattle.htl_platform.specs.Platforms.{platform_of}
-use Rattle.htl_platform.specs.declared.fault.PlatformFault.{PlatformFault}
-use Rattle.htl_platform.specs.declared.fault.PlatformStop.{PlatformStop}
 use Rattle.htl_platform.specs.declared.fault.PlatformStop.TheVariants as stop
-use Rattle.htl_platform.specs.declared.platform.Platform.{Platform}
 
 -- ---- from tables with code to their source
 

@@ -1,17 +1,7 @@
 -- So a fault of a function is told by a token of the source.
 use Rattle.std.proofs.Common.{◌≡◌, slice_get, refl, ℕ, List, [], ◌∷◌, length, Option, Some, None, arith}
-use Rattle.std.specs.List.{flat_map}
-use Rattle.htl_names.proofs.Members.{Each, each_at, each_append}
-use Rattle.htl_compile.specs.TokenBounds.{AreOperatorsBelow, IsFunctionBelow, AreFunctionsBelow}
+use Rattle.htl_compile.proofs.Words.{flat_map, Each, each_at, each_append, AreOperatorsBelow, IsFunctionBelow, AreFunctionsBelow, modules_at, module_at, tasks_at, modes_at, mode_at, switches_at, ModeAt, ModuleAt, Spell, Expr, Prefix, Infix, Choice, PlainOuts, Concrete, Abstract, PlainSwitch, PlainMode, PlainModule, PlainProgram, Token, Id}
 use Rattle.htl_names.specs.Flat.{Layout, layout, term_by, input_place, flat_output_function, outs_functions, task_functions, module_functions, comms_in, read_place, flat_switch_function, mode_functions, function_items, tables_of_tree}
-use Rattle.htl_names.specs.Order.{modules_at, module_at, tasks_at, modes_at, mode_at, switches_at}
-use Rattle.htl_names.specs.declared.place.ModeAt.{ModeAt}
-use Rattle.htl_names.specs.declared.place.ModuleAt.{ModuleAt}
-use Rattle.htl_parse.specs.Answers.{Spell}
-use Rattle.htl_text.specs.Expressions.{Expr, Prefix, Infix, Choice}
-use Rattle.htl_text.specs.Nodes.{PlainOuts, Concrete, Abstract, PlainSwitch, PlainMode, PlainModule, PlainProgram}
-use Rattle.htl_text.specs.declared.token.Token.{Token}
-use Rattle.htl_text.specs.declared.tree.Id.{Id}
 use Rattle.htl_compile.proofs.TokenPlaces.{AreOuts, HasOperators, IsMode, IsModule, IsOut, IsProgramNode, IsSwitch, IsTask, each_flat_at, each_map, numbered_below, source_spelled}
 
 module _ (n : ℕ) where

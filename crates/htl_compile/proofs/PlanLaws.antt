@@ -1,29 +1,9 @@
 -- The schedules that are planned are those of the object, and what is overloaded is so whatever the functions are.
 use Rattle.std.proofs.Common.{◌≡◌, ◌<◌, ℕ, suc, List, [], ◌∷◌, length, get_or, slice_get, Some, refl, sym, ◌∙◌, ap, subst, arith, pos}
-use Rattle.std.proofs.lemmas.Option.{slice_get_within, slice_get-get_or}
+use Rattle.htl_compile.proofs.Words.{slice_get_within, slice_get-get_or, IsBackFault, IsFirstOverload, unplanned_of, node_schedule, schedules, AreSchedulable, BackFault, tightened, AreNodeLists, ExplainsNodes, Reported, NoOverload, PlanFault, Overload, PlanMemory, length-list_to, Formed, with_functions, paths, nodes, AreInRange, Tables, Fun, list_read, instrs_of, path_jobs, Job, SInstr, Schedule}
 use Rattle.htl_compile.proofs.CodedLaws.{list_to_at}
 use Rattle.htl_compile.proofs.NodeSchedules.{only_lists}
 use Rattle.htl_compile.proofs.SamePaths.{paths_same, path_jobs_same}
-use Rattle.htl_compile.specs.Building.{IsBackFault, IsFirstOverload, unplanned_of}
-use Rattle.htl_compile.specs.Built.{node_schedule, schedules, AreSchedulable}
-use Rattle.htl_compile.specs.declared.building.BackFault.{BackFault}
-use Rattle.htl_edf.specs.Lists.{tightened}
-use Rattle.htl_edf.specs.NodePlans.{AreNodeLists, ExplainsNodes}
-use Rattle.htl_edf.specs.Windows.{Reported, NoOverload}
-use Rattle.htl_edf.specs.declared.plan.PlanFault.{PlanFault}
-use Rattle.htl_edf.specs.declared.plan.PlanFault.TheVariants.{Overload, Memory as PlanMemory}
-use Rattle.htl_model.proofs.Listed.{length-list_to}
-use Rattle.htl_model.specs.Broken.{Formed}
-use Rattle.htl_model.specs.Exchanged.{with_functions}
-use Rattle.htl_model.specs.Frames.{paths, nodes}
-use Rattle.htl_model.specs.Ranges.{AreInRange}
-use Rattle.htl_model.specs.Tables.{Tables, Fun}
-use Rattle.htl_walk.proofs.CodeWalk.{list_read}
-use Rattle.htl_walk.specs.NodeWalks.{instrs_of}
-use Rattle.htl_walk.specs.PathJobs.{path_jobs}
-use Rattle.htl_walk.specs.declared.job.Job.{Job}
-use Rattle.htl_walk.specs.declared.schedule.SInstr.{SInstr}
-use Rattle.htl_walk.specs.declared.schedule.Schedule.{Schedule}
 
 -- ---- the schedules
 

@@ -1,25 +1,7 @@
 -- Tables with the worst cases of a platform: their functions have the same types and code, and they keep the same limits.
 use Rattle.std.proofs.Common.{◌≡◌, ◌≤◌, ◌<◌, ℕ, suc, ◌+◌, ◌*◌, ◌/◌, ◌%◌, cond, List, [], ◌∷◌, ◌++◌, length, map, drop, get_or, slice_get, Option, Some, None, Ok, Err, All, refl, sym, ap, subst}
 use mathlib.Core.Path.{fun_ext}
-use Rattle.std.specs.List.{flat_map}
-use Rattle.htl_compile.specs.Coded.{code_by, codes, coded, IsTyped, AreTyped, AreSourceTables, CanCode}
-use Rattle.htl_model.specs.Broken.{KeepsLimits}
-use Rattle.htl_model.specs.FunctionTypes.{FunctionType, task_types, function_types, switch_type, IsFunctionOf, FitPlaces}
-use Rattle.htl_model.specs.Lists.{list_to}
-use Rattle.htl_model.specs.Ranges.{AreInRange, IsSpan}
-use Rattle.htl_model.specs.Selections.{is_root, root_modules, modes_of, choices_from, selection_count, root_mode, invs_of, positions}
-use Rattle.htl_model.specs.Small.{AreSmall, IsSmallFunction}
-use Rattle.htl_model.specs.Tables.{Tables, Fun}
-use Rattle.htl_model.specs.declared.parts.Module.{Module}
-use Rattle.htl_model.specs.declared.parts.Task.{Task}
-use Rattle.htl_platform.proofs.SpanLaws.{spans}
-use Rattle.htl_platform.proofs.WorstRanges.{timed_in_range}
-use Rattle.htl_platform.specs.Applied.{tasks_with, with_worst}
-use Rattle.htl_platform.specs.Entries.{worst_of}
-use Rattle.htl_platform.specs.Faults.{fault_in}
-use Rattle.htl_platform.specs.Platforms.{document_in, platform_in, platform_or, platform_of, fault_or}
-use Rattle.htl_platform.specs.declared.fault.PlatformFault.{PlatformFault}
-use Rattle.htl_platform.specs.declared.platform.Platform.{Platform}
+use Rattle.htl_compile.proofs.Words.{flat_map, code_by, codes, coded, IsTyped, AreTyped, AreSourceTables, CanCode, KeepsLimits, FunctionType, task_types, function_types, switch_type, IsFunctionOf, FitPlaces, list_to, AreInRange, IsSpan, is_root, root_modules, modes_of, choices_from, selection_count, root_mode, invs_of, positions, AreSmall, IsSmallFunction, Tables, Fun, Module, Task, spans, timed_in_range, tasks_with, with_worst, worst_of, fault_in, document_in, platform_in, platform_or, platform_of, fault_or, PlatformFault, Platform}
 
 -- ---- the worst cases of a platform file
 

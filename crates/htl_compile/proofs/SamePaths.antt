@@ -1,16 +1,7 @@
 -- Tables have the same paths with the same jobs, whatever functions they have.
 use Rattle.std.proofs.Common.{◌≡◌, ℕ, ◌+◌, Bool, true, ◌&&◌, eqb, List, map, slice_get, Option, Some, None, refl, sym, ◌∙◌, ap}
 use mathlib.Core.Path.{fun_ext}
-use Rattle.htl_model.proofs.FrameLists.{paths_framed, path_places_framed}
-use Rattle.htl_model.proofs.SameRules.{release_same, window_end_same}
-use Rattle.htl_model.specs.Exchanged.{with_functions}
-use Rattle.htl_model.specs.Frames.{paths, path_places}
-use Rattle.htl_model.specs.Tables.{Tables, Fun, task_worst, release, window_end}
-use Rattle.htl_model.specs.declared.frame.Place.{Place}
-use Rattle.htl_model.specs.declared.parts.Inv.{Inv}
-use Rattle.htl_walk.specs.Jobs.{absent_job, mask, is_fed_by}
-use Rattle.htl_walk.specs.PathJobs.{job_in, placed_job, placed_jobs, path_jobs}
-use Rattle.htl_walk.specs.declared.job.Job.{Job}
+use Rattle.htl_compile.proofs.Words.{paths_framed, path_places_framed, release_same, window_end_same, with_functions, paths, path_places, Tables, Fun, task_worst, release, window_end, Place, Inv, absent_job, mask, is_fed_by, job_in, placed_job, placed_jobs, path_jobs, Job}
 
 module _ (t : Tables) (fs : List Fun) where
   abbrev u : Tables

@@ -1,32 +1,10 @@
 -- The tables and the fault of a source.
 use Rattle.std.proofs.Common.{◌≡◌, ℕ, List, [], ◌∷◌, ◌++◌, slice_get, Some, refl, sym, ◌∙◌, ap, subst}
-use Rattle.htl_base.proofs.Firsts.{first-unique}
+use Rattle.htl_compile.proofs.Words.{first-unique, AreTyped, IsFirstFault, OneTables, Reads, BeginsAt, BeginsOrEndsAt, IsTablesOf, IsNameFaultOf, IsFunctionFaultOf, IsSourceFault, SourceFault, FnFault, Tables, one_name_fault, tables_of_tree, IsFirstNameFault, AreNamesRight, NameFault, one_tree-law, misfit-unique, Spell, IsMisfit, IsLong, IsFirstLong, Tokens-sound, Faults-unique, Tokens-unique, PlainProgram, tokens_numbered, IsTokens, Faults, TokenList, LexFault}
 use Rattle.htl_compile.proofs.FunctionTokens.{IsTold, not_all_typed, one_function_fault}
-use Rattle.htl_compile.specs.Coded.{AreTyped}
-use Rattle.htl_compile.specs.FunctionFaults.{IsFirstFault}
-use Rattle.htl_compile.specs.Laws.{OneTables}
-use Rattle.htl_compile.specs.Sources.{Reads, BeginsAt, BeginsOrEndsAt, IsTablesOf, IsNameFaultOf, IsFunctionFaultOf, IsSourceFault}
-use Rattle.htl_compile.specs.declared.source_fault.SourceFault.{SourceFault}
 use Rattle.htl_compile.specs.declared.source_fault.SourceFault.TheVariants as fault
-use Rattle.htl_func.specs.declared.compiler.FnFault.{FnFault}
 use Rattle.htl_func.specs.declared.compiler.FnFault.TheVariants as fn_fault
-use Rattle.htl_model.specs.Tables.{Tables}
-use Rattle.htl_names.proofs.OneFault.{one_name_fault}
-use Rattle.htl_names.specs.Flat.{tables_of_tree}
-use Rattle.htl_names.specs.NameRules.{IsFirstNameFault, AreNamesRight}
-use Rattle.htl_names.specs.declared.fault.NameFault.{NameFault}
 use Rattle.htl_names.specs.declared.fault.NameFault.TheVariants as name
-use Rattle.htl_parse.proofs.Whole.{one_tree-law}
-use Rattle.htl_parse.proofs.Stopping.{misfit-unique}
-use Rattle.htl_parse.specs.Answers.{Spell, IsMisfit}
-use Rattle.htl_parse.specs.Runs.{IsLong, IsFirstLong}
-use Rattle.htl_text.proofs.FirstFault.{Tokens-sound, Faults-unique}
-use Rattle.htl_text.proofs.OneCut.{Tokens-unique}
-use Rattle.htl_text.specs.Nodes.{PlainProgram}
-use Rattle.htl_text.specs.Placed.{tokens_numbered}
-use Rattle.htl_text.specs.Spans.{Tokens as IsTokens, Faults}
-use Rattle.htl_text.specs.TokenLists.{TokenList}
-use Rattle.htl_text.specs.declared.lexer.LexFault.{LexFault}
 use Rattle.htl_text.specs.declared.lexer.LexFault.TheVariants as lex
 
 -- ---- the parts of a source

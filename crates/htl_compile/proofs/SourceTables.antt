@@ -1,27 +1,7 @@
 -- What the tables of a source keep, and that nothing is accepted for a path that is overloaded.
 use Rattle.std.proofs.Common.{arith, ◌≡◌, ◌≤◌, ◌+◌, ℕ, List, [], ◌∷◌, ◌++◌, length, sym, ap, subst, length-append}
-use Rattle.std.specs.List.{zip}
+use Rattle.htl_compile.proofs.Words.{zip, AreSourceTables, SourceTablesFit, NoneForOverloaded, IsTablesOf, path_refusal, frame_of, Tables, names-in-range, names-keep-limits, functions_small, bounded_tree, MeetsBounds, tree-bounded, span-some, tokens-spellable, Cuts, Tokens, TokenList, Token, some_root, legs_follow, path_jobs, legs}
 use Rattle.htl_compile.proofs.BuiltLaws.{are_ready}
-use Rattle.htl_compile.specs.Coded.{AreSourceTables}
-use Rattle.htl_compile.specs.Laws.{SourceTablesFit, NoneForOverloaded}
-use Rattle.htl_compile.specs.Sources.{IsTablesOf}
-use Rattle.htl_edf.proofs.Cutting.{path_refusal}
-use Rattle.htl_model.specs.Frames.{frame_of}
-use Rattle.htl_model.specs.Tables.{Tables}
-use Rattle.htl_names.proofs.InRange.{names-in-range}
-use Rattle.htl_names.proofs.KeepsLimits.{names-keep-limits}
-use Rattle.htl_names.proofs.SmallFunctions.{functions_small}
-use Rattle.htl_names.proofs.TreeBounds.{bounded_tree}
-use Rattle.htl_names.specs.Conditions.{MeetsBounds}
-use Rattle.htl_parse.proofs.Bounded.{tree-bounded}
-use Rattle.htl_text.proofs.OneCut.{span-some}
-use Rattle.htl_text.proofs.Spellable.{tokens-spellable}
-use Rattle.htl_text.specs.Spans.{Cuts, Tokens}
-use Rattle.htl_text.specs.TokenLists.{TokenList}
-use Rattle.htl_text.specs.declared.token.Token.{Token}
-use Rattle.htl_walk.proofs.Nodes.{some_root}
-use Rattle.htl_walk.proofs.Starts.{legs_follow}
-use Rattle.htl_walk.specs.PathJobs.{path_jobs, legs}
 
 -- ---- a text has no more tokens than bytes
 

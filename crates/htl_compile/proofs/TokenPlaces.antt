@@ -1,26 +1,10 @@
 -- A tree whose names and judged numbers stand at places below a number, as that of a source stands at places of its tokens.
 use Rattle.std.proofs.Common.{◌<◌, ◌≤◌, ℕ, suc, ◌+◌, List, [], ◌∷◌, ◌++◌, length, map, true, false, Option, Some, None, arith}
-use Rattle.std.specs.List.{flat_map}
-use Rattle.htl_names.proofs.Members.{Each, each_at, each_append, each_flat_map, each_flat_map_at, each_weaker}
-use Rattle.htl_names.specs.Lists.{flat_map_at, map_at}
-use Rattle.htl_text.specs.Bounds.{names_of}
-use Rattle.htl_base.specs.declared.operator.BinOp.{BinOp}
+use Rattle.htl_compile.proofs.Words.{flat_map, Each, each_at, each_append, each_flat_map, each_flat_map_at, each_weaker, flat_map_at, map_at, names_of, BinOp, PlainOut, PlainOuts, Concrete, Abstract, PlainTask, PlainSwitch, PlainMode, PlainModule, PlainProgram, Placed, Put, tokens_numbered, SpellsMore, no_more, comma, SpellsList, empty, items, SpellsEach, no_other, another, SpellsClause, absent, present, SpellsType, int, bool, SpellsConst, positive, negative, SpellsComm, communicator, sensor, SpellsParam, param, SpellsOut, out, SpellsTask, concrete, abstract_task, SpellsPort, port, SpellsEnd, comm_end, port_end, SpellsInvoke, invoke, SpellsSwitch, switch, SpellsMode, mode, SpellsModule, a_module, SpellsProgram, program, SpellsSource, source, Token, Word, CommNode, ConstNode, EndNode, Id, InvokeNode, ParamNode, Ty}
 use Rattle.htl_text.specs.Expressions.{Expr, Number, Flag, Variable, Prefix, Infix, Choice}
 use Rattle.htl_text.specs.Grammar.{Level, Spells, conj, or, cmp, and, sum, compare, prod, add, unary, multiply, atom, prefix, number, true_word, false_word, name, brackets, choice}
-use Rattle.htl_text.specs.Nodes.{PlainOut, PlainOuts, Concrete, Abstract, PlainTask, PlainSwitch, PlainMode, PlainModule, PlainProgram}
-use Rattle.htl_text.specs.Placed.{Placed, Put, tokens_numbered}
-use Rattle.htl_text.specs.Statements.{SpellsMore, no_more, comma, SpellsList, empty, items, SpellsEach, no_other, another, SpellsClause, absent, present, SpellsType, int, bool, SpellsConst, positive, negative, SpellsComm, communicator, sensor, SpellsParam, param, SpellsOut, out, SpellsTask, concrete, abstract_task, SpellsPort, port, SpellsEnd, comm_end, port_end, SpellsInvoke, invoke, SpellsSwitch, switch, SpellsMode, mode, SpellsModule, a_module, SpellsProgram, program, SpellsSource, source}
-use Rattle.htl_text.specs.declared.token.Token.{Token}
-use Rattle.htl_text.specs.declared.token.Word.{Word}
-use Rattle.htl_text.specs.declared.tree.CommNode.{CommNode}
-use Rattle.htl_text.specs.declared.tree.ConstNode.{ConstNode}
 use Rattle.htl_text.specs.declared.tree.ConstNode.TheVariants as const
-use Rattle.htl_text.specs.declared.tree.EndNode.{EndNode}
 use Rattle.htl_text.specs.declared.tree.EndNode.TheVariants as end
-use Rattle.htl_text.specs.declared.tree.Id.{Id}
-use Rattle.htl_text.specs.declared.tree.InvokeNode.{InvokeNode}
-use Rattle.htl_text.specs.declared.tree.ParamNode.{ParamNode}
-use Rattle.htl_base.specs.declared.Ty.{Ty}
 
 -- the places of tokens below a number
 abbrev pub Below : ℕ → List Placed → Type 0

@@ -1,14 +1,11 @@
 -- Lines that are written one place after another.
 use Rattle.std.proofs.Common.{◌≡◌, ℕ, zero, suc, ◌≤◌, ◌<◌, length, map, take, List, [], ◌++◌, get_or, Option, None, Some, Result, Ok, Err, refl, sym, ap, ◌∙◌, subst, arith, append_assoc, append-nil, inl, inr}
-use Rattle.std.specs.Io.KnownBytes.{append_known}
-use Rattle.std.proofs.lemmas.List.{get_or-map, length-append, length-map}
-use Rattle.std.proofs.Math.Seq.{take-append_seam}
-use Rattle.std.proofs.lemmas.Option.{slice_get_read}
+use Rattle.htl_base.proofs.Words.{append_known, take-append_seam, slice_get_read}
+use Rattle.htl_walk.proofs.Words.{get_or-map, length-append, length-map}
+use Rattle.htl_ecode.proofs.Words.{up_to, cases_below}
 use Rattle.htl_edge.specs.Content.{Puts}
 use Rattle.htl_edge.proofs.Puts.{append_known-start, append_known-more, Puts-failed, Puts-second}
-use Rattle.htl_model.specs.Lists.{up_to}
 use Rattle.htl_console.specs.Listing.{line_at, all_lines}
-use Rattle.htl_base.proofs.Numbers.{cases_below}
 
 -- ---- the lines of a list
 

@@ -1,16 +1,7 @@
 -- Worked examples: layouts, addresses that are done, and departures.
 use Rattle.std.specs.Prelude.{◌≡◌, ℕ, List, [], ◌∷◌, ◌++◌, Some, None, pos, refl, length, set, map}
-use Rattle.htl_model.specs.declared.event.Event.{Event}
-use Rattle.htl_model.specs.declared.event.Event.TheVariants.{At, Sense, End as Ends}
-use Rattle.htl_model.proofs.Sources.{doubling, preempted, ports, refined, reentered, alternating, tanks}
-use Rattle.htl_ecode.specs.declared.ecode.ECode.{ECode}
-use Rattle.htl_ecode.specs.declared.instr.EInstr.{EInstr}
+use Rattle.htl_ecode.proofs.Words.{Event, At, Sense, Ends, doubling, preempted, ports, refined, reentered, alternating, tanks, ECode, EInstr, Target, Action, Delay, Endless, Branch, fault, departure, run_done, Done, layout}
 use Rattle.htl_ecode.specs.declared.instr.EInstr.TheVariants as I
-use Rattle.htl_ecode.specs.declared.fault.EKind.TheVariants.{Target, Action, Delay, Endless, Branch}
-use Rattle.htl_ecode.specs.Jumps.{fault}
-use Rattle.htl_ecode.specs.Departure.{departure}
-use Rattle.htl_ecode.specs.Paths.{run_done, Done}
-use Rattle.htl_ecode.specs.Layout.{layout}
 
 -- ---- layouts
 

@@ -1,23 +1,10 @@
 -- The code that is made for tables spells them.
 use Rattle.std.proofs.Common.{◌≡◌, ℕ, zero, suc, ◌+◌, ◌<◌, true, List, [], ◌∷◌, ◌++◌, length, slice_get, Option, Some, None, Result, Ok, refl, sym, ap, ◌∙◌, subst, arith, append_assoc, append-nil, inl, inr}
-use Rattle.std.proofs.lemmas.List.{length-append}
-use Rattle.htl_model.specs.Lists.{up_to}
-use Rattle.htl_model.specs.Tables.{Tables}
-use Rattle.htl_model.proofs.Listed.{get_list_to}
-use Rattle.htl_ecode.specs.declared.ecode.ECode.{ECode}
-use Rattle.htl_ecode.specs.declared.instr.EInstr.{EInstr}
+use Rattle.htl_ecode.proofs.Words.{length-append, up_to, Tables, get_list_to, ECode, EInstr, EFault, phase_offsets, next_offset, Want, Arrives, all_do, enter_calls, enter_chain, waits_for, turn, begin_chain, block_chain, asks_of, tests_of, decide_chain, bind, arrives, Step, Reached, read, steps_of, target_of, blocks_from, led_on, first_target, fault_of, either, block_faults, enter_fault, begin_fault, phase_fault, decide_fault, mode_fault, departure_before, departure, entered, block_begun, decided, laid, blocks_code, phase_code, begin_place, writes_place, reads_place, decide_place, first_block, begin_code, decide_code, mode_code, mode_place, enter_places, layout, cases_below}
 use Rattle.htl_ecode.specs.declared.instr.EInstr.TheVariants as I
-use Rattle.htl_ecode.specs.declared.fault.EFault.{EFault}
-use Rattle.htl_ecode.specs.Offsets.{phase_offsets, next_offset}
-use Rattle.htl_ecode.specs.Chains.{Want, Arrives, all_do, enter_calls, enter_chain, waits_for, turn, begin_chain, block_chain, asks_of, tests_of, decide_chain}
-use Rattle.htl_ecode.specs.Jumps.{bind, arrives}
-use Rattle.htl_ecode.specs.Steps.{Step, Reached, read, steps_of, target_of}
-use Rattle.htl_ecode.specs.Departure.{blocks_from, led_on, first_target, fault_of, either, block_faults, enter_fault, begin_fault, phase_fault, decide_fault, mode_fault, departure_before, departure, entered, block_begun, decided}
-use Rattle.htl_ecode.specs.Layout.{laid, blocks_code, phase_code, begin_place, writes_place, reads_place, decide_place, first_block, begin_code, decide_code, mode_code, mode_place, enter_places, layout}
 use Rattle.htl_ecode.proofs.Spelled.{has_wait, goes_on, has_wait_more, waits_there}
 use Rattle.htl_ecode.proofs.Standing.{StandAt, stand_first, stand_second, stand_between, arrives_here, arrives_by_jump, laid_steps, AreLaid, read_laid, laid_target}
 use Rattle.htl_ecode.proofs.Laying.{enter_no_jumps, do_laid, laid_do, block_laid, begin_laid, decide_laid, block_single, begin_single, laid_length, begin_length, decide_length}
-use Rattle.htl_base.proofs.Numbers.{cases_below}
 
 -- a chain that was laid, with nothing behind it
 read_whole : (code : List EInstr) (to : ℕ → ℕ) (ws : List Want) (a : ℕ) → StandAt code a (laid to a ws) → AreLaid ws → read code a ws ≡ Ok (laid_steps to a ws)

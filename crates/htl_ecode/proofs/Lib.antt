@@ -17,3 +17,4 @@ pub mod Fitting
 pub mod AllModes
 pub mod BlockLaws
 pub mod SpellingLaws
+pub mod Words

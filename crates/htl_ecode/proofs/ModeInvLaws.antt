@@ -1,15 +1,7 @@
 -- What counts for one mode alone is found among its invocations, which stand together.
 use Rattle.std.proofs.Common.{◌≡◌, ◌≤◌, ◌<◌, ℕ, zero, suc, ◌+◌, Bool, false, cond, ◌&&◌, eqb, List, [], ◌∷◌, ◌++◌, length, map, drop, append-nil, Option, Some, refl, sym, ap, ◌∙◌, subst, arith}
-use Rattle.std.specs.Prelude.{slice_get}
-use Rattle.std.proofs.lemmas.Bool.Decides.{nat_tests}
-use Rattle.htl_model.specs.declared.parts.Inv.{Inv}
-use Rattle.htl_model.specs.declared.parts.Parts.{Parts}
-use Rattle.htl_model.specs.Lists.{joined, numbered}
-use Rattle.htl_model.specs.Starts.{IsStartOf}
-use Rattle.htl_model.specs.Tables.{Tables, tables_of, is_concrete, release}
+use Rattle.htl_ecode.proofs.Words.{nat_tests, Inv, Parts, joined, numbered, IsStartOf, Tables, tables_of, is_concrete, release, call_of, calls_of, release_of, counted_in, offsets_in, phase_offsets, places_at, ends_in, least_from, sooner, slice_get}
 use Rattle.htl_ecode.specs.declared.instr.EInstr.TheVariants as I
-use Rattle.htl_ecode.specs.Chains.{call_of, calls_of, release_of}
-use Rattle.htl_ecode.specs.Offsets.{counted_in, offsets_in, phase_offsets, places_at, ends_in, least_from, sooner}
 use Rattle.htl_ecode.proofs.Soonest.{sooner_none}
 
 -- where the first n items give nothing, those behind them give all

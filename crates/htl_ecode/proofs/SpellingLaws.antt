@@ -1,17 +1,7 @@
 -- E code spells tables exactly where it departs from them nowhere.
 use Rattle.std.proofs.Common.{◌≡◌, ◌↔◌, ℕ, zero, suc, ◌<◌, List, [], ◌∷◌, length, None, Result, Ok, Err, IsOk, IfOk, All, refl, sym, ap, subst, arith, inl, inr}
-use Rattle.std.proofs.lemmas.List.Elements.{All-nil, All-cons, All-head, All-tail}
-use Rattle.htl_model.specs.Tables.{Tables}
-use Rattle.htl_ecode.specs.declared.ecode.ECode.{ECode}
-use Rattle.htl_ecode.specs.declared.instr.EInstr.{EInstr}
-use Rattle.htl_ecode.specs.declared.fault.EFault.{EFault}
-use Rattle.htl_ecode.specs.Chains.{Want, enter_chain, begin_chain, block_chain, decide_chain}
-use Rattle.htl_ecode.specs.Steps.{Step, read}
-use Rattle.htl_ecode.specs.Departure.{Block, blocks, fault_of, block_faults, mode_fault, departure_before, departure, enter_fault, begin_fault, phase_fault, decide_fault, entered, block_begun, decided}
-use Rattle.htl_ecode.specs.Spelling.{HasPath, SpellsMode, Spells}
-use Rattle.htl_ecode.specs.Laws.{HasBlocks}
+use Rattle.htl_ecode.proofs.Words.{All-nil, All-cons, All-head, All-tail, Tables, ECode, EInstr, EFault, Want, enter_chain, begin_chain, block_chain, decide_chain, Step, read, Block, blocks, fault_of, block_faults, mode_fault, departure_before, departure, enter_fault, begin_fault, phase_fault, decide_fault, entered, block_begun, decided, HasPath, SpellsMode, Spells, HasBlocks, layout}
 use Rattle.htl_ecode.proofs.Spelled.{Reads, ModeReads, Stands, either_none, spelled_reads}
-use Rattle.htl_ecode.specs.Layout.{layout}
 use Rattle.htl_ecode.proofs.LayoutLaw.{either_both, layout_departs_not}
 use Rattle.htl_ecode.proofs.BlockLaws.{IsBlockPhase, spelled_stands, spelled_links, spelled_first, no_block}
 

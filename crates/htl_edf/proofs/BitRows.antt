@@ -1,10 +1,6 @@
 -- The bits of a row, one after the other, and rows turned around.
 use Rattle.std.proofs.Common.{◌≡◌, ◌≢◌, ℕ, zero, suc, ◌+◌, ◌-◌, ◌/◌, ◌^◌, ◌<◌, ◌≤◌, ◌⊎◌, min, Bool, true, false, ◌&&◌, ◌||◌, eqb, List, length, get_or, set, refl, sym, ap, ◌∙◌, arith, inl, inr, ⊎_elim, get_or-set_same, get_or-set_other}
-use Rattle.std.specs.Int.{bit_at}
-use Rattle.std.proofs.Math.Nat.{div-one, div-div-eq-div-mul, pow-succ'}
-use Rattle.std.proofs.lemmas.Bool.{cases_lt}
-use Rattle.std.proofs.lemmas.Nat.Bits.{bit_at-suc, bit_at-zero}
-use Rattle.htl_model.specs.Bits.{has_bit, cell}
+use Rattle.htl_edf.proofs.Words.{bit_at, div-one, div-div-eq-div-mul, pow-succ', cases_lt, bit_at-suc, bit_at-zero, has_bit, cell}
 
 -- what is shifted out is passed over
 pub shifted : (k n x : ℕ) → bit_at (n / 2 ^ k) x ≡ bit_at n (k + x)

@@ -1,12 +1,6 @@
 -- A list of slices as ticks: the law of refusal on slices alone.
 use Rattle.std.proofs.Common.{◌≡◌, ℕ, zero, suc, ◌+◌, ◌-◌, ◌<◌, ◌≤◌, max, min, Bool, true, false, cond, ◌&&◌, ◌||◌, refl, sym, ap, ap₂, le_refl, ◌∙◌, arith, eqb, eqb-true, leb, ltb, leb-true, ltb-true, ⊎_elim, ℤ, List, [], ◌∷◌}
-use Rattle.std.proofs.lemmas.Bool.{both_ways, and_parts, or_cases}
-use Rattle.std.proofs.lemmas.Bool.Decides.{nat_tests}
-use Rattle.htl_edf.specs.Sums.{sum_below, bit}
-use Rattle.htl_edf.specs.Windows.{given, OneATick, Overloaded}
-use Rattle.htl_edf.specs.Tight.{Jobs, NoCycle, TicksMeet, tight}
-use Rattle.htl_edf.specs.Edf.{Slice}
-use Rattle.htl_edf.specs.Slices.{Each, Apart, DoNotOverlap, ticks_of, covers, on_slices, SlicesMeet}
+use Rattle.htl_edf.proofs.Words.{both_ways, and_parts, or_cases, nat_tests, sum_below, bit, given, OneATick, Overloaded, Jobs, NoCycle, TicksMeet, tight, Slice, Each, Apart, DoNotOverlap, ticks_of, covers, on_slices, SlicesMeet}
 use Rattle.htl_edf.proofs.Counting.{sum_below-same, sum_below-add, sum_below-none}
 use Rattle.htl_edf.proofs.Optimal.{given-mono}
 use Rattle.htl_edf.proofs.Tightened.{refuses}

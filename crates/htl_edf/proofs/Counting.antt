@@ -1,7 +1,6 @@
 -- Lemmas on sums over positions and counts over ticks.
 use Rattle.std.proofs.Common.{◌≡◌, ℕ, zero, suc, ◌+◌, ◌-◌, ◌<◌, ◌≤◌, min, refl, sym, ap, arith, ⊎_elim}
-use Rattle.std.proofs.lemmas.Bool.{cases_lt}
-use Rattle.htl_edf.specs.Sums.{sum_below}
+use Rattle.htl_edf.proofs.Words.{cases_lt, sum_below}
 
 -- ---- sums
 

@@ -1,28 +1,10 @@
 -- The tables of the tests of frames are within their ranges, and keep the form rules and the limits of frames.
 use Rattle.std.proofs.Common.{eqb, not, option_map, codes, ◌⊎◌, ◌≡◌, ◌≢◌, ◌∙◌, ℕ, zero, suc, ◌*◌, ◌%◌, ◌≤◌, ◌<◌, Bool, true, false, ◌&&◌, List, [], ◌∷◌, length, Option, Some, None, refl, sym, ap, subst, arith, inl, inr}
-use Rattle.std.specs.Prelude.{slice_get}
-use Rattle.std.specs.List.{count_by}
-use Rattle.std.specs.List.Sorted.{IsNonDecreasing}
-use Rattle.std.proofs.lemmas.List.Elements.{All-nil, All-cons}
-use Rattle.std.proofs.lemmas.List.Sums.{count_by-le-length}
-use Rattle.htl_base.specs.declared.Ty.{Ty}
+use Rattle.htl_edf.proofs.Words.{count_by, IsNonDecreasing, All-nil, All-cons, count_by-le-length, Ty, Comm, Mode, Module, Task, Inv, breach, BreaksAt, input_types, output_types, end_type, type_number, is_sensor, KeptApart, Leads, direct, through, feeds, feeds_at, AreInRange, IsSpan, IsCommInRange, IsModeInRange, IsModuleInRange, IsPortInRange, IsTaskInRange, IsInvInRange, IsSwitchInRange, IsFunInRange, IsEndInRange, mode_period, comm_period, task_worst, task_is_abstract, mode_module, frame_comm, frame_mode, frame_task, frame_inv, frame_comms, frame_modes, frame_modules, frame_tasks, frame_invs, frame_sample_of, frame_sample, IsFramed, same_Some, slice_get}
 use Rattle.htl_base.specs.declared.Ty.TheVariants as ty
-use Rattle.htl_model.specs.declared.parts.Comm.{Comm}
-use Rattle.htl_model.specs.declared.parts.Mode.{Mode}
-use Rattle.htl_model.specs.declared.parts.Module.{Module}
-use Rattle.htl_model.specs.declared.parts.Task.{Task}
-use Rattle.htl_model.specs.declared.parts.Inv.{Inv}
 use Rattle.htl_model.specs.declared.parts.End.{End}
 use Rattle.htl_model.specs.declared.parts.End.TheVariants as E
-use Rattle.htl_model.specs.Broken.{breach, BreaksAt}
-use Rattle.htl_model.specs.EndRules.{input_types, output_types, end_type, type_number, is_sensor}
 use Rattle.htl_model.specs.FormRules.{FormRule, ModulePeriod, FrameLimits, Divides, Offsets, Ends, Windows, WorstCases, PortCycles, Sensors, ConcreteWriters, AbstractPlaces, Parents, SharedParents, Inheritance, number_of, Part, Itself, Input, Output, Test}
-use Rattle.htl_model.specs.FrameRules.{KeptApart}
-use Rattle.htl_model.specs.PortOrder.{Leads, direct, through, feeds, feeds_at}
-use Rattle.htl_model.specs.Ranges.{AreInRange, IsSpan, IsCommInRange, IsModeInRange, IsModuleInRange, IsPortInRange, IsTaskInRange, IsInvInRange, IsSwitchInRange, IsFunInRange, IsEndInRange}
-use Rattle.htl_model.specs.Tables.{mode_period, comm_period, task_worst, task_is_abstract, mode_module}
-use Rattle.htl_edf.specs.FrameSamples.{frame_comm, frame_mode, frame_task, frame_inv, frame_comms, frame_modes, frame_modules, frame_tasks, frame_invs, frame_sample_of, frame_sample, IsFramed}
-use Rattle.std.proofs.lemmas.Option.{same_Some}
 
 nothing_falls : IsNonDecreasing []
 nothing_falls i j d l b = absurd (omega arith)

@@ -1,13 +1,6 @@
 -- The worst case of a task reaches nothing of the frame.
 use Rattle.std.proofs.Common.{◌≡◌, ◌≤◌, ℕ, sym, ap, ◌∙◌, subst, List, length}
-use Rattle.htl_model.specs.declared.parts.Task.{Task}
-use Rattle.htl_model.specs.declared.frame.Frame.{Frame}
-use Rattle.htl_model.specs.declared.frame.Place.{Place}
-use Rattle.htl_model.specs.Tables.{Tables}
-use Rattle.htl_model.specs.Frames.{rounds, choices, radices, nodes_of, most_positions, frame_limit, KeepsFrames}
-use Rattle.htl_model.specs.FrameTables.{IsFrame}
-use Rattle.htl_model.proofs.FrameLists.{all_choices_framed, radices_framed, all_most_framed, limit_framed}
-use Rattle.htl_edf.specs.Greatest.{worst_in, LimitsWithWorst, FrameWithWorst}
+use Rattle.htl_edf.proofs.Words.{Task, Frame, Place, Tables, rounds, choices, radices, nodes_of, most_positions, frame_limit, KeepsFrames, IsFrame, all_choices_framed, radices_framed, all_most_framed, limit_framed, worst_in, LimitsWithWorst, FrameWithWorst}
 use Rattle.htl_edf.proofs.Greatest.{with_tasks, rounds_same, paths_same, path_places_same}
 
 module _ (t : Tables) (xs ys : List Task) where

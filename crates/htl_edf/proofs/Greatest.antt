@@ -1,19 +1,9 @@
 -- The worst case of a task decides nothing of a path but the worst cases of its jobs.
 use Rattle.std.proofs.Common.{◌≡◌, ℕ, zero, suc, ◌+◌, ◌*◌, ◌<◌, ◌≤◌, Bool, ◌&&◌, eqb, refl, sym, ap, ◌∙◌, subst, arith, ⊎_elim, List, [], ◌∷◌, length, get_or, slice_get, map, Option, Some, None}
 use mathlib.Core.Path.{fun_ext}
-use Rattle.std.proofs.lemmas.Bool.{cases_lt}
-use Rattle.htl_model.specs.declared.parts.Inv.{Inv}
-use Rattle.htl_model.specs.declared.parts.Task.{Task}
+use Rattle.htl_edf.proofs.Words.{cases_lt, Inv, Task, Place, Tables, comm_period, mode_period, offsets, greatest, least_or, rounds, paths, path_places, rounds_framed, paths_framed, path_places_framed, absent_job, is_fed_by, mask, job_in, placed, placed_job, placed_jobs, path_jobs, IsLonger, AreLonger, worst_in, with_worst, FewerFit, GreatestByOneMore, OneGreatest}
 use Rattle.htl_model.specs.declared.parts.End.{End}
 use Rattle.htl_model.specs.declared.parts.End.TheVariants as E
-use Rattle.htl_model.specs.declared.frame.Place.{Place}
-use Rattle.htl_model.specs.Tables.{Tables, comm_period, mode_period, offsets, greatest, least_or}
-use Rattle.htl_model.specs.Frames.{rounds, paths, path_places}
-use Rattle.htl_model.proofs.FrameLists.{rounds_framed, paths_framed, path_places_framed}
-use Rattle.htl_walk.specs.Jobs.{absent_job, is_fed_by, mask}
-use Rattle.htl_walk.specs.PathJobs.{job_in, placed, placed_job, placed_jobs, path_jobs}
-use Rattle.htl_edf.specs.MoreWork.{IsLonger, AreLonger}
-use Rattle.htl_edf.specs.Greatest.{worst_in, with_worst, FewerFit, GreatestByOneMore, OneGreatest}
 use Rattle.htl_edf.proofs.MoreWork.{shorter_fit}
 
 -- ---- the worst case at a place

@@ -1,12 +1,8 @@
 -- The event scheduler's steps over lists.
 use Rattle.std.proofs.Common.{arith, ◌≡◌, ℕ, ◌+◌, ◌-◌, ◌<◌, ◌≤◌, length, get_or, set, List, leb, ltb, eqb, ◌&&◌, cond, true, false, sym, ap, ◌∙◌, refl, Option, Some, None, subst, IfSome, get_or-set_same, get_or-set_other, eq-eqb, ne_eqb, ◌⊎◌, inl, inr}
-use Rattle.std.proofs.lemmas.Bool.{cases_eq}
-use Rattle.htl_walk.specs.Jobs.{absent_job}
-use Rattle.htl_edf.specs.declared.rounds.Tight.{Tight}
-use Rattle.htl_edf.specs.Lists.{jobs_of, HoldsAfter, AreTightened, LeftAt, QuietFrom}
+use Rattle.htl_edf.proofs.Words.{cases_eq, absent_job, Tight, jobs_of, HoldsAfter, AreTightened, LeftAt, QuietFrom, Job}
 use Rattle.htl_edf.specs.Tight.{release_at, end_at, tight}
 use Rattle.htl_edf.specs.Edf.{earliest, edf, left}
-use Rattle.htl_walk.specs.declared.job.Job.{Job}
 use Rattle.htl_edf.proofs.Ticks.{earliest-same, jump, jump_runs, wait, wait_idles, chosen, Quiet, left_start}
 
 pub edf_from_list : (js : List Job) (ls : List ℕ) (t : ℕ) → LeftAt js ls t → earliest (λ q. leb (release_at (jobs_of js) (length js) q) t && ltb 0 (get_or ls q 0)) (end_at (jobs_of js) (length js)) (length js) ≡ edf (tight (jobs_of js)) t

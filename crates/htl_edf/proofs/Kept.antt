@@ -1,12 +1,7 @@
 -- Tightening keeps exactly the slices that meet; tightened windows are one, and so is the interval that is reported.
 use Rattle.std.proofs.Common.{◌≡◌, ℕ, ◌-◌, ◌<◌, ◌≤◌, true, refl, sym, ap, ◌∙◌, subst, arith, eq-eqb, le-leb, lt-ltb, ℤ, pos, ◌≤ℤ◌, ◌<ℤ◌, List, [], ◌∷◌}
-use Rattle.std.proofs.lemmas.Bool.{and_from, or_right, or_left}
-use Rattle.std.proofs.lemmas.Int.{ints}
-use Rattle.htl_edf.specs.Windows.{Windows, demand_of, Overloaded, Reported}
+use Rattle.htl_edf.proofs.Words.{and_from, or_right, or_left, ints, Windows, demand_of, Overloaded, Reported, Slice, Each, covers, on_slices, HaveTicks, SlicesMeetIn, SlicesMeet, HaveWork, Tightening, OneReport, TightWindows}
 use Rattle.htl_edf.specs.Tight.{Jobs, NoCycle, tight}
-use Rattle.htl_edf.specs.Edf.{Slice}
-use Rattle.htl_edf.specs.Slices.{Each, covers, on_slices, HaveTicks, SlicesMeetIn, SlicesMeet}
-use Rattle.htl_edf.specs.Laws.{HaveWork, Tightening, OneReport, TightWindows}
 use Rattle.htl_edf.proofs.BySlices.{Each-map, Each-zip, by_slices, last_end}
 use Rattle.htl_edf.proofs.Tightened.{tightened}
 use Rattle.htl_edf.proofs.Tightening.{tight_is, release_at_is, end_at_is}

@@ -33,3 +33,4 @@ pub mod Tightening
 pub mod Turning
 pub mod Walking
 pub mod Walks
+pub mod Words

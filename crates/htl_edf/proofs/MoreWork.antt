@@ -1,13 +1,7 @@
 -- More work keeps every overload: windows shrink and demands grow.
 use Rattle.std.proofs.Common.{◌≡◌, ℕ, zero, suc, ◌+◌, ◌<◌, ◌≤◌, Bool, true, false, cond, refl, sym, ap, ◌∙◌, subst, arith, ⊎_elim, List, ℤ, pos, ◌≤ℤ◌, ◌-ℤ◌}
-use Rattle.std.proofs.lemmas.Int.{ints}
-use Rattle.htl_model.specs.Bits.{has_bit}
-use Rattle.htl_walk.specs.declared.job.Job.{Job}
-use Rattle.htl_edf.specs.Sums.{sum_below}
-use Rattle.htl_edf.specs.Windows.{Windows, inside, demand_of, Overloaded}
+use Rattle.htl_edf.proofs.Words.{ints, has_bit, Job, sum_below, Windows, inside, demand_of, Overloaded, jobs_of, AsksMore, StaysOverloaded, MoreWork, AreLonger, LongerOverload, ShorterFit}
 use Rattle.htl_edf.specs.Tight.{Jobs, greatest_below, least_below, release_at, end_at, tight}
-use Rattle.htl_edf.specs.Lists.{jobs_of}
-use Rattle.htl_edf.specs.MoreWork.{AsksMore, StaysOverloaded, MoreWork, AreLonger, LongerOverload, ShorterFit}
 use Rattle.htl_edf.proofs.Counting.{sum_below-le}
 use Rattle.htl_edf.proofs.Refusal.{inside_from, inside_tells}
 use Rattle.htl_edf.proofs.Tightening.{greatest-least, greatest-le, greatest_is, least-z, least-le, least_is}

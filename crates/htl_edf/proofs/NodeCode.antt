@@ -1,27 +1,8 @@
 -- The lists of all nodes, as the code makes them.
 use Rattle.std.proofs.Common.{◌≡◌, ◌≢◌, ℕ, zero, suc, ◌+◌, ◌-◌, ◌≤◌, ◌<◌, List, [], ◌∷◌, ◌++◌, length, drop, set, get_or, add-one, refl, sym, ap, ◌∙◌, subst, arith, inl, inr}
-use Rattle.std.proofs.lemmas.Bool.{cases_lt, cases_eq}
-use Rattle.htl_model.specs.declared.frame.Frame.{Frame}
-use Rattle.htl_model.specs.FrameTables.{IsFrame}
-use Rattle.htl_model.specs.Tables.{Tables}
-use Rattle.htl_model.specs.Frames.{frame_of, root_periods, unit_period, starts, paths, nodes, node}
-use Rattle.htl_model.specs.Selections.{root_modules}
-use Rattle.htl_model.proofs.FrameSteps.{room_for, begins_zero}
-use Rattle.htl_walk.specs.declared.job.Job.{Job}
-use Rattle.htl_walk.specs.declared.schedule.SInstr.{SInstr}
-use Rattle.htl_walk.specs.declared.schedule.Schedule.{Schedule}
-use Rattle.htl_walk.specs.PathJobs.{path_jobs, next_of}
-use Rattle.htl_walk.specs.FrameLaws.{start_at, start_end_at}
-use Rattle.htl_walk.specs.NodeWalks.{ShareNodes, instrs_of}
+use Rattle.htl_edf.proofs.Words.{cases_lt, cases_eq, Frame, IsFrame, Tables, frame_of, root_periods, unit_period, starts, paths, nodes, node, root_modules, room_for, begins_zero, Job, SInstr, Schedule, path_jobs, next_of, start_at, start_end_at, ShareNodes, instrs_of, node_depth, Rises, starts_rise, nodes_within, leg_at, start_read, end_read, part, AreReady, AreNodeLists, HasPart, HaveParts, get_taken}
 pub use Rattle.htl_walk.proofs.NodeNumbers.{depth_same}
-use Rattle.htl_walk.proofs.NodeNumbers.{node_depth}
-use Rattle.htl_walk.proofs.Starts.{Rises, starts_rise}
-use Rattle.htl_walk.proofs.Nodes.{nodes_within, leg_at}
-use Rattle.htl_walk.proofs.CodeWalk.{start_read, end_read}
-use Rattle.htl_edf.specs.Parts.{part}
-use Rattle.htl_edf.specs.NodePlans.{AreReady, AreNodeLists, HasPart, HaveParts}
 use Rattle.htl_edf.proofs.NodeLists.{one_list_of_node}
-use Rattle.htl_base.proofs.Places.{get_taken}
 
 -- ---- the end of the frame
 

@@ -1,14 +1,6 @@
 -- Items in order, from a sort.
 use Rattle.std.proofs.Common.{◌≡◌, ℕ, ◌/◌, ◌%◌, ◌<◌, ◌≤◌, true, eqb, List, length, get_or, sym, ap, ◌∙◌, arith, ⊎_elim, eq-eqb, eqb-true, nat_cmp}
-use Rattle.std.specs.List.{IsDistinct, list_any}
-use Rattle.std.specs.List.Sorted.{IsPermutation, IsSorted, IsNonDecreasing}
-use Rattle.std.proofs.lemmas.Bool.{cases_lt, ne_eqb}
-use Rattle.std.proofs.lemmas.List.{get_or_default}
-use Rattle.std.proofs.lemmas.List.Sorted.{All-permutation, list_any-IsPermutation, IsNonDecreasingBy-from_sort}
-use Rattle.std.proofs.lemmas.List.Folds.{list_any_at, Any-from_list_any}
-use Rattle.std.proofs.lemmas.Map.Keys.{IsDistinct-from_apart, IsDistinct-IsPermutation, IsStrictlyIncreasing-from_distinct, sorted_from_strictly_increasing, below_from_sorted}
-use Rattle.htl_edf.specs.Ranks.{item, number_of, time_of, AreInOrder}
-use Rattle.htl_base.proofs.Tests.{eqb_flips}
+use Rattle.htl_edf.proofs.Words.{IsDistinct, list_any, IsPermutation, IsSorted, IsNonDecreasing, get_or_default, All-permutation, list_any-IsPermutation, IsNonDecreasingBy-from_sort, list_any_at, Any-from_list_any, IsDistinct-from_apart, IsDistinct-IsPermutation, IsStrictlyIncreasing-from_distinct, sorted_from_strictly_increasing, below_from_sorted, item, number_of, time_of, AreInOrder, eqb_flips, cases_lt, ne_eqb}
 
 pub time_in : (t n : ℕ) → n < 128 → item t n / 128 ≡ t
 time_in t n l = omega (arith, l)

@@ -1,19 +1,9 @@
 -- The lowest rank that is ready is that of the position that runs.
 use Rattle.std.proofs.Common.{◌≡◌, ◌≢◌, ℕ, ◌+◌, ◌<◌, ◌≤◌, Bool, true, false, cond, ◌&&◌, ◌||◌, eqb, leb, ltb, List, length, get_or, set, Option, Some, None, refl, sym, ap, ◌∙◌, subst, arith, ⊎_elim, ℤ, ◌≤ℤ◌, get_or-set_same, get_or-set_other, eq-eqb, eqb-true, ne_eqb}
-use Rattle.std.proofs.lemmas.Int.{ints}
-use Rattle.std.proofs.lemmas.Bool.{cases_lt, both_ways}
-use Rattle.std.proofs.lemmas.Bool.Decides.{nat_tests}
-use Rattle.htl_model.specs.Bits.{has_bit}
-use Rattle.htl_model.proofs.BitLaws.{has_no_bit}
-use Rattle.htl_walk.specs.declared.job.Job.{Job}
-use Rattle.htl_edf.specs.Edf.{earliest, edf}
-use Rattle.htl_edf.specs.Lists.{jobs_of, LeftAt, QuietFrom}
-use Rattle.htl_edf.specs.Ranks.{number_of, time_of, end_time, release_time, AreRanked, IsAhead, IsReleased}
-use Rattle.htl_edf.specs.Tight.{release_at, end_at, tight}
+use Rattle.htl_edf.proofs.Words.{ints, cases_lt, both_ways, nat_tests, has_bit, has_no_bit, Job, earliest, edf, jobs_of, LeftAt, QuietFrom, number_of, time_of, end_time, release_time, AreRanked, IsAhead, IsReleased, release_at, end_at, tight, and_first, none_below}
 use Rattle.htl_edf.proofs.Jumps.{edf_from_list}
 use Rattle.htl_edf.proofs.Ticks.{Earliest, earliest_is}
 use Rattle.htl_edf.proofs.Ranking.{one_place}
-use Rattle.htl_base.proofs.Tests.{and_first, none_below}
 
 -- ---- the earliest, from what it is
 

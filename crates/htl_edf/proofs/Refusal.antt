@@ -1,10 +1,7 @@
 -- An overloaded interval refuses every schedule.
 use Rattle.std.proofs.Common.{◌≡◌, ℕ, ◌-◌, ◌<◌, ◌≤◌, min, Bool, true, false, cond, ◌&&◌, refl, sym, ap, ◌∙◌, arith, leb-true, le-leb, T, ℤ, pos, negsuc, ◌≤ℤ◌, int_le}
-use Rattle.std.proofs.lemmas.Bool.{and_parts, and_from}
-use Rattle.std.proofs.lemmas.Int.{ints}
+use Rattle.htl_edf.proofs.Words.{and_parts, and_from, ints, sum_below, bit, Windows, inside, demand_of, Overloaded, given, OneATick, Served}
 use borrow.Author.Differences.{up, down}
-use Rattle.htl_edf.specs.Sums.{sum_below, bit}
-use Rattle.htl_edf.specs.Windows.{Windows, inside, demand_of, Overloaded, given, OneATick, Served}
 use Rattle.htl_edf.proofs.Counting.{sum_below-none, sum_below-same, sum_below-le, sum_below-term, sum_below-swap, sum_below-one, sum_below-some, sum_below-within}
 
 pub bit-some : (b : Bool) → 0 < bit b → b ≡ true

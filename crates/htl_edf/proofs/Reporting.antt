@@ -1,13 +1,9 @@
 -- Which overloaded interval is reported.
 use Rattle.std.proofs.Common.{◌≡◌, ℕ, zero, suc, ◌+◌, ◌<◌, ◌≤◌, Bool, true, false, cond, refl, ap, arith, ◌⊎◌, inl, inr, ⊎_elim, ℤ, pos, ◌<ℤ◌, ◌≤ℤ◌, int_le, neg_ℤ, Option, Some, None}
-use Rattle.std.proofs.lemmas.Bool.{cases_Bool}
-use Rattle.std.proofs.lemmas.Int.{ints}
-use Rattle.htl_edf.specs.Windows.{Windows, inside, demand_of, Overloaded, Reported}
-use Rattle.htl_edf.specs.Tight.{Jobs, NoCycle}
+use Rattle.htl_edf.proofs.Words.{cases_Bool, ints, Windows, inside, demand_of, Overloaded, Reported, Jobs, NoCycle, earliest}
 use Rattle.htl_edf.proofs.Counting.{sum_below-le, sum_below-term}
 use Rattle.htl_edf.proofs.Refusal.{inside_tells, inside_from}
 use Rattle.htl_edf.proofs.Optimal.{le_z_refl}
-use Rattle.htl_edf.specs.Edf.{earliest}
 use Rattle.htl_edf.proofs.Ticks.{Earliest, earliest_is}
 use Rattle.htl_edf.proofs.Tightening.{IsTight}
 

@@ -1,10 +1,6 @@
 -- Windows that a round doesn't change are the tightened ones.
 use Rattle.std.proofs.Common.{◌≡◌, ◌∙◌, ℕ, zero, suc, ◌+◌, ◌-◌, ◌<◌, ◌≤◌, List, length, ap, arith, sym, pos, ◌-ℤ◌}
-use Rattle.std.proofs.lemmas.Int.{ints}
-use Rattle.htl_walk.specs.declared.job.Job.{Job}
-use Rattle.htl_edf.specs.declared.rounds.Tight.{Tight}
-use Rattle.htl_edf.specs.Lists.{jobs_of, HoldsAfter, AgreeBelow, AreTightened}
-use Rattle.htl_edf.specs.Tight.{Jobs, release_at, end_at}
+use Rattle.htl_edf.proofs.Words.{ints, Job, Tight, jobs_of, HoldsAfter, AgreeBelow, AreTightened, Jobs, release_at, end_at}
 use Rattle.htl_edf.proofs.Jumps.{are_tightened}
 use Rattle.htl_edf.proofs.Tightening.{greatest-same, least-same}
 

@@ -1,11 +1,5 @@
 -- Tables have the same schedules, whatever functions they have.
-use Rattle.std.proofs.Common.{List, refl, ap}
-use Rattle.htl_model.specs.Selections.{round_length}
-use Rattle.htl_model.proofs.SameRanges.{selection_count_same}
-use Rattle.htl_walk.specs.declared.job.Job.{Job}
-use Rattle.htl_walk.proofs.SameJobs.{abstract_jobs_same}
-use Rattle.htl_edf.specs.Code.{edf_schedule}
-use Rattle.htl_edf.specs.Laws.{FunctionsDecideNoPlan}
+use Rattle.htl_edf.proofs.Words.{List, refl, ap, round_length, selection_count_same, Job, abstract_jobs_same, edf_schedule, FunctionsDecideNoPlan}
 
 pub functions_decide_no_plan : FunctionsDecideNoPlan
 functions_decide_no_plan t fs =

@@ -1,11 +1,7 @@
 -- Tightening keeps exactly the schedules that meet, and deadlines on tightened windows keep the order.
 use Rattle.std.proofs.Common.{◌≡◌, ℕ, zero, suc, ◌+◌, ◌-◌, ◌<◌, ◌≤◌, min, Bool, true, cond, refl, ap, arith, ⊎_elim, ℤ, pos, negsuc, ◌<ℤ◌}
-use Rattle.std.proofs.lemmas.Bool.{cases_lt, cases_Bool}
-use Rattle.std.proofs.lemmas.Int.{ints}
+use Rattle.htl_edf.proofs.Words.{cases_lt, cases_Bool, ints, bit, Windows, inside, demand_of, Overloaded, given, Served, Ready, IsEdf, NoOverload, Jobs, tight, NoCycle, TicksMeet}
 use borrow.Author.Differences.{up}
-use Rattle.htl_edf.specs.Sums.{bit}
-use Rattle.htl_edf.specs.Windows.{Windows, inside, demand_of, Overloaded, given, Served, Ready, IsEdf, NoOverload}
-use Rattle.htl_edf.specs.Tight.{Jobs, tight, NoCycle, TicksMeet}
 use Rattle.htl_edf.proofs.Counting.{sum_below-within, sum_below-term}
 use Rattle.htl_edf.proofs.Refusal.{bit-some, bit-le, one_part, inside_from, refused}
 use Rattle.htl_edf.proofs.Optimal.{given-mono, given-more, given-le, missed, le_z_refl}

@@ -1,9 +1,6 @@
 -- The laws of tightened windows.
 use Rattle.std.proofs.Common.{add-one, ◌≡◌, ℕ, zero, suc, ◌+◌, ◌<◌, ◌≤◌, max, Bool, true, false, refl, sym, ap, ◌∙◌, arith, ◌⊎◌, inl, inr, ⊎_elim, ℤ, pos, ◌≤ℤ◌, ◌-ℤ◌, int_lt}
-use Rattle.std.proofs.lemmas.Bool.{cases_lt, cases_Bool}
-use Rattle.std.proofs.lemmas.Int.{ints, clamps}
-use Rattle.std.specs.Int.{int_min}
-use Rattle.htl_edf.specs.Windows.{Windows}
+use Rattle.htl_edf.proofs.Words.{cases_lt, cases_Bool, ints, clamps, int_min, Windows}
 use Rattle.htl_edf.specs.Tight.{Jobs, greatest_below, least_below, release_at, end_at, tight, NoCycle}
 
 -- ---- the greatest and the least

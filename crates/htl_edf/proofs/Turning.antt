@@ -1,15 +1,7 @@
 -- Windows that are written in turn: each comes to rest where all that it depends on has.
 use Rattle.std.proofs.Common.{◌≡◌, ℕ, zero, suc, ◌+◌, ◌<◌, ◌≤◌, Bool, true, false, cond, eqb, List, length, get_or, set, refl, sym, ap, ◌∙◌, arith, pos, ◌-ℤ◌, get_or-set_same, get_or-set_other}
-use Rattle.std.proofs.lemmas.Bool.{eqb-true}
-use Rattle.std.proofs.lemmas.Int.{ints}
-use Rattle.htl_model.specs.Bits.{has_bit}
-use Rattle.htl_walk.specs.declared.job.Job.{Job}
-use Rattle.htl_edf.specs.declared.rounds.Tight.{Tight}
-use Rattle.htl_edf.specs.Lists.{jobs_of, no_window}
-use Rattle.htl_edf.specs.Tight.{release_at, end_at}
-use Rattle.htl_edf.specs.Turns.{HaveReleases, HaveEnds}
+use Rattle.htl_edf.proofs.Words.{ints, has_bit, Job, Tight, jobs_of, no_window, release_at, end_at, HaveReleases, HaveEnds, eqb_apart, eqb-true}
 use Rattle.htl_edf.proofs.Tightening.{greatest-same, least-same}
-use Rattle.htl_base.proofs.Tests.{eqb_apart}
 
 still : (waiting new q r : ℕ) → ((p : ℕ) → has_bit new p ≡ cond (eqb p q) false (has_bit waiting p)) → eqb r q ≡ false → has_bit new r ≡ false → has_bit waiting r ≡ false
 still waiting new q r bits e done = sym (bits r ∙ ap (λ b. cond b false (has_bit waiting r)) e) ∙ done

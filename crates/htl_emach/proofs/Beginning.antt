@@ -1,16 +1,7 @@
 -- Between two blocks: the first module with a trigger that is due is the first with a block.
 use Rattle.std.proofs.Common.{◌≡◌, ℕ, zero, suc, ◌+◌, ◌-◌, ◌<◌, ◌≤◌, Bool, true, false, cond, eqb, List, [], ◌∷◌, ◌++◌, length, Option, Some, None, refl, sym, ap, ◌∙◌, subst, arith, inl, inr}
-use Rattle.htl_model.specs.declared.event.Event.{Event}
-use Rattle.htl_model.specs.Tables.{Tables}
-use Rattle.htl_ecode.specs.declared.ecode.ECode.{ECode}
-use Rattle.htl_ecode.specs.Paths.{Done}
-use Rattle.htl_emach.specs.declared.trigger.Trigger.{Trigger}
-use Rattle.htl_emach.specs.Calendars.{Calendar, list_at, triggers_of, target_at, first_due, with_trigger}
-use Rattle.htl_emach.specs.Pending.{Between, entry_at}
-use Rattle.htl_emach.specs.Following.{phase_blocks, from_module, blocks_to_come, IsInBlock, IsBetweenBlocks}
+use Rattle.htl_emach.proofs.Words.{Event, Tables, ECode, Done, Trigger, Calendar, list_at, triggers_of, target_at, first_due, with_trigger, Between, entry_at, phase_blocks, from_module, blocks_to_come, IsInBlock, IsBetweenBlocks, not_both, cases_le}
 use Rattle.htl_emach.proofs.ModuleLaws.{trigger_in, due_target, ModuleLaws}
-use Rattle.htl_base.proofs.Options.{not_both}
-use Rattle.htl_base.proofs.Numbers.{cases_le}
 
 -- ---- the first trigger that is due
 

@@ -1,13 +1,7 @@
 -- A block that is read without departure is what the machine does.
 use Rattle.std.proofs.Common.{◌≡◌, ℕ, suc, Bool, true, false, cond, List, [], ◌∷◌, ◌++◌, slice_get, Some, Result, Ok, refl, sym, ap, ◌∙◌, subst, append_assoc, append-nil}
-use Rattle.htl_ecode.specs.declared.instr.EInstr.{EInstr}
+use Rattle.htl_emach.proofs.Words.{EInstr, EFault, Want, Does, Tests, Asks, Arrives, Step, Reached, read, passed_by, Jumps, IsReached, IsInstr, reach_is, anchor_is, read_is, goes, Leads, Ends}
 use Rattle.htl_ecode.specs.declared.instr.EInstr.TheVariants as I
-use Rattle.htl_ecode.specs.declared.fault.EFault.{EFault}
-use Rattle.htl_ecode.specs.Chains.{Want, Does, Tests, Asks, Arrives}
-use Rattle.htl_ecode.specs.Steps.{Step, Reached, read, passed_by}
-use Rattle.htl_ecode.proofs.Reading.{Jumps, IsReached, IsInstr, reach_is, anchor_is, read_is}
-use Rattle.htl_emach.specs.Calendars.{goes}
-use Rattle.htl_emach.specs.Leading.{Leads, Ends}
 
 module _ (code : List EInstr) (holds runs : ℕ → Bool) where
   pub leads_on : (a b c : ℕ) (xs ys : List ℕ) → Leads code (goes holds runs) a xs b → Leads code (goes holds runs) b ys c → Leads code (goes holds runs) a (xs ++ ys) c

@@ -1,28 +1,9 @@
 -- What holds of each module in the write phase and in the read phase.
 use Rattle.std.proofs.Common.{◌≡◌, ℕ, suc, ◌+◌, ◌-◌, ◌<◌, ◌≤◌, Bool, true, false, cond, List, [], length, Option, Some, None, refl, sym, ap, ◌∙◌, subst, arith, ◌⊎◌, inl, inr}
-use Rattle.std.proofs.lemmas.Bool.{eq-eqb, ne_eqb}
-use Rattle.htl_model.specs.declared.event.Event.{Event}
-use Rattle.htl_model.specs.declared.state.Stay.{Stay}
-use Rattle.htl_model.specs.Tables.{Tables}
-use Rattle.htl_ecode.specs.declared.ecode.ECode.{ECode}
-use Rattle.htl_ecode.specs.Offsets.{next_offset, least_from, phase_offsets, holds}
-use Rattle.htl_ecode.specs.Chains.{block_chain}
-use Rattle.htl_ecode.specs.Departure.{block_at}
-use Rattle.htl_ecode.specs.Paths.{on, chain_path, due_path}
-use Rattle.htl_ecode.proofs.Least.{IsLeast, least_is}
-use Rattle.htl_ecode.proofs.Spelled.{ModeReads}
-use Rattle.htl_ecode.proofs.BlockLaws.{IsBlockPhase, no_block}
-use Rattle.htl_emach.specs.declared.trigger.Trigger.{Trigger}
-use Rattle.htl_emach.specs.Calendars.{Calendar, goes, with_trigger, target_at}
-use Rattle.htl_emach.specs.Leading.{Ends, AreAllowed}
-use Rattle.htl_emach.specs.Pending.{trigger_at, next_block, awaited, Between, IsSized, Entry, entry_at, entry_before, entry_after, opening, switched, old_stay, new_stay}
-use Rattle.htl_emach.specs.Following.{calendar_replay}
+use Rattle.htl_emach.proofs.Words.{eq-eqb, ne_eqb, Event, Stay, Tables, ECode, next_offset, least_from, phase_offsets, holds, block_chain, block_at, on, chain_path, due_path, IsLeast, least_is, ModeReads, IsBlockPhase, no_block, Trigger, Calendar, goes, with_trigger, target_at, Ends, AreAllowed, trigger_at, next_block, awaited, Between, IsSized, Entry, entry_at, entry_before, entry_after, opening, switched, old_stay, new_stay, calendar_replay, none-some, true_not_false, cases_below}
 use Rattle.htl_emach.proofs.ModuleLaws.{ModuleLaws}
 use Rattle.htl_emach.proofs.Effects.{entry_with, with_next, next_here, next_other, next_sized}
 use Rattle.htl_emach.proofs.WriteRead.{BlockIs, phase_block}
-use Rattle.std.proofs.lemmas.Option.{none-some}
-use Rattle.htl_base.proofs.Tests.{true_not_false}
-use Rattle.htl_base.proofs.Numbers.{cases_below}
 
 -- the blocks of a phase in a mode, for module k
 pub record PhaseIs (t : Tables) (code : ECode) (p m k : ℕ) : Type 0 where

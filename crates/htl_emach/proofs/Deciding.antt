@@ -1,28 +1,7 @@
 -- The end of a round: the decide list, followed to where the module goes on.
 use Rattle.std.proofs.Common.{◌≡◌, ℕ, suc, ◌+◌, ◌<◌, Bool, true, false, cond, ◌&&◌, eqb, List, [], ◌∷◌, ◌++◌, length, slice_get, Option, Some, None, Result, Ok, Err, ℤ, refl, sym, ap, ◌∙◌, subst, arith, append_assoc, append-nil}
-use Rattle.std.proofs.lemmas.Bool.{eq-eqb}
-use Rattle.htl_model.specs.declared.parts.Switch.{Switch}
-use Rattle.htl_model.specs.Lists.{joined, numbered}
-use Rattle.htl_model.specs.Tables.{Tables, mode_period, mode_module}
-use Rattle.htl_model.specs.Meaning.{switch_holds, target, target_from}
-use Rattle.htl_ecode.specs.declared.ecode.ECode.{ECode}
-use Rattle.htl_ecode.specs.declared.instr.EInstr.{EInstr}
+use Rattle.htl_emach.proofs.Words.{eq-eqb, Switch, joined, numbered, Tables, mode_period, mode_module, switch_holds, target, target_from, ECode, EInstr, EFault, Action, parent_of, next_offset, same_instr, Want, Does, Waits, Turns, Tests, Asks, Arrives, waits_for, begin_chain, decide_chain, tests_of, asks_for, led_to, test_of, Landing, bind, lands, fault, jump_to, Step, Reached, pass, leaving, reach, read, steps_of, block_begun, entered, decided, begin_path, enter_path, decide_path, followed, round_end, step_from, turn_step, holds_in, Jumps, IsLanding, IsReached, bind_ok, land_is, same_is, reach_is, anchor_is, read_is, kept, kept_one, kept_jumps, kept_reached, instr_of, ModeReads, Calendar, goes, Leads, IsAllowed}
 use Rattle.htl_ecode.specs.declared.instr.EInstr.TheVariants as I
-use Rattle.htl_ecode.specs.declared.fault.EFault.{EFault}
-use Rattle.htl_ecode.specs.declared.fault.EKind.TheVariants.{Action}
-use Rattle.htl_model.specs.Ranges.{parent_of}
-use Rattle.htl_ecode.specs.Offsets.{next_offset}
-use Rattle.htl_ecode.specs.Instructions.{same_instr}
-use Rattle.htl_ecode.specs.Chains.{Want, Does, Waits, Turns, Tests, Asks, Arrives, waits_for, begin_chain, decide_chain, tests_of, asks_for, led_to, test_of}
-use Rattle.htl_ecode.specs.Jumps.{Landing, bind, lands, fault, jump_to}
-use Rattle.htl_ecode.specs.Steps.{Step, Reached, pass, leaving, reach, read, steps_of}
-use Rattle.htl_ecode.specs.Departure.{block_begun, entered, decided}
-use Rattle.htl_ecode.specs.Paths.{begin_path, enter_path, decide_path, followed, round_end, step_from, turn_step, holds_in}
-use Rattle.htl_ecode.proofs.Reading.{Jumps, IsLanding, IsReached, bind_ok, land_is, same_is, reach_is, anchor_is, read_is}
-use Rattle.htl_ecode.proofs.Kept.{kept, kept_one, kept_jumps, kept_reached, instr_of}
-use Rattle.htl_ecode.proofs.Spelled.{ModeReads}
-use Rattle.htl_emach.specs.Calendars.{Calendar, goes}
-use Rattle.htl_emach.specs.Leading.{Leads, IsAllowed}
 use Rattle.htl_emach.proofs.Blocks.{jumps_lead, then_at, reached_leads, test_leads}
 use Rattle.htl_emach.proofs.Effects.{calendar_after, AllAllowed}
 use Rattle.htl_emach.proofs.Rounds.{Passes, begun_calendar, entered_calendar, with_mode, begin_passes, enter_passes, leads_then}

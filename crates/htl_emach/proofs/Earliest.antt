@@ -1,23 +1,8 @@
 -- The earliest trigger, and that there is one where there are modules.
 use Rattle.std.proofs.Common.{◌≡◌, ℕ, zero, suc, ◌≤◌, ◌<◌, Bool, true, false, cond, eqb, leb, ltb, List, [], ◌∷◌, length, Option, Some, None, IfSome, refl, sym, ap, ◌∙◌, subst, arith, ◌⊎◌, inl, inr}
-use Rattle.std.proofs.lemmas.Bool.Decides.{nat_tests}
-use Rattle.htl_model.specs.declared.event.Event.{Event}
-use Rattle.htl_model.specs.declared.parts.Module.{Module}
-use Rattle.htl_model.specs.declared.state.Stay.{Stay}
-use Rattle.htl_model.specs.Ranges.{AreInRange, IsModeThat, parent_of}
-use Rattle.htl_model.specs.Tables.{Tables, mode_module}
-use Rattle.htl_ecode.specs.declared.ecode.ECode.{ECode}
-use Rattle.htl_ecode.specs.Departure.{entered}
-use Rattle.htl_ecode.specs.Paths.{Done}
-use Rattle.htl_emach.specs.declared.trigger.Trigger.{Trigger}
-use Rattle.htl_emach.specs.declared.trigger.Block.{Block}
-use Rattle.htl_emach.specs.Calendars.{Calendar, Standing, list_at, triggers_of}
-use Rattle.htl_emach.specs.Due.{IsDueAt, IsEarliest, IsNext, IsNextOf, IsUpToNext, LacksModules, NoneBefore, earlier, earliest, earliest_of}
-use Rattle.htl_emach.specs.Pending.{Entry, entry_at, entry_before, entry_after, opening, pending_entry, switched, closed, turning, is_called, entering, ending, old_stay, new_stay, Between}
-use Rattle.htl_emach.specs.Following.{PhaseStands}
+use Rattle.htl_emach.proofs.Words.{nat_tests, Event, Module, Stay, AreInRange, IsModeThat, parent_of, Tables, mode_module, ECode, entered, Done, Trigger, Block, Calendar, Standing, list_at, triggers_of, IsDueAt, IsEarliest, IsNext, IsNextOf, IsUpToNext, LacksModules, NoneBefore, earlier, earliest, earliest_of, Entry, entry_at, entry_before, entry_after, opening, pending_entry, switched, closed, turning, is_called, entering, ending, old_stay, new_stay, Between, PhaseStands, none-some, same_Some}
 use Rattle.htl_emach.proofs.States.{module_at, parent_at}
 use Rattle.htl_emach.proofs.Instants.{roots_run}
-use Rattle.std.proofs.lemmas.Option.{none-some, same_Some}
 
 -- an instant that is there and no later
 abbrev pub NoLater : Option ℕ → ℕ → Type 0

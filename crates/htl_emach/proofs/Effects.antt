@@ -1,21 +1,7 @@
 -- What the instructions at passed addresses do to a calendar.
 use Rattle.std.proofs.Common.{◌≡◌, ℕ, zero, suc, ◌+◌, ◌<◌, Bool, true, false, cond, eqb, List, [], ◌∷◌, ◌++◌, length, slice_get, set, Option, Some, None, refl, sym, ap, ◌∙◌, subst, arith}
-use Rattle.std.proofs.lemmas.List.{length-set}
-use Rattle.htl_model.specs.Lists.{joined, numbered}
-use Rattle.htl_model.specs.Tables.{Tables}
-use Rattle.htl_ecode.specs.declared.ecode.ECode.{ECode}
-use Rattle.htl_ecode.specs.declared.instr.EInstr.{EInstr}
+use Rattle.htl_emach.proofs.Words.{length-set, joined, numbered, Tables, ECode, EInstr, Want, Does, Waits, Turns, Tests, Asks, Arrives, all_do, jump_to, Step, jump_to_is, kept, kept_one, instrs_of, Trigger, Calendar, HasModule, list_at, calendar_effect, with_trigger, IsAllowed, AreAllowed, IsSized, Entry, entry_at, calendar_at, calendar_replay}
 use Rattle.htl_ecode.specs.declared.instr.EInstr.TheVariants as I
-use Rattle.htl_ecode.specs.Chains.{Want, Does, Waits, Turns, Tests, Asks, Arrives, all_do}
-use Rattle.htl_ecode.specs.Jumps.{jump_to}
-use Rattle.htl_ecode.specs.Steps.{Step}
-use Rattle.htl_ecode.proofs.Reading.{jump_to_is}
-use Rattle.htl_ecode.proofs.Kept.{kept, kept_one, instrs_of}
-use Rattle.htl_emach.specs.declared.trigger.Trigger.{Trigger}
-use Rattle.htl_emach.specs.Calendars.{Calendar, HasModule, list_at, calendar_effect, with_trigger}
-use Rattle.htl_emach.specs.Leading.{IsAllowed, AreAllowed}
-use Rattle.htl_emach.specs.Pending.{IsSized, Entry, entry_at}
-use Rattle.htl_emach.specs.Following.{calendar_at, calendar_replay}
 
 -- ---- by the instructions, plain jumps left out
 

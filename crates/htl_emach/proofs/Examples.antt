@@ -1,16 +1,8 @@
 -- Worked examples: runs of the machine over the values that the meaning of the tables gives.
 use Rattle.std.specs.Prelude.{◌≡◌, ℕ, zero, suc, List, [], ◌∷◌, ◌++◌, Some, None, ℤ, pos, refl, length, map}
-use Rattle.htl_model.specs.declared.event.Event.{Event}
+use Rattle.htl_emach.proofs.Words.{Event, History, history, sense, Tables, doubling, preempted, ports, refined, reentered, alternating, tanks, ECode, EInstr, layout, EDone, Standing, first_standing, done_in, standing_after}
 use Rattle.htl_model.specs.declared.event.Event.TheVariants.{At, Sense, End as Ends}
-use Rattle.htl_model.specs.Meaning.{History, history, sense}
-use Rattle.htl_model.specs.Tables.{Tables}
-use Rattle.htl_model.proofs.Sources.{doubling, preempted, ports, refined, reentered, alternating, tanks}
-use Rattle.htl_ecode.specs.declared.ecode.ECode.{ECode}
-use Rattle.htl_ecode.specs.declared.instr.EInstr.{EInstr}
 use Rattle.htl_ecode.specs.declared.instr.EInstr.TheVariants as I
-use Rattle.htl_ecode.specs.Layout.{layout}
-use Rattle.htl_emach.specs.declared.trigger.EDone.{EDone}
-use Rattle.htl_emach.specs.Calendars.{Standing, first_standing, done_in, standing_after}
 
 -- what was done, each with its instant, and the machine afterwards
 record Ran : Type 0 where

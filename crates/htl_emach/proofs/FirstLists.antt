@@ -1,11 +1,6 @@
 -- One item more of the lists that are made for each invocation and for each task.
 use Rattle.std.proofs.Common.{◌≡◌, ◌<◌, ◌+◌, ℕ, ℤ, suc, List, [], ◌∷◌, ◌++◌, Vec, Global, Some, length, map, take, get_or, ap, sym, ◌∙◌, arith}
-use Rattle.std.proofs.lemmas.List.{map-append, map_more}
-use Rattle.std.proofs.lemmas.Option.{slice_get-get_or}
-use Rattle.htl_model.specs.declared.parts.Inv.{Inv}
-use Rattle.htl_model.specs.declared.parts.Task.{Task}
-use Rattle.htl_model.specs.Lists.{list_to}
-use Rattle.htl_model.specs.Tables.{function_count, count_at, count_before}
+use Rattle.htl_emach.proofs.Words.{map-append, map_more, slice_get-get_or, Inv, Task, list_to, function_count, count_at, count_before}
 
 pub rows_more : (f : Inv → List ℤ) (rows after : List (Vec ℤ Global)) (row : Vec ℤ Global) (invs : List Inv) (k : ℕ) (d : Inv) → k < length invs → after ≡ rows ++ row ∷ [] → row.items ≡ f (get_or invs k d)
     → map (λ (r : Vec ℤ Global). r.items) rows ≡ map f (take k invs) → map (λ (r : Vec ℤ Global). r.items) after ≡ map f (take (k + 1) invs)

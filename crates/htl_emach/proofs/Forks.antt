@@ -1,13 +1,6 @@
 -- What a round's start and a mode's entry do to the entries of a calendar.
 use Rattle.std.proofs.Common.{◌≡◌, ℕ, zero, suc, ◌+◌, ◌<◌, Bool, true, false, cond, List, [], ◌∷◌, length, slice_get, Option, Some, None, refl, sym, ap, ◌∙◌, subst, arith}
-use Rattle.std.proofs.lemmas.List.{length-set}
-use Rattle.htl_model.specs.declared.parts.Module.{Module}
-use Rattle.htl_model.specs.Lists.{places_from}
-use Rattle.htl_model.specs.Tables.{Tables}
-use Rattle.htl_ecode.specs.declared.ecode.ECode.{ECode}
-use Rattle.htl_emach.specs.declared.trigger.Trigger.{Trigger}
-use Rattle.htl_emach.specs.Calendars.{Calendar, list_at, with_trigger, entry_of}
-use Rattle.htl_emach.specs.Pending.{IsSized, Entry, entry_at, next_block, ending}
+use Rattle.htl_emach.proofs.Words.{length-set, Module, places_from, Tables, ECode, Trigger, Calendar, list_at, with_trigger, entry_of, IsSized, Entry, entry_at, next_block, ending}
 use Rattle.htl_emach.proofs.Effects.{trigger_set_here, trigger_set_other, trigger_set_sized, sized_module, with_next, list_here, list_other}
 use Rattle.htl_emach.proofs.Rounds.{begun_calendar, forked, with_mode}
 

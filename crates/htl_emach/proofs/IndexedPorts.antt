@@ -1,14 +1,6 @@
 -- What a port's own mode says, and how few functions the tasks have.
 use Rattle.std.proofs.Common.{◌≡◌, ℕ, zero, suc, ◌<◌, ◌≤◌, Bool, true, false, cond, eqb, ◌*◌, length, slice_get, Option, Some, None, refl, sym, ap, ◌∙◌, arith}
-use Rattle.std.proofs.lemmas.Bool.Decides.{nat_tests}
-use Rattle.std.proofs.lemmas.Option.{slice_get_within}
-use Rattle.htl_model.specs.declared.parts.Port.{Port}
-use Rattle.htl_model.specs.Tables.{Tables, count_at, count_before}
-use Rattle.htl_model.specs.declared.parts.Task.{Task}
-use Rattle.htl_model.specs.Ranges.{AreInRange, IsTaskInRange}
-use Rattle.htl_model.specs.Meaning.{writer_from}
-use Rattle.htl_emach.specs.Indices.{writer_of, is_own}
-use Rattle.htl_base.proofs.Places.{each_at}
+use Rattle.htl_emach.proofs.Words.{nat_tests, slice_get_within, Port, Tables, count_at, count_before, Task, AreInRange, IsTaskInRange, writer_from, writer_of, is_own, each_at}
 
 -- ---- ports
 

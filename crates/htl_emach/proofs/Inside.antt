@@ -1,22 +1,7 @@
 -- One instruction of a block that runs is the next of the path.
 use Rattle.std.proofs.Common.{◌≡◌, ℕ, zero, suc, ◌+◌, ◌<◌, Bool, true, false, cond, eqb, List, [], ◌∷◌, ◌++◌, slice_get, set, Option, Some, None, ℤ, refl, sym, ap, ◌∙◌, subst, arith, append_assoc, ◌⊎◌, inl, inr}
-use Rattle.std.proofs.lemmas.Bool.Decides.{nat_tests}
-use Rattle.htl_model.specs.declared.event.Event.{Event}
-use Rattle.htl_model.specs.declared.state.Stay.{Stay}
-use Rattle.htl_model.specs.Tables.{Tables, mode_module}
-use Rattle.htl_model.specs.Meaning.{state, stay_of, mode_of, runs}
-use Rattle.htl_ecode.specs.declared.ecode.ECode.{ECode}
-use Rattle.htl_ecode.specs.declared.instr.EInstr.{EInstr}
+use Rattle.htl_emach.proofs.Words.{nat_tests, Event, Stay, Tables, mode_module, state, stay_of, mode_of, runs, ECode, EInstr, Done, on, holds_in, Trigger, Block, Calendar, list_at, goes, runs_in, calendar_effect, with_trigger, entry_of, going_on, stepped, Leads, Ends, goes_at, IsAllowed, Between, Entry, pending_entry, switched, closed, old_stay, new_stay, calendar_at, calendar_replay, phase_path, blocks_to_come, BlockRuns, IsInBlock, PhaseStands, Onward, nothing_ends, none-some, same_Some}
 use Rattle.htl_ecode.specs.declared.instr.EInstr.TheVariants as I
-use Rattle.htl_ecode.specs.Paths.{Done, on, holds_in}
-use Rattle.htl_emach.specs.declared.trigger.Trigger.{Trigger}
-use Rattle.htl_emach.specs.declared.trigger.Block.{Block}
-use Rattle.htl_emach.specs.Calendars.{Calendar, list_at, goes, runs_in, calendar_effect, with_trigger, entry_of, going_on, stepped}
-use Rattle.htl_emach.specs.Leading.{Leads, Ends, goes_at, IsAllowed}
-use Rattle.htl_emach.specs.Pending.{Between, Entry, pending_entry, switched, closed, old_stay, new_stay}
-use Rattle.htl_emach.specs.Following.{calendar_at, calendar_replay, phase_path, blocks_to_come, BlockRuns, IsInBlock, PhaseStands, Onward}
-use Rattle.htl_base.proofs.Places.{nothing_ends}
-use Rattle.std.proofs.lemmas.Option.{none-some, same_Some}
 use Rattle.htl_emach.proofs.Effects.{list_other}
 
 -- the first address of a block is where it stands; its instruction ends the block, or leads to the rest

@@ -1,28 +1,12 @@
 -- A machine that follows is anywhere inside an instant where the meaning says, and after it before the next one.
 use Rattle.std.proofs.Common.{◌≡◌, ℕ, zero, suc, ◌<◌, Bool, true, false, cond, eqb, ltb, List, [], ◌∷◌, ◌++◌, length, slice_get, map, replicate, Option, Some, None, ℤ, refl, sym, ap, ◌∙◌, subst, arith, ◌⊎◌, inl, inr}
-use Rattle.htl_model.specs.declared.event.Event.{Event}
-use Rattle.htl_model.specs.declared.parts.Module.{Module}
-use Rattle.htl_model.specs.declared.state.Stay.{Stay}
-use Rattle.htl_model.specs.Tables.{Tables, mode_module}
-use Rattle.htl_model.specs.Meaning.{state, runs}
-use Rattle.htl_ecode.specs.declared.ecode.ECode.{ECode}
-use Rattle.htl_ecode.specs.Departure.{entered}
-use Rattle.htl_ecode.specs.Paths.{Done, e_path}
-use Rattle.std.proofs.lemmas.Bool.Decides.{nat_tests}
-use Rattle.htl_emach.specs.declared.trigger.Trigger.{Trigger}
-use Rattle.htl_emach.specs.declared.trigger.Block.{Block}
-use Rattle.std.proofs.lemmas.List.{length-map, length-replicate}
-use Rattle.htl_emach.specs.Calendars.{Calendar, Standing, list_at, done_in, standing_after, first_calendar, first_trigger}
-use Rattle.htl_emach.specs.Pending.{Between, Entry, entry_at, opening, turning, entering, old_stay, new_stay}
-use Rattle.htl_emach.specs.Following.{Midway, Onward, FollowsCode, phase_path}
-use Rattle.htl_emach.specs.Laws.{PassesInstant}
+use Rattle.htl_emach.proofs.Words.{Event, Module, Stay, Tables, mode_module, state, runs, ECode, entered, Done, e_path, nat_tests, Trigger, Block, length-map, length-replicate, Calendar, Standing, list_at, done_in, standing_after, first_calendar, first_trigger, Between, Entry, entry_at, opening, turning, entering, old_stay, new_stay, Midway, Onward, FollowsCode, phase_path, PassesInstant, AreInRange}
 use Rattle.htl_emach.proofs.ModuleLaws.{ModuleLaws}
 use Rattle.htl_emach.proofs.CopyPhases.{module_writes, module_reads, none_laws, stay_laws, phase_are, StayLaws}
 use Rattle.htl_emach.proofs.Switching.{Sound}
 use Rattle.htl_emach.proofs.SwitchPhase.{module_switches}
 use Rattle.htl_emach.proofs.States.{old_stays, new_stays, module_at, parent_at, option_cases, active_some, begins_now, parent_runs, none_stay}
 use Rattle.htl_emach.proofs.Onward.{onward}
-use Rattle.htl_model.specs.Ranges.{AreInRange}
 use Rattle.htl_emach.proofs.Phases.{RootsRun, to_switches, to_reads, to_next, phase_starts}
 
 abbrev pub IsPhase : ℕ → Type 0

@@ -31,3 +31,4 @@ pub mod FirstDue
 pub mod IndexedPorts
 pub mod PortEntries
 pub mod Overdue
+pub mod Words

@@ -1,13 +1,6 @@
 -- What holds of one module in a phase of an instant.
 use Rattle.std.specs.Prelude.{◌≡◌, ℕ, suc, cond, eqb, List, [], Option, Some, None}
-use Rattle.htl_model.specs.declared.event.Event.{Event}
-use Rattle.htl_model.specs.Tables.{Tables}
-use Rattle.htl_ecode.specs.declared.ecode.ECode.{ECode}
-use Rattle.htl_ecode.specs.Paths.{on}
-use Rattle.htl_emach.specs.declared.trigger.Trigger.{Trigger}
-use Rattle.htl_emach.specs.Calendars.{Calendar, with_trigger, target_at}
-use Rattle.htl_emach.specs.Pending.{Entry, Between, entry_before, entry_after, old_stay, new_stay}
-use Rattle.htl_emach.specs.Following.{phase_blocks, BlockRuns}
+use Rattle.htl_emach.proofs.Words.{Event, Tables, ECode, on, Trigger, Calendar, with_trigger, target_at, Entry, Between, entry_before, entry_after, old_stay, new_stay, phase_blocks, BlockRuns}
 
 abbrev pub trigger_in : ℕ → Entry → Option Trigger
 trigger_in phase e = cond (eqb phase 1) e.write (cond (eqb phase 2) e.switch e.read)

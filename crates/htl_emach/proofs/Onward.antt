@@ -1,31 +1,12 @@
 -- What the machine does next, from any place inside an instant.
 use Rattle.std.proofs.Common.{◌≡◌, ℕ, ◌<◌, true, eqb, List, [], ◌∷◌, ◌++◌, length, slice_get, Option, Some, None, ℤ, IfSome, All, refl, sym, ap, ◌∙◌, subst}
-use Rattle.std.proofs.lemmas.Option.{slice_get_within}
-use Rattle.htl_model.specs.declared.event.Event.{Event}
-use Rattle.htl_model.specs.declared.parts.Inv.{Inv}
-use Rattle.htl_model.specs.declared.parts.End.{End}
+use Rattle.htl_emach.proofs.Words.{slice_get_within, Event, Inv, End, Tables, AreInRange, IsInvInRange, IsEndInRange, state, ECode, EInstr, Done, Block, EDone, Content, comm_of, reads_at, writes_at, IsShaped, HasEnds, Calendar, Standing, taken, taken_by, block_from, first_due, triggers_of, with_trigger, done_at, done_in, stepped, standing_after, Fits, goes_at, IsAllowed, IsSized, BlockRuns, IsInBlock, PhaseStands, Midway, Onward, phase_path, each_at, nothing_ends}
 use Rattle.htl_model.specs.declared.parts.End.TheVariants as E
-use Rattle.htl_model.specs.Tables.{Tables}
-use Rattle.htl_model.specs.Ranges.{AreInRange, IsInvInRange, IsEndInRange}
-use Rattle.htl_model.specs.Meaning.{state}
-use Rattle.htl_ecode.specs.declared.ecode.ECode.{ECode}
-use Rattle.htl_ecode.specs.declared.instr.EInstr.{EInstr}
 use Rattle.htl_ecode.specs.declared.instr.EInstr.TheVariants as I
-use Rattle.htl_ecode.specs.Paths.{Done}
-use Rattle.htl_emach.specs.declared.trigger.Block.{Block}
-use Rattle.htl_emach.specs.declared.trigger.EDone.{EDone}
-use Rattle.htl_emach.specs.Contents.{Content, comm_of, reads_at, writes_at}
-use Rattle.htl_emach.specs.Shapes.{IsShaped, HasEnds}
-use Rattle.htl_emach.specs.Calendars.{Calendar, Standing, taken, taken_by, block_from, first_due, triggers_of, with_trigger, done_at, done_in, stepped, standing_after}
-use Rattle.htl_emach.specs.Ready.{Fits}
-use Rattle.htl_emach.specs.Leading.{goes_at, IsAllowed}
-use Rattle.htl_emach.specs.Pending.{IsSized}
-use Rattle.htl_emach.specs.Following.{BlockRuns, IsInBlock, PhaseStands, Midway, Onward, phase_path}
 use Rattle.htl_emach.proofs.ModuleLaws.{ModuleLaws}
 use Rattle.htl_emach.proofs.Inside.{next_of_block, inside}
 use Rattle.htl_emach.proofs.Beginning.{no_block, begins}
 use Rattle.htl_emach.proofs.Effects.{sized_module}
-use Rattle.htl_base.proofs.Places.{each_at, nothing_ends}
 
 -- the next instruction of a block, and what it may be
 pub record Next (t : Tables) (code : ECode) (phase : ℕ) (b : Block) : Type 0 where

@@ -1,22 +1,6 @@
 -- No trigger is due before the instant at which a run stands.
 use Rattle.std.proofs.Common.{◌≡◌, ℕ, zero, suc, ◌+◌, ◌-◌, ◌≤◌, ◌<◌, Bool, true, false, cond, eqb, List, length, Option, Some, None, refl, sym, ap, ◌∙◌, subst, arith, ◌⊎◌, inl, inr}
-use Rattle.std.proofs.lemmas.Bool.{cases_lt}
-use Rattle.std.proofs.lemmas.Option.{none-some, same_Some}
-use Rattle.htl_model.specs.declared.event.Event.{Event}
-use Rattle.htl_model.specs.declared.state.Stay.{Stay}
-use Rattle.htl_model.specs.Ranges.{AreInRange}
-use Rattle.htl_model.specs.Tables.{Tables, mode_period}
-use Rattle.htl_ecode.specs.declared.ecode.ECode.{ECode}
-use Rattle.htl_ecode.specs.Departure.{block_at, entered}
-use Rattle.htl_ecode.specs.Offsets.{next_offset, phase_offsets}
-use Rattle.htl_ecode.proofs.Least.{IsLeast, least_is}
-use Rattle.htl_emach.specs.declared.trigger.Block.{Block}
-use Rattle.htl_emach.specs.declared.trigger.Trigger.{Trigger}
-use Rattle.htl_emach.specs.Calendars.{Calendar, list_at, triggers_of}
-use Rattle.htl_emach.specs.Due.{IsNextOf, NoneBefore}
-use Rattle.htl_emach.specs.Pending.{Entry, Between, IsSized, trigger_at, awaited, turning, is_called, entering, ending, ended, opening, pending_entry, switched, closed, entry_at, old_stay, new_stay}
-use Rattle.htl_emach.specs.Following.{PhaseStands}
-use Rattle.htl_emach.specs.Laws.{NothingOverdue}
+use Rattle.htl_emach.proofs.Words.{cases_lt, none-some, same_Some, Event, Stay, AreInRange, Tables, mode_period, ECode, block_at, entered, next_offset, phase_offsets, IsLeast, least_is, Block, Trigger, Calendar, list_at, triggers_of, IsNextOf, NoneBefore, Entry, Between, IsSized, trigger_at, awaited, turning, is_called, entering, ending, ended, opening, pending_entry, switched, closed, entry_at, old_stay, new_stay, PhaseStands, NothingOverdue}
 use Rattle.htl_emach.proofs.States.{module_at, new_stays, goes_on, begins_now, option_cases}
 use Rattle.htl_emach.proofs.Switching.{positive}
 use Rattle.htl_emach.proofs.Roots.{listed_within}

@@ -1,18 +1,6 @@
 -- From one phase to the next, and to the next instant.
 use Rattle.std.proofs.Common.{◌≡◌, ℕ, zero, suc, ◌+◌, ◌-◌, ◌<◌, Bool, true, false, cond, ltb, List, [], ◌++◌, length, Option, Some, None, refl, sym, ap, ◌∙◌, arith, append-nil, append_assoc}
-use Rattle.std.proofs.lemmas.Bool.Decides.{nat_tests}
-use Rattle.htl_model.specs.declared.event.Event.{Event}
-use Rattle.htl_model.specs.declared.state.Stay.{Stay}
-use Rattle.htl_model.specs.Lists.{up_to}
-use Rattle.htl_model.specs.Tables.{Tables, mode_module}
-use Rattle.htl_model.specs.Meaning.{mode_of}
-use Rattle.htl_ecode.specs.declared.ecode.ECode.{ECode}
-use Rattle.htl_model.specs.Ranges.{parent_of}
-use Rattle.htl_ecode.specs.Paths.{Done}
-use Rattle.htl_emach.specs.declared.trigger.Trigger.{Trigger}
-use Rattle.htl_emach.specs.Calendars.{Calendar}
-use Rattle.htl_emach.specs.Pending.{Between, Entry, turning, ended, is_called, awaited, entering, new_stay}
-use Rattle.htl_emach.specs.Following.{phase_path, phase_blocks, from_module, Midway}
+use Rattle.htl_emach.proofs.Words.{nat_tests, Event, Stay, up_to, Tables, mode_module, mode_of, ECode, parent_of, Done, Trigger, Calendar, Between, Entry, turning, ended, is_called, awaited, entering, new_stay, phase_path, phase_blocks, from_module, Midway}
 
 none_below : (j : ℕ) → j < 0 → ⊥
 none_below j h = omega (arith, h)

@@ -1,11 +1,6 @@
 -- The writers of ports, from an invocation on, and a list that holds a function's value at each place.
 use Rattle.std.proofs.Common.{◌≡◌, ℕ, ◌<◌, List, length, get_or, slice_get, Option, Some, None, sym, ◌∙◌, subst}
-use Rattle.std.proofs.lemmas.List.{same_lists, get_or_default}
-use Rattle.htl_model.specs.declared.parts.Port.{Port}
-use Rattle.htl_model.specs.declared.parts.Inv.{Inv}
-use Rattle.htl_model.specs.Lists.{list_to}
-use Rattle.htl_model.specs.Meaning.{writer_from}
-use Rattle.htl_model.proofs.Listed.{length-list_to, get_list_to}
+use Rattle.htl_emach.proofs.Words.{same_lists, get_or_default, Port, Inv, list_to, writer_from, length-list_to, get_list_to}
 
 -- the writer of a port in its mode, from invocation k on
 abbrev pub writer_on : List Port → ℕ → ℕ → List Inv → Option (ℕ × ℕ)

@@ -1,29 +1,8 @@
 -- What stands before an instruction or a call: operands, modules, arguments.
 use Rattle.std.proofs.Common.{◌≡◌, ℕ, zero, suc, ◌+◌, ◌<◌, Bool, true, false, cond, not, eqb, List, [], ◌∷◌, ◌++◌, length, get_or, slice_get, set, take, Option, Some, None, ℤ, pos, refl, sym, ap, ◌∙◌, subst, arith}
-use Rattle.std.proofs.lemmas.List.{length-set}
-use Rattle.htl_base.specs.declared.Ty.{Ty}
+use Rattle.htl_emach.proofs.Words.{length-set, Ty, Comm, Switch, FitsType, is_zero, numbered, Tables, Fun, Formula, Compiled, function_value, switch_function, FunctionType, comm_type, switch_type, IsFunctionOf, FitPlaces, switch_holds, switch_types_at, AreArguments, ECode, EInstr, holds_in, Block, Trigger, Content, HasRoom, HasValues, Applies, comm_types, values_at, Calendar, Standing, HasModule, with_trigger, taken, taken_by, first_due, triggers_of, Fits, IsReady, none-some}
 use Rattle.htl_base.specs.declared.Ty.TheVariants as ty
-use Rattle.htl_model.specs.declared.parts.Comm.{Comm}
-use Rattle.htl_model.specs.declared.parts.Switch.{Switch}
-use Rattle.htl_model.specs.Ranges.{FitsType}
-use Rattle.htl_model.specs.Functions.{is_zero}
-use Rattle.htl_model.specs.Lists.{numbered}
-use Rattle.htl_model.specs.Tables.{Tables, Fun, Formula, Compiled, function_value, switch_function}
-use Rattle.htl_model.specs.FunctionTypes.{FunctionType, comm_type, switch_type, IsFunctionOf, FitPlaces}
-use Rattle.htl_model.specs.Meaning.{switch_holds}
-use Rattle.htl_model.proofs.PlaceLaws.{switch_types_at}
-use Rattle.htl_fcode.specs.Arguments.{AreArguments}
-use Rattle.htl_ecode.specs.declared.ecode.ECode.{ECode}
-use Rattle.htl_ecode.specs.declared.instr.EInstr.{EInstr}
 use Rattle.htl_ecode.specs.declared.instr.EInstr.TheVariants as I
-use Rattle.htl_ecode.specs.Paths.{holds_in}
-use Rattle.htl_emach.specs.declared.trigger.Block.{Block}
-use Rattle.htl_emach.specs.declared.trigger.Trigger.{Trigger}
-use Rattle.htl_emach.specs.Contents.{Content}
-use Rattle.htl_emach.specs.Shapes.{HasRoom, HasValues, Applies, comm_types, values_at}
-use Rattle.htl_emach.specs.Calendars.{Calendar, Standing, HasModule, with_trigger, taken, taken_by, first_due, triggers_of}
-use Rattle.htl_emach.specs.Ready.{Fits, IsReady}
-use Rattle.std.proofs.lemmas.Option.{none-some}
 
 -- ---- operands
 

@@ -1,22 +1,8 @@
 -- What an instruction leaves as it was: sensors and output buffers.
 use Rattle.std.proofs.Common.{◌≡◌, ℕ, true, false, Bool, List, [], get_or, slice_get, set, Option, Some, None, ℤ, pos, refl, sym, ap, ◌∙◌, arith, inl, inr}
-use Rattle.std.proofs.lemmas.List.{get_or-set_other}
-use Rattle.htl_model.specs.declared.parts.Comm.{Comm}
-use Rattle.htl_model.specs.declared.parts.Inv.{Inv}
-use Rattle.htl_model.specs.declared.parts.End.{End}
+use Rattle.htl_emach.proofs.Words.{get_or-set_other, Comm, Inv, End, AreInRange, IsInvInRange, Tables, Sensors, Output, KeptApart, EInstr, EDone, Content, buffer, comm_of, writes_at, effect, content_after, SensorsStay, each_at, item_at, cases_eq}
 use Rattle.htl_model.specs.declared.parts.End.TheVariants as E
-use Rattle.htl_model.specs.Ranges.{AreInRange, IsInvInRange}
-use Rattle.htl_model.specs.Tables.{Tables}
-use Rattle.htl_model.specs.FormRules.{Sensors, Output}
-use Rattle.htl_model.specs.FrameRules.{KeptApart}
-use Rattle.htl_ecode.specs.declared.instr.EInstr.{EInstr}
 use Rattle.htl_ecode.specs.declared.instr.EInstr.TheVariants as I
-use Rattle.htl_emach.specs.declared.trigger.EDone.{EDone}
-use Rattle.htl_emach.specs.Contents.{Content, buffer, comm_of, writes_at, effect}
-use Rattle.htl_emach.specs.Calendars.{content_after}
-use Rattle.htl_emach.specs.Shapes.{SensorsStay}
-use Rattle.htl_base.proofs.Places.{each_at, item_at}
-use Rattle.std.proofs.lemmas.Bool.{cases_eq}
 
 effect_outputs : (t : Tables) (i : EInstr) (w : Content) → (effect t i w).outputs ≡ w.outputs
 effect_outputs t (I.CallWrite a b) w = refl

@@ -1,25 +1,7 @@
 -- A round that begins, and a mode that is entered: what is passed, what stands there, what it does.
 use Rattle.std.proofs.Common.{◌≡◌, ℕ, suc, ◌+◌, ◌-◌, ◌≤◌, Bool, true, false, cond, List, [], ◌∷◌, ◌++◌, length, slice_get, set, map, Option, Some, None, refl, sym, ap, ◌∙◌, subst, arith, inl, inr}
-use Rattle.htl_model.specs.declared.parts.Module.{Module}
-use Rattle.htl_model.specs.Lists.{places_from}
-use Rattle.htl_model.specs.Tables.{Tables, mode_period}
-use Rattle.htl_ecode.specs.declared.ecode.ECode.{ECode}
-use Rattle.htl_ecode.specs.declared.instr.EInstr.{EInstr}
+use Rattle.htl_emach.proofs.Words.{Module, places_from, Tables, mode_period, ECode, EInstr, next_offset, phase_offsets, Want, Does, Turns, Arrives, all_do, waits_for, begin_chain, enter_chain, children, is_child, jump_to, Step, steps_of, passed_by, target_of, block_begun, entered, decided, block_at, begin_path, enter_path, chain_path, round_end, turn_step, IsLeast, least_is, kept, kept_one, kept_are, instrs_of, ModeReads, spelled_stands, spelled_first, Trigger, Calendar, goes, with_trigger, entry_of, calendar_effect, Leads, Ends, trigger_at, next_block, ending}
 use Rattle.htl_ecode.specs.declared.instr.EInstr.TheVariants as I
-use Rattle.htl_ecode.specs.Offsets.{next_offset, phase_offsets}
-use Rattle.htl_ecode.specs.Chains.{Want, Does, Turns, Arrives, all_do, waits_for, begin_chain, enter_chain, children, is_child}
-use Rattle.htl_ecode.specs.Jumps.{jump_to}
-use Rattle.htl_ecode.specs.Steps.{Step, steps_of, passed_by, target_of}
-use Rattle.htl_ecode.specs.Departure.{block_begun, entered, decided, block_at}
-use Rattle.htl_ecode.specs.Paths.{begin_path, enter_path, chain_path, round_end, turn_step}
-use Rattle.htl_ecode.proofs.Least.{IsLeast, least_is}
-use Rattle.htl_ecode.proofs.Kept.{kept, kept_one, kept_are, instrs_of}
-use Rattle.htl_ecode.proofs.Spelled.{ModeReads}
-use Rattle.htl_ecode.proofs.BlockLaws.{spelled_stands, spelled_first}
-use Rattle.htl_emach.specs.declared.trigger.Trigger.{Trigger}
-use Rattle.htl_emach.specs.Calendars.{Calendar, goes, with_trigger, entry_of, calendar_effect}
-use Rattle.htl_emach.specs.Leading.{Leads, Ends}
-use Rattle.htl_emach.specs.Pending.{trigger_at, next_block, ending}
 use Rattle.htl_emach.proofs.Blocks.{IsBlock, AllGoOn, block_ends, chain_leads, ends_on}
 use Rattle.htl_emach.proofs.Effects.{calendar_after, AllAllowed, WantsAllowed, allowed_instrs, with_next}
 use Rattle.htl_emach.proofs.Triggers.{set_next, length_read}

@@ -1,26 +1,7 @@
 -- A machine that stands safely can go on, and stands safely after each call.
 use Rattle.std.proofs.Common.{◌≡◌, ℕ, zero, suc, ◌+◌, ◌<◌, ◌≤◌, Bool, true, false, cond, eqb, List, [], ◌∷◌, length, slice_get, set, map, Option, Some, None, IfSome, ℤ, refl, sym, ap, ◌∙◌, subst, arith, ◌⊎◌, inl, inr}
-use Rattle.std.proofs.lemmas.Option.{slice_get_within, none-some, same_Some}
-use Rattle.std.proofs.lemmas.List.{length-set, length-map, length-replicate}
-use Rattle.htl_model.specs.declared.parts.Module.{Module}
-use Rattle.htl_model.specs.Ranges.{AreInRange}
-use Rattle.htl_model.specs.FrameRules.{KeptApart}
-use Rattle.htl_model.specs.Tables.{Tables}
-use Rattle.htl_ecode.specs.declared.ecode.ECode.{ECode}
-use Rattle.htl_ecode.specs.declared.instr.EInstr.{EInstr}
+use Rattle.htl_emach.proofs.Words.{slice_get_within, none-some, same_Some, length-set, length-map, length-replicate, Module, AreInRange, KeptApart, Tables, ECode, EInstr, departure, entered, holds_in, ModeReads, spelled_reads, Trigger, Block, EDone, Content, IsShaped, HasEnds, Calendar, Standing, list_at, triggers_of, target_at, first_due, block_from, block_in, taken, taken_by, with_trigger, goes, runs_in, going_on, calendar_effect, done_at, done_in, stepped, standing_after, entry_of, first_trigger, first_calendar, Fits, IsReady, IsSized, IsStart, IsFit, MayLead, IsSafe, safe, RunsSafely, LeadToBlocks, StandsSafely}
 use Rattle.htl_ecode.specs.declared.instr.EInstr.TheVariants as I
-use Rattle.htl_ecode.specs.Departure.{departure, entered}
-use Rattle.htl_ecode.specs.Paths.{holds_in}
-use Rattle.htl_ecode.proofs.Spelled.{ModeReads, spelled_reads}
-use Rattle.htl_emach.specs.declared.trigger.Trigger.{Trigger}
-use Rattle.htl_emach.specs.declared.trigger.Block.{Block}
-use Rattle.htl_emach.specs.declared.trigger.EDone.{EDone}
-use Rattle.htl_emach.specs.Contents.{Content}
-use Rattle.htl_emach.specs.Shapes.{IsShaped, HasEnds}
-use Rattle.htl_emach.specs.Calendars.{Calendar, Standing, list_at, triggers_of, target_at, first_due, block_from, block_in, taken, taken_by, with_trigger, goes, runs_in, going_on, calendar_effect, done_at, done_in, stepped, standing_after, entry_of, first_trigger, first_calendar}
-use Rattle.htl_emach.specs.Ready.{Fits, IsReady}
-use Rattle.htl_emach.specs.Pending.{IsSized}
-use Rattle.htl_emach.specs.Safety.{IsStart, IsFit, MayLead, IsSafe, safe, RunsSafely, LeadToBlocks, StandsSafely}
 use Rattle.htl_emach.proofs.Effects.{sized_module, trigger_set_sized}
 use Rattle.htl_emach.proofs.Beginning.{due_some, module_some, triggers_sized}
 use Rattle.htl_emach.proofs.Onward.{allowed_fits}

@@ -1,33 +1,12 @@
 -- Each block of spelled E code is safe, whatever its tests answer.
 use Rattle.std.proofs.Common.{◌≡◌, ℕ, suc, ◌+◌, ◌-◌, ◌<◌, ◌≤◌, Bool, true, false, cond, eqb, List, [], ◌∷◌, ◌++◌, length, slice_get, map, drop, length-append, length-drop, Option, Some, None, Ok, refl, sym, ap, ◌∙◌, subst, arith, ◌⊎◌, inl, inr}
-use Rattle.std.proofs.lemmas.Bool.{eq-eqb, eqb-true, cases_Bool}
-use Rattle.std.proofs.lemmas.Option.{slice_get_within, none-some, same_Some}
-use Rattle.htl_model.specs.declared.parts.Module.{Module}
-use Rattle.htl_model.specs.declared.parts.Switch.{Switch}
-use Rattle.htl_model.specs.Lists.{places_from}
-use Rattle.htl_model.specs.Ranges.{AreInRange, IsModeThat, IsSwitchInRange, parent_of}
-use Rattle.htl_model.specs.Tables.{Tables, mode_module, mode_period}
-use Rattle.htl_ecode.specs.declared.ecode.ECode.{ECode}
-use Rattle.htl_ecode.specs.declared.instr.EInstr.{EInstr}
+use Rattle.htl_emach.proofs.Words.{eq-eqb, eqb-true, cases_Bool, slice_get_within, none-some, same_Some, Module, Switch, places_from, AreInRange, IsModeThat, IsSwitchInRange, parent_of, Tables, mode_module, mode_period, ECode, EInstr, next_offset, phase_offsets, holds, Want, Does, Waits, Turns, Tests, Asks, Arrives, all_do, waits_for, calls, block_chain, begin_chain, enter_chain, decide_chain, children, is_child, asks_for, tests_of, led_to, bind, Step, Reached, pass, leaving, read, reach, steps_of, target_of, block_at, block_begun, entered, decided, round_end, step_from, turn_step, Jumps, reach_is, anchor_is, read_is, bind_ok, ModeReads, IsBlockPhase, spelled_stands, no_block, spelled_links, spelled_first, goes, IsStart, IsFit, IsSafe, safe, StartsIn, each_at, true_not_false}
 use Rattle.htl_ecode.specs.declared.instr.EInstr.TheVariants as I
-use Rattle.htl_ecode.specs.Offsets.{next_offset, phase_offsets, holds}
-use Rattle.htl_ecode.specs.Chains.{Want, Does, Waits, Turns, Tests, Asks, Arrives, all_do, waits_for, calls, block_chain, begin_chain, enter_chain, decide_chain, children, is_child, asks_for, tests_of, led_to}
-use Rattle.htl_ecode.specs.Jumps.{bind}
-use Rattle.htl_ecode.specs.Steps.{Step, Reached, pass, leaving, read, reach, steps_of, target_of}
-use Rattle.htl_ecode.specs.Departure.{block_at, block_begun, entered, decided}
-use Rattle.htl_ecode.specs.Paths.{round_end, step_from, turn_step}
-use Rattle.htl_ecode.proofs.Reading.{Jumps, reach_is, anchor_is, read_is, bind_ok}
-use Rattle.htl_ecode.proofs.Spelled.{ModeReads}
-use Rattle.htl_ecode.proofs.BlockLaws.{IsBlockPhase, spelled_stands, no_block, spelled_links, spelled_first}
-use Rattle.htl_emach.specs.Calendars.{goes}
-use Rattle.htl_emach.specs.Safety.{IsStart, IsFit, IsSafe, safe, StartsIn}
 use Rattle.htl_emach.proofs.Deciding.{pass_ok, turn_jumps, tests_from}
 use Rattle.htl_emach.proofs.Effects.{WantAllowed, WantsAllowed}
 use Rattle.htl_emach.proofs.Triggers.{IsQuiet, AreQuiet, calls_quiet, length_read}
 use Rattle.htl_emach.proofs.WriteRead.{block_wants}
 use Rattle.htl_emach.proofs.States.{mode_known}
-use Rattle.htl_base.proofs.Places.{each_at}
-use Rattle.htl_base.proofs.Tests.{true_not_false}
 
 module _ (t : Tables) (code : ECode) (k : ℕ) where
   jumps_safe : (a b : ℕ) (xs : List ℕ) → Jumps code.instrs a xs b → IsSafe t code k b → IsSafe t code k a

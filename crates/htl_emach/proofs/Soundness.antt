@@ -1,34 +1,11 @@
 -- Tables that keep the form rules, and E code that spells them, are what the machine runs.
 use Rattle.std.proofs.Common.{◌≡◌, ℕ, zero, suc, ◌*◌, ◌<◌, ◌≤◌, max, Bool, true, false, cond, ◌||◌, eqb, List, [], ◌∷◌, length, slice_get, Option, Some, None, option_map, ℤ, refl, sym, ap, ◌∙◌, subst, arith, ◌⊎◌, inl, inr}
-use Rattle.std.proofs.lemmas.Bool.{eqb-true, eq-eqb, and_parts, cases_eq, or_cases, cases_lt, or_right}
-use Rattle.htl_model.specs.declared.parts.Inv.{Inv}
-use Rattle.htl_model.specs.declared.parts.Mode.{Mode}
-use Rattle.htl_model.specs.declared.parts.End.{End}
+use Rattle.htl_emach.proofs.Words.{eqb-true, eq-eqb, and_parts, cases_eq, or_cases, cases_lt, or_right, Inv, Mode, End, joined, AreInRange, IsInvInRange, Tables, mode_period, mode_module, comm_period, is_concrete, release, offsets, greatest, asked_period, first_mode, CountsDiffer, input_types, output_types, KeptApart, ECode, counts, counted_in, phase_offsets, holds, departure, Done, spelled_reads, Event, state, EDone, Standing, done_in, standing_after, Midway, Onward, HasEnds, each_at, item_at, holds_append, cases_le}
 use Rattle.htl_model.specs.declared.parts.End.TheVariants as E
-use Rattle.htl_model.specs.Lists.{joined}
-use Rattle.htl_model.specs.Ranges.{AreInRange, IsInvInRange}
-use Rattle.htl_model.specs.Tables.{Tables, mode_period, mode_module, comm_period, is_concrete, release, offsets, greatest}
 use Rattle.htl_model.specs.FormRules.{ModulePeriod, Offsets, Ends, Itself, Input, Output}
-use Rattle.htl_model.specs.PeriodRules.{asked_period, first_mode}
-use Rattle.htl_model.specs.EndRules.{CountsDiffer, input_types, output_types}
-use Rattle.htl_model.specs.FrameRules.{KeptApart}
-use Rattle.htl_ecode.specs.declared.ecode.ECode.{ECode}
-use Rattle.htl_ecode.specs.Offsets.{counts, counted_in, phase_offsets, holds}
-use Rattle.htl_ecode.specs.Departure.{departure}
-use Rattle.htl_ecode.specs.Paths.{Done}
-use Rattle.htl_ecode.proofs.Spelled.{spelled_reads}
-use Rattle.htl_model.specs.declared.event.Event.{Event}
-use Rattle.htl_model.specs.Meaning.{state}
-use Rattle.htl_emach.specs.declared.trigger.EDone.{EDone}
-use Rattle.htl_emach.specs.Calendars.{Standing, done_in, standing_after}
-use Rattle.htl_emach.specs.Following.{Midway, Onward}
 use Rattle.htl_emach.proofs.Instants.{call_onward, IsPhase}
-use Rattle.htl_emach.specs.Shapes.{HasEnds}
 use Rattle.htl_emach.proofs.States.{SamePeriods}
 use Rattle.htl_emach.proofs.Switching.{Sound, positive}
-use Rattle.htl_base.proofs.Places.{each_at, item_at}
-use Rattle.htl_ecode.proofs.Fitting.{holds_append}
-use Rattle.htl_base.proofs.Numbers.{cases_le}
 
 -- ---- numbers that are equal, or not
 

@@ -1,19 +1,6 @@
 -- Where modules are, from one instant to the next.
 use Rattle.std.proofs.Common.{◌≡◌, ℕ, zero, suc, ◌+◌, ◌<◌, ◌≤◌, Bool, true, false, cond, ◌&&◌, eqb, List, [], ◌∷◌, length, slice_get, Option, Some, None, IfSome, ℤ, refl, sym, ap, ◌∙◌, subst, arith, ◌⊎◌, inl, inr}
-use Rattle.std.proofs.lemmas.Bool.{eqb-true, eq-eqb, cases_Bool}
-use Rattle.std.proofs.lemmas.Option.{slice_get_within}
-use Rattle.htl_model.specs.declared.event.Event.{Event}
-use Rattle.htl_model.specs.declared.parts.Module.{Module}
-use Rattle.htl_model.specs.declared.parts.Mode.{Mode}
-use Rattle.htl_model.specs.declared.parts.Switch.{Switch}
-use Rattle.htl_model.specs.declared.state.Stay.{Stay}
-use Rattle.htl_model.specs.Ranges.{AreInRange, IsModeThat, IsSwitchInRange, parent_of}
-use Rattle.htl_model.specs.Tables.{Tables, mode_period, mode_module}
-use Rattle.htl_model.specs.Meaning.{state, before, stay_of, stays_to, next_stay, go_on_or_begin, runs, target, target_from, switch_holds}
-use Rattle.htl_model.proofs.Stays.{stay_at}
-use Rattle.htl_emach.specs.Pending.{old_stay, new_stay}
-use Rattle.htl_base.proofs.Places.{each_at}
-use Rattle.htl_base.proofs.Tests.{and_first, true_not_false}
+use Rattle.htl_emach.proofs.Words.{eqb-true, eq-eqb, cases_Bool, slice_get_within, Event, Module, Mode, Switch, Stay, AreInRange, IsModeThat, IsSwitchInRange, parent_of, Tables, mode_period, mode_module, state, before, stay_of, stays_to, next_stay, go_on_or_begin, runs, target, target_from, switch_holds, stay_at, old_stay, new_stay, each_at, and_first, true_not_false}
 
 -- the values at the instant
 abbrev pub values_now : Tables → List Event → ℕ → List ℤ

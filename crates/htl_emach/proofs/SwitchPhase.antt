@@ -1,24 +1,6 @@
 -- One module in the switch phase: it stays as it is, goes on, enters a mode or leaves.
 use Rattle.std.proofs.Common.{◌≡◌, ℕ, suc, ◌+◌, ◌<◌, ◌≤◌, Bool, true, false, cond, eqb, ltb, List, [], length, slice_get, Option, Some, None, refl, sym, ap, ◌∙◌, subst, arith, ◌⊎◌, inl, inr}
-use Rattle.std.proofs.lemmas.Bool.{eqb-true, eq-eqb, cases_Bool}
-use Rattle.std.proofs.lemmas.Bool.Decides.{nat_tests}
-use Rattle.std.proofs.lemmas.Option.{slice_get_within, none-some, same_Some}
-use Rattle.htl_model.specs.declared.event.Event.{Event}
-use Rattle.htl_model.specs.declared.parts.Module.{Module}
-use Rattle.htl_model.specs.declared.state.Stay.{Stay}
-use Rattle.htl_model.specs.Ranges.{AreInRange, IsSwitchInRange, parent_of}
-use Rattle.htl_model.specs.Tables.{Tables, mode_period, mode_module}
-use Rattle.htl_model.specs.Meaning.{state, before, stay_of, mode_of, runs, target}
-use Rattle.htl_ecode.specs.declared.ecode.ECode.{ECode}
-use Rattle.htl_ecode.specs.Chains.{is_child, children}
-use Rattle.htl_ecode.specs.Departure.{entered}
-use Rattle.htl_ecode.specs.Paths.{on, holds_in, switch_path, enter_path, decide_path, round_end}
-use Rattle.htl_ecode.proofs.Kept.{kept}
-use Rattle.htl_emach.specs.declared.trigger.Trigger.{Trigger}
-use Rattle.htl_emach.specs.Calendars.{Calendar, with_trigger, target_at, entry_of}
-use Rattle.htl_emach.specs.Leading.{goes_at}
-use Rattle.htl_emach.specs.Pending.{awaited, ended, is_called, entering, turning, Between, IsSized, Entry, entry_at, pending_entry, switched, old_stay, new_stay}
-use Rattle.htl_emach.specs.Following.{BlockRuns, phase_blocks}
+use Rattle.htl_emach.proofs.Words.{eqb-true, eq-eqb, cases_Bool, nat_tests, slice_get_within, none-some, same_Some, Event, Module, Stay, AreInRange, IsSwitchInRange, parent_of, Tables, mode_period, mode_module, state, before, stay_of, mode_of, runs, target, ECode, is_child, children, entered, on, holds_in, switch_path, enter_path, decide_path, round_end, kept, Trigger, Calendar, with_trigger, target_at, entry_of, goes_at, awaited, ended, is_called, entering, turning, Between, IsSized, Entry, entry_at, pending_entry, switched, old_stay, new_stay, BlockRuns, phase_blocks, each_at, true_not_false, cases_below}
 use Rattle.htl_emach.proofs.ModuleLaws.{due_target, ModuleLaws}
 use Rattle.htl_emach.proofs.Effects.{replay_kept, allowed_kept, trigger_set_here, trigger_set_other, trigger_set_sized, sized_module}
 use Rattle.htl_emach.proofs.CopyPhases.{not_due, due_here, step_between}
@@ -27,9 +9,6 @@ use Rattle.htl_emach.proofs.Deciding.{Decides, stay_passes, gone_passes, moved_c
 use Rattle.htl_emach.proofs.Forks.{begun_sized, begun_other, begun_here, forked_sized, forked_at, called, mode_sized, mode_here, mode_other}
 use Rattle.htl_emach.proofs.States.{values_now, parent_runs, lower_parent, IsStay, old_stays, new_stays, goes_on, begins_now, runs_some, runs_none, ran_some, stay_runs, leaves, active_some, module_at, parent_at, parent_of_runs, option_cases, some_stay, mode_known}
 use Rattle.htl_emach.proofs.Switching.{Sound, positive, fresh_entry, over_entry, called_by, CallsNone, before_same, parent_stay, calls_none_gone, calls_none_kept}
-use Rattle.htl_base.proofs.Places.{each_at}
-use Rattle.htl_base.proofs.Tests.{true_not_false}
-use Rattle.htl_base.proofs.Numbers.{cases_below}
 
 -- ---- a path of the phase that runs
 

@@ -1,24 +1,8 @@
 -- What holds of each module in the switch phase.
 use Rattle.std.proofs.Common.{◌≡◌, ℕ, zero, suc, ◌+◌, ◌-◌, ◌<◌, ◌≤◌, Bool, true, false, cond, ltb, List, [], ◌∷◌, length, slice_get, Option, Some, None, refl, sym, ap, ◌∙◌, arith, inl, inr}
-use Rattle.std.proofs.lemmas.Bool.{cases_Bool, lt-ltb, cases_eq}
-use Rattle.std.proofs.lemmas.Bool.Decides.{nat_tests}
-use Rattle.htl_model.specs.declared.event.Event.{Event}
-use Rattle.htl_model.specs.declared.parts.Mode.{Mode}
-use Rattle.htl_model.specs.declared.state.Stay.{Stay}
-use Rattle.htl_model.specs.Ranges.{AreInRange, IsModeInRange, parent_of}
-use Rattle.htl_model.specs.Tables.{Tables, mode_period, mode_module}
-use Rattle.htl_model.specs.Meaning.{state, before, stay_of, mode_of, runs}
-use Rattle.htl_ecode.specs.declared.ecode.ECode.{ECode}
-use Rattle.htl_ecode.specs.Offsets.{next_offset, least_from, phase_offsets, holds}
-use Rattle.htl_ecode.specs.Departure.{block_at}
-use Rattle.htl_ecode.proofs.Least.{IsLeast, least_is}
-use Rattle.htl_ecode.proofs.Spelled.{ModeReads}
-use Rattle.htl_emach.specs.declared.trigger.Trigger.{Trigger}
-use Rattle.htl_emach.specs.Pending.{trigger_at, next_block, awaited, ending, is_called, entering, turning, Entry, entry_before, pending_entry, switched, old_stay, new_stay}
+use Rattle.htl_emach.proofs.Words.{cases_Bool, lt-ltb, cases_eq, nat_tests, Event, Mode, Stay, AreInRange, IsModeInRange, parent_of, Tables, mode_period, mode_module, state, before, stay_of, mode_of, runs, ECode, next_offset, least_from, phase_offsets, holds, block_at, IsLeast, least_is, ModeReads, Trigger, trigger_at, next_block, awaited, ending, is_called, entering, turning, Entry, entry_before, pending_entry, switched, old_stay, new_stay, each_at, cond_same, true_not_false}
 use Rattle.htl_emach.proofs.CopyPhases.{off_offset}
 use Rattle.htl_emach.proofs.States.{SamePeriods, runs_some, ran_none, runs_stay, stay_runs, module_at, parent_at, parent_of_runs, option_cases, some_stay, none_stay}
-use Rattle.htl_base.proofs.Places.{each_at}
-use Rattle.htl_base.proofs.Tests.{cond_same, true_not_false}
 
 -- tables and code that the machine runs
 pub record Sound (t : Tables) (code : ECode) : Type 0 where

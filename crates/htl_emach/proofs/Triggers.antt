@@ -1,19 +1,7 @@
 -- A write or read block leaves the trigger of the next one.
 use Rattle.std.proofs.Common.{◌≡◌, ℕ, suc, ◌+◌, ◌-◌, ◌≤◌, Bool, true, false, cond, ◌&&◌, eqb, List, [], ◌∷◌, ◌++◌, length, map, drop, Option, Some, None, Result, Ok, refl, sym, ap, ◌∙◌, arith, length-append, length-drop}
-use Rattle.std.proofs.lemmas.Bool.{eq-eqb}
-use Rattle.htl_model.specs.Lists.{joined, numbered}
-use Rattle.htl_model.specs.Tables.{Tables, release}
-use Rattle.htl_ecode.specs.declared.ecode.ECode.{ECode}
-use Rattle.htl_ecode.specs.declared.instr.EInstr.{EInstr}
+use Rattle.htl_emach.proofs.Words.{eq-eqb, joined, numbered, Tables, release, ECode, EInstr, EFault, counts, ends_in, places_at, next_offset, Want, Does, all_do, waits_for, call_of, calls_of, release_of, releases, calls, block_chain, Step, read, target_of, read_is, instrs_of, Calendar, with_trigger, trigger_at}
 use Rattle.htl_ecode.specs.declared.instr.EInstr.TheVariants as I
-use Rattle.htl_ecode.specs.declared.fault.EFault.{EFault}
-use Rattle.htl_ecode.specs.Offsets.{counts, ends_in, places_at, next_offset}
-use Rattle.htl_ecode.specs.Chains.{Want, Does, all_do, waits_for, call_of, calls_of, release_of, releases, calls, block_chain}
-use Rattle.htl_ecode.specs.Steps.{Step, read, target_of}
-use Rattle.htl_ecode.proofs.Reading.{read_is}
-use Rattle.htl_ecode.proofs.Kept.{instrs_of}
-use Rattle.htl_emach.specs.Calendars.{Calendar, with_trigger}
-use Rattle.htl_emach.specs.Pending.{trigger_at}
 use Rattle.htl_emach.proofs.Effects.{calendar_after}
 
 pub length_read : (code : List EInstr) (ws : List Want) (a : ℕ) (ss : List Step) → read code a ws ≡ Ok ss → length ss ≡ length ws

@@ -1,27 +1,8 @@
 -- The blocks of the write phase and of the read phase: what they pass, hold and set.
 use Rattle.std.proofs.Common.{◌≡◌, ℕ, suc, ◌+◌, ◌-◌, ◌<◌, ◌≤◌, Bool, true, false, cond, ◌&&◌, eqb, List, [], ◌∷◌, ◌++◌, length, slice_get, map, Option, Some, None, Ok, refl, sym, ap, ◌∙◌, subst, arith, inl, inr}
-use Rattle.htl_model.specs.declared.parts.Inv.{Inv}
-use Rattle.htl_model.specs.declared.parts.End.{End}
-use Rattle.htl_model.specs.Lists.{joined, numbered}
-use Rattle.htl_model.specs.Tables.{Tables, release}
-use Rattle.htl_ecode.specs.declared.ecode.ECode.{ECode}
-use Rattle.htl_ecode.specs.declared.instr.EInstr.{EInstr}
+use Rattle.htl_emach.proofs.Words.{Inv, End, joined, numbered, Tables, release, ECode, EInstr, counts, meets, ends_in, places_at, next_offset, phase_offsets, holds, Want, Does, Waits, all_do, waits_for, call_of, calls_of, release_of, releases, calls, block_chain, Step, read, steps_of, passed_by, target_of, blocks, block_at, block_path, IsLeast, least_is, kept_are, instrs_of, ModeReads, IsBlockPhase, spelled_stands, spelled_links, Trigger, Calendar, goes, with_trigger, Ends, IsAllowed, AreAllowed, HasOutput, HasInput, trigger_at, next_block, calendar_replay}
 use Rattle.htl_ecode.specs.declared.instr.EInstr.TheVariants as I
-use Rattle.htl_ecode.specs.Offsets.{counts, meets, ends_in, places_at, next_offset, phase_offsets, holds}
-use Rattle.htl_ecode.specs.Chains.{Want, Does, Waits, all_do, waits_for, call_of, calls_of, release_of, releases, calls, block_chain}
-use Rattle.htl_ecode.specs.Steps.{Step, read, steps_of, passed_by, target_of}
-use Rattle.htl_ecode.specs.Departure.{blocks, block_at}
-use Rattle.htl_ecode.specs.Paths.{block_path}
-use Rattle.htl_ecode.proofs.Least.{IsLeast, least_is}
-use Rattle.htl_ecode.proofs.Kept.{kept_are, instrs_of}
-use Rattle.htl_ecode.proofs.Spelled.{ModeReads}
-use Rattle.htl_ecode.proofs.BlockLaws.{IsBlockPhase, spelled_stands, spelled_links}
 use Rattle.htl_ecode.proofs.Spelled as spelled
-use Rattle.htl_emach.specs.declared.trigger.Trigger.{Trigger}
-use Rattle.htl_emach.specs.Calendars.{Calendar, goes, with_trigger}
-use Rattle.htl_emach.specs.Leading.{Ends, IsAllowed, AreAllowed, HasOutput, HasInput}
-use Rattle.htl_emach.specs.Pending.{trigger_at, next_block}
-use Rattle.htl_emach.specs.Following.{calendar_replay}
 use Rattle.htl_emach.proofs.Blocks.{GoesOn, IsBlock, block_ends}
 use Rattle.htl_emach.proofs.Effects.{calendar_after, replay_kept, allowed_kept, allowed_instrs, AllAllowed, WantsAllowed, wants_more, do_more, do_cond, do_numbered, with_next}
 use Rattle.htl_emach.proofs.Triggers.{IsQuiet, AreQuiet, set_next, calls_quiet, chain_sets}

@@ -1,21 +1,7 @@
 -- A chain read item by item.
 use Rattle.std.proofs.Common.{◌≡◌, ℕ, suc, ◌+◌, ◌<◌, ◌≤◌, Bool, true, false, cond, eqb, List, [], ◌∷◌, ◌++◌, length, get_or, drop, drop-cons, add-one, map, Result, Ok, Err, refl, sym, ap, ◌∙◌}
-use Rattle.htl_model.specs.declared.parts.Inv.{Inv}
-use Rattle.htl_model.specs.declared.parts.End.{End}
-use Rattle.htl_model.specs.declared.parts.Module.{Module}
-use Rattle.htl_model.specs.Lists.{joined, numbered, places_from}
-use Rattle.htl_model.specs.Starts.{IsStartOf}
-use Rattle.htl_model.specs.Tables.{Tables}
-use Rattle.htl_ecode.specs.declared.instr.EInstr.{EInstr}
+use Rattle.htl_espell.proofs.Words.{Inv, End, Module, joined, numbered, places_from, IsStartOf, Tables, EInstr, EFault, meets, counts, ends_in, places_at, Want, Does, all_do, is_child, children, call_of, calls_of, release_of, releases, calls, bind, Reached, reach, IsOfMode, calls_of_mode, releases_of_mode, found_from_start, nothing_later, next_of, end_wants, call_wants, release_wants, child_wants}
 use Rattle.htl_ecode.specs.declared.instr.EInstr.TheVariants as I
-use Rattle.htl_ecode.specs.declared.fault.EFault.{EFault}
-use Rattle.htl_ecode.specs.Offsets.{meets, counts, ends_in, places_at}
-use Rattle.htl_ecode.specs.Chains.{Want, Does, all_do, is_child, children, call_of, calls_of, release_of, releases, calls}
-use Rattle.htl_ecode.specs.Jumps.{bind}
-use Rattle.htl_ecode.specs.Steps.{Reached, reach}
-use Rattle.htl_ecode.proofs.ModeInvLaws.{IsOfMode, calls_of_mode, releases_of_mode, found_from_start, nothing_later}
-use Rattle.htl_espell.specs.Checks.{next_of}
-use Rattle.htl_espell.specs.Parts.{end_wants, call_wants, release_wants, child_wants}
 
 pub bind_twice : {A B C : Type 0} (r : Result A EFault) (f : A → Result B EFault) (g : B → Result C EFault) → bind (bind r f) g ≡ bind r (λ x. bind (f x) g)
 bind_twice (Ok x) f g = refl

@@ -1,17 +1,7 @@
 -- The first departure of a mode, list by list, and of all modes.
 use Rattle.std.proofs.Common.{◌≡◌, ◌↔◌, Result, IsOk, refl, ℕ, zero, suc, ◌+◌, ◌≤◌, ◌<◌, List, length, Option, Some, None, Ok, Err, sym, ap, ◌∙◌, arith, add-one, ◌⊎◌, inl, inr}
-use Rattle.htl_model.specs.Tables.{Tables}
-use Rattle.htl_ecode.specs.declared.ecode.ECode.{ECode}
-use Rattle.htl_ecode.specs.declared.instr.EInstr.{EInstr}
-use Rattle.htl_ecode.specs.declared.fault.EFault.{EFault}
-use Rattle.htl_ecode.specs.Chains.{enter_chain, begin_chain, decide_chain}
-use Rattle.htl_ecode.specs.Steps.{read, steps_of, target_of}
-use Rattle.htl_ecode.specs.Departure.{fault_of, either, entered, block_begun, decided, first_target, enter_fault, begin_fault, phase_fault, decide_fault, mode_fault, departure_before, departure}
-use Rattle.htl_ecode.specs.Spelling.{Spells}
-use Rattle.htl_ecode.proofs.SpellingLaws.{spelled_departs_not, departs_not_spells}
-use Rattle.htl_espell.specs.Checks.{phase_departure, enter_read, begin_read, decide_read}
+use Rattle.htl_espell.proofs.Words.{Tables, ECode, EInstr, EFault, enter_chain, begin_chain, decide_chain, read, steps_of, target_of, fault_of, either, entered, block_begun, decided, first_target, enter_fault, begin_fault, phase_fault, decide_fault, mode_fault, departure_before, departure, Spells, spelled_departs_not, departs_not_spells, phase_departure, enter_read, begin_read, decide_read, cases_at_most}
 use Rattle.htl_espell.proofs.Whole.{enter_fault_is, begin_fault_is, begin_targets, decide_fault_is}
-use Rattle.htl_base.proofs.Numbers.{cases_at_most}
 
 either_first : (a b : Option EFault) (e : EFault) → Some e ≡ a → Some e ≡ either a b
 either_first a b e h = ap (λ z. either z b) h

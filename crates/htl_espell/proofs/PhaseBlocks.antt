@@ -1,16 +1,6 @@
 -- The blocks of a phase, one by one.
 use Rattle.std.proofs.Common.{◌≡◌, ℕ, zero, suc, ◌+◌, ◌≤◌, ◌<◌, true, List, [], ◌∷◌, length, Option, Some, None, IfSome, refl, sym, ap, ◌∙◌, subst, arith, add-one}
-use Rattle.htl_model.specs.Tables.{Tables}
-use Rattle.htl_ecode.specs.declared.instr.EInstr.{EInstr}
-use Rattle.htl_ecode.specs.declared.fault.EFault.{EFault}
-use Rattle.htl_ecode.specs.Offsets.{next_offset, phase_offsets, holds, OffsetsFit}
-use Rattle.htl_ecode.specs.Chains.{block_chain}
-use Rattle.htl_ecode.specs.Steps.{read}
-use Rattle.htl_ecode.specs.Departure.{Block, blocks_from, led_on, fault_of, either, block_faults}
-use Rattle.htl_ecode.proofs.Least.{count_from, count_all}
-use Rattle.htl_ecode.proofs.Phases.{left_from, left_next, left_falls, IsOffset, next_is_offset, next_after}
-use Rattle.htl_ecode.specs.Generation.{IsLater}
-use Rattle.htl_espell.specs.Checks.{phase_departure, block_of}
+use Rattle.htl_espell.proofs.Words.{Tables, EInstr, EFault, next_offset, phase_offsets, holds, OffsetsFit, block_chain, read, Block, blocks_from, led_on, fault_of, either, block_faults, count_from, count_all, left_from, left_next, left_falls, IsOffset, next_is_offset, next_after, IsLater, phase_departure, block_of}
 
 enough_blocks : (t : Tables) (code : List EInstr) (m phase f g : ℕ) (next at : Option ℕ) → IsOffset t m phase next → left_from t m phase next ≤ f → left_from t m phase next ≤ g →
     blocks_from f t code m phase next at ≡ blocks_from g t code m phase next at

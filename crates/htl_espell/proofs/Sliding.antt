@@ -1,14 +1,7 @@
 -- Chains of plain jumps of which it is known where they lead.
 use Rattle.std.proofs.Common.{◌≡◌, ◌≤◌, ◌+◌, ◌-◌, arith, ℕ, zero, suc, Bool, true, false, eqb, List, Option, Some, None, get_or, replicate, refl, sym, ap, subst, ◌∙◌}
-use Rattle.std.specs.Prelude.{slice_get}
-use Rattle.std.proofs.lemmas.Bool.{eqb-true, eq-eqb}
-use Rattle.htl_ecode.specs.declared.instr.EInstr.{EInstr}
+use Rattle.htl_espell.proofs.Words.{slice_get, eqb-true, eq-eqb, EInstr, jump_to, land, lands, arrive, fault_of, Slide, jump_at, slid, no_slide, AreSlides, place_of}
 use Rattle.htl_ecode.specs.declared.instr.EInstr.TheVariants as I
-use Rattle.htl_ecode.specs.Jumps.{jump_to, land, lands, arrive}
-use Rattle.htl_ecode.specs.Departure.{fault_of}
-use Rattle.htl_espell.specs.declared.slides.Slide.{Slide}
-use Rattle.htl_espell.specs.Slides.{jump_at, slid, no_slide, AreSlides}
-use Rattle.htl_espell.specs.Checks.{place_of}
 use Rattle.htl_espell.proofs.Jumping.{arrived, arrive_by_jump, land_by_jump}
 
 jumps_to : (code : List EInstr) (at target : ℕ) → slice_get code at ≡ Some (I.Jump target) → jump_at code at ≡ Some target

@@ -1,9 +1,6 @@
 -- The parse of code keeps a stack of expressions; the stack of types holds their types.
 use Rattle.std.proofs.Common.{◌≡◌, ℕ, ◌+◌, ◌≤◌, ◌<◌, zero, suc, Bool, true, false, ◌&&◌, cond, option_map, ltb, leb, List, [], ◌∷◌, length, get_or, slice_get, map, Option, Some, None, ℤ, pos, refl, sym, ap, ◌∙◌, subst, arith}
-use Rattle.std.proofs.lemmas.Bool.{lt-ltb, and_parts}
-use Rattle.std.proofs.lemmas.Bool.Decides.{nat_tests}
-use Rattle.std.proofs.lemmas.List.{length-map}
-use Rattle.std.proofs.lemmas.Option.{slice_get-get_or, slice_get_within}
+use Rattle.htl_model.proofs.Words.{lt-ltb, and_parts, nat_tests, length-map, slice_get-get_or, slice_get_within}
 use Rattle.htl_base.specs.declared.Ty.{Ty}
 use Rattle.htl_base.specs.declared.Ty.TheVariants.{Int as IntTy, Bool as BoolTy}
 use Rattle.htl_base.specs.declared.operator.UnOp.{UnOp}

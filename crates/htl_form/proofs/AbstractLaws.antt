@@ -1,19 +1,7 @@
 -- Which ports abstract invocations write: the test and the words.
 use Rattle.std.proofs.Common.{◌≡◌, ◌≤◌, ◌<◌, ℕ, true, false, not, eqb, length, Some, ◌∙◌, ap, arith}
-use Rattle.std.specs.List.{list_any}
-use Rattle.std.specs.Cmp.Derive.{both_true}
-use Rattle.std.proofs.lemmas.Bool.{false_from_ne_true, and_parts, not-true}
-use Rattle.std.proofs.lemmas.Bool.Decides.{nat_tests}
-use Rattle.std.proofs.lemmas.Option.{slice_get_within}
-use Rattle.htl_model.specs.declared.parts.End.{End}
+use Rattle.htl_form.proofs.Words.{list_any, both_true, false_from_ne_true, and_parts, not-true, nat_tests, slice_get_within, End, Tables, is_concrete, AreInRange, IsInvInRange, IsEndInRange, IsAbstractlyWritten, is_port, writes_abstractly, is_abstractly_written, all_at, some_place, any_passes_from_place}
 use Rattle.htl_model.specs.declared.parts.End.TheVariants as E
-use Rattle.htl_model.specs.Tables.{Tables, is_concrete}
-use Rattle.htl_model.specs.Ranges.{AreInRange, IsInvInRange, IsEndInRange}
-use Rattle.htl_model.specs.EndRules.{IsAbstractlyWritten}
-use Rattle.htl_model.specs.PortWriters.{is_port}
-use Rattle.htl_form.specs.AbstractWriters.{writes_abstractly, is_abstractly_written}
-use Rattle.htl_base.proofs.Places.{all_at, some_place}
-use Rattle.std.proofs.lemmas.Map.Keys.{any_passes_from_place}
 
 pub goes : (p : ℕ) (e : End) → is_port p e ≡ true → e ≡ E.Port p
 goes p (E.Comm c n) h = cc

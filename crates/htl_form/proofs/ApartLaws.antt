@@ -1,32 +1,10 @@
 -- Which invocations write nothing that an earlier concrete invocation writes.
 use Rattle.std.proofs.Common.{◌≡◌, ◌≢◌, ◌<◌, ◌≤◌, ◌⊎◌, ℕ, zero, suc, ◌+◌, ◌-◌, Bool, true, false, ◌&&◌, cond, eqb, List, [], ◌∷◌, ◌++◌, get_or, replicate, Option, Some, None, refl, sym, ◌∙◌, ap, subst, arith, inl, inr}
-use Rattle.std.specs.Prelude.{slice_get}
-use Rattle.std.specs.List.{list_any, IsDistinct, AllByRecursion}
-use Rattle.std.proofs.lemmas.Bool.Decides.{nat_tests}
-use Rattle.std.proofs.lemmas.List.Folds.{list_any-append}
-use Rattle.std.specs.List.Sorted.{IsPermutation, IsSorted, IsStrictlyIncreasing}
-use Rattle.std.specs.Ordering.{nat_cmp}
-use Rattle.std.proofs.lemmas.List.Sorted.{IsPermutation-sym, IsNonDecreasingBy-from_sort}
-use Rattle.std.proofs.lemmas.Map.Keys.{IsDistinct-head, IsDistinct-tail, IsDistinct-cons, IsDistinct-from_apart, IsDistinct-IsPermutation, any_passes_from_place, below_from_sorted, sorted_from_strictly_increasing, IsStrictlyIncreasing-from_distinct}
-use Rattle.htl_model.specs.declared.parts.Inv.{Inv}
-use Rattle.htl_model.specs.declared.parts.End.{End}
+use Rattle.htl_form.proofs.Words.{slice_get, list_any, IsDistinct, AllByRecursion, nat_tests, list_any-append, IsPermutation, IsSorted, IsStrictlyIncreasing, nat_cmp, IsPermutation-sym, IsNonDecreasingBy-from_sort, IsDistinct-head, IsDistinct-tail, IsDistinct-cons, IsDistinct-from_apart, IsDistinct-IsPermutation, any_passes_from_place, below_from_sorted, sorted_from_strictly_increasing, IsStrictlyIncreasing-from_distinct, Inv, End, OutputBefore, AreInRange, IsInvInRange, IsEndInRange, StandTogether, AreSameWrite, WritesBefore, Tables, is_concrete, key, instance_of, AreNear, end_keys, keys_in, inv_keys, keys_from, is_comm, takes, is_taken, is_taken_end, IsApart, AreApart, AreNoted, IsRangeOf, stand_together, rivals, outputs_before, writer_before, all_at, eq-eqb, or_cases, or_left, or_right, eqb_flips, true_not_false, eqb_less, cases_below, nothing_from}
 use Rattle.htl_model.specs.declared.parts.End.TheVariants as E
-use Rattle.htl_model.specs.PortWriters.{OutputBefore}
-use Rattle.htl_model.specs.Ranges.{AreInRange, IsInvInRange, IsEndInRange}
-use Rattle.htl_model.specs.SecondWriters.{StandTogether, AreSameWrite, WritesBefore}
-use Rattle.htl_model.specs.Tables.{Tables, is_concrete}
 use Rattle.htl_form.proofs.PathLaws.{true_together}
 use Rattle.htl_form.proofs.Places.{filled_at}
 use Rattle.htl_form.proofs.WriterLaws.{writes_before}
-use Rattle.htl_form.specs.Apart.{key, instance_of, AreNear, end_keys, keys_in, inv_keys, keys_from, is_comm, takes, is_taken, is_taken_end, IsApart, AreApart}
-use Rattle.htl_form.specs.Owners.{AreNoted}
-use Rattle.htl_form.specs.Rows.{IsRangeOf}
-use Rattle.htl_form.specs.WriterFaults.{stand_together, rivals, outputs_before, writer_before}
-use Rattle.htl_base.proofs.Places.{all_at}
-use Rattle.std.proofs.lemmas.Bool.{eq-eqb, or_cases, or_left, or_right}
-use Rattle.htl_base.proofs.Tests.{eqb_flips, true_not_false, eqb_less}
-use Rattle.htl_base.proofs.Numbers.{cases_below}
-use Rattle.htl_model.proofs.FirstLaws.{nothing_from}
 
 -- ---- two parts of a list without repetitions
 

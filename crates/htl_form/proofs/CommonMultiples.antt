@@ -1,14 +1,7 @@
 -- The multiple that is the length of a frame is the least one that all periods divide.
 use Rattle.std.proofs.Common.{◌≡◌, ◌<◌, ℕ, zero, suc, ◌-◌, ◌*◌, ◌/◌, ◌%◌, List, [], ◌∷◌, length, map, get_or, Option, Some, None, sym, ◌∙◌, ap, subst, arith}
 use Rattle.std.specs.Int.{IsGcd, ◌∣◌}
-use Rattle.std.specs.List.{AllByRecursion}
-use Rattle.std.proofs.lemmas.Nat.Gcd.{dvd_refl, dvd_trans}
-use Rattle.std.proofs.Math.Nat.{mul_comm, mul_assoc, mul_right_comm, mul-sub, dvd-sub, dvd-mul_left, dvd-mul_right_of_dvd, mul-dvd-mul_left, mul-dvd-mul_right, dvd_of_mul-dvd-mul_right, pos_of_dvd_of_pos, div-mul_cancel, mod-eq-sub-mul-div}
-use Rattle.htl_model.proofs.Divisors.{greatest_divisor}
-use Rattle.htl_model.proofs.FrameBuild.{roots_some}
-use Rattle.htl_model.specs.Frames.{gcd_in, common_multiple, multiple_of, unit_period}
-use Rattle.htl_model.specs.Selections.{root_modules}
-use Rattle.htl_form.specs.CommonMultiples.{IsLcm, IsLcmOf, FramesAreLeast}
+use Rattle.htl_form.proofs.Words.{AllByRecursion, dvd_refl, dvd_trans, mul_comm, mul_assoc, mul_right_comm, mul-sub, dvd-sub, dvd-mul_left, dvd-mul_right_of_dvd, mul-dvd-mul_left, mul-dvd-mul_right, dvd_of_mul-dvd-mul_right, pos_of_dvd_of_pos, div-mul_cancel, mod-eq-sub-mul-div, greatest_divisor, roots_some, gcd_in, common_multiple, multiple_of, unit_period, root_modules, IsLcm, IsLcmOf, FramesAreLeast}
 
 -- what divides two multiples divides that of the remainder
 rest : (a b x d : ℕ) → d ∣ x * a → d ∣ x * b → d ∣ x * (a % b)

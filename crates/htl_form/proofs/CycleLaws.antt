@@ -1,21 +1,8 @@
 -- The test for cycles of ports finds what the rule says.
 use Rattle.std.proofs.Common.{◌≡◌, ◌<◌, ◌≤◌, ℕ, zero, suc, Bool, true, not, ◌&&◌, ◌||◌, eqb, List, length, Some, refl, sym, ◌∙◌, ap, arith}
-use Rattle.std.specs.Prelude.{slice_get}
-use Rattle.std.specs.List.{list_any}
-use Rattle.std.proofs.lemmas.Cmp.{nat_eq_equiv}
-use Rattle.std.proofs.lemmas.Map.Made.{length-from_same_keys}
-use Rattle.std.proofs.lemmas.Map.Views.{list_any-from_Contains, Contains-from_any}
-use Rattle.htl_model.proofs.NumbersBelow.{length_numbers}
-use Rattle.htl_model.proofs.PortChains.{leads_from, leads_within, feeds_within, cycles_listed}
-use Rattle.htl_model.specs.declared.parts.Inv.{Inv}
-use Rattle.htl_model.specs.NumbersBelow.{numbers_below}
-use Rattle.htl_model.specs.PortOrder.{leads_below, feeds, Precedes, AreOnCycles, InCycle}
-use Rattle.htl_model.specs.Ranges.{AreInRange}
-use Rattle.htl_model.specs.Tables.{Tables}
+use Rattle.htl_form.proofs.Words.{slice_get, list_any, nat_eq_equiv, length-from_same_keys, list_any-from_Contains, Contains-from_any, length_numbers, leads_from, leads_within, feeds_within, cycles_listed, Inv, numbers_below, leads_below, feeds, Precedes, AreOnCycles, InCycle, AreInRange, Tables, same_truth, eqb-true, not-false}
 use Rattle.htl_form.proofs.Finding.{Finds, finds_unless}
 use Rattle.htl_form.specs.Cycles.{precedes_itself, is_on_cycle, cycle_count, cycle_fault}
-use Rattle.htl_base.proofs.Tests.{same_truth}
-use Rattle.std.proofs.lemmas.Bool.{eqb-true, not-false}
 
 -- ---- what leads to what
 

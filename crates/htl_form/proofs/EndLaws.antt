@@ -1,20 +1,7 @@
 -- The tests of the rules not-false ends, windows and worst cases find exactly what the words say.
 use Rattle.std.proofs.Common.{◌≡◌, ◌≢◌, ℕ, ◌*◌, ◌<◌, ◌⊎◌, Bool, true, false, not, ◌&&◌, eqb, ltb, List, length, Option, Some, None, refl, sym, ◌∙◌, ap, arith, inl, inr}
-use Rattle.std.specs.Prelude.{slice_get, option_map}
-use Rattle.std.specs.Cmp.Derive.{both_true}
-use Rattle.std.proofs.lemmas.Bool.{cases_Bool, not-false}
-use Rattle.std.proofs.lemmas.Bool.Decides.{nat_tests}
-use Rattle.htl_base.specs.declared.Ty.{Ty}
-use Rattle.htl_model.specs.declared.parts.Inv.{Inv}
-use Rattle.htl_model.specs.declared.parts.End.{End}
+use Rattle.htl_form.proofs.Words.{slice_get, option_map, both_true, cases_Bool, not-false, nat_tests, Ty, Inv, End, Tables, mode_period, comm_period, task_worst, release, window_end, is_concrete, ReadLate, WriteOutside, CountsDiffer, TypeDiffers, WindowEmpty, WorstLong, AbstractRead, SensorWritten, input_types, output_types, type_number, end_type, is_sensor, or_else, Found, unless, is_abstractly_written, read_offset_fault, write_offset_fault, unless_equal, count_fault, unless_same, type_fault, abstract_read_fault, sensor_fault, window_fault, worst_case_fault}
 use Rattle.htl_model.specs.declared.parts.End.TheVariants as E
-use Rattle.htl_model.specs.Tables.{Tables, mode_period, comm_period, task_worst, release, window_end, is_concrete}
-use Rattle.htl_model.specs.EndRules.{ReadLate, WriteOutside, CountsDiffer, TypeDiffers, WindowEmpty, WorstLong, AbstractRead, SensorWritten, input_types, output_types, type_number, end_type, is_sensor}
-use Rattle.htl_model.specs.First.{or_else}
-use Rattle.htl_model.specs.Found.{Found, unless}
-use Rattle.htl_form.specs.AbstractWriters.{is_abstractly_written}
-use Rattle.htl_form.specs.EndFaults.{read_offset_fault, write_offset_fault, unless_equal, count_fault, unless_same, type_fault, abstract_read_fault, sensor_fault}
-use Rattle.htl_form.specs.WindowFaults.{window_fault, worst_case_fault}
 use Rattle.htl_form.proofs.AbstractLaws.{written, written_test}
 use Rattle.htl_form.proofs.Finding.{Finds, finds_nothing, finds_unless}
 use Rattle.htl_form.proofs.PeriodLaws.{finds_equal, inner}

@@ -1,17 +1,6 @@
 -- The test of the limits of frames finds exactly what the words say.
 use Rattle.std.proofs.Common.{◌≡◌, ◌<◌, ℕ, ◌+◌, Bool, true, false, cond, length, get_or, slice_get, Option, Some, None, refl, sym, ◌∙◌, ap, arith}
-use Rattle.std.proofs.lemmas.Bool.{eqb-true, eq-eqb}
-use Rattle.std.proofs.lemmas.Option.{get_or_from_slice_get}
-use Rattle.htl_model.specs.declared.parts.Mode.{Mode}
-use Rattle.htl_model.specs.Found.{Found}
-use Rattle.htl_model.specs.Frames.{frame_limit}
-use Rattle.htl_model.specs.PeriodRules.{first_mode, FrameExceeds}
-use Rattle.htl_model.specs.Ranges.{AreInRange}
-use Rattle.htl_model.specs.Selections.{is_root, modes_of}
-use Rattle.htl_model.specs.Tables.{Tables}
-use Rattle.htl_model.proofs.FrameRules.{limit_among, first_own}
-use Rattle.htl_model.proofs.SelectionLaws.{places_below}
-use Rattle.htl_form.specs.FrameFaults.{is_first_of, frame_fault}
+use Rattle.htl_form.proofs.Words.{eqb-true, eq-eqb, get_or_from_slice_get, Mode, Found, frame_limit, first_mode, FrameExceeds, AreInRange, is_root, modes_of, Tables, limit_among, first_own, places_below, is_first_of, frame_fault}
 use Rattle.htl_form.proofs.Finding.{Finds}
 
 -- what is found where the limit is this

@@ -1,17 +1,6 @@
 -- The tests of each rule find exactly what breaks it.
 use Rattle.std.proofs.Common.{◌≡◌, ℕ, Some}
-use Rattle.std.specs.Prelude.{slice_get}
-use Rattle.htl_model.specs.declared.parts.Mode.{Mode}
-use Rattle.htl_model.specs.declared.parts.Inv.{Inv}
-use Rattle.htl_model.specs.declared.parts.End.{End}
-use Rattle.htl_model.specs.Tables.{Tables}
-use Rattle.htl_model.specs.Ranges.{AreInRange}
-use Rattle.htl_model.specs.EndRules.{input_types, output_types}
-use Rattle.htl_model.specs.Broken.{Breach, breach}
-use Rattle.htl_form.specs.Rules.{law_of}
-use Rattle.htl_model.specs.Search.{Tests}
-use Rattle.htl_form.specs.Tests.{tests}
-use Rattle.htl_form.specs.declared.rule.Rule.{Rule}
+use Rattle.htl_form.proofs.Words.{slice_get, Mode, Inv, End, Tables, AreInRange, input_types, output_types, Breach, breach, law_of, Tests, tests, Rule}
 use Rattle.htl_form.specs.declared.rule.Rule.TheVariants as R
 use Rattle.htl_form.proofs.Finding.{Finds, finds_nothing}
 use Rattle.htl_form.proofs.PeriodLaws.{module_period_is, divides_is, end_divides_is}

@@ -22,3 +22,4 @@ pub mod SiteLaws
 mod WriterExamples
 pub mod WriterLaws
 pub mod WriterSamples
+pub mod Words

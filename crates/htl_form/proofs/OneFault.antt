@@ -1,23 +1,9 @@
 -- Tables have one first fault of the rules 1 to 12 at most.
 use Rattle.std.proofs.Common.{◌≡◌, ℕ, ◌≤◌, ◌<◌, ◌⊎◌, inl, inr, Option, Some, None, refl, sym, ◌∙◌, ap, subst, arith}
-use Rattle.std.specs.Prelude.{slice_get}
-use Rattle.htl_model.specs.declared.form_fault.FormFault.{FormFault}
-use Rattle.htl_model.specs.declared.parts.End.{End}
-use Rattle.htl_model.specs.declared.parts.Inv.{Inv}
-use Rattle.htl_model.specs.declared.parts.Mode.{Mode}
-use Rattle.htl_model.specs.Tables.{Tables, mode_module}
-use Rattle.htl_model.specs.Ranges.{AreInRange}
-use Rattle.htl_model.specs.FormRules.{FormRule, number_of, Part, Itself, Input, Output, Test, Site, PartBefore, InvBefore, SiteBefore, ComesBefore}
-use Rattle.htl_model.specs.Broken.{Breach, breach, PartBreaks, ModeBreaks, BreaksAt, Broken, site_of, IsFirstBroken}
-use Rattle.htl_model.specs.Found.{Found}
-use Rattle.htl_form.specs.Rules.{law_of, all_rules}
-use Rattle.htl_model.specs.Search.{Tests}
-use Rattle.htl_form.specs.Tests.{tests}
-use Rattle.htl_form.specs.declared.rule.Rule.{Rule}
+use Rattle.htl_form.proofs.Words.{slice_get, FormFault, End, Inv, Mode, Tables, mode_module, AreInRange, FormRule, number_of, Part, Itself, Input, Output, Test, Site, PartBefore, InvBefore, SiteBefore, ComesBefore, Breach, breach, PartBreaks, ModeBreaks, BreaksAt, Broken, site_of, IsFirstBroken, Found, law_of, all_rules, Tests, tests, Rule, cases_less_same}
 use Rattle.htl_form.proofs.Finding.{Finds}
 use Rattle.htl_form.proofs.Judging.{Judges, judges}
 use Rattle.htl_form.proofs.RuleOrder.{place_of}
-use Rattle.htl_base.proofs.Numbers.{cases_less_same}
 
 -- ---- of two places one is before the other, or they are one
 

@@ -1,20 +1,9 @@
 -- What one module alone writes is not taken: its modes are rivals.
 use Rattle.std.proofs.Common.{◌≡◌, ◌<◌, ◌≤◌, ℕ, zero, suc, ◌+◌, Bool, true, false, eqb, List, [], ◌∷◌, length, get_or, Option, Some, None, refl, ◌∙◌, subst, arith, inl, inr}
-use Rattle.std.specs.Prelude.{slice_get}
-use Rattle.std.specs.List.{list_any}
-use Rattle.std.proofs.lemmas.Bool.Decides.{nat_tests}
-use Rattle.htl_model.specs.declared.parts.Inv.{Inv}
-use Rattle.htl_model.specs.declared.parts.End.{End}
+use Rattle.htl_form.proofs.Words.{slice_get, list_any, nat_tests, Inv, End, Tables, is_concrete, mode_module, is_comm, takes, is_taken, AreTaken, has_module, has_other, is_shared_end, AreOwners, AreNoted, IsRangeOf, stand_together, Owner, and_parts, eqb-true, or_cases, or_parts}
 use Rattle.htl_model.specs.declared.parts.End.TheVariants as E
-use Rattle.htl_model.specs.Tables.{Tables, is_concrete, mode_module}
-use Rattle.htl_form.specs.Apart.{is_comm, takes, is_taken, AreTaken}
-use Rattle.htl_form.specs.Owners.{has_module, has_other, is_shared_end, AreOwners, AreNoted}
-use Rattle.htl_form.specs.Rows.{IsRangeOf}
-use Rattle.htl_form.specs.WriterFaults.{stand_together}
-use Rattle.htl_form.specs.declared.owners.Owner.{Owner}
 use Rattle.htl_form.specs.declared.owners.Owner.TheVariants as owner
 use Rattle.htl_form.proofs.PathLaws.{rivals_apart}
-use Rattle.std.proofs.lemmas.Bool.{and_parts, eqb-true, or_cases, or_parts}
 
 -- an invocation that takes a communicator from mode m
 record Taker (t : Tables) (m base c : ℕ) : Type 0 where

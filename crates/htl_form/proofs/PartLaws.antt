@@ -1,21 +1,8 @@
 -- The first part of an invocation, or of a mode, at which a rule is broken.
 use Rattle.std.proofs.Common.{◌≡◌, ℕ, Bool, true, false, cond, eqb, Option, Some, None, refl, sym, ◌∙◌, ap, subst, arith, inl, inr}
-use Rattle.std.specs.Prelude.{slice_get}
-use Rattle.std.proofs.lemmas.Bool.Decides.{nat_tests}
-use Rattle.htl_model.specs.declared.parts.Inv.{Inv}
-use Rattle.htl_model.specs.declared.parts.Mode.{Mode}
-use Rattle.htl_model.specs.declared.parts.Switch.{Switch}
-use Rattle.htl_model.specs.Tables.{Tables}
-use Rattle.htl_model.specs.FormRules.{Part, Itself, Input, Output, Test, PartBefore}
-use Rattle.htl_model.specs.Broken.{Breach, PartBreaks, ModeBreaks}
-use Rattle.htl_model.specs.First.{first_from}
-use Rattle.htl_model.specs.Found.{Found}
-use Rattle.htl_model.specs.Search.{Tests, at_inv, at_read, at_switch, at_mode}
-use Rattle.htl_model.proofs.FirstLaws.{or_else_some, or_else_none, none_at, found_at, IsFirstAt}
+use Rattle.htl_form.proofs.Words.{slice_get, nat_tests, Inv, Mode, Switch, Tables, Part, Itself, Input, Output, Test, PartBefore, Breach, PartBreaks, ModeBreaks, first_from, Found, Tests, at_inv, at_read, at_switch, at_mode, or_else_some, or_else_none, none_at, found_at, IsFirstAt, eqb-true, none-some}
 use Rattle.htl_form.proofs.Finding.{Finds}
 use Rattle.htl_form.proofs.Judging.{Judges}
-use Rattle.std.proofs.lemmas.Bool.{eqb-true}
-use Rattle.std.proofs.lemmas.Option.{none-some}
 
 pub eqb_is : (m : ℕ) → eqb m m ≡ true
 eqb_is m = grind (arith, nat_tests)

@@ -1,15 +1,7 @@
 -- Which modes can stand together, by their paths.
 use Rattle.std.proofs.Common.{◌≡◌, ◌≢◌, ℕ, zero, suc, Bool, true, false, not, ◌&&◌, eqb, [], Option, Some, None, refl, sym, ◌∙◌, ap, arith, inl, inr}
-use Rattle.std.specs.Prelude.{slice_get}
-use Rattle.std.specs.List.{list_any}
-use Rattle.std.proofs.lemmas.Bool.Decides.{nat_tests}
-use Rattle.htl_model.specs.declared.parts.Module.{Module}
-use Rattle.htl_model.specs.Ranges.{AreInRange, parent_of, is_within}
-use Rattle.htl_model.specs.SecondWriters.{parent_mode, OnPath, itself, above, StandTogether}
-use Rattle.htl_model.specs.Tables.{Tables, mode_module}
+use Rattle.htl_form.proofs.Words.{slice_get, list_any, nat_tests, Module, AreInRange, parent_of, is_within, parent_mode, OnPath, itself, above, StandTogether, Tables, mode_module, eqb-true, or_cases, or_left, or_right, eqb_apart}
 use Rattle.htl_form.specs.WriterFaults.{path, are_rivals, has_rival, stand_together}
-use Rattle.std.proofs.lemmas.Bool.{eqb-true, or_cases, or_left, or_right}
-use Rattle.htl_base.proofs.Tests.{eqb_apart}
 
 -- ---- the modes of a path
 

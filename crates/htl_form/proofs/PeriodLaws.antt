@@ -1,16 +1,8 @@
 -- The tests of the rules on periods find exactly what the words say.
 use Rattle.std.proofs.Common.{◌≡◌, ◌≢◌, ℕ, ◌%◌, ◌⊎◌, false, eqb, Option, Some, None, refl, sym, ap, subst, arith}
-use Rattle.std.proofs.lemmas.Bool.Decides.{nat_tests}
-use Rattle.htl_model.specs.declared.parts.Mode.{Mode}
-use Rattle.htl_model.specs.declared.parts.Inv.{Inv}
-use Rattle.htl_model.specs.declared.parts.End.{End}
+use Rattle.htl_form.proofs.Words.{nat_tests, Mode, Inv, End, Tables, mode_period, comm_period, asked_period, PeriodDiffers, NotDivided, EndNotDivided, unless, unless_asked, module_period_fault, divides, divides_fault, end_divides_fault, eqb_apart}
 use Rattle.htl_model.specs.declared.parts.End.TheVariants as E
-use Rattle.htl_model.specs.Tables.{Tables, mode_period, comm_period}
-use Rattle.htl_model.specs.PeriodRules.{asked_period, PeriodDiffers, NotDivided, EndNotDivided}
-use Rattle.htl_model.specs.Found.{unless}
-use Rattle.htl_form.specs.PeriodFaults.{unless_asked, module_period_fault, divides, divides_fault, end_divides_fault}
 use Rattle.htl_form.proofs.Finding.{Finds, finds_nothing, finds_unless}
-use Rattle.htl_base.proofs.Tests.{eqb_apart}
 
 -- two numbers that differ
 pub finds_equal : (x y : ℕ) → Finds (unless (eqb x y) x y) (λ h n. (h ≡ x) × (n ≡ y) × (h ≢ n))

@@ -1,27 +1,9 @@
 -- The tests of a port's writers find what the rule says.
 use Rattle.std.proofs.Common.{◌≡◌, ℕ, zero, suc, ◌+◌, ◌<◌, ◌*◌, ◌≤◌, ◌⊎◌, Bool, true, false, ◌||◌, cond, eqb, ltb, List, [], ◌∷◌, length, get_or, take, drop, drop-cons, add-one, Option, Some, None, refl, sym, ◌∙◌, ap, subst, arith, inl, inr}
-use Rattle.std.specs.Prelude.{slice_get}
-use Rattle.std.specs.List.{list_any}
-use Rattle.std.proofs.lemmas.Bool.Decides.{nat_tests}
-use Rattle.std.proofs.lemmas.List.Folds.{list_any_more}
-use Rattle.std.proofs.lemmas.List.Sums.{sum_by-cons, sum_by-le, sum_by-take-le, sum_by_more_le, count_by-le-length}
-use Rattle.std.proofs.lemmas.Option.{slice_get_within, slice_get_read, get_or_from_slice_get}
-use Rattle.std.proofs.lemmas.List.{get_or_past}
-use Rattle.htl_model.specs.declared.parts.Inv.{Inv}
-use Rattle.htl_model.specs.declared.parts.End.{End}
+use Rattle.htl_form.proofs.Words.{slice_get, list_any, nat_tests, list_any_more, sum_by-cons, sum_by-le, sum_by-take-le, sum_by_more_le, count_by-le-length, slice_get_within, slice_get_read, get_or_from_slice_get, get_or_past, Inv, End, is_port, port_uses, writers_in, port_writers, WritesPort, OutputBefore, Unwritten, Rewritten, AreInRange, IsInvInRange, IsEndInRange, Tables, IsFirstAt, found_at, none_at, or_else, first_from, Found, unless, port_writer, first_port_writer, is_below, unwritten_fault, rewritten_fault, writers_before, all_at, from_take, into_take, cases_lt, eqb_some}
 use Rattle.htl_model.specs.declared.parts.End.TheVariants as E
-use Rattle.htl_model.specs.PortWriters.{is_port, port_uses, writers_in, port_writers, WritesPort, OutputBefore, Unwritten, Rewritten}
-use Rattle.htl_model.specs.Ranges.{AreInRange, IsInvInRange, IsEndInRange}
-use Rattle.htl_model.specs.Tables.{Tables}
 use Rattle.htl_form.proofs.Finding.{Finds, finds_nothing, finds_unless}
-use Rattle.htl_model.proofs.FirstLaws.{IsFirstAt, found_at, none_at}
-use Rattle.htl_model.specs.First.{or_else, first_from}
-use Rattle.htl_model.specs.Found.{Found, unless}
-use Rattle.htl_form.specs.PortFaults.{port_writer, first_port_writer, is_below, unwritten_fault, rewritten_fault, writers_before}
-use Rattle.htl_base.proofs.Places.{all_at, from_take, into_take}
 use Rattle.htl_form.proofs.AbstractLaws.{goes}
-use Rattle.std.proofs.lemmas.Bool.{cases_lt}
-use Rattle.htl_base.proofs.Tests.{eqb_some}
 
 -- ---- where a port is written
 

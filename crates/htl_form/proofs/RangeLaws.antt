@@ -1,18 +1,6 @@
 -- The invocations of one mode stand together in the list.
 use Rattle.std.proofs.Common.{◌≡◌, ◌<◌, ◌≤◌, ◌⊎◌, ℕ, zero, suc, ◌+◌, ◌-◌, Bool, true, false, cond, eqb, List, length, get_or, take, Some, sym, ◌∙◌, ap, subst, arith, inl, inr}
-use Rattle.std.specs.Prelude.{slice_get}
-use Rattle.std.specs.List.{count_by}
-use Rattle.std.proofs.lemmas.List.Sums.{count_by_more_yes, sum_by-take-le}
-use Rattle.std.proofs.lemmas.Option.{get_or_from_slice_get}
-use Rattle.htl_model.specs.declared.parts.Inv.{Inv}
-use Rattle.htl_model.specs.Ranges.{AreInRange}
-use Rattle.htl_model.specs.Starts.{IsStartOf}
-use Rattle.htl_model.specs.Tables.{Tables}
-use Rattle.htl_form.specs.Cycles.{precedes_itself}
-use Rattle.htl_form.specs.Rows.{IsRangeOf, AreMarked}
-use Rattle.std.proofs.lemmas.Bool.{eq-eqb, cases_lt}
-use Rattle.htl_base.proofs.Places.{item_at}
-use Rattle.htl_base.proofs.Numbers.{cases_le}
+use Rattle.htl_form.proofs.Words.{slice_get, count_by, count_by_more_yes, sum_by-take-le, get_or_from_slice_get, Inv, AreInRange, IsStartOf, Tables, precedes_itself, IsRangeOf, AreMarked, eq-eqb, cases_lt, item_at, cases_le}
 
 -- the starts don't fall
 pub starts_rise : (t : Tables) (m b e : ℕ) → IsStartOf t m b → IsStartOf t (m + 1) e → b ≤ e

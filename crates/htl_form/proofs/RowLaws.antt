@@ -1,31 +1,7 @@
 -- What precedes what among the invocations of one mode, as rows of bits.
 use Rattle.std.proofs.Common.{◌≡◌, ◌≢◌, ◌<◌, ◌≤◌, ℕ, zero, suc, ◌+◌, ◌-◌, ◌*◌, ◌^◌, Bool, true, false, ◌&&◌, ◌||◌, cond, eqb, ltb, List, [], ◌∷◌, ◌++◌, length, get_or, set, take, drop, map, Option, Some, None, refl, sym, ◌∙◌, ap, subst, arith, inl, inr}
-use Rattle.std.specs.Prelude.{slice_get}
-use Rattle.std.specs.Int.{bit_at}
-use Rattle.std.specs.Int.Bits.{bit_and, bit_or, or_zero_r}
-use Rattle.std.specs.List.{list_any}
-use Rattle.std.proofs.lemmas.Bool.Decides.{nat_tests}
-use Rattle.std.proofs.lemmas.List.{length-map, get_or-set_same, get_or-set_other}
-use Rattle.std.proofs.lemmas.Nat.{pow_pos}
-use Rattle.std.proofs.lemmas.Nat.Bits.{and_pow, bit_at-lt}
-use Rattle.std.proofs.lemmas.Option.{slice_get-get_or}
-use Rattle.htl_model.proofs.BitLaws.{has_bit_or}
-use Rattle.htl_model.proofs.PortChains.{leads_from, leads_within}
-use Rattle.htl_model.specs.PortOrder.{leads_below, Leads, direct, through, feeds, feeds_at}
-use Rattle.htl_model.proofs.PortTableLaws.{row_by_reads}
-use Rattle.htl_model.specs.Bits.{has_bit, cell}
-use Rattle.htl_model.specs.declared.parts.Inv.{Inv}
-use Rattle.htl_model.specs.PortTable.{writes_to, is_from}
-use Rattle.htl_model.specs.Ranges.{AreInRange}
-use Rattle.htl_model.specs.Tables.{Tables}
+use Rattle.htl_form.proofs.Words.{slice_get, bit_at, bit_and, bit_or, or_zero_r, list_any, nat_tests, length-map, get_or-set_same, get_or-set_other, pow_pos, and_pow, bit_at-lt, slice_get-get_or, has_bit_or, leads_from, leads_within, leads_below, Leads, direct, through, feeds, feeds_at, row_by_reads, has_bit, cell, Inv, writes_to, is_from, AreInRange, Tables, and_true, precedes_itself, IsRangeOf, widened, through_one, through_all, AreWriters, follows, AreSteps, same_truth, below, get_or_mapped, cases_below_next}
 use Rattle.htl_form.proofs.CycleLaws.{leads_same, precedes_true, true_precedes}
-use Rattle.htl_model.proofs.TestLaws.{and_true}
-use Rattle.htl_form.specs.Cycles.{precedes_itself}
-use Rattle.htl_form.specs.Rows.{IsRangeOf, widened, through_one, through_all, AreWriters, follows, AreSteps}
-use Rattle.htl_base.proofs.Tests.{same_truth}
-use Rattle.std.proofs.lemmas.Bool.{lt-ltb as below}
-use Rattle.htl_base.proofs.Places.{get_or_mapped}
-use Rattle.htl_base.proofs.Numbers.{cases_below_next}
 
 -- ---- rows of bits
 

@@ -1,18 +1,7 @@
 -- For each rule a smallest table that breaks it and no other, and one that just keeps it; and which of two faults is told.
 use Rattle.std.specs.Prelude.{◌≡◌, ℕ, Bool, true, false, List, [], ◌∷◌, ◌++◌, replicate, Option, Some, None, pos, refl, codes, map}
-use Rattle.htl_base.specs.declared.Ty.{Ty}
-use Rattle.htl_base.specs.declared.Ty.TheVariants.{Int as IntTy, Bool as BoolTy}
-use Rattle.htl_model.specs.declared.form_fault.FormFault.{FormFault}
-use Rattle.htl_model.specs.declared.parts.Comm.{Comm}
-use Rattle.htl_model.specs.declared.parts.Mode.{Mode}
-use Rattle.htl_model.specs.declared.parts.Module.{Module}
-use Rattle.htl_model.specs.declared.parts.Inv.{Inv}
-use Rattle.htl_model.specs.declared.parts.End.{End}
+use Rattle.htl_form.proofs.Words.{Ty, IntTy, BoolTy, FormFault, Comm, Mode, Module, Inv, End, Tables, plain, sensor, mode, module_named, task, call, switch, int_one, told, form_fault_of}
 use Rattle.htl_model.specs.declared.parts.End.TheVariants as E
-use Rattle.htl_model.specs.Tables.{Tables}
-use Rattle.htl_model.proofs.Sources.{plain, sensor, mode, module_named, task, call, switch, int_one}
-use Rattle.htl_model.specs.Search.{told}
-use Rattle.htl_form.specs.Search.{form_fault_of}
 use Rattle.htl_form.specs.declared.rule.Rule.TheVariants as R
 
 -- what nine of the rules tell, each by itself: 1 to 7, 10, 11

@@ -1,10 +1,7 @@
 -- The rules that are tested are those with numbers up to 12, in order.
 use Rattle.std.proofs.Common.{◌≡◌, ℕ, zero, suc, ◌≤◌, Some, None, Option, refl, ap, arith}
-use Rattle.std.specs.Prelude.{slice_get}
-use Rattle.htl_model.specs.FormRules.{FormRule, number_of}
+use Rattle.htl_form.proofs.Words.{slice_get, FormRule, number_of, law_of, rule_number, all_rules, Rule}
 use Rattle.htl_model.specs.FormRules as law
-use Rattle.htl_form.specs.Rules.{law_of, rule_number, all_rules}
-use Rattle.htl_form.specs.declared.rule.Rule.{Rule}
 use Rattle.htl_form.specs.declared.rule.Rule.TheVariants as R
 
 -- each rule up to 12 has its place

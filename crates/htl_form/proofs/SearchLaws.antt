@@ -1,16 +1,6 @@
 -- The search answers the first broken rule.
 use Rattle.std.proofs.Common.{◌≡◌, ℕ, suc, ◌≤◌, Some, None, sym, ◌∙◌, ap, subst, arith, inl, inr}
-use Rattle.std.specs.Prelude.{slice_get}
-use Rattle.htl_model.specs.declared.form_fault.FormFault.{FormFault}
-use Rattle.htl_model.specs.Tables.{Tables}
-use Rattle.htl_model.specs.Ranges.{AreInRange}
-use Rattle.htl_model.specs.FormRules.{FormRule, number_of, Site, ComesBefore}
-use Rattle.htl_model.specs.Broken.{Broken, Formed, KeptTo, site_of, IsFirstBroken}
-use Rattle.htl_form.specs.Rules.{law_of, rule_number, all_rules}
-use Rattle.htl_form.specs.Tests.{tests}
-use Rattle.htl_form.specs.Search.{form_fault_of, first_form_fault}
-use Rattle.htl_form.specs.declared.rule.Rule.{Rule}
-use Rattle.htl_model.proofs.FirstLaws.{none_at, found_at, IsFirstAt}
+use Rattle.htl_form.proofs.Words.{slice_get, FormFault, Tables, AreInRange, FormRule, number_of, Site, ComesBefore, Broken, Formed, KeptTo, site_of, IsFirstBroken, law_of, rule_number, all_rules, tests, form_fault_of, first_form_fault, Rule, none_at, found_at, IsFirstAt}
 use Rattle.htl_form.proofs.Judging.{judges}
 use Rattle.htl_form.proofs.RuleOrder.{place_of, number_at}
 use Rattle.htl_form.proofs.SiteLaws.{rule_none, rule_first, IsFirstOfRule}

@@ -1,20 +1,8 @@
 -- The first site at which a rule is broken, for any rule whose tests find exactly what breaks it.
 use Rattle.std.proofs.Common.{◌≡◌, ℕ, ◌<◌, ◌⊎◌, true, cond, eqb, Option, Some, None, refl, sym, ◌∙◌, ap, subst, inl, inr}
-use Rattle.std.specs.Prelude.{slice_get}
-use Rattle.htl_model.specs.declared.parts.Inv.{Inv}
-use Rattle.htl_model.specs.declared.parts.Mode.{Mode}
-use Rattle.htl_model.specs.declared.form_fault.FormFault.{FormFault}
-use Rattle.htl_model.specs.Tables.{Tables, mode_module}
-use Rattle.htl_model.specs.FormRules.{FormRule, Part, Site, InvBefore, SiteBefore}
-use Rattle.htl_model.specs.Broken.{Breach, breach, PartBreaks, BreaksAt, Broken, site_of}
-use Rattle.htl_model.specs.First.{first_from}
-use Rattle.htl_model.specs.Found.{Found}
-use Rattle.htl_model.specs.Search.{Tests, at_inv, at_mode, told, inv_in_mode, in_mode}
-use Rattle.htl_model.proofs.FirstLaws.{or_else_some, or_else_none, none_at, found_at, IsFirstAt}
+use Rattle.htl_form.proofs.Words.{slice_get, Inv, Mode, FormFault, Tables, mode_module, FormRule, Part, Site, InvBefore, SiteBefore, Breach, breach, PartBreaks, BreaksAt, Broken, site_of, first_from, Found, Tests, at_inv, at_mode, told, inv_in_mode, in_mode, or_else_some, or_else_none, none_at, found_at, IsFirstAt, eqb-true, none-some}
 use Rattle.htl_form.proofs.Judging.{Judges}
 use Rattle.htl_form.proofs.PartLaws.{eqb_is, taken, inv_none, inv_first, IsFirstPart, mode_none, mode_first, IsFirstOfMode}
-use Rattle.std.proofs.lemmas.Bool.{eqb-true}
-use Rattle.std.proofs.lemmas.Option.{none-some}
 
 -- ---- a fault told with its site
 

@@ -1,13 +1,9 @@
 -- The rules on writers and cycles on small tables.
 use Rattle.std.specs.Prelude.{◌≡◌, ℕ, Bool, true, false, List, [], ◌∷◌, Some, None, codes, refl}
-use Rattle.htl_model.proofs.Sources.{module_named}
-use Rattle.htl_model.specs.declared.parts.Inv.{Inv}
-use Rattle.htl_model.specs.declared.parts.Module.{Module}
+use Rattle.htl_form.proofs.Words.{module_named, Inv, Module, Tables, unwritten_fault, rewritten_fault}
 use Rattle.htl_model.specs.declared.parts.End.TheVariants as E
-use Rattle.htl_model.specs.Tables.{Tables}
 use Rattle.htl_form.proofs.WriterSamples.{call, mode, concrete, one_mode, more_modes}
 use Rattle.htl_form.specs.Cycles.{cycle_fault, precedes_itself}
-use Rattle.htl_form.specs.PortFaults.{unwritten_fault, rewritten_fault}
 use Rattle.htl_form.specs.WriterFaults.{writer_fault, stand_together}
 
 -- ---- writers of ports

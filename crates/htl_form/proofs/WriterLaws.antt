@@ -1,25 +1,10 @@
 -- The test for concrete writers of the same finds what the rule says.
 use Rattle.std.proofs.Common.{◌≡◌, ℕ, suc, ◌<◌, Bool, true, false, cond, not, ◌&&◌, ◌||◌, eqb, ltb, List, [], ◌∷◌, take, Option, Some, None, refl, sym, ◌∙◌, ap, subst, arith, inl, inr}
-use Rattle.std.specs.Prelude.{slice_get}
-use Rattle.std.specs.List.{list_any}
-use Rattle.std.proofs.lemmas.Bool.Decides.{nat_tests}
-use Rattle.std.proofs.lemmas.Map.Keys.{any_passes_from_place}
-use Rattle.htl_base.proofs.Firsts.{first-unique}
-use Rattle.htl_model.specs.declared.parts.Inv.{Inv}
-use Rattle.htl_model.specs.declared.parts.End.{End}
+use Rattle.htl_form.proofs.Words.{slice_get, list_any, nat_tests, any_passes_from_place, first-unique, Inv, End, OutputBefore, AreInRange, AreSameWrite, WritesBefore, SecondWriter, Tables, is_concrete, found_at, none_at, stand_together, hits, outputs_before, rivals, writer_before, first_writer, told_writer, writer_fault, eq-eqb, eqb-true, or_cases, or_left, or_right, eqb_apart, from_take, into_take}
 use Rattle.htl_model.specs.declared.parts.End.TheVariants as E
-use Rattle.htl_model.specs.PortWriters.{OutputBefore}
-use Rattle.htl_model.specs.Ranges.{AreInRange}
-use Rattle.htl_model.specs.SecondWriters.{AreSameWrite, WritesBefore, SecondWriter}
-use Rattle.htl_model.specs.Tables.{Tables, is_concrete}
 use Rattle.htl_form.proofs.PortLaws.{given, not_given}
 use Rattle.htl_form.proofs.Finding.{Finds, finds_nothing}
-use Rattle.htl_model.proofs.FirstLaws.{found_at, none_at}
 use Rattle.htl_form.proofs.PathLaws.{together_true, true_together}
-use Rattle.htl_form.specs.WriterFaults.{stand_together, hits, outputs_before, rivals, writer_before, first_writer, told_writer, writer_fault}
-use Rattle.std.proofs.lemmas.Bool.{eq-eqb, eqb-true, or_cases, or_left, or_right}
-use Rattle.htl_base.proofs.Tests.{eqb_apart}
-use Rattle.htl_base.proofs.Places.{from_take, into_take}
 
 -- ---- an end that hits
 

@@ -1,16 +1,6 @@
 -- Small tables that break one of the rules on writers and cycles, and tables that just keep it.
 use Rattle.std.specs.Prelude.{ℕ, Bool, false, List, [], ◌∷◌, None, pos, codes, map}
-use Rattle.htl_base.specs.declared.Ty.{Ty}
-use Rattle.htl_base.specs.declared.Ty.TheVariants.{Int as IntTy}
-use Rattle.htl_model.proofs.Sources.{module_named}
-use Rattle.htl_model.specs.declared.parts.Comm.{Comm}
-use Rattle.htl_model.specs.declared.parts.Mode.{Mode}
-use Rattle.htl_model.specs.declared.parts.Module.{Module}
-use Rattle.htl_model.specs.declared.parts.Port.{Port}
-use Rattle.htl_model.specs.declared.parts.Task.{Task}
-use Rattle.htl_model.specs.declared.parts.Inv.{Inv}
-use Rattle.htl_model.specs.declared.parts.End.{End}
-use Rattle.htl_model.specs.Tables.{Tables}
+use Rattle.htl_form.proofs.Words.{Ty, IntTy, module_named, Comm, Mode, Module, Port, Task, Inv, End, Tables}
 
 -- an invocation in mode m of a task
 abbrev pub call : ℕ → ℕ → List End → List End → Inv

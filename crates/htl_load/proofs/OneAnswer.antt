@@ -1,18 +1,8 @@
 -- What loading answers of bytes is one answer.
 use Rattle.std.proofs.Common.{◌≡◌, ◌⊎◌, ℕ, List, Option, Some, Ok, Err, refl, sym, ◌∙◌, subst, inl, inr}
 use Rattle.htl_load.proofs.Refusals.{accepted_is_not_refused, one_fault}
-use Rattle.htl_object.specs.Accepted.{IsAccepted}
-use Rattle.htl_load.specs.Faults.{IsRefused}
-use Rattle.htl_load.specs.Loading.{HasBytes, RefusesObject, RefusesBytes}
-use Rattle.htl_load.specs.declared.fault.ObjectFault.{ObjectFault}
+use Rattle.htl_load.proofs.Words.{IsAccepted, IsRefused, HasBytes, RefusesObject, RefusesBytes, ObjectFault, fault_of, first_bad, whole_at, object_in, object_or, IsInRange, Read, Lists, Malformed, Object}
 use Rattle.htl_load.specs.declared.fault.ObjectFault.TheVariants as fault
-use Rattle.htl_object.specs.Files.{fault_of, first_bad, whole_at}
-use Rattle.htl_object.specs.Objects.{object_in, object_or}
-use Rattle.htl_object.specs.Ranges.{IsInRange}
-use Rattle.htl_object.specs.Reading.{Read}
-use Rattle.htl_object.specs.declared.lists.Lists.{Lists}
-use Rattle.htl_object.specs.declared.malformed.Malformed.{Malformed}
-use Rattle.htl_object.specs.declared.object.Object.{Object}
 
 -- the bytes have a bad field, and this tells it
 record TellsBadField (bytes : List ℕ) (f : ObjectFault) : Type 0 where

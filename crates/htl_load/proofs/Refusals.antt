@@ -1,30 +1,7 @@
 -- An accepted object has no fault, and an object in range has one first fault at most, which is never that of the limits of frames.
 use Rattle.std.proofs.Common.{◌≡◌, ◌<◌, ◌⊎◌, ℕ, List, Option, Some, None, sym, ◌∙◌, ap, subst, arith, inl, inr}
-use Rattle.htl_ecode.proofs.SpellingLaws.{spells_or_departs}
-use Rattle.htl_ecode.specs.Departure.{departure}
-use Rattle.htl_ecode.specs.declared.fault.EFault.{EFault}
-use Rattle.htl_form.proofs.OneFault.{one_law}
-use Rattle.htl_object.specs.Accepted.{IsSpelled}
-use Rattle.htl_load.specs.Laws.{AcceptedIsNotRefused, OneFault, NoFrameFault}
-use Rattle.htl_load.specs.Unfit.{IsFirstUnfit}
-use Rattle.htl_load.specs.declared.fault.ObjectFault.{ObjectFault}
+use Rattle.htl_load.proofs.Words.{spells_or_departs, departure, EFault, one_law, IsSpelled, AcceptedIsNotRefused, OneFault, NoFrameFault, IsFirstUnfit, ObjectFault, frames_unbroken, Broken, Formed, IsFirstBroken, site_of, FormRule, FrameLimits, Tables, FormFault, Object, one_first_broken, one_path_miss, lists_of, IsFirstFailing, instrs_of, path_jobs, legs, IsPathMiss, first_point, worst_cases, Miss, SInstr, cases_less_same}
 use Rattle.htl_load.specs.declared.fault.ObjectFault.TheVariants as fault
-use Rattle.htl_model.proofs.FrameRules.{frames_unbroken}
-use Rattle.htl_model.specs.Broken.{Broken, Formed, IsFirstBroken, site_of}
-use Rattle.htl_model.specs.FormRules.{FormRule, FrameLimits}
-use Rattle.htl_model.specs.Tables.{Tables}
-use Rattle.htl_model.specs.declared.form_fault.FormFault.{FormFault}
-use Rattle.htl_object.specs.declared.object.Object.{Object}
-use Rattle.htl_refine.proofs.OneFault.{one_first_broken}
-use Rattle.htl_walk.proofs.OneMiss.{one_path_miss}
-use Rattle.htl_walk.specs.Feasible.{lists_of}
-use Rattle.htl_walk.specs.NodeWalks.{IsFirstFailing, instrs_of}
-use Rattle.htl_walk.specs.PathJobs.{path_jobs, legs}
-use Rattle.htl_walk.specs.PathMisses.{IsPathMiss}
-use Rattle.htl_walk.specs.Walk.{first_point, worst_cases}
-use Rattle.htl_walk.specs.declared.miss.Miss.{Miss}
-use Rattle.htl_walk.specs.declared.schedule.SInstr.{SInstr}
-use Rattle.htl_base.proofs.Numbers.{cases_less_same}
 
 departs : (d : Option EFault) (e : EFault) → d ≡ None → d ≡ Some e → ⊥
 departs None e p q = cc

@@ -1,17 +1,6 @@
 -- Small laws of the typed states.
 use Rattle.std.proofs.Common.{◌≡◌, ◌<◌, ℕ, length, slice_get, Some, None, sym, ◌∙◌, arith, inl, inr}
-use Rattle.std.proofs.lemmas.Option.{slice_get_cases}
-use Rattle.htl_model.proofs.PlaceLaws.{count_function_types}
-use Rattle.htl_model.specs.FunctionTypes.{FunctionType, function_types, IsFunctionOf, FitPlaces}
-use Rattle.htl_object.specs.Accepted.{IsFormed, IsSpelled, IsAccepted}
-use Rattle.htl_object.specs.declared.object.Object.{Object}
-use Rattle.htl_model.specs.Ranges.{AreInRange}
-use Rattle.htl_model.specs.Tables.{Tables, Fun}
-use Rattle.htl_refine.proofs.OneFault.{formed}
-use Rattle.htl_walk.specs.Feasible.{AreFeasible}
-use Rattle.htl_walk.specs.NodeWalks.{instrs_of}
-use Rattle.htl_load.specs.Faults.{IsFormFault, IsSpellingFault, IsScheduleFault, IsRefused}
-use Rattle.htl_load.specs.declared.fault.ObjectFault.{ObjectFault}
+use Rattle.htl_load.proofs.Words.{slice_get_cases, count_function_types, FunctionType, function_types, IsFunctionOf, FitPlaces, IsFormed, IsSpelled, IsAccepted, Object, AreInRange, Tables, Fun, formed, AreFeasible, instrs_of, IsFormFault, IsSpellingFault, IsScheduleFault, IsRefused, ObjectFault}
 use Rattle.htl_load.specs.declared.fault.ObjectFault.TheVariants as fault
 
 -- it fits its place

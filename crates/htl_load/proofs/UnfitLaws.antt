@@ -1,10 +1,6 @@
 -- Functions that fit their places, one after the other.
 use Rattle.std.proofs.Common.{◌≡◌, ◌<◌, ℕ, ◌+◌, List, length, get_or, slice_get, ap, subst, arith, inl, inr}
-use Rattle.htl_model.specs.declared.parts.Task.{Task}
-use Rattle.htl_model.specs.Tables.{Tables, function_count, count_at}
-use Rattle.htl_load.specs.Unfit.{FitBetween}
-use Rattle.htl_object.proofs.FunctionPlaces.{outputs_count}
-use Rattle.std.proofs.lemmas.Bool.{cases_lt}
+use Rattle.htl_load.proofs.Words.{Task, Tables, function_count, count_at, FitBetween, outputs_count, cases_lt}
 
 pub fit_on : (t : Tables) (from mid to : ℕ) → FitBetween t from mid → FitBetween t mid to → FitBetween t from to
 fit_on t from mid to h g = λ k a b. elim (cases_lt k mid) [ inl less ↦ h k a less | inr more ↦ g k more b ]

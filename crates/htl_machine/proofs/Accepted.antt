@@ -1,12 +1,5 @@
 -- An accepted object is a loaded program.
-use Rattle.htl_model.specs.Broken.{KeptTo}
-use Rattle.htl_object.specs.Accepted.{IsAccepted}
-use Rattle.htl_object.specs.declared.object.Object.{Object}
-use Rattle.std.proofs.Common.{arith}
-use Rattle.htl_refine.proofs.Kept.{kept_apart}
-use Rattle.htl_refine.proofs.OneFault.{kept_all}
-use Rattle.htl_machine.specs.Follows.{IsLoaded}
-use Rattle.htl_machine.specs.Programs.{schedules_of}
+use Rattle.htl_machine.proofs.Words.{KeptTo, IsAccepted, Object, arith, kept_apart, kept_all, IsLoaded, schedules_of}
 
 pub accepted_is_loaded : (o : Object) → IsAccepted o → IsLoaded o.tables (schedules_of o)
 accepted_is_loaded o accepted =

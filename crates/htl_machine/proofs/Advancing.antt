@@ -1,27 +1,9 @@
 -- The calls of a machine: what it follows, counted and wrote, carried by each.
 use Rattle.std.proofs.Common.{◌≡◌, ℕ, suc, ◌+◌, ◌-◌, ◌^◌, min, ◌<◌, false, cond, ◌&&◌, eqb, leb, List, [], ◌∷◌, ◌++◌, length, slice_get, IfSome, ℤ, sym, ap, ◌∙◌, arith}
-use Rattle.std.specs.List.{count_by}
-use Rattle.std.proofs.lemmas.Bool.Decides.{nat_tests}
-use Rattle.htl_model.specs.declared.event.Event.{Event}
+use Rattle.htl_machine.proofs.Words.{count_by, nat_tests, Event, FitsType, hyper, Tables, sense, SInstr, Round, ECode, e_path, took, IsTookWithin, IsShaped, next_world, turn_at, RunState, reading_of, SMachineFollows, IsLoaded, at_reading, shown_as, s_machine_taking, taken_as, Shown, instant_text, records_of, Counts, RunStands, Followed}
 use Rattle.htl_model.specs.declared.event.Event.TheVariants as V
-use Rattle.htl_model.specs.Ranges.{FitsType}
-use Rattle.htl_model.specs.Frames.{hyper}
-use Rattle.htl_model.specs.Tables.{Tables}
-use Rattle.htl_model.specs.Meaning.{sense}
-use Rattle.htl_walk.specs.declared.schedule.SInstr.{SInstr}
 use Rattle.htl_smach.specs.declared.left.Left.{Left}
 use Rattle.htl_smach.specs.Rounds as rounds
-use Rattle.htl_smach.specs.Rounds.{Round}
-use Rattle.htl_ecode.specs.declared.ecode.ECode.{ECode}
-use Rattle.htl_ecode.specs.Paths.{e_path}
-use Rattle.htl_refine.specs.Records.{took, IsTookWithin}
-use Rattle.htl_emach.specs.Shapes.{IsShaped}
-use Rattle.htl_machine.specs.Plans.{next_world}
-use Rattle.htl_machine.specs.RunLists.{turn_at}
-use Rattle.htl_machine.specs.Follows.{RunState, reading_of, SMachineFollows, IsLoaded, at_reading, shown_as, s_machine_taking, taken_as}
-use Rattle.htl_console.specs.declared.shown.Shown.{Shown}
-use Rattle.htl_machine.specs.Texts.{instant_text, records_of}
-use Rattle.htl_machine.specs.Machines.{Counts, RunStands, Followed}
 use Rattle.htl_machine.proofs.Events.{Alike, sense_at, sense_sense, took_at, took_sense}
 use Rattle.htl_machine.proofs.Following.{read_follows, sense_follows}
 use Rattle.htl_machine.proofs.Taking.{took_follows, instant_follows, alike}

@@ -1,56 +1,10 @@
 -- An instant once its parts are done: what the calls said carries the machine to the next.
 use Rattle.std.proofs.Common.{◌≡◌, ℕ, zero, suc, ◌-◌, cond, ◌&&◌, leb, get_or, ◌≤◌, ◌<◌, ◌^◌, Bool, true, false, eqb, List, [], ◌∷◌, ◌++◌, length, Option, Some, None, ℤ, refl, sym, ap, ap₂, ◌∙◌, subst, arith, inl, inr}
-use Rattle.std.specs.List.{All}
-use Rattle.std.proofs.lemmas.Bool.{eqb-true, cases_lt}
-use Rattle.std.proofs.lemmas.List.{get_or-map, get_or_past, length-map}
-use Rattle.std.proofs.lemmas.Option.{slice_get_past}
-use Rattle.htl_model.specs.declared.event.Event.{Event}
+use Rattle.htl_machine.proofs.Words.{All, eqb-true, cases_lt, get_or-map, get_or_past, length-map, slice_get_past, Event, Inv, joined, IsCommInRange, hyper, Tables, task_worst, state, sense, Schedule, SInstr, Round, IsShort, ECode, Standing, Content, Onward, phase_path, StandsSafely, IsShaped, IsAccepted, AreTookWithin, inv_worst, last_took, took, Tally, ListAt, IsToBegin, Seen, IsUpTo, GoesBy, schedule_by, path_lines, IsLoaded, SMachineAt, SMachineFollows, IsReadyAt, due_by, Counts, IsOpened, closing_text, first_records, beginning_text, schedules_of, lines_of, s_machine_replay, Records, replay, AreShown, record_text, some_records, records_of, list_texts, instant_text, listed_text_before, instrs_of, some_round_begins, values_before, Whole, Passed, with_sensors, turn_at, IsAtEnd, node_by, turn_list, nodes_few, each_at}
 use Rattle.htl_model.specs.declared.event.Event.TheVariants as V
-use Rattle.htl_model.specs.declared.parts.Inv.{Inv}
-use Rattle.htl_model.specs.Lists.{joined}
-use Rattle.htl_model.specs.Ranges.{IsCommInRange}
-use Rattle.htl_model.specs.Frames.{hyper}
-use Rattle.htl_model.specs.Tables.{Tables, task_worst}
-use Rattle.htl_model.specs.Meaning.{state, sense}
-use Rattle.htl_walk.specs.declared.schedule.Schedule.{Schedule}
-use Rattle.htl_walk.specs.declared.schedule.SInstr.{SInstr}
 use Rattle.htl_smach.specs.declared.left.Left.{Left}
 use Rattle.htl_smach.specs.Rounds as rounds
-use Rattle.htl_smach.specs.Rounds.{Round}
-use Rattle.htl_object.specs.Ranges.{IsShort}
-use Rattle.htl_ecode.specs.declared.ecode.ECode.{ECode}
-use Rattle.htl_emach.specs.Calendars.{Standing}
-use Rattle.htl_emach.specs.Contents.{Content}
-use Rattle.htl_emach.specs.Following.{Onward, phase_path}
-use Rattle.htl_emach.specs.Safety.{StandsSafely}
-use Rattle.htl_emach.specs.Shapes.{IsShaped}
-use Rattle.htl_object.specs.Accepted.{IsAccepted}
-use Rattle.htl_refine.specs.Records.{AreTookWithin, inv_worst, last_took, took}
-use Rattle.htl_machine.specs.declared.tally.Tally.{Tally}
-use Rattle.htl_machine.specs.declared.numbering.ListAt.{ListAt}
-use Rattle.htl_machine.specs.Beginning.{IsToBegin}
-use Rattle.htl_machine.specs.Calls.{Seen, IsUpTo, GoesBy, schedule_by}
-use Rattle.htl_machine.specs.Doing.{path_lines}
-use Rattle.htl_machine.specs.Follows.{IsLoaded, SMachineAt, SMachineFollows}
-use Rattle.htl_machine.specs.Instant.{IsReadyAt}
-use Rattle.htl_machine.specs.Leaving.{due_by}
-use Rattle.htl_machine.specs.Machines.{Counts}
-use Rattle.htl_machine.specs.Opening.{IsOpened, closing_text, first_records, beginning_text}
 use Rattle.htl_machine.specs.Plans.{with_records}
-use Rattle.htl_machine.specs.Programs.{schedules_of, lines_of}
-use Rattle.htl_machine.specs.Readiness.{s_machine_replay}
-use Rattle.htl_machine.specs.Recording.{Records}
-use Rattle.htl_machine.specs.Running.{replay}
-use Rattle.htl_machine.specs.Sensors.{AreShown}
-use Rattle.htl_machine.specs.Texts.{record_text, some_records, records_of, list_texts, instant_text, listed_text_before}
-use Rattle.htl_machine.specs.Starting.{instrs_of}
-use Rattle.htl_machine.specs.Timing.{some_round_begins}
-use Rattle.htl_machine.specs.Values.{values_before}
-use Rattle.htl_machine.specs.Wholes.{Whole, Passed}
-use Rattle.htl_machine.specs.Worlds.{with_sensors}
-use Rattle.htl_machine.specs.RunLists.{turn_at}
-use Rattle.htl_machine.specs.ListBegun.{IsAtEnd}
-use Rattle.htl_machine.specs.StandingList.{node_by, turn_list}
 use Rattle.htl_machine.proofs.Accepted.{accepted_is_loaded}
 use Rattle.htl_machine.proofs.Calling.{IsWhole, counts_of, whole_of, before_of}
 use Rattle.htl_machine.proofs.Composing.{instant_composed, counts_after, counts_are, texts_going, texts_beginning, texts_alone, records_going, records_beginning, records_alone}
@@ -62,9 +16,7 @@ use Rattle.htl_machine.proofs.LoadedRecords.{loaded_lines}
 use Rattle.htl_machine.proofs.Ready.{node_known}
 use Rattle.htl_machine.proofs.NextStands.{IsScheduleOf, owed_before, owed_are, beginning, going, going_s_machine, going_on, list_over, begun_s_machine, begun_goes}
 use Rattle.htl_machine.proofs.ToBegin.{is_to_begin}
-use Rattle.htl_object.proofs.NodeCounts.{nodes_few}
 use Rattle.htl_machine.proofs.Wholly.{modes_read, counted, whole_instant}
-use Rattle.htl_base.proofs.Places.{each_at}
 
 -- ---- lengths that are kept
 

@@ -1,31 +1,8 @@
 -- What the parts of an instant in code say, in the words of the meaning: the modes, the lines, the totals.
 use Rattle.std.proofs.Common.{◌≡◌, ℕ, zero, suc, ◌+◌, ◌-◌, ◌^◌, ◌≤◌, ◌<◌, Bool, true, false, cond, min, List, [], ◌∷◌, ◌++◌, length, Option, Some, None, ℤ, refl, sym, ap, ap₂, ◌∙◌, arith, inl, inr}
-use Rattle.std.proofs.lemmas.Option.{slice_get_past}
-use Rattle.htl_model.specs.declared.event.Event.{Event}
-use Rattle.htl_model.specs.declared.line.Line.{Line}
-use Rattle.htl_model.specs.declared.state.Stay.{Stay}
-use Rattle.htl_model.specs.Lists.{joined, up_to}
-use Rattle.htl_model.specs.Tables.{Tables}
-use Rattle.htl_model.specs.Ranges.{AreInRange}
-use Rattle.htl_model.specs.Meaning.{state, before, stay_of, mode_of, mode_in_state, value_lines}
-use Rattle.htl_model.proofs.Locality.{up_to_same}
+use Rattle.htl_machine.proofs.Words.{slice_get_past, Event, Line, Stay, joined, up_to, Tables, AreInRange, state, before, stay_of, mode_of, mode_in_state, value_lines, up_to_same, ECode, Done, e_path, Calendar, list_at, Between, Entry, phase_path, whole_path, Shown, shows_code, Tally, one_record, one_instr, with_records, with_instrs, mode_change, value_changes, mode_changes, all_changes, path_lines, e_line, standing_at, cases_lt}
 use Rattle.htl_smach.specs.declared.left.Left.{Left}
-use Rattle.htl_ecode.specs.declared.ecode.ECode.{ECode}
-use Rattle.htl_ecode.specs.Paths.{Done, e_path}
-use Rattle.htl_emach.specs.Calendars.{Calendar, list_at}
-use Rattle.htl_emach.specs.Pending.{Between, Entry}
-use Rattle.htl_emach.specs.Following.{phase_path}
-use Rattle.htl_emach.proofs.Instants.{whole_path}
-use Rattle.htl_console.specs.declared.shown.Shown.{Shown}
-use Rattle.htl_console.specs.Shows.{shows_code}
-use Rattle.htl_machine.specs.declared.tally.Tally.{Tally}
-use Rattle.htl_machine.specs.Counts.{one_record, one_instr, with_records, with_instrs}
-use Rattle.htl_machine.specs.Changing.{mode_change, value_changes, mode_changes, all_changes}
-use Rattle.htl_machine.specs.Doing.{path_lines}
-use Rattle.htl_machine.specs.Texts.{e_line}
-use Rattle.htl_refine.proofs.Standing.{standing_at}
 use Rattle.htl_machine.proofs.Printing.{joined-append}
-use Rattle.std.proofs.lemmas.Bool.{cases_lt}
 
 -- ---- modes
 

@@ -1,19 +1,7 @@
 -- Tables without modules: no round ever begins, so an instant leaves no record.
 use Rattle.std.proofs.Common.{◌≡◌, ℕ, zero, suc, ◌-◌, Bool, false, cond, List, [], ◌∷◌, length, slice_get, take, Option, Some, None, refl, ap, ◌∙◌, arith}
-use Rattle.htl_model.specs.declared.event.Event.{Event}
-use Rattle.htl_model.specs.Frames.{hyper}
-use Rattle.htl_model.specs.Tables.{Tables}
-use Rattle.htl_walk.specs.declared.job.Job.{Job}
-use Rattle.htl_walk.specs.declared.schedule.SInstr.{SInstr}
-use Rattle.htl_walk.specs.Walk.{Point, Left, last_point}
-use Rattle.htl_smach.specs.Rounds.{Round, no_round}
-use Rattle.htl_emach.specs.Contents.{Content}
+use Rattle.htl_machine.proofs.Words.{Event, hyper, Tables, Job, SInstr, Point, Left, last_point, Round, no_round, Content, SMachineAt, left_before, complete_at, complete_by, run_records, no_turn, turn_by, turn_at, not_some}
 use Rattle.htl_machine.specs.Plans.{with_records}
-use Rattle.htl_machine.specs.Follows.{SMachineAt}
-use Rattle.htl_machine.specs.ListTurns.{left_before}
-use Rattle.htl_machine.specs.Completing.{complete_at, complete_by, run_records}
-use Rattle.htl_machine.specs.RunLists.{no_turn, turn_by, turn_at}
-use Rattle.htl_refine.proofs.RecordOrder.{not_some}
 use Rattle.htl_machine.proofs.Premises.{no_list}
 
 -- records that finish nothing change nothing

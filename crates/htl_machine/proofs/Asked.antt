@@ -1,22 +1,8 @@
 -- What the blocks of an instant ask for.
 use Rattle.std.proofs.Common.{◌≡◌, ℕ, zero, suc, ◌+◌, ◌-◌, ◌*◌, ◌≤◌, ◌<◌, Bool, true, false, cond, ◌&&◌, eqb, List, [], ◌∷◌, ◌++◌, length, slice_get, map, Option, Some, None, refl, sym, ap, ◌∙◌, subst, arith, ◌⊎◌, inl, inr}
-use Rattle.std.proofs.lemmas.Bool.{eqb-true, eq-eqb, and_parts, and_from}
-use Rattle.htl_model.specs.declared.parts.Inv.{Inv}
-use Rattle.htl_model.specs.declared.parts.End.{End}
+use Rattle.htl_machine.proofs.Words.{eqb-true, eq-eqb, and_parts, and_from, Inv, End, Stay, joined, numbered, up_to, Tables, comm_period, mode_module, is_concrete, release, stay_of, EInstr, meets, counts, places_at, next_offset, Want, Does, all_do, waits_for, release_of, releases, block_chain, wanted_writes, wanted_reads, all_writes, all_reads, EndIsMet, IsDue, IsRead, IsStanding, same_Some, cases_below}
 use Rattle.htl_model.specs.declared.parts.End.TheVariants as E
-use Rattle.htl_model.specs.declared.state.Stay.{Stay}
-use Rattle.htl_model.specs.Lists.{joined, numbered, up_to}
-use Rattle.htl_model.specs.Tables.{Tables, comm_period, mode_module, is_concrete, release}
-use Rattle.htl_model.specs.Meaning.{stay_of}
-use Rattle.htl_ecode.specs.declared.instr.EInstr.{EInstr}
 use Rattle.htl_ecode.specs.declared.instr.EInstr.TheVariants as I
-use Rattle.htl_ecode.specs.Offsets.{meets, counts, places_at, next_offset}
-use Rattle.htl_ecode.specs.Chains.{Want, Does, all_do, waits_for, release_of, releases, block_chain}
-use Rattle.htl_machine.specs.Worlds.{wanted_writes, wanted_reads, all_writes, all_reads}
-use Rattle.htl_machine.specs.Values.{EndIsMet, IsDue, IsRead}
-use Rattle.htl_refine.proofs.Standing.{IsStanding}
-use Rattle.std.proofs.lemmas.Option.{same_Some}
-use Rattle.htl_base.proofs.Numbers.{cases_below}
 
 abbrev pub In : {A : Type 0} → A → List A → Type 0
 In a [] = ⊥

@@ -1,31 +1,6 @@
 -- What the parts of an instant ask for, from what the machine follows.
 use Rattle.std.proofs.Common.{◌≡◌, ℕ, zero, suc, ◌-◌, ◌<◌, List, length, ℤ, Option, Some, sym, ap, ◌∙◌, subst, arith, refl}
-use Rattle.htl_model.specs.declared.event.Event.{Event}
-use Rattle.htl_model.specs.Meaning.{before, state}
-use Rattle.htl_model.specs.Tables.{Tables}
-use Rattle.htl_emach.specs.Calendars.{list_at}
-use Rattle.htl_ecode.specs.declared.ecode.ECode.{ECode}
-use Rattle.htl_emach.specs.Contents.{Content}
-use Rattle.htl_emach.specs.Following.{phase_path}
-use Rattle.htl_object.specs.declared.object.Object.{Object}
-use Rattle.htl_smach.specs.Rounds.{Round}
-use Rattle.htl_machine.specs.Follows.{SMachineAt}
-use Rattle.htl_machine.specs.Leaving.{due_by}
-use Rattle.htl_machine.specs.Programs.{schedules_of}
-use Rattle.htl_machine.specs.RunLists.{turn_at}
-use Rattle.htl_machine.specs.StandingList.{turn_list}
-use Rattle.htl_machine.specs.Starting.{instrs_of}
-use Rattle.htl_walk.specs.declared.schedule.Schedule.{Schedule}
-use Rattle.htl_machine.specs.declared.tally.Tally.{Tally}
-use Rattle.htl_machine.specs.Counts.{with_instrs, with_records}
-use Rattle.htl_machine.specs.Opening.{first_records}
-use Rattle.htl_machine.specs.Running.{replay}
-use Rattle.htl_machine.specs.declared.numbering.ListAt.{ListAt}
-use Rattle.htl_machine.specs.Beginning.{IsToBegin}
-use Rattle.htl_object.specs.Accepted.{IsAccepted}
-use Rattle.htl_machine.specs.Asking.{IsSound, IsNoted}
-use Rattle.htl_machine.specs.Calls.{Seen, IsUpTo}
-use Rattle.htl_machine.specs.Values.{values_before}
+use Rattle.htl_machine.proofs.Words.{Event, before, state, Tables, list_at, ECode, Content, phase_path, Object, Round, SMachineAt, due_by, schedules_of, turn_at, turn_list, instrs_of, Schedule, Tally, with_instrs, with_records, first_records, replay, ListAt, IsToBegin, IsAccepted, IsSound, IsNoted, Seen, IsUpTo, values_before}
 use Rattle.htl_machine.proofs.Agreeing.{modes_open}
 use Rattle.htl_machine.proofs.Accepted.{accepted_is_loaded}
 

@@ -1,52 +1,10 @@
 -- The last part of an instant at which a list begins, put together.
 use Rattle.std.proofs.Common.{◌≡◌, ℕ, zero, suc, ◌+◌, ◌-◌, ◌<◌, ◌≤◌, ◌++◌, Bool, true, false, cond, List, [], ◌∷◌, length, get_or, slice_get, Option, Some, None, IfSome, Result, Ok, Err, refl, sym, ap, ◌∙◌, subst, arith}
-use Rattle.std.proofs.lemmas.List.{length-map}
-use Rattle.htl_edge.specs.Content.{Puts}
-use Rattle.htl_edge.proofs.Puts.{append_known-start, Puts-failed, Puts-second}
-use Rattle.htl_model.specs.declared.event.Event.{Event}
-use Rattle.htl_model.specs.Lists.{joined}
-use Rattle.htl_model.specs.Ranges.{AreInRange}
-use Rattle.htl_model.specs.Tables.{Tables}
-use Rattle.htl_walk.specs.declared.job.Job.{Job}
-use Rattle.htl_walk.specs.declared.schedule.SInstr.{SInstr}
+use Rattle.htl_machine.proofs.Words.{length-map, Puts, append_known-start, Puts-failed, Puts-second, Event, joined, AreInRange, Tables, Job, SInstr, Schedule, Point, Left, job_at, time_after, work_after, next_point, left_by, walk_from, finishes_by, left_same, time_passes, Round, Stands, round_begun, ECode, Calendar, Content, phase_path, Between, Plan, list_walk, count_left_before, modes_at, Shown, ListAt, Tally, CanFollow, IsToBegin, complete_at, complete_by, run_records, with_records, path_lines, SMachineAt, due_by, list_begun, Turn, reading_text, closing_text, first_records, beginning_text, Prints, Counted, s_machine_replay, Records, turn_at, instrs_by, node_by, turn_list, next_at, instrs_of, record_text, some_records, not_some, passes, same_Some}
 use Rattle.htl_walk.specs.declared.schedule.SInstr.TheVariants.{Dispatch, Idle, End}
-use Rattle.htl_walk.specs.declared.schedule.Schedule.{Schedule}
-use Rattle.htl_walk.specs.Walk.{Point, Left, job_at, time_after, work_after, next_point, left_by, walk_from, finishes_by}
-use Rattle.htl_walk.proofs.Steps.{left_same, time_passes}
-use Rattle.htl_smach.specs.Rounds.{Round, Stands, round_begun}
-use Rattle.htl_ecode.specs.declared.ecode.ECode.{ECode}
-use Rattle.htl_emach.specs.Calendars.{Calendar}
-use Rattle.htl_emach.specs.Contents.{Content}
-use Rattle.htl_emach.specs.Following.{phase_path}
-use Rattle.htl_emach.specs.Pending.{Between}
-use Rattle.htl_refine.specs.ListPlans.{ListPlan as Plan, list_walk}
-use Rattle.htl_refine.specs.RecordCounts.{count_left_before}
-use Rattle.htl_refine.specs.Records.{modes_at}
-use Rattle.htl_console.specs.declared.shown.Shown.{Shown}
-use Rattle.htl_machine.specs.declared.numbering.ListAt.{ListAt}
-use Rattle.htl_machine.specs.declared.tally.Tally.{Tally}
-use Rattle.htl_machine.specs.Beginning.{CanFollow, IsToBegin}
-use Rattle.htl_machine.specs.Completing.{complete_at, complete_by, run_records}
-use Rattle.htl_machine.specs.Counts.{with_records}
-use Rattle.htl_machine.specs.Doing.{path_lines}
-use Rattle.htl_machine.specs.Follows.{SMachineAt}
-use Rattle.htl_machine.specs.Leaving.{due_by}
-use Rattle.htl_machine.specs.ListBegun.{list_begun}
-use Rattle.htl_machine.specs.ListTurns.{Turn}
-use Rattle.htl_machine.specs.Opening.{reading_text, closing_text, first_records, beginning_text}
-use Rattle.htl_machine.specs.Printing.{Prints, Counted}
-use Rattle.htl_machine.specs.Readiness.{s_machine_replay}
-use Rattle.htl_machine.specs.Recording.{Records}
-use Rattle.htl_machine.specs.RunLists.{turn_at}
-use Rattle.htl_machine.specs.StandingList.{instrs_by, node_by, turn_list, next_at}
-use Rattle.htl_machine.specs.Starting.{instrs_of}
-use Rattle.htl_machine.specs.Texts.{record_text, some_records}
 use Rattle.htl_machine.proofs.Closings.{reads_second}
 use Rattle.htl_machine.proofs.Modes.{modes_are}
-use Rattle.htl_refine.proofs.RecordOrder.{not_some}
 use Rattle.htl_machine.proofs.Turning.{before_count}
-use Rattle.htl_walk.proofs.Clean.{passes}
-use Rattle.std.proofs.lemmas.Option.{same_Some}
 
 -- ---- the list
 

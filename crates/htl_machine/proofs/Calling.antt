@@ -1,48 +1,14 @@
 -- The calls of the machine, by their contracts: each carries what the machine follows.
 use Rattle.std.proofs.Common.{◌≡◌, ℕ, zero, suc, ◌≤◌, ◌<◌, false, cond, ◌&&◌, eqb, leb, true, List, [], ◌∷◌, ◌++◌, length, map, get_or, slice_get, IfSome, Option, Some, None, ℤ, pos, refl, sym, ap, ap₂, ◌∙◌, subst, arith}
-use Rattle.std.proofs.lemmas.Bool.Decides.{nat_tests}
-use Rattle.std.proofs.lemmas.List.{length-map, length-set}
-use Rattle.std.proofs.lemmas.Option.{slice_get_within, same_Some}
-use Rattle.htl_model.specs.declared.event.Event.{Event}
+use Rattle.htl_machine.proofs.Words.{nat_tests, length-map, length-set, slice_get_within, same_Some, Event, Comm, Inv, FitsType, hyper, Tables, task_worst, is_concrete, sense, initial, SInstr, Job, absent_job, job_at, ECode, Standing, first_standing, Content, first_content, StandsSafely, IsShaped, inv_worst, AreTookWithin, Object, IsAccepted, Shown, Seen, IsKept, IsBefore, IsUpTo, Follows, GoesBy, IsSensorValue, IsLength, IsFinished, first_seen, position_from, reading_of, at_reading, shown_as, taken_as, s_machine_taking, SMachineFollows, IsLoaded, Counts, schedules_of, listed_text_before, Whole, WholeFollowed, turn_at, turn_by, list_turn, ListAt, turn_list, Turn, not_some}
 use Rattle.htl_model.specs.declared.event.Event.TheVariants as V
-use Rattle.htl_model.specs.declared.parts.Comm.{Comm}
-use Rattle.htl_model.specs.declared.parts.Inv.{Inv}
-use Rattle.htl_model.specs.Ranges.{FitsType}
-use Rattle.htl_model.specs.Frames.{hyper}
-use Rattle.htl_model.specs.Tables.{Tables, task_worst, is_concrete}
-use Rattle.htl_model.specs.Meaning.{sense, initial}
-use Rattle.htl_walk.specs.declared.schedule.SInstr.{SInstr}
-use Rattle.htl_walk.specs.declared.job.Job.{Job}
-use Rattle.htl_walk.specs.Jobs.{absent_job}
-use Rattle.htl_walk.specs.Walk.{job_at}
 use Rattle.htl_smach.specs.Rounds as rounds
-use Rattle.htl_ecode.specs.declared.ecode.ECode.{ECode}
-use Rattle.htl_emach.specs.Calendars.{Standing, first_standing}
-use Rattle.htl_emach.specs.Contents.{Content, first_content}
-use Rattle.htl_emach.specs.Safety.{StandsSafely}
-use Rattle.htl_emach.specs.Shapes.{IsShaped}
-use Rattle.htl_refine.specs.Records.{inv_worst, AreTookWithin}
-use Rattle.htl_object.specs.declared.object.Object.{Object}
-use Rattle.htl_object.specs.Accepted.{IsAccepted}
-use Rattle.htl_console.specs.declared.shown.Shown.{Shown}
-use Rattle.htl_machine.specs.Calls.{Seen, IsKept, IsBefore, IsUpTo, Follows, GoesBy, IsSensorValue, IsLength, IsFinished, first_seen}
-use Rattle.htl_machine.specs.Turns.{position_from}
-use Rattle.htl_machine.specs.Follows.{reading_of, at_reading, shown_as, taken_as, s_machine_taking, SMachineFollows, IsLoaded}
-use Rattle.htl_machine.specs.Machines.{Counts}
-use Rattle.htl_machine.specs.Programs.{schedules_of}
-use Rattle.htl_machine.specs.Texts.{listed_text_before}
-use Rattle.htl_machine.specs.Wholes.{Whole, WholeFollowed}
-use Rattle.htl_machine.specs.RunLists.{turn_at, turn_by, list_turn}
-use Rattle.htl_machine.specs.declared.numbering.ListAt.{ListAt}
-use Rattle.htl_machine.specs.StandingList.{turn_list}
-use Rattle.htl_machine.specs.ListTurns.{Turn}
 use Rattle.htl_machine.proofs.RunLists.{job_is_of}
 use Rattle.htl_machine.proofs.RunsAgree.{node_same}
 use Rattle.htl_machine.proofs.LoadedLists.{loaded_run}
 use Rattle.htl_machine.proofs.Accepted.{accepted_is_loaded}
 use Rattle.htl_machine.proofs.Counting.{totals_start}
 use Rattle.htl_machine.proofs.Events.{Alike, sense_at, sense_took, sense_sense}
-use Rattle.htl_refine.proofs.RecordOrder.{not_some}
 use Rattle.htl_machine.proofs.JobWindows.{position_some}
 use Rattle.htl_machine.proofs.Taking.{new_follows}
 use Rattle.htl_machine.proofs.LoadedRecords.{loaded_jobs, loaded_s, loaded_e}

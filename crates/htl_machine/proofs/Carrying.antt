@@ -1,21 +1,9 @@
 -- A whole instant of all modules: the world follows on.
 use Rattle.std.proofs.Common.{◌≡◌, ℕ, suc, ◌+◌, ◌*◌, ◌≤◌, ◌<◌, Bool, true, false, List, [], length, get_or, slice_get, Option, Some, None, pos, sym, ap, ◌∙◌, subst, arith, ◌⊎◌, inl, inr}
-use Rattle.std.proofs.lemmas.Option.{slice_get_within, same_Some}
-use Rattle.htl_model.specs.declared.event.Event.{Event}
-use Rattle.htl_model.specs.declared.parts.Inv.{Inv}
+use Rattle.htl_machine.proofs.Words.{slice_get_within, same_Some, Event, Inv, Stay, Tables, comm_period, mode_module, AreInRange, KeptApart, state, before, stay_of, sense, val, seen_before, Content, buffer, comm_of, effects, all_writes, all_reads, with_sensors, world_after, InvStands, AreDistinct, out_val, ValuesFollow, HasPlaces, Ready, AreCarried, standing_at, stood}
 use Rattle.htl_model.specs.declared.parts.End.TheVariants as E
-use Rattle.htl_model.specs.declared.state.Stay.{Stay}
-use Rattle.htl_model.specs.Tables.{Tables, comm_period, mode_module}
-use Rattle.htl_model.specs.Ranges.{AreInRange}
-use Rattle.htl_model.specs.FrameRules.{KeptApart}
-use Rattle.htl_model.specs.Meaning.{state, before, stay_of, sense, val}
-use Rattle.htl_model.proofs.Laws.{seen_before}
 use Rattle.htl_ecode.specs.declared.instr.EInstr.TheVariants as I
-use Rattle.htl_emach.specs.Contents.{Content, buffer, comm_of}
-use Rattle.htl_machine.specs.Worlds.{effects, all_writes, all_reads, with_sensors, world_after}
 use Rattle.htl_emach.specs.Contents as contents
-use Rattle.htl_machine.specs.Values.{InvStands, AreDistinct, out_val, ValuesFollow, HasPlaces, Ready, AreCarried}
-use Rattle.htl_refine.proofs.Standing.{standing_at, stood}
 use Rattle.htl_machine.proofs.Standing.{standing_before}
 use Rattle.htl_machine.proofs.Asked.{AsksFor, read_of, read_asks, no_write_read, no_read_write}
 use Rattle.htl_machine.proofs.Moving.{Filled, are_filled, HasRoom, outputs_stay, inputs_stay, values_stay, shape_stays}

@@ -1,27 +1,7 @@
 -- The last part of an instant at which no round begins, put together.
 use Rattle.std.proofs.Common.{◌≡◌, ℕ, ◌<◌, ℤ, cond, List, [], length, Option, Some, None, IfSome, Result, Ok, Err, refl, sym, ap, subst, arith}
-use Rattle.htl_edge.specs.Content.{Puts}
-use Rattle.htl_edge.proofs.Puts.{append_known-start, Puts-failed, Puts-second}
-use Rattle.htl_model.specs.declared.event.Event.{Event}
-use Rattle.htl_model.specs.declared.state.Stay.{Stay}
-use Rattle.htl_model.specs.declared.line.Line.{Line}
-use Rattle.htl_model.specs.Lines.{lines_text}
-use Rattle.htl_model.specs.Ranges.{AreInRange}
-use Rattle.htl_model.specs.Tables.{Tables}
-use Rattle.htl_model.specs.Meaning.{state, before, stay_of, mode_of, mode_in_state, value_lines}
-use Rattle.htl_ecode.specs.declared.ecode.ECode.{ECode}
-use Rattle.htl_emach.specs.Calendars.{Calendar, Standing, list_at}
-use Rattle.htl_emach.specs.Pending.{Between}
-use Rattle.htl_emach.specs.Contents.{Content}
-use Rattle.htl_emach.specs.Following.{phase_path}
-use Rattle.htl_emach.proofs.Phases.{to_switches, to_reads}
-use Rattle.htl_console.specs.declared.shown.Shown.{Shown}
-use Rattle.htl_console.specs.Shows.{shows_values}
-use Rattle.htl_machine.specs.Asking.{IsToRead, IsToClose}
+use Rattle.htl_machine.proofs.Words.{Puts, append_known-start, Puts-failed, Puts-second, Event, Stay, Line, lines_text, AreInRange, Tables, state, before, stay_of, mode_of, mode_in_state, value_lines, ECode, Calendar, Standing, list_at, Between, Content, phase_path, to_switches, to_reads, Shown, shows_values, IsToRead, IsToClose, IsStarting, path_lines, reading_text, closing_text, standing_at}
 use Rattle.htl_machine.specs.Changing.{change_lines}
-use Rattle.htl_machine.specs.Doing.{IsStarting, path_lines}
-use Rattle.htl_machine.specs.Opening.{reading_text, closing_text}
-use Rattle.htl_refine.proofs.Standing.{standing_at}
 use Rattle.htl_machine.proofs.Agreeing.{modes_closed, changes_are}
 
 -- the modes after the read phase are modes of the tables

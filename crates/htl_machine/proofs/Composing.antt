@@ -1,30 +1,7 @@
 -- The text and the counts of an instant, from those of its parts.
 use Rattle.std.proofs.Common.{◌≡◌, ◌≢◌, ℕ, zero, suc, ◌+◌, ◌-◌, ◌^◌, min, ◌≤◌, Bool, true, false, cond, List, [], ◌∷◌, ◌++◌, length, Some, None, refl, sym, ap, ◌∙◌, arith, length-append}
-use Rattle.std.specs.List.{count_by}
-use Rattle.std.proofs.lemmas.Bool.{eq-eqb, ne_eqb}
-use Rattle.std.proofs.lemmas.List.{append_assoc}
-use Rattle.std.proofs.lemmas.List.Sums.{sum_by-cons, sum_by-append}
-use Rattle.htl_model.specs.declared.event.Event.{Event}
-use Rattle.htl_model.specs.Lines.{lines_text}
-use Rattle.htl_model.specs.Meaning.{value_lines}
-use Rattle.htl_model.specs.Frames.{hyper}
-use Rattle.htl_model.specs.Tables.{Tables}
-use Rattle.htl_walk.specs.declared.schedule.SInstr.{SInstr}
+use Rattle.htl_machine.proofs.Words.{count_by, eq-eqb, ne_eqb, append_assoc, sum_by-cons, sum_by-append, Event, lines_text, value_lines, hyper, Tables, SInstr, ECode, e_path, phase_path, Shown, shows_values, Tally, one_record, one_instr, with_records, with_instrs, path_lines, closing_text, first_records, beginning_text, left_before, records_text, some_records, turn_old_records, list_texts, instant_text, records_of, old_turn, whole_path, Counts, turn_at}
 use Rattle.htl_smach.specs.declared.left.Left.{Left}
-use Rattle.htl_ecode.specs.declared.ecode.ECode.{ECode}
-use Rattle.htl_ecode.specs.Paths.{e_path}
-use Rattle.htl_emach.specs.Following.{phase_path}
-use Rattle.htl_console.specs.declared.shown.Shown.{Shown}
-use Rattle.htl_console.specs.Shows.{shows_values}
-use Rattle.htl_machine.specs.declared.tally.Tally.{Tally}
-use Rattle.htl_machine.specs.Counts.{one_record, one_instr, with_records, with_instrs}
-use Rattle.htl_machine.specs.Doing.{path_lines}
-use Rattle.htl_machine.specs.Opening.{closing_text, first_records, beginning_text}
-use Rattle.htl_machine.specs.ListTurns.{left_before}
-use Rattle.htl_machine.specs.Texts.{records_text, some_records, turn_old_records, list_texts, instant_text, records_of, old_turn}
-use Rattle.htl_emach.proofs.Instants.{whole_path}
-use Rattle.htl_machine.specs.Machines.{Counts}
-use Rattle.htl_machine.specs.RunLists.{turn_at}
 use Rattle.htl_machine.proofs.Wholly.{counted}
 use Rattle.htl_machine.proofs.Agreeing.{phases_are, instrs_capped, steps_capped}
 

@@ -1,18 +1,7 @@
 -- The totals: what an instant adds, and what events leave as it is.
 use Rattle.std.proofs.Common.{◌≡◌, ℕ, zero, suc, ◌+◌, ◌-◌, ◌^◌, min, ◌<◌, cond, eqb, List, [], ◌++◌, length, Option, Some, None, refl, sym, ap, ap₂, ◌∙◌, arith}
-use Rattle.std.specs.List.{count_by}
-use Rattle.htl_model.specs.declared.event.Event.{Event}
-use Rattle.htl_model.specs.Frames.{hyper}
-use Rattle.htl_model.specs.Tables.{Tables}
-use Rattle.htl_walk.specs.declared.schedule.SInstr.{SInstr}
+use Rattle.htl_machine.proofs.Words.{count_by, Event, hyper, Tables, SInstr, ECode, instant_path, e_path, took, AreTookWithin, turn_at, capped, sum_to, some_records, turn_old_records, records_of, TotalsFollow, Turn, left_before, IsLoaded}
 use Rattle.htl_smach.specs.declared.left.Left.{Left}
-use Rattle.htl_ecode.specs.declared.ecode.ECode.{ECode}
-use Rattle.htl_ecode.specs.Paths.{instant_path, e_path}
-use Rattle.htl_refine.specs.Records.{took, AreTookWithin}
-use Rattle.htl_machine.specs.RunLists.{turn_at}
-use Rattle.htl_machine.specs.Texts.{capped, sum_to, some_records, turn_old_records, records_of, TotalsFollow}
-use Rattle.htl_machine.specs.ListTurns.{Turn, left_before}
-use Rattle.htl_machine.specs.Follows.{IsLoaded}
 use Rattle.htl_machine.proofs.Events.{Alike, state_same, before_same}
 use Rattle.htl_machine.proofs.Following.{turn_same}
 use Rattle.htl_machine.proofs.Writing.{capped_more}

@@ -1,25 +1,7 @@
 -- Where values and modes alone are shown, the sensors decide the text.
 use Rattle.std.proofs.Common.{◌≡◌, ℕ, ◌*◌, List, [], ◌∷◌, ◌++◌, Option, Some, None, refl, sym, ap₂, ◌∙◌, arith}
-use Rattle.std.specs.List.{filter}
-use Rattle.std.proofs.lemmas.List.{append-nil}
-use Rattle.htl_model.specs.declared.event.Event.{Event}
-use Rattle.htl_model.specs.Lists.{joined, up_to}
-use Rattle.htl_model.specs.Lines.{lines_text}
-use Rattle.htl_model.specs.Frames.{hyper}
-use Rattle.htl_model.specs.Tables.{Tables}
-use Rattle.htl_model.specs.Meaning.{value_lines, changes}
-use Rattle.htl_model.proofs.Locality.{up_to_same}
-use Rattle.htl_walk.specs.declared.job.Job.{Job}
-use Rattle.htl_walk.specs.declared.schedule.SInstr.{SInstr}
-use Rattle.htl_walk.specs.Walk.{Left}
-use Rattle.htl_ecode.specs.declared.ecode.ECode.{ECode}
-use Rattle.htl_console.specs.declared.shown.Shown.TheVariants.{Values}
-use Rattle.htl_refine.specs.FrameRecords.{RunningList, lists_at, left_in, begun_before}
-use Rattle.htl_refine.specs.FrameRuns.{frame_at}
-use Rattle.htl_refine.specs.Records.{rounds_before}
-use Rattle.htl_machine.specs.Lines.{record_lines, list_lines, old_lines, new_lines, lines, text_before}
+use Rattle.htl_machine.proofs.Words.{filter, append-nil, Event, joined, up_to, lines_text, hyper, Tables, value_lines, changes, up_to_same, Job, SInstr, Left, ECode, Values, RunningList, lists_at, left_in, begun_before, frame_at, rounds_before, record_lines, list_lines, old_lines, new_lines, lines, text_before, up_to_none}
 use Rattle.htl_machine.proofs.Events.{Alike, state_same, before_same}
-use Rattle.htl_refine.proofs.RecordLists.{up_to_none}
 
 -- no record has a line then
 no_lines : (t : Tables) (jobs : List Job) (r : RunningList) (ls : List (ℕ × Left)) → joined (record_lines t Values jobs r) ls ≡ []

@@ -1,21 +1,8 @@
 -- No communicator is written twice at once, where the rule on concrete writers is kept.
 use Rattle.std.proofs.Common.{◌≡◌, ◌≢◌, ℕ, zero, suc, ◌<◌, true, false, eqb, List, [], Option, Some, None, refl, sym, ap, ◌∙◌, arith, ◌⊎◌, inl, inr}
-use Rattle.std.proofs.lemmas.Bool.{eqb-true, eq-eqb, cases_eq}
-use Rattle.htl_model.specs.declared.parts.Comm.{Comm}
+use Rattle.htl_machine.proofs.Words.{eqb-true, eq-eqb, cases_eq, Comm, Stay, Tables, comm_period, mode_module, AreInRange, IsInvInRange, IsEndInRange, IsCommInRange, ConcreteWriters, Output, OutputBefore, KeptApart, stay_of, runs, IsDue, AreDistinct, IsStanding, each_at, item_at, same_Some, times_same, cases_less_more}
 use Rattle.htl_model.specs.declared.parts.End.TheVariants as E
-use Rattle.htl_model.specs.declared.state.Stay.{Stay}
-use Rattle.htl_model.specs.Tables.{Tables, comm_period, mode_module}
-use Rattle.htl_model.specs.Ranges.{AreInRange, IsInvInRange, IsEndInRange, IsCommInRange}
-use Rattle.htl_model.specs.FormRules.{ConcreteWriters, Output}
-use Rattle.htl_model.specs.PortWriters.{OutputBefore}
 use Rattle.htl_model.specs.SecondWriters.{OnPath, itself, above, StandTogether, AreSameWrite, WritesBefore}
-use Rattle.htl_model.specs.FrameRules.{KeptApart}
-use Rattle.htl_model.specs.Meaning.{stay_of, runs}
-use Rattle.htl_machine.specs.Values.{IsDue, AreDistinct}
-use Rattle.htl_refine.proofs.Standing.{IsStanding}
-use Rattle.htl_base.proofs.Places.{each_at, item_at}
-use Rattle.std.proofs.lemmas.Option.{same_Some}
-use Rattle.htl_base.proofs.Numbers.{times_same, cases_less_more}
 
 -- where a number with a property is no least one, item_at is none
 pub no_least : (P : ℕ → Type 0) → ((l : ℕ) → P l → ((m : ℕ) → m < l → P m → ⊥) → ⊥) → (l : ℕ) → P l → ⊥

@@ -1,33 +1,8 @@
 -- The lines of a phase's instructions: one by one, and all of them.
 use Rattle.std.proofs.Common.{◌≡◌, ℕ, zero, suc, Bool, true, false, cond, eqb, List, [], ◌∷◌, ◌++◌, length, slice_get, Option, Some, None, Ok, Err, refl, sym, ap, ◌∙◌, subst, arith, append-nil, length-append}
-use Rattle.std.specs.Io.KnownBytes.{append_known}
-use Rattle.htl_edge.specs.Content.{Puts}
-use Rattle.htl_edge.proofs.Puts.{append_known-start, append_known-more, Puts-failed}
-use Rattle.htl_model.specs.declared.event.Event.{Event}
-use Rattle.htl_model.specs.Lists.{joined}
-use Rattle.htl_model.specs.Tables.{Tables}
-use Rattle.htl_walk.specs.declared.schedule.SInstr.{SInstr}
+use Rattle.htl_machine.proofs.Words.{append_known, Puts, append_known-start, append_known-more, Puts-failed, Event, joined, Tables, SInstr, Round, ECode, EInstr, Done, EDone, Content, IsShaped, Standing, content_after, StandsSafely, Midway, Onward, phase_path, done_of, IsRunning, Shown, instr_line, shows_code, Tally, one_instr, with_instrs, s_machine_does, s_machine_at, s_machine_replay, instr_lines, path_lines, told_in_phase, IsDoing, e_line}
 use Rattle.htl_smach.specs.Rounds as rounds
-use Rattle.htl_smach.specs.Rounds.{Round}
-use Rattle.htl_ecode.specs.declared.ecode.ECode.{ECode}
-use Rattle.htl_ecode.specs.declared.instr.EInstr.{EInstr}
-use Rattle.htl_ecode.specs.Paths.{Done}
-use Rattle.htl_emach.specs.declared.trigger.EDone.{EDone}
-use Rattle.htl_emach.specs.Contents.{Content}
-use Rattle.htl_emach.specs.Shapes.{IsShaped}
-use Rattle.htl_emach.specs.Calendars.{Standing, content_after}
-use Rattle.htl_emach.specs.Safety.{StandsSafely}
-use Rattle.htl_emach.specs.Following.{Midway, Onward, phase_path, done_of}
-use Rattle.htl_machine.specs.Running.{IsRunning}
 use Rattle.htl_machine.proofs.Going.{running_on, running_done}
-use Rattle.htl_console.specs.declared.shown.Shown.{Shown}
-use Rattle.htl_console.specs.Lines.{instr_line}
-use Rattle.htl_console.specs.Shows.{shows_code}
-use Rattle.htl_machine.specs.declared.tally.Tally.{Tally}
-use Rattle.htl_machine.specs.Counts.{one_instr, with_instrs}
-use Rattle.htl_machine.specs.Readiness.{s_machine_does, s_machine_at, s_machine_replay}
-use Rattle.htl_machine.specs.Doing.{instr_lines, path_lines, told_in_phase, IsDoing}
-use Rattle.htl_machine.specs.Texts.{e_line}
 use Rattle.htl_machine.proofs.Printing.{joined-append}
 
 -- ---- one address more

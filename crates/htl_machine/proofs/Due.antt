@@ -1,16 +1,7 @@
 -- The write that the meaning finds is one that is due, and where it finds none, none is.
 use Rattle.std.proofs.Common.{◌≡◌, ℕ, zero, suc, ◌+◌, ◌*◌, Bool, true, false, cond, ◌&&◌, eqb, List, [], ◌∷◌, slice_get, Option, Some, None, refl, sym, ap, ◌∙◌, arith}
-use Rattle.std.proofs.lemmas.Bool.{eqb-true, eq-eqb, and_parts}
-use Rattle.htl_model.specs.declared.parts.Inv.{Inv}
-use Rattle.htl_model.specs.declared.parts.End.{End}
+use Rattle.htl_machine.proofs.Words.{eqb-true, eq-eqb, and_parts, Inv, End, Stay, Write, Tables, comm_period, mode_module, is_concrete, stay_of, end_to, in_round, round_start, write_in, with_start, write_from, InvStands, IsDue, not_some, same_Some}
 use Rattle.htl_model.specs.declared.parts.End.TheVariants as E
-use Rattle.htl_model.specs.declared.state.Stay.{Stay}
-use Rattle.htl_model.specs.declared.state.Write.{Write}
-use Rattle.htl_model.specs.Tables.{Tables, comm_period, mode_module, is_concrete}
-use Rattle.htl_model.specs.Meaning.{stay_of, end_to, in_round, round_start, write_in, with_start, write_from}
-use Rattle.htl_machine.specs.Values.{InvStands, IsDue}
-use Rattle.htl_refine.proofs.RecordOrder.{not_some}
-use Rattle.std.proofs.lemmas.Option.{same_Some}
 
 found_end : (t : Tables) (c s now q o : ℕ) (ends : List End) → end_to t c s now q ends ≡ Some o
     → (d : ℕ) × (o ≡ q + d) × (n : ℕ) × (slice_get ends d ≡ Some (E.Comm c n)) × (s + n * comm_period t c ≡ now)

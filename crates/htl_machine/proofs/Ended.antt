@@ -1,28 +1,7 @@
 -- The text of an instant, by whether a round begins.
 use Rattle.std.proofs.Common.{◌≡◌, ℕ, ◌-◌, ◌≤◌, true, false, List, [], ◌++◌, Option, Result, Ok, Err, refl, sym, subst}
-use Rattle.std.proofs.lemmas.List.{append-nil}
-use Rattle.htl_edge.specs.Content.{Puts}
-use Rattle.htl_edge.proofs.Puts.{Puts-second}
-use Rattle.htl_model.specs.declared.event.Event.{Event}
-use Rattle.htl_model.specs.Lists.{joined}
-use Rattle.htl_model.specs.Frames.{hyper}
-use Rattle.htl_model.specs.Tables.{Tables}
-use Rattle.htl_walk.specs.declared.schedule.SInstr.{SInstr}
+use Rattle.htl_machine.proofs.Words.{append-nil, Puts, Puts-second, Event, joined, hyper, Tables, SInstr, ECode, phase_path, IsAccepted, Seen, IsUpTo, node_by, path_lines, IsReadyAt, due_by, Opens, closing_text, beginning_text, lines_of, schedules_of, instrs_of, Schedule, record_text, list_texts, some_records, some_round_begins}
 use Rattle.htl_smach.specs.declared.left.Left.{Left}
-use Rattle.htl_ecode.specs.declared.ecode.ECode.{ECode}
-use Rattle.htl_emach.specs.Following.{phase_path}
-use Rattle.htl_object.specs.Accepted.{IsAccepted}
-use Rattle.htl_machine.specs.Calls.{Seen, IsUpTo}
-use Rattle.htl_machine.specs.StandingList.{node_by}
-use Rattle.htl_machine.specs.Doing.{path_lines}
-use Rattle.htl_machine.specs.Instant.{IsReadyAt}
-use Rattle.htl_machine.specs.Leaving.{due_by}
-use Rattle.htl_machine.specs.Opening.{Opens, closing_text, beginning_text}
-use Rattle.htl_machine.specs.Programs.{lines_of, schedules_of}
-use Rattle.htl_machine.specs.Starting.{instrs_of}
-use Rattle.htl_walk.specs.declared.schedule.Schedule.{Schedule}
-use Rattle.htl_machine.specs.Texts.{record_text, list_texts, some_records}
-use Rattle.htl_machine.specs.Timing.{some_round_begins}
 use Rattle.htl_machine.proofs.After.{lines_are_composed, text_goes_on, text_begins}
 use Rattle.htl_machine.proofs.Beginnings.{then_more}
 

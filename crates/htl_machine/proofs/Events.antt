@@ -1,23 +1,8 @@
 -- One more event, for the values: what was read before stays, and what comes is not yet read.
 use Rattle.std.proofs.Common.{◌≡◌, ℕ, zero, suc, ◌+◌, ◌*◌, ◌≤◌, ◌<◌, Bool, true, false, cond, ◌&&◌, eqb, leb, ltb, List, [], ◌∷◌, ◌++◌, length, get_or, take, ℤ, pos, refl, sym, ap, ◌∙◌, subst, arith}
 use mathlib.Core.Path.{fun_ext}
-use Rattle.std.proofs.lemmas.Bool.{ltb-true, ltb-false, le-ltb}
-use Rattle.htl_model.specs.declared.event.Event.{Event}
+use Rattle.htl_machine.proofs.Words.{ltb-true, ltb-false, le-ltb, Event, Inv, State, Tables, comm_period, AreInRange, KeptApart, last_sense, sense, initial, newest, state, before, val, out, seen_before, history_local, Left, earlier, Content, InvStands, HasReadInputs, ValuesFollow, values_before, count_left_before, Rises, last_took, inv_worst, took, reading_of}
 use Rattle.htl_model.specs.declared.event.Event.TheVariants as V
-use Rattle.htl_model.specs.declared.parts.Inv.{Inv}
-use Rattle.htl_model.specs.declared.state.State.{State}
-use Rattle.htl_model.specs.Tables.{Tables, comm_period}
-use Rattle.htl_model.specs.Ranges.{AreInRange}
-use Rattle.htl_model.specs.FrameRules.{KeptApart}
-use Rattle.htl_model.specs.Meaning.{last_sense, sense, initial, newest, state, before, val, out}
-use Rattle.htl_model.proofs.Laws.{seen_before}
-use Rattle.htl_model.proofs.Locality.{history_local}
-use Rattle.htl_walk.specs.Walk.{Left, earlier}
-use Rattle.htl_emach.specs.Contents.{Content}
-use Rattle.htl_machine.specs.Values.{InvStands, HasReadInputs, ValuesFollow, values_before}
-use Rattle.htl_refine.specs.RecordCounts.{count_left_before, Rises}
-use Rattle.htl_refine.specs.Records.{last_took, inv_worst, took}
-use Rattle.htl_machine.specs.Follows.{reading_of}
 use Rattle.htl_machine.proofs.Outs.{out_seen}
 
 -- ---- the last of the events

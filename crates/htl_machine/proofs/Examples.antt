@@ -1,15 +1,8 @@
 -- Whole runs of worked examples, computed.
 use Rattle.std.specs.Prelude.{◌≡◌, List, [], ◌∷◌, pos, refl, codes}
 use Rattle.std.specs.Fmt.{digits}
-use Rattle.htl_model.specs.declared.event.Event.{Event}
-use Rattle.htl_model.specs.declared.event.Event.TheVariants.{At, Sense, Took, End as Ends}
-use Rattle.htl_model.proofs.Sources.{plain, empty_mode, alternating, ports, preempted, doubling, refined, reentered}
-use Rattle.htl_model.specs.Tables.{Tables}
-use Rattle.htl_walk.specs.declared.schedule.SInstr.{SInstr}
+use Rattle.htl_machine.proofs.Words.{Event, At, Sense, Took, Ends, plain, empty_mode, alternating, ports, preempted, doubling, refined, reentered, Tables, SInstr, layout, run_text, Jobs, Code}
 use Rattle.htl_walk.specs.declared.schedule.SInstr.TheVariants.{Dispatch, End}
-use Rattle.htl_ecode.specs.Layout.{layout}
-use Rattle.htl_machine.specs.Lines.{run_text}
-use Rattle.htl_console.specs.declared.shown.Shown.TheVariants.{Jobs, Code}
 
 abbrev one : List (List SInstr)
 one = (Dispatch 0 3 ∷ End ∷ []) ∷ (Dispatch 0 4 ∷ End ∷ []) ∷ []

@@ -1,27 +1,8 @@
 -- A job that finishes puts into its output buffer what the meaning says, ports included.
 use Rattle.std.proofs.Common.{◌≡◌, ◌≢◌, ℕ, zero, suc, ◌+◌, ◌<◌, Bool, true, false, ◌||◌, eqb, List, [], ◌∷◌, ◌++◌, length, get_or, slice_get, set, map, Option, Some, None, ℤ, pos, refl, sym, ap, ap₂, ◌∙◌, subst, arith, inl, inr}
-use Rattle.std.proofs.lemmas.Bool.{eqb-true, eqb-false}
-use Rattle.std.proofs.lemmas.List.{get_or-set_same, get_or-set_other, length-set}
-use Rattle.std.proofs.lemmas.Option.{slice_get_within, same_Some}
-use Rattle.htl_base.specs.declared.Ty.{Ty}
-use Rattle.htl_model.specs.declared.event.Event.{Event}
-use Rattle.htl_model.specs.declared.parts.Inv.{Inv}
-use Rattle.htl_model.specs.declared.parts.End.{End}
+use Rattle.htl_machine.proofs.Words.{eqb-true, eqb-false, get_or-set_same, get_or-set_other, length-set, slice_get_within, same_Some, Ty, Event, Inv, End, Stay, numbered, list_to, Tables, mode_module, is_concrete, function_value, output_function, count_at, AreInRange, KeptApart, before, stay_of, val, out, out_by, input_value, writer_from, Content, buffer, argument, arguments, made, completed, concrete_task, has_ends, InvStands, HasReadInputs, Orders, and_also, HasPlaces, ValuesFollow, out_val, length-list_to, cases_below, or_second}
 use Rattle.htl_model.specs.declared.parts.End.TheVariants as E
-use Rattle.htl_model.specs.declared.state.Stay.{Stay}
-use Rattle.htl_model.specs.Lists.{numbered, list_to}
-use Rattle.htl_model.specs.Tables.{Tables, mode_module, is_concrete, function_value, output_function, count_at}
-use Rattle.htl_model.specs.Ranges.{AreInRange}
-use Rattle.htl_model.specs.FrameRules.{KeptApart}
-use Rattle.htl_model.specs.Meaning.{before, stay_of, val, out, out_by, input_value, writer_from}
-use Rattle.htl_emach.specs.Contents.{Content, buffer, argument, arguments, made, completed}
-use Rattle.htl_emach.proofs.Completing.{concrete_task}
-use Rattle.htl_emach.proofs.Soundness.{has_ends}
-use Rattle.htl_machine.specs.Values.{InvStands, HasReadInputs, Orders, and_also, HasPlaces, ValuesFollow, out_val}
 use Rattle.htl_machine.proofs.Outs.{writer_is, writer_stands, out_stable, below, below_less, below_more}
-use Rattle.htl_model.proofs.Listed.{length-list_to}
-use Rattle.htl_base.proofs.Numbers.{cases_below}
-use Rattle.htl_base.proofs.Tests.{or_second}
 
 -- ---- lists made place by place
 

@@ -1,17 +1,6 @@
 -- The positions of a frame once a list of it has begun.
 use Rattle.std.proofs.Common.{◌≡◌, ℕ, zero, suc, ◌+◌, ◌-◌, ◌%◌, ◌≤◌, ◌<◌, Bool, true, false, cond, eqb, List, Option, [], ◌∷◌, ◌++◌, length, take, drop, refl, sym, ap, ap₂, ◌∙◌, subst, arith, length-append}
-use Rattle.std.proofs.lemmas.List.{drop-take}
-use Rattle.htl_model.specs.Frames.{frame_of}
-use Rattle.htl_model.specs.Tables.{Tables}
-use Rattle.htl_walk.specs.declared.job.Job.{Job}
-use Rattle.htl_walk.specs.Refinement.{HaveLengths, AreWithinWorst}
-use Rattle.htl_smach.specs.Adding.{CanBegin}
-use Rattle.htl_smach.specs.Rounds.{Round, round_begun, added}
-use Rattle.htl_refine.specs.BegunJobs.{new_jobs}
-use Rattle.htl_machine.specs.ListBegun.{list_begun, CanStart}
-use Rattle.htl_machine.specs.Numbering.{IsNumbering, IsPath, IsAtFirst}
-use Rattle.htl_machine.specs.Starting.{kept_lengths}
-use Rattle.htl_machine.specs.declared.path.Path.{Path}
+use Rattle.htl_machine.proofs.Words.{drop-take, frame_of, Tables, Job, HaveLengths, AreWithinWorst, CanBegin, Round, round_begun, added, new_jobs, list_begun, CanStart, IsNumbering, IsPath, IsAtFirst, kept_lengths, Path}
 
 drop_front : {A : Type 0} (xs ys : List A) → drop (length xs) (xs ++ ys) ≡ ys
 drop_front [] ys = refl

@@ -1,26 +1,8 @@
 -- A machine that follows events follows one event more.
 use Rattle.std.proofs.Common.{◌≡◌, ℕ, zero, suc, ◌≤◌, ◌<◌, Bool, true, false, cond, ◌&&◌, eqb, leb, List, [], ◌∷◌, ◌++◌, length, get_or, slice_get, set, Option, Some, None, IfSome, ℤ, pos, refl, sym, ap, ◌∙◌, subst, arith}
 use mathlib.Core.Path.{fun_ext}
-use Rattle.std.proofs.lemmas.Bool.{eqb-true, eqb-false, le-leb}
-use Rattle.std.proofs.lemmas.Bool.Decides.{nat_tests}
-use Rattle.std.proofs.lemmas.List.{length-set, get_or-set_same, get_or-set_other}
-use Rattle.htl_model.specs.declared.event.Event.{Event}
+use Rattle.htl_machine.proofs.Words.{eqb-true, eqb-false, le-leb, nat_tests, length-set, get_or-set_same, get_or-set_other, Event, Comm, Inv, FitsType, hyper, Tables, sense, before, SInstr, Round, Content, InvStands, HasReadInputs, ValuesFollow, HasPlaces, took, IsTookWithin, AreTookWithin, finished_before, next_world, RunState, reading_of, SMachineStands, SMachineFollows, UpTo, RunStateFollows, IsLoaded, at_reading, shown_as, Turn, left_before, turn_finished_by, turn_by, turn_at}
 use Rattle.htl_model.specs.declared.event.Event.TheVariants as V
-use Rattle.htl_model.specs.declared.parts.Comm.{Comm}
-use Rattle.htl_model.specs.declared.parts.Inv.{Inv}
-use Rattle.htl_model.specs.Ranges.{FitsType}
-use Rattle.htl_model.specs.Frames.{hyper}
-use Rattle.htl_model.specs.Tables.{Tables}
-use Rattle.htl_model.specs.Meaning.{sense, before}
-use Rattle.htl_walk.specs.declared.schedule.SInstr.{SInstr}
-use Rattle.htl_smach.specs.Rounds.{Round}
-use Rattle.htl_emach.specs.Contents.{Content}
-use Rattle.htl_machine.specs.Values.{InvStands, HasReadInputs, ValuesFollow, HasPlaces}
-use Rattle.htl_refine.specs.Records.{took, IsTookWithin, AreTookWithin}
-use Rattle.htl_machine.specs.Plans.{finished_before, next_world}
-use Rattle.htl_machine.specs.Follows.{RunState, reading_of, SMachineStands, SMachineFollows, UpTo, RunStateFollows, IsLoaded, at_reading, shown_as}
-use Rattle.htl_machine.specs.ListTurns.{Turn, left_before, turn_finished_by}
-use Rattle.htl_machine.specs.RunLists.{turn_by, turn_at}
 use Rattle.htl_machine.proofs.Shaping.{has_places}
 use Rattle.htl_machine.proofs.ListValues.{read_before, values_carried}
 use Rattle.htl_machine.proofs.LoadedLists.{loaded_run, loaded_turns}

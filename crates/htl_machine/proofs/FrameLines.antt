@@ -1,31 +1,11 @@
 -- The job lines of a run that count within a frame are those of the frame's own records.
 use Rattle.std.proofs.Common.{◌≡◌, ◌≢◌, ◌≤◌, ◌<◌, inl, inr, ℕ, zero, suc, ◌+◌, ◌-◌, ◌*◌, ◌/◌, ◌%◌, Bool, true, false, cond, ◌&&◌, eqb, ltb, leb, List, [], ◌∷◌, ◌++◌, map, slice_get, Option, Some, None, option_map, refl, sym, ap, ap₂, ◌∙◌, arith, append-nil}
-use Rattle.std.specs.List.{filter}
-use Rattle.std.proofs.Math.Nat.{div-add-mod, mod-lt, mul-le-mul_right}
-use Rattle.std.proofs.lemmas.Bool.{eqb-true, ltb-true, ltb-false, leb-true, and_parts}
-use Rattle.htl_model.specs.declared.event.Event.{Event}
-use Rattle.htl_model.specs.Frames.{node}
-use Rattle.htl_model.specs.Lists.{joined, numbered, up_to}
-use Rattle.htl_model.specs.Tables.{Tables}
-use Rattle.htl_model.proofs.Locality.{up_to_same}
-use Rattle.htl_walk.specs.declared.job.Job.{Job}
-use Rattle.htl_walk.specs.declared.schedule.SInstr.{SInstr}
-use Rattle.htl_walk.specs.Paths.{Leg, list_point, walks_from, end_to_end}
-use Rattle.htl_walk.specs.Walk.{Left, Point, first_point, last_point, walk_from}
-use Rattle.htl_refine.specs.FrameRecords.{RunningList, lists_from, left_in, begun_before}
-use Rattle.htl_refine.specs.FrameRuns.{Frame, frame_modes, path_of, frame_at, walk_of}
-use Rattle.htl_refine.specs.RecordCounts.{Rises}
-use Rattle.htl_refine.specs.Records.{rounds_before, shifted}
-use Rattle.htl_machine.specs.JobLines.{RunLine, closed_slice_line, job_lines_of, frame_job_lines, job_lines_at}
-use Rattle.htl_machine.specs.JobLines.RunLine.{SliceLine, DoneLine}
-use Rattle.htl_machine.specs.Texts.{inv_at}
+use Rattle.htl_machine.proofs.Words.{filter, div-add-mod, mod-lt, mul-le-mul_right, eqb-true, ltb-true, ltb-false, leb-true, and_parts, Event, node, joined, numbered, up_to, Tables, up_to_same, Job, SInstr, Leg, list_point, walks_from, end_to_end, Left, Point, first_point, last_point, walk_from, RunningList, lists_from, left_in, begun_before, Frame, frame_modes, path_of, frame_at, walk_of, Rises, rounds_before, shifted, RunLine, closed_slice_line, job_lines_of, frame_job_lines, job_lines_at, SliceLine, DoneLine, inv_at, cases_less_same, up_to_none}
 use Rattle.htl_machine.proofs.JobLines.{none_first, begins_silent, joined-up_to}
 use Rattle.htl_machine.proofs.Printing.{joined-append}
 use Rattle.htl_machine.proofs.RecordTimes.{nothing, joined_none, at_now, before_now, in_order}
 use Rattle.htl_machine.proofs.ListRecords.{silent_at}
 use Rattle.htl_machine.proofs.WorkingRecords.{DoesWork}
-use Rattle.htl_base.proofs.Numbers.{cases_less_same}
-use Rattle.htl_refine.proofs.RecordLists.{up_to_none}
 
 -- ---- numbers of frames
 

@@ -1,20 +1,7 @@
 -- What the lists of starts, rounds and positions of a frame hold.
 use Rattle.std.proofs.Common.{◌≡◌, ◌<◌, ◌⊎◌, ℕ, zero, suc, ◌+◌, ◌%◌, Bool, true, false, cond, eqb, List, [], ◌∷◌, ◌++◌, length, slice_get, Option, Some, sym, ◌∙◌, ap, subst, arith, inl, inr}
-use Rattle.std.proofs.lemmas.Bool.{eq-eqb}
+use Rattle.htl_machine.proofs.Words.{eq-eqb, unit_period, root_periods, frame_of, begins, starts_below, starts, rounds_of, rounds_at, rounds, places_of, root_modules, Tables, running_invs, place, running_places, map_at, begins_by, in_flat, not_some, get_front, into_back, same_Some, cases_below}
 use Rattle.htl_model.specs.declared.frame.Round.{Round}
-use Rattle.htl_model.specs.Frames.{unit_period, root_periods, frame_of, begins, starts_below, starts, rounds_of, rounds_at, rounds, places_of}
-use Rattle.htl_model.specs.Selections.{root_modules}
-use Rattle.htl_model.specs.Tables.{Tables}
-use Rattle.htl_refine.specs.ConcreteJobs.{running_invs}
-use Rattle.htl_refine.specs.FramePlaces.{place}
-use Rattle.htl_refine.specs.FrameRuns.{running_places}
-use Rattle.htl_refine.proofs.Inherit.{map_at}
-use Rattle.htl_refine.proofs.ListsFollow.{begins_by}
-use Rattle.htl_refine.proofs.Members.{in_flat}
-use Rattle.htl_refine.proofs.RecordOrder.{not_some}
-use Rattle.htl_base.proofs.Places.{get_front, into_back}
-use Rattle.std.proofs.lemmas.Option.{same_Some}
-use Rattle.htl_base.proofs.Numbers.{cases_below}
 
 -- ---- starts
 

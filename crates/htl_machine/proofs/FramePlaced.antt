@@ -1,48 +1,10 @@
 -- At each instant of a frame what stands at the positions so far is who stands.
 use Rattle.std.proofs.Common.{◌≡◌, ◌<◌, ◌≤◌, ◌⊎◌, ℕ, zero, suc, ◌+◌, ◌-◌, ◌*◌, ◌/◌, ◌%◌, true, List, [], ◌∷◌, length, map, take, slice_get, Option, Some, None, option_map, refl, sym, ◌∙◌, ap, subst, arith, inl, inr}
-use Rattle.std.proofs.Math.Nat.{div-add-mod, mod-lt, mul-div_cancel_left, mul-mod_right, add-mul-mod_self_left}
-use Rattle.std.proofs.lemmas.Option.{slice_get_within, get_or_from_slice_get, same_Some}
-use Rattle.htl_model.specs.declared.event.Event.{Event}
-use Rattle.htl_model.specs.declared.parts.Inv.{Inv}
-use Rattle.htl_model.specs.declared.parts.Mode.{Mode}
-use Rattle.htl_model.specs.declared.state.Stay.{Stay}
-use Rattle.htl_model.specs.FrameRules.{KeptApart}
-use Rattle.htl_model.specs.Chosen.{StandsFor, itself, chosen}
-use Rattle.htl_model.specs.Meaning.{state, stay_of}
-use Rattle.htl_model.specs.Ranges.{AreInRange, IsInvInRange}
-use Rattle.htl_model.specs.Selected.{entry, Runs, IsEntry, IsSelection}
-use Rattle.htl_model.specs.SecondWriters.{parent_mode}
-use Rattle.htl_model.specs.Selections.{is_root, root_modules, inv_of_mode, invs_of}
-use Rattle.htl_model.specs.Tables.{Tables, mode_module, mode_period, window_end, is_concrete}
-use Rattle.htl_refine.specs.ConcreteJobs.{running_invs}
-use Rattle.htl_refine.specs.Records.{modes_at}
-use Rattle.htl_refine.proofs.Exact.{chosen_exact_apart}
-use Rattle.htl_refine.proofs.Fronts.{front_there}
-use Rattle.htl_refine.proofs.Inherit.{mapped, map_at}
-use Rattle.htl_refine.proofs.BegunTimes.{start_below}
-use Rattle.htl_refine.proofs.Members.{of_flat, of_places, at_place}
-use Rattle.htl_refine.proofs.StateLaws.{states_are_selections}
-use Rattle.htl_model.specs.declared.frame.Place.{Place}
+use Rattle.htl_machine.proofs.Words.{div-add-mod, mod-lt, mul-div_cancel_left, mul-mod_right, add-mul-mod_self_left, slice_get_within, get_or_from_slice_get, same_Some, Event, Inv, Mode, Stay, KeptApart, StandsFor, itself, chosen, state, stay_of, AreInRange, IsInvInRange, entry, Runs, IsEntry, IsSelection, parent_mode, is_root, root_modules, inv_of_mode, invs_of, Tables, mode_module, mode_period, window_end, is_concrete, running_invs, modes_at, chosen_exact_apart, front_there, mapped, map_at, start_below, of_flat, of_places, at_place, states_are_selections, Place, frame_of, unit_period, root_periods, starts, rounds_at, rounds, frame_divided, derived_place, frame_modes, frame_places, place, standing_places, AreOrdered, InvStands, not_some, standing_at, some_time, own_starts, since, until, IsFramePlacing, PlacedByModes, window_within, of_rounds, round_of, run_of, each_at, eq-eqb, eqb-true, times_grow}
 use Rattle.htl_model.specs.declared.frame.Round.{Round}
-use Rattle.htl_model.specs.Frames.{frame_of, unit_period, root_periods, starts, rounds_at, rounds}
-use Rattle.htl_model.proofs.FrameRules.{frame_divided}
-use Rattle.htl_refine.specs.DerivedPaths.{derived_place}
-use Rattle.htl_refine.specs.FrameRuns.{frame_modes, frame_places}
-use Rattle.htl_refine.specs.FramePlaces.{place, standing_places, AreOrdered}
-use Rattle.htl_machine.specs.Values.{InvStands}
-use Rattle.htl_refine.proofs.RecordOrder.{not_some}
-use Rattle.htl_refine.proofs.Standing.{standing_at}
-use Rattle.htl_refine.proofs.OwnPeriods.{some_time}
-use Rattle.htl_refine.proofs.OwnRounds.{own_starts, since, until}
-use Rattle.htl_machine.specs.FramePlacing.{IsFramePlacing, PlacedByModes}
 use Rattle.htl_machine.proofs.RootModes.{unit_period_is, has_root}
 use Rattle.htl_machine.proofs.Tops.{IsTop, climb, down}
-use Rattle.htl_walk.proofs.PathReady.{window_within}
-use Rattle.htl_refine.proofs.RoundOrder.{of_rounds, round_of, run_of}
 use Rattle.htl_machine.proofs.FrameMembers.{round_in, in_run}
-use Rattle.htl_base.proofs.Places.{each_at}
-use Rattle.std.proofs.lemmas.Bool.{eq-eqb, eqb-true}
-use Rattle.htl_base.proofs.Numbers.{times_grow}
 
 -- ---- modes and stays
 

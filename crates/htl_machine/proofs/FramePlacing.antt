@@ -1,32 +1,10 @@
 -- The jobs of who stands at the positions of a frame stand.
 use Rattle.std.proofs.Common.{◌≡◌, ℕ, zero, suc, ◌+◌, ◌≤◌, Bool, true, false, ◌&&◌, cond, eqb, List, [], ◌∷◌, slice_get, map, take, Option, Some, None, option_map, refl, sym, ap, ap₂, ◌∙◌, subst, arith, inl, inr}
-use Rattle.std.proofs.lemmas.Bool.{eq-eqb, cases_lt, and_from}
-use Rattle.std.proofs.lemmas.Option.{slice_get-map, get_or_from_slice_get, same_Some}
-use Rattle.htl_model.specs.declared.parts.Inv.{Inv}
+use Rattle.htl_machine.proofs.Words.{eq-eqb, cases_lt, and_from, slice_get-map, get_or_from_slice_get, same_Some, Inv, Stay, Tables, release, window_end, task_worst, no_place, writer_from, feeds, Job, is_fed_by, mask, precedes, absent_job, job_at, mask_bit, get_mapped, Place, job_in, placed, placed_job, placed_jobs, later_or, position_from, InvStands, IsJob, AreJobsSoFar, place, front_there, take_map, IsFramePlacing, JobsOfPlacing, not_some, job_is, and_none}
 use Rattle.htl_model.specs.declared.parts.End.TheVariants as E
-use Rattle.htl_model.specs.declared.state.Stay.{Stay}
-use Rattle.htl_model.specs.Tables.{Tables, release, window_end, task_worst}
-use Rattle.htl_model.specs.Frames.{no_place}
-use Rattle.htl_model.specs.Meaning.{writer_from}
-use Rattle.htl_model.specs.PortOrder.{feeds}
-use Rattle.htl_walk.specs.declared.job.Job.{Job}
-use Rattle.htl_walk.specs.Jobs.{is_fed_by, mask, precedes, absent_job}
-use Rattle.htl_walk.specs.Walk.{job_at}
-use Rattle.htl_walk.proofs.Masks.{mask_bit, get_mapped}
-use Rattle.htl_model.specs.declared.frame.Place.{Place}
-use Rattle.htl_walk.specs.PathJobs.{job_in, placed, placed_job, placed_jobs}
-use Rattle.htl_machine.specs.Turns.{later_or, position_from}
-use Rattle.htl_machine.specs.Values.{InvStands}
-use Rattle.htl_machine.specs.JobsSoFar.{IsJob, AreJobsSoFar}
-use Rattle.htl_refine.specs.FramePlaces.{place}
-use Rattle.htl_refine.proofs.Fronts.{front_there, take_map}
-use Rattle.htl_machine.specs.FramePlacing.{IsFramePlacing, JobsOfPlacing}
-use Rattle.htl_refine.proofs.RecordOrder.{not_some}
 use Rattle.htl_machine.proofs.Outs.{writer_is}
 use Rattle.htl_machine.proofs.JobWindows.{position_some, position_none}
 use Rattle.htl_machine.proofs.Placing.{fed}
-use Rattle.htl_walk.proofs.Work.{job_is}
-use Rattle.htl_base.proofs.Tests.{and_none}
 
 -- ---- the last position
 

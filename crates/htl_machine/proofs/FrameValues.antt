@@ -1,30 +1,13 @@
 -- The value half over a whole instant of a run by frames, records included.
 use Rattle.std.proofs.Common.{◌≡◌, ℕ, zero, suc, ◌+◌, ◌-◌, ◌≤◌, ◌<◌, Bool, true, false, cond, ◌&&◌, ◌||◌, ltb, List, [], ◌∷◌, slice_get, Option, Some, None, refl, sym, ap, ◌∙◌, subst, arith, inl, inr}
 use mathlib.Core.Path.{fun_ext}
-use Rattle.std.proofs.lemmas.Bool.{ltb-true, lt-ltb, and_right, cases_lt}
-use Rattle.htl_model.specs.declared.event.Event.{Event}
-use Rattle.htl_model.specs.declared.parts.Inv.{Inv}
-use Rattle.htl_model.specs.Tables.{Tables}
-use Rattle.htl_model.specs.Ranges.{AreInRange}
-use Rattle.htl_model.specs.FrameRules.{KeptApart}
-use Rattle.htl_model.specs.Meaning.{state, before}
-use Rattle.htl_walk.specs.declared.job.Job.{Job}
-use Rattle.htl_walk.specs.Walk.{Left, job_at, is_position}
-use Rattle.htl_emach.specs.Contents.{Content, completed}
-use Rattle.htl_refine.specs.RecordCounts.{Rises, count_left_before, done_by}
-use Rattle.htl_refine.proofs.RecordOrder.{counted, not_some}
-use Rattle.htl_machine.specs.FramesGoOn.{Now, present_finished, finished_at, AreFrames, frame_records, next_by_frames}
-use Rattle.htl_machine.specs.Completing.{complete_at, complete_by, run_records}
-use Rattle.htl_machine.specs.Turns.{finished_in}
-use Rattle.htl_machine.specs.Values.{InvStands, ValuesFollow, HasPlaces, HasReadInputs, Ready, and_also}
+use Rattle.htl_machine.proofs.Words.{ltb-true, lt-ltb, and_right, cases_lt, Event, Inv, Tables, AreInRange, KeptApart, state, before, Job, Left, job_at, is_position, Content, completed, Rises, count_left_before, done_by, counted, not_some, Now, present_finished, finished_at, AreFrames, frame_records, next_by_frames, complete_at, complete_by, run_records, finished_in, InvStands, ValuesFollow, HasPlaces, HasReadInputs, Ready, and_also, finish_more, job_is}
 use Rattle.htl_machine.proofs.Carrying.{follows_on, after_shape}
 use Rattle.htl_machine.proofs.SMachineInstants.{record_there, count_within}
 use Rattle.htl_machine.proofs.Finishing.{finish_follows, completed_shape}
 use Rattle.htl_machine.proofs.FramesGoOn.{finished_carried}
 use Rattle.htl_machine.proofs.Owing.{is_ready, reads_to, completes}
 use Rattle.htl_machine.proofs.Turning.{before_count}
-use Rattle.htl_refine.proofs.FinishingRecords.{finish_more}
-use Rattle.htl_walk.proofs.Work.{job_is}
 
 -- a later offset has more records before it
 pub count_grows : (d e : ℕ) (ls : List Left) → d ≤ e → count_left_before d ls ≤ count_left_before e ls
@@ -134,5 +117,4 @@ module _ (t : Tables) (range : AreInRange t) (kept : KeptApart t 12) (es : List 
         follows_on t range kept es n (finished_at now n) (present_finished now (suc n)) (frame_records t now n w) r.0 r.1 (all_ready n) (finished_carried t es now range kept frames n),
         after_shape t range kept es n (finished_at now n) (present_finished now (suc n)) (frame_records t now n w) r.0 r.1 (all_ready n) (finished_carried t es now range kept frames n),
       )
-
   -- after the records, the writes and the sensors the world holds the values of the instant

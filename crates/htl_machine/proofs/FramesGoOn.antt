@@ -1,17 +1,6 @@
 -- What is finished after an instant's records is finished before the next, of the rounds that go on; of those that begin nothing is.
 use Rattle.std.proofs.Common.{◌≡◌, ℕ, zero, suc, ◌-◌, ◌<◌, Bool, false, List, sym, ap, ◌∙◌, arith, inl, inr}
-use Rattle.htl_model.specs.declared.event.Event.{Event}
-use Rattle.htl_model.specs.declared.parts.Inv.{Inv}
-use Rattle.htl_model.specs.Tables.{Tables, mode_module}
-use Rattle.htl_model.specs.Ranges.{AreInRange}
-use Rattle.htl_model.specs.FrameRules.{KeptApart}
-use Rattle.htl_model.specs.Meaning.{state}
-use Rattle.htl_machine.specs.Values.{InvStands}
-use Rattle.htl_refine.specs.RecordCounts.{count_left_before, done_by}
-use Rattle.htl_machine.specs.Turns.{last_position_done, finished_in}
-use Rattle.htl_machine.specs.JobsSoFar.{IsJob}
-use Rattle.htl_machine.specs.FramesGoOn.{Now, present_finished, finished_at, AreFrames, FinishedCarried}
-use Rattle.htl_refine.proofs.RecordOrder.{not_some}
+use Rattle.htl_machine.proofs.Words.{Event, Inv, Tables, mode_module, AreInRange, KeptApart, state, InvStands, count_left_before, done_by, last_position_done, finished_in, IsJob, Now, present_finished, finished_at, AreFrames, FinishedCarried, not_some}
 use Rattle.htl_machine.proofs.Standing.{began_before}
 use Rattle.htl_machine.proofs.Owing.{not_yet}
 

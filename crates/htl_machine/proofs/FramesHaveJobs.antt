@@ -1,11 +1,6 @@
 -- At each instant the jobs of the frame are those so far.
 use Rattle.std.proofs.Common.{◌≡◌, ◌+◌, ◌-◌, ◌*◌, ◌/◌, ◌%◌, ◌<◌, arith}
-use Rattle.std.proofs.Math.Nat.{div-add-mod, mod-lt}
-use Rattle.htl_model.specs.Frames.{frame_of}
-use Rattle.htl_model.specs.Meaning.{state}
-use Rattle.htl_refine.specs.FramePlaces.{standing_places}
-use Rattle.htl_refine.proofs.PlaceOrder.{places_ordered}
-use Rattle.htl_machine.specs.FramePlacing.{begun_by, FrameJobsStand}
+use Rattle.htl_machine.proofs.Words.{div-add-mod, mod-lt, frame_of, state, standing_places, places_ordered, begun_by, FrameJobsStand}
 use Rattle.htl_machine.proofs.FramePlaced.{placed_by_modes}
 use Rattle.htl_machine.proofs.FramePlacing.{jobs_of_placing}
 

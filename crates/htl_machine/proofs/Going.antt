@@ -1,20 +1,6 @@
 -- A phase goes on by one instruction, and ends.
 use Rattle.std.proofs.Common.{◌≡◌, ℕ, List, [], ◌∷◌, ◌++◌, slice_get, Option, Some, None, refl, sym, ap, ◌∙◌, subst}
-use Rattle.std.proofs.lemmas.List.{append-nil}
-use Rattle.htl_model.specs.declared.event.Event.{Event}
-use Rattle.htl_model.specs.Tables.{Tables}
-use Rattle.htl_ecode.specs.declared.ecode.ECode.{ECode}
-use Rattle.htl_ecode.specs.declared.instr.EInstr.{EInstr}
-use Rattle.htl_ecode.specs.Paths.{Done}
-use Rattle.htl_emach.specs.declared.trigger.EDone.{EDone}
-use Rattle.htl_emach.specs.Contents.{Content}
-use Rattle.htl_emach.specs.Shapes.{IsShaped}
-use Rattle.htl_emach.specs.Calendars.{Standing, content_after}
-use Rattle.htl_emach.specs.Safety.{StandsSafely}
-use Rattle.htl_emach.specs.Following.{Onward, phase_path, done_of}
-use Rattle.htl_emach.specs.Leading.{IsAllowed}
-use Rattle.htl_emach.proofs.Keeping.{switch_quiet}
-use Rattle.htl_machine.specs.Running.{IsRunning, replay, effect_at}
+use Rattle.htl_machine.proofs.Words.{append-nil, Event, Tables, ECode, EInstr, Done, EDone, Content, IsShaped, Standing, content_after, StandsSafely, Onward, phase_path, done_of, IsAllowed, switch_quiet, IsRunning, replay, effect_at}
 
 replay_more : (t : Tables) (code : ECode) (ds : List Done) (d : Done) (w : Content) → replay t code (ds ++ d ∷ []) w ≡ effect_at t (slice_get code.instrs d.address) (replay t code ds w)
 replay_more t code [] d w = refl

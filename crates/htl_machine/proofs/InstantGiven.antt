@@ -1,21 +1,6 @@
 -- What an instant is given: the machine that its fields hold stands before it, under the names of its parts.
 use Rattle.std.proofs.Common.{◌≡◌, ◌≤◌, ℕ, true, List, [], ℤ, Option, None, refl, sym, subst}
-use Rattle.htl_model.specs.declared.event.Event.{Event}
-use Rattle.htl_model.specs.Tables.{Tables}
-use Rattle.htl_walk.specs.declared.schedule.SInstr.{SInstr}
-use Rattle.htl_walk.specs.declared.schedule.Schedule.{Schedule}
-use Rattle.htl_ecode.specs.declared.ecode.ECode.{ECode}
-use Rattle.htl_smach.specs.Rounds.{Round}
-use Rattle.htl_emach.specs.Calendars.{Standing}
-use Rattle.htl_emach.specs.Contents.{Content}
-use Rattle.htl_emach.specs.Following.{FollowsCode, Onward, phase_path}
-use Rattle.htl_object.specs.Accepted.{IsAccepted}
-use Rattle.htl_machine.specs.Asking.{IsToClose, IsToCloseAndBegin}
-use Rattle.htl_machine.specs.Calls.{Seen, IsUpTo, schedule_by}
-use Rattle.htl_machine.specs.Instant.{IsReadyAt}
-use Rattle.htl_machine.specs.Opening.{IsOpened}
-use Rattle.htl_machine.specs.Starting.{instrs_of}
-use Rattle.htl_machine.specs.Timing.{some_round_begins}
+use Rattle.htl_machine.proofs.Words.{Event, Tables, SInstr, Schedule, ECode, Round, Standing, Content, FollowsCode, Onward, phase_path, IsAccepted, IsToClose, IsToCloseAndBegin, Seen, IsUpTo, schedule_by, IsReadyAt, IsOpened, instrs_of, some_round_begins}
 use Rattle.htl_machine.proofs.After.{over}
 use Rattle.htl_machine.proofs.Ready.{ready}
 use Rattle.htl_machine.proofs.ToClose.{follows_at, to_close, to_close_and_begin}

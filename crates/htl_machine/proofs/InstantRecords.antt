@@ -1,17 +1,9 @@
 -- The records of an instant are one piece of the walk that stands then; and the numbers of the rounds before it.
 use Rattle.std.proofs.Common.{◌≡◌, ◌≤◌, ◌<◌, ℕ, zero, suc, ◌+◌, ◌-◌, ◌*◌, ◌/◌, Bool, true, false, cond, eqb, ltb, List, [], ◌∷◌, ◌++◌, take, drop, map, Option, Some, None, refl, sym, ◌∙◌, ap, ap₂, arith}
-use Rattle.std.specs.Prelude.{option_map}
-use Rattle.std.specs.List.{filter}
-use Rattle.std.proofs.Math.Nat.{add-mul-div_left}
-use Rattle.std.proofs.lemmas.Bool.{ltb-true, ltb-false, eqb-true, eqb-false}
-use Rattle.htl_model.specs.Lists.{numbered, up_to}
+use Rattle.htl_machine.proofs.Words.{filter, add-mul-div_left, ltb-true, ltb-false, eqb-true, eqb-false, numbered, up_to, told, told_from, shifted, rounds_before, count_left_before, Rises, up_to_none, option_map}
 use Rattle.htl_walk.specs.Walk as walks
 use Rattle.htl_smach.specs.declared.left.Left.{Left}
 use Rattle.htl_smach.specs.Rounds as rounds
-use Rattle.htl_smach.specs.Rounds.{told, told_from}
-use Rattle.htl_refine.specs.Records.{shifted, rounds_before}
-use Rattle.htl_refine.specs.RecordCounts.{count_left_before, Rises}
-use Rattle.htl_refine.proofs.RecordLists.{up_to_none}
 
 -- ---- a record, as the S machine tells it
 

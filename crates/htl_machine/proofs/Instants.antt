@@ -1,21 +1,7 @@
 -- The record half over an instant: records left, releases told, a list over.
 use Rattle.std.proofs.Common.{◌≡◌, ℕ, suc, ◌+◌, ◌-◌, ◌≤◌, Bool, List, length, Option, refl, sym, ap, ◌∙◌, subst, arith}
-use Rattle.htl_model.specs.declared.event.Event.{Event}
-use Rattle.htl_model.specs.declared.state.Stay.{Stay}
-use Rattle.htl_model.specs.Tables.{Tables}
-use Rattle.htl_model.specs.Ranges.{AreInRange}
-use Rattle.htl_model.specs.Meaning.{state}
+use Rattle.htl_machine.proofs.Words.{Event, Stay, Tables, AreInRange, state, Round, all_reads, count_left_before, AreJobsSoFar, HaveWindows, Plan, list_walk, SMachineStands, SMachineAt, Turn, AreTurns, IsListed, due_by, Leaves, raise_all, IsStanding, standing_at}
 use Rattle.htl_smach.specs.Rounds as rounds
-use Rattle.htl_smach.specs.Rounds.{Round}
-use Rattle.htl_machine.specs.Worlds.{all_reads}
-use Rattle.htl_refine.specs.RecordCounts.{count_left_before}
-use Rattle.htl_machine.specs.JobsSoFar.{AreJobsSoFar, HaveWindows}
-use Rattle.htl_refine.specs.ListPlans.{ListPlan as Plan, list_walk}
-use Rattle.htl_machine.specs.Follows.{SMachineStands, SMachineAt}
-use Rattle.htl_machine.specs.ListTurns.{Turn, AreTurns, IsListed}
-use Rattle.htl_machine.specs.Leaving.{due_by, Leaves}
-use Rattle.htl_machine.specs.ReleaseFlags.{raise_all}
-use Rattle.htl_refine.proofs.Standing.{IsStanding, standing_at}
 use Rattle.htl_machine.proofs.FrameValues.{count_grows}
 use Rattle.htl_machine.proofs.SMachineInstants.{s_machine_opens, s_machine_closes, all_given}
 use Rattle.htl_machine.proofs.Releasing.{flags_after}

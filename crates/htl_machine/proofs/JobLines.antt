@@ -1,36 +1,7 @@
 -- A run's text is printed line by line, and its j and d lines are those of its records.
 use Rattle.std.proofs.Common.{◌≡◌, ℕ, zero, suc, ◌+◌, ◌*◌, ◌/◌, Bool, true, false, cond, eqb, List, [], ◌∷◌, ◌++◌, map, slice_get, Option, Some, None, option_map, refl, sym, ap, ap₂, ◌∙◌, subst, arith}
-use Rattle.std.specs.List.{filter}
-use Rattle.std.proofs.lemmas.Bool.{eqb-true}
-use Rattle.std.proofs.lemmas.List.{append-nil}
-use Rattle.std.proofs.lemmas.List.Elements.{filter-append}
-use Rattle.htl_model.specs.declared.event.Event.{Event}
-use Rattle.htl_model.specs.declared.line.Line.{Line}
-use Rattle.htl_model.specs.Lines.{line_text, lines_text}
-use Rattle.htl_model.specs.Lists.{joined, numbered, up_to}
-use Rattle.htl_model.specs.Meaning.{value_lines}
-use Rattle.htl_model.specs.Frames.{hyper, node}
-use Rattle.htl_model.specs.Tables.{Tables}
-use Rattle.htl_model.proofs.Locality.{up_to_same}
-use Rattle.htl_walk.specs.declared.schedule.SInstr.{SInstr}
-use Rattle.htl_walk.specs.declared.job.Job.{Job}
-use Rattle.htl_walk.specs.Paths.{Leg, walks_from}
+use Rattle.htl_machine.proofs.Words.{filter, eqb-true, append-nil, filter-append, Event, Line, line_text, lines_text, joined, numbered, up_to, value_lines, hyper, node, Tables, up_to_same, SInstr, Job, Leg, walks_from, Left, Point, first_point, last_point, walk_from, ECode, EInstr, Done, e_path, RunningList, lists_from, lists_at, left_in, begun_before, begins_at, frame_modes, path_of, frame_at, rounds_before, shifted, Shown, Jobs, done_line, step_line, instr_line, shows_values, shows_jobs, shows_code, inv_at, slice_lines, e_line, where_shown, done_lines, step_lines, job_lines, record_lines, list_lines, old_lines, new_lines, e_lines, change_lines, lines, jobs_done, e_done, s_done, text_before, run_text, RunLine, printed, is_job_line, begins_as_job, text_lines, HasNames, closed_slice_line, job_done_line, job_lines_of, list_job_lines, frame_job_lines, job_lines_at, job_lines_to, ShowsJobs, InstrLine, ChangeLine, StepLine, TotalsLine, SliceLine, DoneLine}
 use Rattle.htl_walk.specs.Paths as paths
-use Rattle.htl_walk.specs.Walk.{Left, Point, first_point, last_point, walk_from}
-use Rattle.htl_ecode.specs.declared.ecode.ECode.{ECode}
-use Rattle.htl_ecode.specs.declared.instr.EInstr.{EInstr}
-use Rattle.htl_ecode.specs.Paths.{Done, e_path}
-use Rattle.htl_refine.specs.FrameRecords.{RunningList, lists_from, lists_at, left_in, begun_before, begins_at}
-use Rattle.htl_refine.specs.FrameRuns.{frame_modes, path_of, frame_at}
-use Rattle.htl_refine.specs.Records.{rounds_before, shifted}
-use Rattle.htl_console.specs.declared.shown.Shown.{Shown}
-use Rattle.htl_console.specs.declared.shown.Shown.TheVariants.{Jobs}
-use Rattle.htl_console.specs.Lines.{done_line, step_line, instr_line}
-use Rattle.htl_console.specs.Shows.{shows_values, shows_jobs, shows_code}
-use Rattle.htl_machine.specs.Texts.{inv_at, slice_lines, e_line}
-use Rattle.htl_machine.specs.Lines.{where_shown, done_lines, step_lines, job_lines, record_lines, list_lines, old_lines, new_lines, e_lines, change_lines, lines, jobs_done, e_done, s_done, text_before, run_text}
-use Rattle.htl_machine.specs.JobLines.{RunLine, printed, is_job_line, begins_as_job, text_lines, HasNames, closed_slice_line, job_done_line, job_lines_of, list_job_lines, frame_job_lines, job_lines_at, job_lines_to, ShowsJobs}
-use Rattle.htl_machine.specs.JobLines.RunLine.{InstrLine, ChangeLine, StepLine, TotalsLine, SliceLine, DoneLine}
 use Rattle.htl_machine.proofs.LineBytes.{lines_found, jobs_found}
 use Rattle.htl_machine.proofs.Printing.{joined-append}
 use Rattle.htl_machine.proofs.RecordTimes.{joined_each}

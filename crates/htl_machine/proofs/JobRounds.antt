@@ -1,25 +1,7 @@
 -- The round of a job of a frame: its window lies in it, and its invocation has no other job there.
 use Rattle.std.proofs.Common.{◌≡◌, ◌≤◌, ◌<◌, ◌⊎◌, inl, inr, ℕ, suc, ◌+◌, ◌-◌, ◌*◌, ◌/◌, true, List, slice_get, Option, Some, None, sym, ap, ap₂, ◌∙◌, arith}
-use Rattle.std.proofs.Math.Nat.{mul_comm, mul-div_cancel_left, mul-le-mul_left}
-use Rattle.std.proofs.lemmas.Option.{get_or_from_slice_get, same_Some}
-use Rattle.htl_model.specs.declared.event.Event.{Event}
-use Rattle.htl_model.specs.declared.frame.Place.{Place}
-use Rattle.htl_model.specs.declared.parts.Inv.{Inv}
-use Rattle.htl_model.specs.FrameRules.{KeptApart}
-use Rattle.htl_model.specs.Frames.{frame_of, known_by, no_place}
-use Rattle.htl_model.specs.Ranges.{AreInRange}
-use Rattle.htl_model.specs.Tables.{Tables, mode_period}
-use Rattle.htl_walk.specs.declared.job.Job.{Job}
-use Rattle.htl_walk.specs.PathJobs.{placed_job}
-use Rattle.htl_refine.specs.DerivedPaths.{derived_place}
-use Rattle.htl_refine.specs.FramePlaces.{place, standing_places, AreOrdered}
-use Rattle.htl_refine.specs.FrameRuns.{frame_modes, frame_places, frame_jobs}
-use Rattle.htl_refine.proofs.Inherit.{mapped}
-use Rattle.htl_refine.proofs.PathDerived.{placed_present}
-use Rattle.htl_refine.proofs.PlaceOrder.{places_ordered}
-use Rattle.htl_machine.specs.JobTimes.{job_round, inv_period}
+use Rattle.htl_machine.proofs.Words.{mul_comm, mul-div_cancel_left, mul-le-mul_left, get_or_from_slice_get, same_Some, Event, Place, Inv, KeptApart, frame_of, known_by, no_place, AreInRange, Tables, mode_period, Job, placed_job, derived_place, place, standing_places, AreOrdered, frame_modes, frame_places, frame_jobs, mapped, placed_present, places_ordered, job_round, inv_period, window_within}
 use Rattle.htl_machine.proofs.FramePlaced.{at_place_is}
-use Rattle.htl_walk.proofs.PathReady.{window_within}
 
 -- rounds of one period that have an instant in common are one
 one_round : (per a b at : ℕ) → per * a < at → at ≤ per * a + per → per * b < at → at ≤ per * b + per → a ≡ b

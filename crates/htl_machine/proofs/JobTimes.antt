@@ -1,27 +1,6 @@
 -- The job lines of a run show each job whose window ended: one d line in time, and j lines in its window for all its ticks.
 use Rattle.std.proofs.Common.{◌≡◌, ◌≤◌, ◌<◌, inl, inr, ℕ, suc, ◌+◌, ◌*◌, Bool, true, false, ◌&&◌, eqb, ltb, leb, List, [], ◌∷◌, length, map, slice_get, get_or, Option, Some, None, refl, sym, ap, ap₂, ◌∙◌, subst, arith}
-use Rattle.std.specs.List.{flat_map}
-use Rattle.std.proofs.lemmas.Bool.{eqb-true, eqb-false, eq-eqb, lt-ltb, ltb-true, le-leb, leb-true, and_parts}
-use Rattle.htl_model.specs.declared.event.Event.{Event}
-use Rattle.htl_model.specs.Frames.{hyper, frame_of, starts, starts_below, root_periods, rounds_at, unit_period, multiple_of}
-use Rattle.htl_model.specs.Lists.{joined, up_to}
-use Rattle.htl_model.specs.Selections.{root_modules}
-use Rattle.htl_model.specs.Tables.{Tables}
-use Rattle.htl_walk.specs.declared.job.Job.{Job}
-use Rattle.htl_walk.specs.declared.schedule.SInstr.{SInstr}
-use Rattle.htl_walk.specs.Walk.{Left, job_at, slices, first_point, AllWithin}
-use Rattle.htl_walk.proofs.Work.{work_some, job_there, job_is}
-use Rattle.htl_refine.specs.DerivedPaths.{derived_jobs}
-use Rattle.htl_refine.specs.FrameRuns.{Frame, frame_modes, frame_at, running_places, walk_of}
-use Rattle.htl_refine.specs.Records.{AreTookWithin}
-use Rattle.htl_refine.specs.ServedFrames.{IsFeasibleRun}
-use Rattle.htl_refine.specs.ServedJobs.{spent, IsServed}
-use Rattle.htl_refine.proofs.RecordOrder.{path_rises, not_some}
-use Rattle.htl_refine.proofs.ServedFrames.{frames_are_served, every_job_in_time}
-use Rattle.htl_machine.specs.Follows.{IsLoaded}
-use Rattle.htl_machine.specs.JobLines.{RunLine, job_lines_at, job_lines_to}
-use Rattle.htl_machine.specs.JobLines.RunLine.{SliceLine, DoneLine}
-use Rattle.htl_machine.specs.JobTimes.{is_in, done_time, slice_time, job_round, inv_period, IsToldInTime, AllToldInTime}
+use Rattle.htl_machine.proofs.Words.{flat_map, eqb-true, eqb-false, eq-eqb, lt-ltb, ltb-true, le-leb, leb-true, and_parts, Event, hyper, frame_of, starts, starts_below, root_periods, rounds_at, unit_period, multiple_of, joined, up_to, root_modules, Tables, Job, SInstr, Left, job_at, slices, first_point, AllWithin, work_some, job_there, job_is, derived_jobs, Frame, frame_modes, frame_at, running_places, walk_of, AreTookWithin, IsFeasibleRun, spent, IsServed, path_rises, not_some, frames_are_served, every_job_in_time, IsLoaded, RunLine, job_lines_at, job_lines_to, SliceLine, DoneLine, is_in, done_time, slice_time, job_round, inv_period, IsToldInTime, AllToldInTime, same_Some}
 use Rattle.htl_machine.proofs.FrameLines.{owed, of_run}
 use Rattle.htl_machine.proofs.JobRounds.{IsPlaced, is_placed, only_job}
 use Rattle.htl_machine.proofs.LoadedLists.{run_of}
@@ -29,7 +8,6 @@ use Rattle.htl_machine.proofs.OneRecord.{Count, slice_claim, done_claim, out_of}
 use Rattle.htl_machine.proofs.PositionRecords.{shift, position_slice, position_done, all_slices, shifted_within, shifted_spent, within_at, done_once}
 use Rattle.htl_machine.proofs.RecordTimes.{joined_each, before_now}
 use Rattle.htl_machine.proofs.WorkingRecords.{DoesWork, works_in}
-use Rattle.std.proofs.lemmas.Option.{same_Some}
 
 module _ (t : Tables) (lists : List (List SInstr)) (es : List Event) (run : IsFeasibleRun t lists es) where
   abbrev frame : ℕ → Frame

@@ -1,15 +1,7 @@
 -- Windows and offsets, and the last position of an invocation.
 use Rattle.std.proofs.Common.{◌≡◌, ℕ, zero, suc, ◌+◌, ◌*◌, ◌≤◌, ◌<◌, max, Bool, true, false, cond, ◌&&◌, eqb, List, [], ◌∷◌, length, slice_get, Option, Some, None, refl, sym, ap, ◌∙◌, arith, get_or, map}
-use Rattle.std.proofs.lemmas.Bool.{eqb-true, eq-eqb, and_from, and_parts}
-use Rattle.htl_model.specs.declared.parts.End.{End}
+use Rattle.htl_machine.proofs.Words.{eqb-true, eq-eqb, and_from, and_parts, End, Stay, Tables, comm_period, offsets, greatest, least_or, Job, AreJobsSoFar, later_or, position_from, last_position_done, finished_in, not_some, same_Some}
 use Rattle.htl_model.specs.declared.parts.End.TheVariants as E
-use Rattle.htl_model.specs.declared.state.Stay.{Stay}
-use Rattle.htl_model.specs.Tables.{Tables, comm_period, offsets, greatest, least_or}
-use Rattle.htl_walk.specs.declared.job.Job.{Job}
-use Rattle.htl_machine.specs.JobsSoFar.{AreJobsSoFar}
-use Rattle.htl_machine.specs.Turns.{later_or, position_from, last_position_done, finished_in}
-use Rattle.htl_refine.proofs.RecordOrder.{not_some}
-use Rattle.std.proofs.lemmas.Option.{same_Some}
 
 -- what a function gives of an item
 pub get_map : {A : Type 0} (f : Job → A) (js : List Job) (p : ℕ) (j : Job) (d : A) → slice_get js p ≡ Some j → get_or (map f js) p d ≡ f j

@@ -1,17 +1,7 @@
 -- The loop that leaves the records of an instant.
 use Rattle.std.proofs.Common.{◌≡◌, ℕ, ◌≤◌, Bool, true, false, cond, eqb, List, get_or, slice_get, Some, None, refl, sym, ap, ◌∙◌, arith}
-use Rattle.std.proofs.lemmas.Bool.Decides.{nat_tests}
-use Rattle.htl_walk.specs.declared.schedule.SInstr.{SInstr}
-use Rattle.htl_walk.specs.Walk.{Point, next_point}
-use Rattle.htl_walk.proofs.Steps.{left_falls}
+use Rattle.htl_machine.proofs.Words.{nat_tests, SInstr, Point, next_point, left_falls, Pending, Round, Stands, state_of, next_left, moved, walk_records, left_until, slice_get_within, pending_is, is_pending, next_point_is, length-told, answer_is, not_some, item_at}
 use Rattle.htl_smach.specs.declared.left.Left.{Left}
-use Rattle.htl_smach.specs.declared.state.PosState.TheVariants.{Pending}
-use Rattle.htl_smach.specs.Rounds.{Round, Stands, state_of, next_left, moved, walk_records, left_until}
-use Rattle.std.proofs.lemmas.Option.{slice_get_within}
-use Rattle.htl_smach.proofs.RoundRecords.{pending_is, is_pending, next_point_is, length-told}
-use Rattle.htl_smach.proofs.Answering.{answer_is}
-use Rattle.htl_refine.proofs.RecordOrder.{not_some}
-use Rattle.htl_base.proofs.Places.{item_at}
 
 -- ---- one record more
 

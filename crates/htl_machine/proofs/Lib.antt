@@ -114,3 +114,4 @@ pub mod Settling
 pub mod Waits
 pub mod ShownOn
 pub mod Spent
+pub mod Words

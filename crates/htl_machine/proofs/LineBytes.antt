@@ -1,30 +1,10 @@
 -- Each line of a run has one line feed, its last byte, and begins with its letter.
 use Rattle.std.proofs.Common.{◌≡◌, ◌<◌, ℕ, zero, suc, ◌+◌, ◌/◌, ◌%◌, ℤ, pos, negsuc, Bool, true, false, cond, not, ◌&&◌, eqb, List, [], ◌∷◌, ◌++◌, map, slice_get, Option, Some, None, refl, sym, ap, ap₂, ◌∙◌, arith, codes}
 use Rattle.std.specs.Fmt.{decimal, signed_decimal, digits, digits_onto, digit_glyph}
-use Rattle.std.specs.List.{filter, list_all}
-use Rattle.std.proofs.lemmas.Bool.{eqb-true, and_parts}
-use Rattle.std.proofs.lemmas.List.Folds.{list_all-append}
+use Rattle.htl_machine.proofs.Words.{filter, list_all, eqb-true, and_parts, list_all-append, is_name, is_word_byte, joined, Line, ValueLine, ModeLine, Comm, Mode, Module, Task, Inv, comm_name, mode_name, module_name, shown_mode, line_text, Tables, mode_module, SInstr, EInstr, task_name, full_mode, full_inv, inv_name, mode_text, module_text, phase_word, instr_text, step_text, RunLine, printed, is_job_line, onto_first, text_lines, begins_as_job, HasNames, InstrLine, ChangeLine, StepLine, TotalsLine, SliceLine, DoneLine, all_at}
 use Rattle.std.specs.Prelude.{nat_lt, ◌==◌, if◌then◌else◌}
-use Rattle.htl_base.specs.Names.{is_name, is_word_byte}
-use Rattle.htl_model.specs.Lists.{joined}
-use Rattle.htl_model.specs.declared.line.Line.{Line}
-use Rattle.htl_model.specs.declared.line.Line.TheVariants.{ValueLine, ModeLine}
-use Rattle.htl_model.specs.declared.parts.Comm.{Comm}
-use Rattle.htl_model.specs.declared.parts.Mode.{Mode}
-use Rattle.htl_model.specs.declared.parts.Module.{Module}
-use Rattle.htl_model.specs.declared.parts.Task.{Task}
-use Rattle.htl_model.specs.declared.parts.Inv.{Inv}
-use Rattle.htl_model.specs.Lines.{comm_name, mode_name, module_name, shown_mode, line_text}
-use Rattle.htl_model.specs.Tables.{Tables, mode_module}
-use Rattle.htl_walk.specs.declared.schedule.SInstr.{SInstr}
 use Rattle.htl_walk.specs.declared.schedule.SInstr.TheVariants.{Dispatch, Idle, End}
-use Rattle.htl_ecode.specs.declared.instr.EInstr.{EInstr}
 use Rattle.htl_ecode.specs.declared.instr.EInstr.TheVariants as I
-use Rattle.htl_console.specs.Names.{task_name, full_mode, full_inv, inv_name, mode_text, module_text}
-use Rattle.htl_console.specs.Instrs.{phase_word, instr_text, step_text}
-use Rattle.htl_machine.specs.JobLines.{RunLine, printed, is_job_line, onto_first, text_lines, begins_as_job, HasNames}
-use Rattle.htl_machine.specs.JobLines.RunLine.{InstrLine, ChangeLine, StepLine, TotalsLine, SliceLine, DoneLine}
-use Rattle.htl_base.proofs.Places.{all_at}
 
 -- ---- texts without a line feed
 

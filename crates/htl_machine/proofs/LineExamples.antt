@@ -1,16 +1,8 @@
 -- The job lines of worked runs, computed.
-use Rattle.std.proofs.Common.{arith}
+use Rattle.htl_machine.proofs.Words.{arith, filter, At, Sense, Took, Ends, preempted, doubling, Job, SInstr, RunLine, printed, job_lines_to, text_lines, begins_as_job, SliceLine, DoneLine, StepLine, TotalsLine, IsToldInTime}
 use Rattle.std.specs.Prelude.{◌≡◌, List, [], ◌∷◌, pos, true, refl, codes}
-use Rattle.std.specs.List.{filter}
 use Rattle.std.specs.Fmt.{digits}
-use Rattle.htl_model.specs.declared.event.Event.TheVariants.{At, Sense, Took, End as Ends}
-use Rattle.htl_model.proofs.Sources.{preempted, doubling}
-use Rattle.htl_walk.specs.declared.job.Job.{Job}
-use Rattle.htl_walk.specs.declared.schedule.SInstr.{SInstr}
 use Rattle.htl_walk.specs.declared.schedule.SInstr.TheVariants.{Dispatch, End}
-use Rattle.htl_machine.specs.JobLines.{RunLine, printed, job_lines_to, text_lines, begins_as_job}
-use Rattle.htl_machine.specs.JobLines.RunLine.{SliceLine, DoneLine, StepLine, TotalsLine}
-use Rattle.htl_machine.specs.JobTimes.{IsToldInTime}
 
 -- ---- each kind of line as it is printed
 

@@ -1,34 +1,6 @@
 -- The S machine as a list begins behind a frame's start.
 use Rattle.std.proofs.Common.{◌≡◌, ◌≢◌, ℕ, zero, suc, ◌+◌, ◌-◌, ◌%◌, ◌≤◌, ◌<◌, Bool, true, false, cond, List, [], ◌∷◌, ◌++◌, length, get_or, map, slice_get, take, drop, Some, refl, sym, ap, ap₂, ◌∙◌, subst, arith, inl, inr, length-append}
-use Rattle.std.proofs.lemmas.Bool.{ne_eqb, cases_eq}
-use Rattle.std.proofs.lemmas.List.{length-map}
-use Rattle.htl_model.specs.declared.event.Event.{Event}
-use Rattle.htl_model.specs.Frames.{frame_of, starts, known_by}
-use Rattle.htl_model.specs.Tables.{Tables}
-use Rattle.htl_walk.specs.declared.job.Job.{Job}
-use Rattle.htl_walk.specs.declared.schedule.SInstr.{SInstr}
-use Rattle.htl_walk.specs.Refinement.{HaveLengths, AreWithinWorst}
-use Rattle.htl_walk.specs.Walk.{Point, work}
-use Rattle.htl_smach.specs.Adding.{CanBegin}
-use Rattle.htl_smach.specs.Rounds.{Round, round_begun, added}
-use Rattle.htl_smach.proofs.Adding.{stands_added}
-use Rattle.htl_refine.specs.BegunJobs.{new_jobs}
-use Rattle.htl_refine.specs.FrameRuns.{Frame, frame_modes, frame_places, frame_at}
-use Rattle.htl_refine.specs.ListLaws.{IsFollowed}
-use Rattle.htl_refine.specs.ListPlans.{leg_at, list_plan}
-use Rattle.htl_refine.specs.Records.{modes_at, took}
-use Rattle.htl_refine.specs.ServedFrames.{IsFeasibleRun}
-use Rattle.htl_refine.proofs.Fronts.{take_map}
-use Rattle.htl_refine.proofs.ListsFollow.{lists_follow, leg_from, leg_knows}
-use Rattle.htl_refine.proofs.NewJobs.{next_jobs}
-use Rattle.htl_refine.proofs.ServedFrames.{have_lengths, within_worst}
-use Rattle.htl_machine.specs.FramePlacing.{frame_start}
-use Rattle.htl_machine.specs.Follows.{SMachineAt}
-use Rattle.htl_machine.specs.ListBegun.{list_begun, CanStart, IsAtEnd, ListsAreBegun}
-use Rattle.htl_machine.specs.ListTurns.{Turn}
-use Rattle.htl_machine.specs.NextSMachines.{more_jobs, more_lengths}
-use Rattle.htl_machine.specs.RunLists.{turn_of, list_turn}
-use Rattle.htl_machine.specs.Starting.{kept_lengths}
+use Rattle.htl_machine.proofs.Words.{ne_eqb, cases_eq, length-map, Event, frame_of, starts, known_by, Tables, Job, SInstr, HaveLengths, AreWithinWorst, Point, work, CanBegin, Round, round_begun, added, stands_added, new_jobs, Frame, frame_modes, frame_places, frame_at, IsFollowed, leg_at, list_plan, modes_at, took, IsFeasibleRun, take_map, lists_follow, leg_from, leg_knows, next_jobs, have_lengths, within_worst, frame_start, SMachineAt, list_begun, CanStart, IsAtEnd, ListsAreBegun, Turn, more_jobs, more_lengths, turn_of, list_turn, kept_lengths}
 use Rattle.htl_machine.proofs.JobWindows.{get_map}
 use Rattle.htl_machine.proofs.ListBegun.{first_can, first_s_machine}
 use Rattle.htl_machine.proofs.NextSMachines.{s_machines_go_on, even}

@@ -1,36 +1,10 @@
 -- The S machine as a list of a run begins.
 use Rattle.std.proofs.Common.{◌≡◌, ℕ, ◌+◌, ◌-◌, ◌%◌, ◌≤◌, ◌<◌, cond, List, [], ◌∷◌, length, get_or, map, take, refl, sym, ap, ap₂, ◌∙◌, subst, arith}
-use Rattle.std.proofs.lemmas.Bool.{eq-eqb, lt-ltb}
-use Rattle.std.proofs.lemmas.List.{length-map}
-use Rattle.htl_model.specs.declared.event.Event.{Event}
-use Rattle.htl_model.specs.declared.frame.Place.{Place}
-use Rattle.htl_model.specs.Frames.{frame_of, starts, known_by}
-use Rattle.htl_model.specs.Tables.{Tables}
-use Rattle.htl_walk.specs.declared.job.Job.{Job}
-use Rattle.htl_walk.specs.declared.schedule.SInstr.{SInstr}
-use Rattle.htl_walk.specs.Paths.{Leg, AreInForm, path_point}
+use Rattle.htl_machine.proofs.Words.{eq-eqb, lt-ltb, length-map, Event, Place, frame_of, starts, known_by, Tables, Job, SInstr, Leg, AreInForm, path_point, HaveLengths, AreWithinWorst, Point, InForm, first_point, Round, round_begun, added, stands_begun, new_jobs, Frame, frame_modes, frame_places, frame_at, no_leg, leg_at, front_of, list_start, lengths_of, modes_at, took, IsFeasibleRun, take_map, take_work, first_jobs, frame_start, SMachineAt, list_begun, Turn, IsListed, list_turn, kept_lengths, leg_knows}
 use Rattle.htl_walk.specs.Paths as paths
-use Rattle.htl_walk.specs.Refinement.{HaveLengths, AreWithinWorst}
-use Rattle.htl_walk.specs.Walk.{Point, InForm, first_point}
-use Rattle.htl_smach.specs.Rounds.{Round, round_begun, added}
-use Rattle.htl_smach.proofs.RoundRecords.{stands_begun}
-use Rattle.htl_refine.specs.BegunJobs.{new_jobs}
-use Rattle.htl_refine.specs.FrameRuns.{Frame, frame_modes, frame_places, frame_at}
-use Rattle.htl_refine.specs.ListPlans.{no_leg, leg_at, front_of, list_start}
-use Rattle.htl_refine.specs.Records.{lengths_of, modes_at, took}
-use Rattle.htl_refine.specs.ServedFrames.{IsFeasibleRun}
-use Rattle.htl_refine.proofs.Fronts.{take_map, take_work}
-use Rattle.htl_refine.proofs.NewJobs.{first_jobs}
-use Rattle.htl_machine.specs.FramePlacing.{frame_start}
-use Rattle.htl_machine.specs.Follows.{SMachineAt}
-use Rattle.htl_machine.specs.ListBegun.{list_begun}
-use Rattle.htl_machine.specs.ListTurns.{Turn, IsListed}
-use Rattle.htl_machine.specs.RunLists.{list_turn}
-use Rattle.htl_machine.specs.Starting.{kept_lengths}
 use Rattle.htl_machine.proofs.SMachineInstants.{none_released}
 use Rattle.htl_machine.proofs.NextLists.{offset, first_next}
 use Rattle.htl_machine.proofs.RunLists.{past, serving, stands, there, from_is, are_listed}
-use Rattle.htl_refine.proofs.ListsFollow.{leg_knows}
 
 kept_by : (takes : List ℕ) (f : ℕ → ℕ → ℕ) (now : ℕ) → ((i u : ℕ) → now ≤ u → get_or takes i 0 ≡ f i u) → (jobs : List Job) → kept_lengths takes jobs ≡ map (λ (j : Job). f j.inv (now + j.release)) jobs
 kept_by takes f now h [] = refl

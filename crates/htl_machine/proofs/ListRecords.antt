@@ -1,42 +1,12 @@
 -- The lines and records of an instant are those of the list that stood before it, and of the list that begins there.
 use Rattle.std.proofs.Common.{◌≡◌, ◌≢◌, ◌≤◌, ◌<◌, ◌⊎◌, ℕ, zero, suc, ◌+◌, ◌-◌, ◌*◌, ◌/◌, Bool, true, false, cond, eqb, List, [], ◌∷◌, ◌++◌, length, get_or, map, slice_get, Option, Some, None, option_map, refl, sym, ◌∙◌, ap, ap₂, subst, arith, inl, inr}
-use Rattle.std.specs.List.{filter}
-use Rattle.std.proofs.Math.Nat.{mul_comm}
-use Rattle.std.proofs.lemmas.Bool.{eqb-true, eqb-false, le-ltb}
-use Rattle.std.proofs.lemmas.List.{map-append}
-use Rattle.htl_model.specs.declared.event.Event.{Event}
-use Rattle.htl_model.specs.Frames.{frame_of, starts, root_periods}
-use Rattle.htl_model.specs.Lists.{joined, up_to}
-use Rattle.htl_model.specs.Tables.{Tables}
-use Rattle.htl_walk.specs.declared.job.Job.{Job}
-use Rattle.htl_walk.specs.declared.schedule.SInstr.{SInstr}
+use Rattle.htl_machine.proofs.Words.{filter, mul_comm, eqb-true, eqb-false, le-ltb, map-append, Event, frame_of, starts, root_periods, joined, up_to, Tables, Job, SInstr, Point, job_at, dispatch_begins, time_after, work_after, slice_between, finishes_by, next_point, left_by, walk_from, InForm, left_same, time_rises, RunningList, left_in, lists_at, begun_before, begins_at, in_frame, old_records_by, new_records_by, frame_at, frame_modes, frame_places, ListPlan, leg_at, list_walk, count_left_before, Rises, shifted, rounds_before, IsFeasibleRun, job_front, old_joined, new_joined, none_joined, no_frames, walk_rises, not_some, Shown, shows_jobs, shows_code, done_line, frame_start, where_shown, step_lines, record_lines, list_lines, old_lines, new_lines, Turn, turn_walk, left_before, list_turn, inv_at, slice_lines, record_text, some_records, old_turn, turn_old_records, turn_new_records, records_text, starts_order, same_Some}
 use Rattle.htl_walk.specs.declared.schedule.SInstr.TheVariants.{Dispatch, Idle, End}
-use Rattle.htl_walk.specs.Walk.{Point, job_at, dispatch_begins, time_after, work_after, slice_between, finishes_by, next_point, left_by, walk_from, InForm}
 use Rattle.htl_walk.specs.Walk as walks
-use Rattle.htl_walk.proofs.Steps.{left_same, time_rises}
-use Rattle.htl_refine.specs.FrameRecords.{RunningList, left_in, lists_at, begun_before, begins_at, in_frame, old_records_by, new_records_by}
-use Rattle.htl_refine.specs.FrameRuns.{frame_at, frame_modes, frame_places}
-use Rattle.htl_refine.specs.ListPlans.{ListPlan, leg_at, list_walk}
-use Rattle.htl_refine.specs.RecordCounts.{count_left_before, Rises}
 use Rattle.htl_refine.specs.RecordLists.{list_at}
-use Rattle.htl_refine.specs.Records.{shifted, rounds_before}
-use Rattle.htl_refine.specs.ServedFrames.{IsFeasibleRun}
-use Rattle.htl_refine.proofs.Fronts.{job_front}
-use Rattle.htl_refine.proofs.RecordLists.{old_joined, new_joined, none_joined, no_frames}
-use Rattle.htl_refine.proofs.RecordOrder.{walk_rises, not_some}
-use Rattle.htl_console.specs.declared.shown.Shown.{Shown}
-use Rattle.htl_console.specs.Shows.{shows_jobs, shows_code}
-use Rattle.htl_console.specs.Lines.{done_line}
-use Rattle.htl_machine.specs.FramePlacing.{frame_start}
-use Rattle.htl_machine.specs.Lines.{where_shown, step_lines, record_lines, list_lines, old_lines, new_lines}
-use Rattle.htl_machine.specs.ListTurns.{Turn, turn_walk, left_before}
-use Rattle.htl_machine.specs.RunLists.{list_turn}
-use Rattle.htl_machine.specs.Texts.{inv_at, slice_lines, record_text, some_records, old_turn, turn_old_records, turn_new_records, records_text}
 use Rattle.htl_machine.proofs.ListStarts.{ends_next}
 use Rattle.htl_machine.proofs.RunLists.{rise, past, stands, from_is, length-jobs, are_listed}
 use Rattle.htl_machine.proofs.InstantRecords.{as_told, left_then, none_before, piece}
-use Rattle.htl_walk.proofs.NodeWalks.{starts_order}
-use Rattle.std.proofs.lemmas.Option.{same_Some}
 
 -- ---- nothing runs at the point at which a list begins
 

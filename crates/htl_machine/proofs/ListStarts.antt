@@ -1,13 +1,7 @@
 -- The starts of a frame: which list stands at an offset, and when the next begins.
 use Rattle.std.proofs.Common.{◌≡◌, ℕ, zero, suc, ◌+◌, ◌≤◌, ◌<◌, ◌⊎◌, Bool, true, false, cond, leb, List, [], ◌∷◌, length, get_or, slice_get, Some, refl, ap, ap₂, arith, inl, inr}
-use Rattle.std.proofs.lemmas.Bool.{leb-true, le-leb, lt-leb, leb-false}
-use Rattle.htl_model.specs.declared.frame.Place.{Place}
-use Rattle.htl_model.specs.Frames.{begins, known_by}
-use Rattle.htl_model.specs.Functions.{of_bool}
-use Rattle.htl_walk.specs.PathJobs.{next_of, legs_of}
+use Rattle.htl_machine.proofs.Words.{leb-true, le-leb, lt-leb, leb-false, Place, begins, known_by, of_bool, next_of, legs_of, no_leg, begun_of}
 use Rattle.htl_walk.proofs.Starts.{Rises}
-use Rattle.htl_refine.specs.ListPlans.{no_leg}
-use Rattle.htl_machine.specs.RunLists.{begun_of}
 
 -- list j stands at an offset: it has begun, the next hasn't, and between both no round begins
 pub record StandsAt (ps : List ℕ) (h : ℕ) (places : List Place) (from : List ℕ) (d j : ℕ) : Type 0 where

@@ -1,30 +1,14 @@
 -- The value half over a whole instant, records included: the records of the list that stands are those of its frame.
 use Rattle.std.proofs.Common.{◌≡◌, ℕ, zero, suc, ◌+◌, ◌-◌, ◌≤◌, Bool, true, false, cond, ltb, is_some, List, [], ◌∷◌, ◌++◌, length, slice_get, take, refl, sym, ap, ◌∙◌, subst, arith, length-append}
 use mathlib.Core.Path.{fun_ext}
-use Rattle.htl_model.specs.declared.event.Event.{Event}
-use Rattle.htl_model.specs.declared.parts.Inv.{Inv}
-use Rattle.htl_model.specs.Tables.{Tables}
-use Rattle.htl_model.specs.Ranges.{AreInRange}
-use Rattle.htl_model.specs.FrameRules.{KeptApart}
-use Rattle.htl_model.specs.Meaning.{state, before, sense}
-use Rattle.htl_walk.specs.declared.job.Job.{Job}
-use Rattle.htl_walk.specs.Walk.{Left, finish}
-use Rattle.htl_emach.specs.Contents.{Content}
-use Rattle.htl_refine.specs.RecordCounts.{count_left_before, done_by}
-use Rattle.htl_machine.specs.Completing.{complete_by, run_records}
-use Rattle.htl_machine.specs.FramesGoOn.{Now, finished_at}
+use Rattle.htl_machine.proofs.Words.{Event, Inv, Tables, AreInRange, KeptApart, state, before, sense, Job, Left, finish, Content, count_left_before, done_by, complete_by, run_records, Now, finished_at, Turn, turn_walk, records_so_far, left_before, AreTurns, finished_in, InvStands, ValuesFollow, HasPlaces, HasReadInputs, effects, all_writes, with_sensors, get_back, within_front}
 use Rattle.htl_machine.specs.FramesGoOn as frames
-use Rattle.htl_machine.specs.ListTurns.{Turn, turn_walk, records_so_far, left_before, AreTurns}
 use Rattle.htl_machine.specs.Plans.{finished_before, with_records, next_world}
-use Rattle.htl_machine.specs.Turns.{finished_in}
-use Rattle.htl_machine.specs.Values.{InvStands, ValuesFollow, HasPlaces, HasReadInputs}
-use Rattle.htl_machine.specs.Worlds.{effects, all_writes, with_sensors}
 use Rattle.htl_machine.proofs.Carrying.{follows_on, after_shape, holds_values}
 use Rattle.htl_machine.proofs.SMachineInstants.{count_within}
 use Rattle.htl_machine.proofs.FramesGoOn.{finished_carried}
 use Rattle.htl_machine.proofs.FrameValues.{all_ready, count_grows, records_follow}
 use Rattle.htl_machine.proofs.FrameValues as by_frames
-use Rattle.htl_base.proofs.Places.{get_back, within_front}
 
 -- ---- records of one list among those of its frame
 

@@ -1,21 +1,9 @@
 -- Two lists that have left the same before an instant: what is finished, told and counted of them before it is the same.
 use Rattle.std.proofs.Common.{◌≡◌, ℕ, zero, suc, ◌+◌, ◌-◌, ◌≤◌, cond, eqb, is_some, Bool, List, [], ◌∷◌, ◌++◌, length, take, drop, refl, sym, ap, ap₂, ◌∙◌, arith}
 use mathlib.Core.Path.{fun_ext}
-use Rattle.htl_model.specs.Lists.{joined}
-use Rattle.htl_model.specs.Tables.{Tables}
-use Rattle.htl_walk.specs.declared.job.Job.{Job}
-use Rattle.htl_walk.specs.declared.schedule.SInstr.{SInstr}
+use Rattle.htl_machine.proofs.Words.{joined, Tables, Job, SInstr, Point, finish, told_from, told_from-take, Plan, list_walk, count_left_before, done_by, Shown, Turn, turn_walk, left_before, turn_finished_by, record_text, some_records, records_text, finished_in}
 use Rattle.htl_walk.specs.Walk as walks
-use Rattle.htl_walk.specs.Walk.{Point, finish}
 use Rattle.htl_smach.specs.declared.left.Left.{Left}
-use Rattle.htl_smach.specs.Rounds.{told_from}
-use Rattle.htl_smach.proofs.RoundRecords.{told_from-take}
-use Rattle.htl_refine.specs.ListPlans.{ListPlan as Plan, list_walk}
-use Rattle.htl_refine.specs.RecordCounts.{count_left_before, done_by}
-use Rattle.htl_console.specs.declared.shown.Shown.{Shown}
-use Rattle.htl_machine.specs.ListTurns.{Turn, turn_walk, left_before, turn_finished_by}
-use Rattle.htl_machine.specs.Texts.{record_text, some_records, records_text}
-use Rattle.htl_machine.specs.Turns.{finished_in}
 
 -- the same list, of the same frame, with the same jobs, whose records so far are the same
 pub record AreSoFar (u v : Turn) (now : ℕ) : Type 0 where

@@ -1,28 +1,8 @@
 -- The lists of a loaded program: at each instant one stands, and the code knows where one begins.
 use Rattle.std.proofs.Common.{◌≡◌, ℕ, ◌+◌, ◌<◌, eqb, List, [], ◌∷◌, length, map, get_or, Option, Some, None, IfSome, refl, sym, ap, ◌∙◌, subst, arith, inr, true}
-use Rattle.std.proofs.lemmas.Option.{slice_get_within}
-use Rattle.htl_model.specs.declared.event.Event.{Event}
-use Rattle.htl_model.specs.declared.parts.Inv.{Inv}
-use Rattle.htl_model.specs.declared.parts.Module.{Module}
-use Rattle.htl_model.specs.Frames.{hyper, unit_period, multiple_of}
-use Rattle.htl_model.specs.Meaning.{state}
-use Rattle.htl_model.specs.Selections.{root_modules}
-use Rattle.htl_model.specs.Tables.{Tables, is_concrete}
-use Rattle.htl_model.proofs.FrameBuild.{frame_some}
-use Rattle.htl_walk.specs.declared.schedule.SInstr.{SInstr}
-use Rattle.htl_refine.specs.Records.{AreTookWithin}
-use Rattle.htl_refine.specs.ServedFrames.{IsFeasibleRun}
-use Rattle.htl_refine.proofs.RootSelection.{roots_some}
-use Rattle.htl_machine.specs.JobsSoFar.{AreJobsSoFar}
-use Rattle.htl_machine.specs.Follows.{IsLoaded}
-use Rattle.htl_machine.specs.ListTurns.{Turn, AreTurns, AreListed}
-use Rattle.htl_machine.specs.Recording.{AreOf}
-use Rattle.htl_machine.specs.RunLists.{no_turn, turn_by, turn_at, list_turn}
-use Rattle.htl_machine.specs.Timing.{some_round_begins}
+use Rattle.htl_machine.proofs.Words.{slice_get_within, Event, Inv, Module, hyper, unit_period, multiple_of, state, root_modules, Tables, is_concrete, frame_some, SInstr, AreTookWithin, IsFeasibleRun, roots_some, AreJobsSoFar, IsLoaded, Turn, AreTurns, AreListed, AreOf, no_turn, turn_by, turn_at, list_turn, some_round_begins, not_some, standing_at}
 use Rattle.htl_machine.proofs.NextLists.{lists_begin}
 use Rattle.htl_machine.proofs.RunLists.{are_turns, are_listed, code_is, job_is_of}
-use Rattle.htl_refine.proofs.RecordOrder.{not_some}
-use Rattle.htl_refine.proofs.Standing.{standing_at}
 
 -- ---- without modules
 

@@ -1,15 +1,6 @@
 -- A loaded program: the lines, totals and text of its runs are those of the pieces of walks.
 use Rattle.std.proofs.Common.{◌≡◌, ℕ, List, map, Some}
-use Rattle.htl_model.specs.declared.event.Event.{Event}
-use Rattle.htl_model.specs.Frames.{hyper}
-use Rattle.htl_model.specs.Tables.{Tables}
-use Rattle.htl_walk.specs.declared.schedule.SInstr.{SInstr}
-use Rattle.htl_ecode.specs.declared.ecode.ECode.{ECode}
-use Rattle.htl_refine.specs.Records.{AreTookWithin}
-use Rattle.htl_refine.specs.FrameRecords.{records}
-use Rattle.htl_refine.specs.ServedFrames.{IsFeasibleRun}
-use Rattle.htl_console.specs.declared.shown.Shown.{Shown}
-use Rattle.htl_machine.specs.Follows.{IsLoaded}
+use Rattle.htl_machine.proofs.Words.{Event, hyper, Tables, SInstr, ECode, AreTookWithin, records, IsFeasibleRun, Shown, IsLoaded}
 use Rattle.htl_machine.specs.Texts as texts
 use Rattle.htl_machine.specs.Lines as runs
 use Rattle.htl_machine.proofs.InstantRecords.{as_told}

@@ -1,16 +1,7 @@
 -- The bits of rows of 128, as marks of numbers.
 use Rattle.std.proofs.Common.{◌≡◌, ◌≢◌, ℕ, ◌+◌, ◌-◌, ◌*◌, ◌/◌, ◌%◌, ◌^◌, ◌≤◌, ◌<◌, ◌||◌, Bool, true, false, cond, eqb, List, length, get_or, set, min, refl, sym, ap, ◌∙◌, arith, inl, inr, get_or-set_same, get_or-set_other}
-use Rattle.std.specs.Int.{bit_at}
-use Rattle.std.proofs.lemmas.Bool.Decides.{nat_tests}
-use Rattle.std.proofs.Math.Bool.{or-false, or-true}
-use Rattle.std.proofs.lemmas.Bool.{cases_lt, cases_eq}
-use Rattle.std.proofs.lemmas.Nat.{shr-shr}
-use Rattle.std.proofs.lemmas.Nat.Bits.{bit_at-zero}
-use Rattle.htl_model.specs.Bits.{has_bit}
-use Rattle.htl_model.proofs.BitLaws.{has_no_bit}
-use Rattle.htl_machine.specs.declared.marks.Marks.{Marks}
+use Rattle.htl_machine.proofs.Words.{bit_at, nat_tests, or-false, or-true, cases_lt, cases_eq, shr-shr, bit_at-zero, has_bit, has_no_bit, Marks, eqb_apart}
 use Rattle.htl_machine.specs.Marks.{is_marked, row_of}
-use Rattle.htl_base.proofs.Tests.{eqb_apart}
 
 -- ---- one row
 

@@ -1,32 +1,7 @@
 -- What instructions change is marked.
 use Rattle.std.proofs.Common.{◌≡◌, ℕ, ◌+◌, ◌<◌, ◌≤◌, Bool, false, ◌&&◌, ◌||◌, eqb, List, [], length, get_or, set, slice_get, Option, Some, None, IfSome, ℤ, pos, refl, sym, ap, ◌∙◌, subst, arith, length-set, get_or-set_other}
-use Rattle.htl_model.specs.declared.event.Event.{Event}
-use Rattle.htl_model.specs.Tables.{Tables}
-use Rattle.htl_model.specs.Ranges.{AreInRange}
-use Rattle.htl_model.specs.FrameRules.{KeptApart}
-use Rattle.htl_ecode.specs.declared.ecode.ECode.{ECode}
-use Rattle.htl_ecode.specs.declared.instr.EInstr.{EInstr}
+use Rattle.htl_machine.proofs.Words.{Event, Tables, AreInRange, KeptApart, ECode, EInstr, Spells, spelled_departs_not, Block, EDone, Calendar, Standing, list_at, triggers_of, first_due, block_in, taken, taken_by, calendar_effect, done_at, done_in, entry_of, standing_after, content_after, Content, comm_of, writes_at, effect, IsReady, StandsSafely, IsShaped, SensorsStay, list_other, ready_safely, Onward, phase_path, IsToClose, IsToRead, is_marked, MarksChanges, KeepsNoted, is_written, decides, replay, Noted, trigger_set_modes, eqb_apart, or_parts}
 use Rattle.htl_ecode.specs.declared.instr.EInstr.TheVariants as I
-use Rattle.htl_ecode.specs.Spelling.{Spells}
-use Rattle.htl_ecode.proofs.SpellingLaws.{spelled_departs_not}
-use Rattle.htl_emach.specs.declared.trigger.Block.{Block}
-use Rattle.htl_emach.specs.declared.trigger.EDone.{EDone}
-use Rattle.htl_emach.specs.Calendars.{Calendar, Standing, list_at, triggers_of, first_due, block_in, taken, taken_by, calendar_effect, done_at, done_in, entry_of, standing_after, content_after}
-use Rattle.htl_emach.specs.Contents.{Content, comm_of, writes_at, effect}
-use Rattle.htl_emach.specs.Ready.{IsReady}
-use Rattle.htl_emach.specs.Safety.{StandsSafely}
-use Rattle.htl_emach.specs.Shapes.{IsShaped, SensorsStay}
-use Rattle.htl_emach.proofs.Effects.{list_other}
-use Rattle.htl_emach.proofs.SafeCalls.{ready_safely}
-use Rattle.htl_emach.specs.Following.{Onward, phase_path}
-use Rattle.htl_machine.specs.Asking.{IsToClose, IsToRead}
-use Rattle.htl_machine.specs.Marks.{is_marked}
-use Rattle.htl_machine.specs.Noting.{MarksChanges, KeepsNoted, is_written, decides}
-use Rattle.htl_machine.specs.Running.{replay}
-use Rattle.htl_machine.specs.declared.noted.Noted.{Noted}
-use Rattle.htl_emach.proofs.Inside.{trigger_set_modes}
-use Rattle.htl_base.proofs.Tests.{eqb_apart}
-use Rattle.std.proofs.lemmas.Bool.{or_parts}
 
 -- ---- values
 

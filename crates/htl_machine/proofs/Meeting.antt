@@ -1,25 +1,9 @@
 -- The two machines meet: records, three phases and the sensors of an instant, as their own clauses say them, make the next world.
 use Rattle.std.proofs.Common.{◌≡◌, ℕ, suc, ◌-◌, ◌≤◌, ◌<◌, List, [], ◌∷◌, length, slice_get, refl, ap, ◌∙◌, arith}
-use Rattle.htl_model.specs.declared.event.Event.{Event}
-use Rattle.htl_model.specs.Tables.{Tables}
-use Rattle.htl_model.specs.Meaning.{state, before, sense}
-use Rattle.htl_walk.specs.declared.schedule.SInstr.{SInstr}
-use Rattle.htl_smach.specs.Rounds.{Round}
-use Rattle.htl_ecode.specs.declared.ecode.ECode.{ECode}
-use Rattle.htl_ecode.specs.Paths.{Done}
-use Rattle.htl_ecode.proofs.Spelled.{ModeReads}
-use Rattle.htl_emach.specs.Following.{phase_path}
+use Rattle.htl_machine.proofs.Words.{Event, Tables, state, before, sense, SInstr, Round, ECode, Done, ModeReads, phase_path, effects, all_writes, with_sensors, AreTookWithin, turn_at, RunState, SMachineStands, UpTo, IsLoaded, Leaves, Records, left_before, Turn, turn_walk, Content}
 use Rattle.htl_machine.specs.Running as running
-use Rattle.htl_machine.specs.Worlds.{effects, all_writes, with_sensors}
 use Rattle.htl_machine.proofs.Tying.{replay, addresses, write_phase}
-use Rattle.htl_refine.specs.Records.{AreTookWithin}
 use Rattle.htl_machine.specs.Plans.{with_records, next_world}
-use Rattle.htl_machine.specs.RunLists.{turn_at}
-use Rattle.htl_machine.specs.Follows.{RunState, SMachineStands, UpTo, IsLoaded}
-use Rattle.htl_machine.specs.Leaving.{Leaves}
-use Rattle.htl_machine.specs.Recording.{Records}
-use Rattle.htl_machine.specs.ListTurns.{left_before, Turn, turn_walk}
-use Rattle.htl_emach.specs.Contents.{Content}
 use Rattle.htl_machine.proofs.Shaping.{has_places}
 use Rattle.htl_machine.proofs.SMachineInstants.{s_machine_opens}
 use Rattle.htl_machine.proofs.Standing.{standing_before}

@@ -1,17 +1,6 @@
 -- The modes of the modules, as the E machine answers them and as the meaning has them.
 use Rattle.std.proofs.Common.{◌≡◌, ℕ, zero, suc, ◌+◌, ◌<◌, true, List, [], ◌∷◌, ◌++◌, length, take, get_or, map, set, Option, Some, None, option_map, refl, sym, ap, ap₂, ◌∙◌, arith, inl, inr}
-use Rattle.std.proofs.lemmas.List.{ext_get_or, take_more, take_more_set, length-set}
-use Rattle.htl_model.specs.declared.event.Event.{Event}
-use Rattle.htl_model.specs.declared.state.Stay.{Stay}
-use Rattle.htl_model.specs.Ranges.{AreInRange}
-use Rattle.std.proofs.lemmas.Bool.{eqb-true, cases_lt}
-use Rattle.htl_model.specs.Meaning.{state, stay_of, mode_of, same_mode}
-use Rattle.htl_model.specs.Tables.{Tables}
-use Rattle.htl_ecode.specs.declared.ecode.ECode.{ECode}
-use Rattle.htl_emach.specs.Calendars.{Calendar, list_at}
-use Rattle.htl_emach.specs.Pending.{Between}
-use Rattle.htl_refine.specs.Records.{modes_at}
-use Rattle.htl_refine.proofs.StateLaws.{states_are_selections}
+use Rattle.htl_machine.proofs.Words.{ext_get_or, take_more, take_more_set, length-set, Event, Stay, AreInRange, eqb-true, cases_lt, state, stay_of, mode_of, same_mode, Tables, ECode, Calendar, list_at, Between, modes_at, states_are_selections}
 use Rattle.htl_machine.proofs.Agreeing.{modes_switched}
 use Rattle.htl_machine.proofs.Settling.{list_is}
 

@@ -1,16 +1,9 @@
 -- What a list of wants does to values and buffers, by what it asks for.
 use Rattle.std.proofs.Common.{◌≡◌, ◌≢◌, ℕ, ◌<◌, List, [], ◌∷◌, length, get_or, slice_get, set, Option, Some, None, ℤ, pos, refl, sym, ap, ◌∙◌, subst, arith, ◌⊎◌, inl, inr}
-use Rattle.std.proofs.lemmas.List.{get_or-set_same, get_or-set_other, length-set}
-use Rattle.htl_model.specs.declared.parts.Inv.{Inv}
-use Rattle.htl_model.specs.Tables.{Tables}
+use Rattle.htl_machine.proofs.Words.{get_or-set_same, get_or-set_other, length-set, Inv, Tables, Want, Does, Content, buffer, put_in, comm_of, call_write, call_read, want_effect, effects, HasPlaces, cases_eq}
 use Rattle.htl_ecode.specs.declared.instr.EInstr.TheVariants as I
-use Rattle.htl_ecode.specs.Chains.{Want, Does}
-use Rattle.htl_emach.specs.Contents.{Content, buffer, put_in, comm_of, call_write, call_read}
-use Rattle.htl_machine.specs.Worlds.{want_effect, effects}
 use Rattle.htl_emach.specs.Contents as contents
-use Rattle.htl_machine.specs.Values.{HasPlaces}
 use Rattle.htl_machine.proofs.Asked.{AsksFor}
-use Rattle.std.proofs.lemmas.Bool.{cases_eq}
 
 data Kind (x : Want) : Type 1 where
   writes : (a b : ℕ) → x ≡ Does (I.CallWrite a b) → Kind x

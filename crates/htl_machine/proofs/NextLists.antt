@@ -1,39 +1,12 @@
 -- Where a list begins, and which.
 use Rattle.std.proofs.Common.{◌≡◌, ◌≢◌, ℕ, zero, suc, ◌+◌, ◌-◌, ◌*◌, ◌/◌, ◌%◌, ◌≤◌, ◌<◌, ◌⊎◌, Bool, true, false, cond, ◌&&◌, ◌||◌, not, eqb, leb, pred, List, [], ◌∷◌, length, get_or, map, slice_get, drop, Option, Some, None, refl, sym, ap, ap₂, ◌∙◌, arith, inl, inr}
-use Rattle.std.specs.List.{list_any}
-use Rattle.std.proofs.Math.Nat.{div-add-mod, add-mul-mod_self_left, mul_assoc}
-use Rattle.std.proofs.lemmas.Bool.{eqb-true, eq-eqb, ne_eqb, cases_eq}
-use Rattle.std.proofs.lemmas.Option.{get_or_from_slice_get, slice_get-get_or, slice_get_within}
-use Rattle.htl_model.specs.declared.event.Event.{Event}
-use Rattle.htl_model.specs.declared.parts.Mode.{Mode}
-use Rattle.htl_model.specs.FrameRules.{KeptApart}
+use Rattle.htl_machine.proofs.Words.{list_any, div-add-mod, add-mul-mod_self_left, mul_assoc, eqb-true, eq-eqb, ne_eqb, cases_eq, get_or_from_slice_get, slice_get-get_or, slice_get_within, Event, Mode, KeptApart, frame_of, starts, unit_period, root_periods, rounds_of, choices, node, AreInRange, IsModeInRange, is_root, root_modules, modes_of, mode_of_module, Tables, mode_period, frame_divided, modes_some, place_passes_0, SInstr, IsRootAt, as_unit, choice_of, frame_modes, path_in, choice_at, nodes_below, node_read, modes_at, entry_place, IsFeasibleRun, nodes_read, node_steps, states_are_selections, frame_start, Turn, next_list, next_node, NextListStands, ListsBegin, begun_of, list_number, list_turn, first_period, opens, some_round_begins, all_at}
 use Rattle.htl_model.specs.Frames as frames
-use Rattle.htl_model.specs.Frames.{frame_of, starts, unit_period, root_periods, rounds_of, choices, node}
-use Rattle.htl_model.specs.Ranges.{AreInRange, IsModeInRange}
-use Rattle.htl_model.specs.Selections.{is_root, root_modules, modes_of, mode_of_module}
-use Rattle.htl_model.specs.Tables.{Tables, mode_period}
-use Rattle.htl_model.proofs.FrameRules.{frame_divided}
-use Rattle.htl_model.proofs.SelectionLaws.{modes_some, place_passes_0}
-use Rattle.htl_walk.specs.declared.schedule.SInstr.{SInstr}
-use Rattle.htl_walk.proofs.PathReady.{IsRootAt, as_unit}
 use Rattle.htl_walk.proofs.Starts.{Rises}
-use Rattle.htl_refine.specs.BegunJobs.{choice_of}
-use Rattle.htl_refine.specs.FrameRuns.{frame_modes, path_in, choice_at, nodes_below, node_read}
-use Rattle.htl_refine.specs.Records.{modes_at}
-use Rattle.htl_refine.specs.Roots.{entry_place}
-use Rattle.htl_refine.specs.ServedFrames.{IsFeasibleRun}
-use Rattle.htl_refine.proofs.NodeRead.{nodes_read, node_steps}
-use Rattle.htl_refine.proofs.StateLaws.{states_are_selections}
-use Rattle.htl_machine.specs.FramePlacing.{frame_start}
-use Rattle.htl_machine.specs.ListTurns.{Turn}
-use Rattle.htl_machine.specs.NextLists.{next_list, next_node, NextListStands, ListsBegin}
-use Rattle.htl_machine.specs.RunLists.{begun_of, list_number, list_turn}
-use Rattle.htl_machine.specs.Timing.{first_period, opens, some_round_begins}
 use Rattle.htl_machine.proofs.ListStarts.{begun_next, none_after}
 use Rattle.htl_machine.proofs.Periodic.{divides}
 use Rattle.htl_machine.proofs.RunLists.{rise, past, stands, from_is, number, number_is}
 use Rattle.htl_machine.proofs.Periods.{begins_or_not}
-use Rattle.htl_base.proofs.Places.{all_at}
 
 -- ---- where a round of a root module begins
 

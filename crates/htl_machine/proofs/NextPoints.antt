@@ -1,11 +1,6 @@
 -- The point at which the next list of a path begins.
 use Rattle.std.proofs.Common.{◌≡◌, ℕ, zero, suc, ◌+◌, ◌≤◌, ◌<◌, List, [], ◌∷◌, length, drop, get_or, refl, sym, ap, ◌∙◌, arith}
-use Rattle.htl_walk.specs.declared.job.Job.{Job}
-use Rattle.htl_walk.specs.declared.schedule.SInstr.{SInstr}
-use Rattle.htl_walk.specs.Walk.{Point, last_point, work}
-use Rattle.htl_walk.specs.Paths.{Leg, list_point, AreInForm, path_point}
-use Rattle.htl_walk.proofs.GoingOn.{untouched}
-use Rattle.htl_refine.specs.ListPlans.{no_leg}
+use Rattle.htl_machine.proofs.Words.{Job, SInstr, Point, last_point, work, Leg, list_point, AreInForm, path_point, untouched, no_leg}
 
 drop_none : (n : ℕ) → ◌≡◌ {A = List ℕ} (drop n []) []
 drop_none zero = refl

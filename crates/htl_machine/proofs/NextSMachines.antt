@@ -1,31 +1,8 @@
 -- A list ends, and the S machine goes on with the next.
 use Rattle.std.proofs.Common.{◌≡◌, ℕ, zero, suc, ◌+◌, ◌-◌, ◌≤◌, ◌<◌, Bool, true, false, ◌&&◌, ltb, List, [], ◌∷◌, ◌++◌, length, take, drop, get_or, slice_get, replicate, Some, refl, sym, ap, ap₂, ◌∙◌, subst, arith, length-append, ⊎_elim}
-use Rattle.std.proofs.lemmas.Bool.{cases_lt, lt-ltb, le-ltb}
-use Rattle.std.proofs.lemmas.List.{length-take, length-drop, length-map}
-use Rattle.htl_walk.specs.declared.job.Job.{Job}
-use Rattle.htl_walk.specs.Walk.{Point, job_at, last_point, first_point, work}
-use Rattle.htl_walk.specs.Paths.{list_point, AgreeAt}
-use Rattle.htl_walk.specs.Refinement.{HaveLengths, AreWithinWorst}
-use Rattle.htl_walk.proofs.GoingOn.{onward_lists, same_length}
-use Rattle.htl_walk.proofs.Work.{job_there}
-use Rattle.htl_smach.specs.Adding.{CanBegin, IsEven}
-use Rattle.htl_smach.specs.declared.state.PosState.TheVariants.{Pending}
-use Rattle.htl_smach.specs.Rounds.{Round, added, state_of}
-use Rattle.htl_smach.proofs.Adding.{stands_added}
-use Rattle.htl_smach.proofs.RoundRecords.{pending_is}
-use Rattle.htl_refine.specs.FrameRuns.{Frame}
-use Rattle.htl_refine.specs.ListLaws.{IsFollowed}
-use Rattle.htl_refine.specs.ListPlans.{leg_at, front_of, list_start, list_plan}
-use Rattle.htl_refine.proofs.FrontPlans.{point_long}
-use Rattle.htl_refine.proofs.Fronts.{take_work}
-use Rattle.htl_refine.proofs.ListWalks.{front_agrees, point_agrees, form_at}
-use Rattle.htl_machine.specs.Follows.{released_before, SMachineAt}
-use Rattle.htl_machine.specs.NextSMachines.{more_jobs, more_lengths, SMachinesGoOn}
+use Rattle.htl_machine.proofs.Words.{cases_lt, lt-ltb, le-ltb, length-take, length-drop, length-map, Job, Point, job_at, last_point, first_point, work, list_point, AgreeAt, HaveLengths, AreWithinWorst, onward_lists, same_length, job_there, CanBegin, IsEven, Pending, Round, added, state_of, stands_added, pending_is, Frame, IsFollowed, leg_at, front_of, list_start, list_plan, point_long, take_work, front_agrees, point_agrees, form_at, released_before, SMachineAt, more_jobs, more_lengths, SMachinesGoOn, front_more, get_taken, take_all, work_length, same_number_lists}
 use Rattle.htl_machine.proofs.NextPoints.{drop_work, get_behind, point_next, point_untouched}
 use Rattle.htl_machine.proofs.Releasing.{flag_at}
-use Rattle.htl_base.proofs.Places.{front_more, get_taken, take_all}
-use Rattle.htl_walk.proofs.CodeWalk.{work_length}
-use Rattle.std.proofs.lemmas.Grind.{same_number_lists}
 
 -- ---- releases
 

@@ -1,44 +1,10 @@
 -- The S machine and the list that stands, over an instant: the same goes on, or it is over and the next begins.
 use Rattle.std.proofs.Common.{◌≡◌, ◌≢◌, ℕ, zero, suc, ◌+◌, ◌-◌, ◌%◌, take, drop, ◌≤◌, ◌<◌, true, false, List, [], ◌∷◌, length, slice_get, Option, Some, None, refl, sym, ap, ap₂, ◌∙◌, subst, arith, inl, inr}
-use Rattle.std.proofs.lemmas.Bool.{eqb-true, eqb-false}
-use Rattle.htl_model.specs.declared.event.Event.{Event}
-use Rattle.htl_model.specs.declared.parts.Module.{Module}
-use Rattle.htl_model.specs.Lists.{places_from}
-use Rattle.htl_model.specs.Frames.{frame_of, hyper}
-use Rattle.htl_model.specs.Selections.{is_root, root_modules}
-use Rattle.htl_model.specs.Tables.{Tables}
-use Rattle.htl_model.specs.Meaning.{state}
-use Rattle.htl_walk.specs.declared.job.Job.{Job}
-use Rattle.htl_walk.specs.declared.schedule.SInstr.{SInstr}
+use Rattle.htl_machine.proofs.Words.{eqb-true, eqb-false, Event, Module, places_from, frame_of, hyper, is_root, root_modules, Tables, state, Job, SInstr, Point, walk_from, Round, no_round, told_from, ECode, EInstr, Done, ModeReads, Content, phase_path, Plan, list_walk, count_left_before, AreTookWithin, ListAt, GoesBy, IsLoaded, SMachineAt, SMachineStands, SMachineFollows, due_by, Leaves, s_machine_replay, s_machine_at, Records, some_records, turn_old_records, raise_all, some_round_begins, all_reads, Turn, AreTurns, AreListed, turn_walk, turn_at, turn_by, list_turn, IsAtEnd, turn_list}
 use Rattle.htl_walk.specs.Walk as walks
-use Rattle.htl_walk.specs.Walk.{Point, walk_from}
 use Rattle.htl_smach.specs.declared.left.Left.{Left}
 use Rattle.htl_smach.specs.Rounds as rounds
-use Rattle.htl_smach.specs.Rounds.{Round, no_round, told_from}
-use Rattle.htl_ecode.specs.declared.ecode.ECode.{ECode}
-use Rattle.htl_ecode.specs.declared.instr.EInstr.{EInstr}
 use Rattle.htl_ecode.specs.declared.instr.EInstr.TheVariants as I
-use Rattle.htl_ecode.specs.Paths.{Done}
-use Rattle.htl_ecode.proofs.Spelled.{ModeReads}
-use Rattle.htl_emach.specs.Contents.{Content}
-use Rattle.htl_emach.specs.Following.{phase_path}
-use Rattle.htl_refine.specs.ListPlans.{ListPlan as Plan, list_walk}
-use Rattle.htl_refine.specs.RecordCounts.{count_left_before}
-use Rattle.htl_refine.specs.Records.{AreTookWithin}
-use Rattle.htl_machine.specs.declared.numbering.ListAt.{ListAt}
-use Rattle.htl_machine.specs.Calls.{GoesBy}
-use Rattle.htl_machine.specs.Follows.{IsLoaded, SMachineAt, SMachineStands, SMachineFollows}
-use Rattle.htl_machine.specs.Leaving.{due_by, Leaves}
-use Rattle.htl_machine.specs.Readiness.{s_machine_replay, s_machine_at}
-use Rattle.htl_machine.specs.Recording.{Records}
-use Rattle.htl_machine.specs.Texts.{some_records, turn_old_records}
-use Rattle.htl_machine.specs.ReleaseFlags.{raise_all}
-use Rattle.htl_machine.specs.Timing.{some_round_begins}
-use Rattle.htl_machine.specs.Worlds.{all_reads}
-use Rattle.htl_machine.specs.ListTurns.{Turn, AreTurns, AreListed, turn_walk}
-use Rattle.htl_machine.specs.RunLists.{turn_at, turn_by, list_turn}
-use Rattle.htl_machine.specs.ListBegun.{IsAtEnd}
-use Rattle.htl_machine.specs.StandingList.{turn_list}
 use Rattle.htl_machine.proofs.Alone.{stands_nowhere}
 use Rattle.htl_machine.proofs.SMachineInstants.{s_machine_closes, not_running}
 use Rattle.htl_machine.proofs.Instants.{with_flags, s_machine_left, s_machine_on, s_machine_ends}

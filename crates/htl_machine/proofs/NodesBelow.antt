@@ -1,15 +1,6 @@
 -- How many nodes are below a node behind each start, start by start.
 use Rattle.std.proofs.Common.{◌≡◌, ◌≢◌, ℕ, suc, ◌+◌, ◌-◌, ◌/◌, ◌≤◌, ◌<◌, List, [], ◌∷◌, ◌++◌, length, drop, get_or, set, take, add-one, refl, sym, ap, ◌∙◌, arith, inl, inr}
-use Rattle.std.proofs.Math.Seq.{get_or-append_seam, take-append_seam}
-use Rattle.std.proofs.lemmas.Grind.{get_or-set_at}
-use Rattle.std.proofs.lemmas.List.{take-take, drop-map, get_or-set_other, get_or-take, length-set, length-map}
-use Rattle.htl_model.specs.Frames.{ways, nodes_of, frame_of, starts, rounds, rounds_at, choices, radices}
-use Rattle.htl_model.specs.Ranges.{AreInRange}
-use Rattle.htl_model.specs.Tables.{Tables}
-use Rattle.htl_model.proofs.FrameLimits.{choices_some, choices_starts, rounds_have}
-use Rattle.htl_model.proofs.FrameSteps.{node_step}
-use Rattle.htl_refine.specs.FrameRuns.{nodes_below}
-use Rattle.std.proofs.lemmas.Bool.{cases_eq}
+use Rattle.htl_machine.proofs.Words.{get_or-append_seam, take-append_seam, get_or-set_at, take-take, drop-map, get_or-set_other, get_or-take, length-set, length-map, ways, nodes_of, frame_of, starts, rounds, rounds_at, choices, radices, AreInRange, Tables, choices_some, choices_starts, rounds_have, node_step, nodes_below, cases_eq}
 
 -- the numbers of the first j starts are written
 pub record AreBelow (cs below : List ℕ) (j rest : ℕ) : Type 0 where

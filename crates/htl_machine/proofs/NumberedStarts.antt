@@ -1,23 +1,9 @@
 -- Where a list begins, by the starts of a frame.
 use Rattle.std.proofs.Common.{◌≡◌, ◌≢◌, ◌<◌, ◌≤◌, ◌%◌, ℕ, zero, suc, Bool, true, false, cond, ◌||◌, eqb, List, [], ◌∷◌, length, take, refl, sym, ap, ap₂, ◌∙◌, arith, inl, inr}
-use Rattle.std.specs.List.{list_any}
-use Rattle.std.proofs.lemmas.Bool.{eq-eqb, ne_eqb, cases_eq}
-use Rattle.std.proofs.lemmas.List.Folds.{list_any-append}
-use Rattle.htl_model.specs.FrameRules.{KeptApart}
+use Rattle.htl_machine.proofs.Words.{list_any, eq-eqb, ne_eqb, cases_eq, list_any-append, KeptApart, frame_of, starts, starts_below, root_periods, AreInRange, root_modules, Tables, frame_some, Object, IsAccepted, IsNumbering, some_round_begins, opens, Numbering, or_with_false}
 use Rattle.htl_model.specs.Frames as frames
-use Rattle.htl_model.specs.Frames.{frame_of, starts, starts_below, root_periods}
-use Rattle.htl_model.specs.Ranges.{AreInRange}
-use Rattle.htl_model.specs.Selections.{root_modules}
-use Rattle.htl_model.specs.Tables.{Tables}
-use Rattle.htl_model.proofs.FrameBuild.{frame_some}
-use Rattle.htl_object.specs.declared.object.Object.{Object}
-use Rattle.htl_object.specs.Accepted.{IsAccepted}
-use Rattle.htl_machine.specs.Numbering.{IsNumbering}
-use Rattle.htl_machine.specs.Timing.{some_round_begins, opens}
-use Rattle.htl_machine.specs.declared.numbering.Numbering.{Numbering}
 use Rattle.htl_machine.proofs.Accepted.{accepted_is_loaded}
 use Rattle.htl_machine.proofs.NextLists.{begins_at}
-use Rattle.htl_base.proofs.Tests.{or_with_false}
 
 -- ---- among the starts below an end
 

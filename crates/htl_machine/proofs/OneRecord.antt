@@ -1,19 +1,9 @@
 -- What the lines of one record show of the job at a position q: what the record itself says of q, if it is left before n.
 use Rattle.std.proofs.Common.{◌≡◌, ◌<◌, ℕ, ◌+◌, Bool, true, false, cond, ◌&&◌, eqb, ltb, List, [], ◌∷◌, ◌++◌, Option, Some, None, option_map, refl, sym, ap, ap₂, ◌∙◌, append-nil}
-use Rattle.std.proofs.lemmas.Bool.{eqb-true, lt-ltb}
-use Rattle.htl_model.specs.Lists.{joined}
-use Rattle.htl_walk.specs.declared.job.Job.{Job}
-use Rattle.htl_walk.specs.Walk.{job_at, is_position}
-use Rattle.htl_machine.specs.JobLines.{RunLine, closed_slice_line}
-use Rattle.htl_machine.specs.JobLines.RunLine.{DoneLine}
-use Rattle.htl_machine.specs.JobTimes.{is_in, done_time, slice_time}
-use Rattle.htl_machine.specs.Texts.{inv_at}
+use Rattle.htl_machine.proofs.Words.{eqb-true, lt-ltb, joined, Job, job_at, is_position, RunLine, closed_slice_line, DoneLine, is_in, done_time, slice_time, inv_at, not_some, same_Some, and_with_true}
 use Rattle.htl_machine.proofs.PositionRecords.{shift, shifted_slice}
 use Rattle.htl_machine.proofs.Printing.{joined-append}
 use Rattle.htl_machine.proofs.RecordTimes.{nothing}
-use Rattle.htl_refine.proofs.RecordOrder.{not_some}
-use Rattle.std.proofs.lemmas.Option.{same_Some}
-use Rattle.htl_base.proofs.Tests.{and_with_true}
 
 module _ (jobs : List Job) (f q n i start end : ℕ) where
   -- a record at this offset is of a position, and its lines count exactly where that is q

@@ -1,25 +1,6 @@
 -- The first part of an instant, put together.
 use Rattle.std.proofs.Common.{◌≡◌, ℕ, ◌-◌, ℤ, List, [], Option, Result, Ok, Err, refl, sym, subst, arith}
-use Rattle.htl_edge.specs.Content.{Puts}
-use Rattle.htl_edge.proofs.Puts.{append_known-start, Puts-failed, Puts-second}
-use Rattle.htl_model.specs.declared.event.Event.{Event}
-use Rattle.htl_model.specs.Lists.{joined}
-use Rattle.htl_model.specs.Tables.{Tables}
-use Rattle.htl_walk.specs.declared.schedule.SInstr.{SInstr}
-use Rattle.htl_smach.specs.Rounds.{Round}
-use Rattle.htl_ecode.specs.declared.ecode.ECode.{ECode}
-use Rattle.htl_emach.specs.Contents.{Content}
-use Rattle.htl_emach.specs.Calendars.{Standing}
-use Rattle.htl_emach.specs.Following.{FollowsCode, phase_path}
-use Rattle.htl_machine.specs.Running.{replay}
-use Rattle.htl_console.specs.declared.shown.Shown.{Shown}
-use Rattle.htl_machine.specs.Leaving.{due_by}
-use Rattle.htl_machine.specs.Recording.{Records}
-use Rattle.htl_machine.specs.Sensors.{AreShown}
-use Rattle.htl_machine.specs.Printing.{Prints}
-use Rattle.htl_machine.specs.Doing.{IsStarting, path_lines, told_in_phase}
-use Rattle.htl_machine.specs.Opening.{Opens, IsOpened}
-use Rattle.htl_machine.specs.Texts.{record_text, some_records}
+use Rattle.htl_machine.proofs.Words.{Puts, append_known-start, Puts-failed, Puts-second, Event, joined, Tables, SInstr, Round, ECode, Content, Standing, FollowsCode, phase_path, replay, Shown, due_by, Records, AreShown, Prints, IsStarting, path_lines, told_in_phase, Opens, IsOpened, record_text, some_records}
 
 pub opens_failed : {T S E F : Type 0} (t : Tables) (code : ECode) (es : List Event) (show : Shown) (sel : ℕ) (old : Round) (steps : List SInstr) (at : ℕ) (w0 w : Option (List ℕ)) (f0 f : ℕ) (x : E) (y : F)
     → Prints {T = T} {E = E} t show sel old steps at w0 w f0 f (Err x) → Opens {T = S} {E = F} t code es show sel old steps at w0 w f0 f (Err y)

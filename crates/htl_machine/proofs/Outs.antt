@@ -1,23 +1,8 @@
 -- What jobs put out, with ports: what was read before an instant is what is read at any, and a job that finishes puts out
 -- what the meaning says.
 use Rattle.std.proofs.Common.{◌≡◌, ℕ, zero, suc, ◌+◌, ◌*◌, ◌≤◌, ◌<◌, Bool, true, false, cond, eqb, ltb, List, [], ◌∷◌, length, slice_get, Option, Some, None, ℤ, pos, refl, sym, ap, ◌∙◌, arith, ◌⊎◌, inl, inr}
-use Rattle.std.proofs.lemmas.Bool.{eqb-true, lt-ltb, le-ltb, ltb-true}
-use Rattle.std.proofs.lemmas.Option.{slice_get_within, same_Some}
-use Rattle.htl_model.specs.declared.event.Event.{Event}
-use Rattle.htl_model.specs.declared.parts.Inv.{Inv}
-use Rattle.htl_model.specs.declared.parts.End.{End}
+use Rattle.htl_machine.proofs.Words.{eqb-true, lt-ltb, le-ltb, ltb-true, slice_get_within, same_Some, Event, Inv, End, Stay, Tables, comm_period, mode_module, is_concrete, function_value, output_function, AreInRange, IsInvInRange, AbstractPorts, Input, KeptApart, before, stay_of, val, out, out_by, input_value, port_output, writer_from, seen_before, InvStands, HasReadInputs, Orders, not_some, each_at, item_at, map_same, cases_below}
 use Rattle.htl_model.specs.declared.parts.End.TheVariants as E
-use Rattle.htl_model.specs.declared.state.Stay.{Stay}
-use Rattle.htl_model.specs.Tables.{Tables, comm_period, mode_module, is_concrete, function_value, output_function}
-use Rattle.htl_model.specs.Ranges.{AreInRange, IsInvInRange}
-use Rattle.htl_model.specs.FormRules.{AbstractPorts, Input}
-use Rattle.htl_model.specs.FrameRules.{KeptApart}
-use Rattle.htl_model.specs.Meaning.{before, stay_of, val, out, out_by, input_value, port_output, writer_from}
-use Rattle.htl_model.proofs.Laws.{seen_before}
-use Rattle.htl_machine.specs.Values.{InvStands, HasReadInputs, Orders}
-use Rattle.htl_refine.proofs.RecordOrder.{not_some}
-use Rattle.htl_base.proofs.Places.{each_at, item_at, map_same}
-use Rattle.htl_base.proofs.Numbers.{cases_below}
 
 -- ---- who writes a port
 

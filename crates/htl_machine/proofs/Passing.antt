@@ -1,16 +1,6 @@
 -- From instant to instant: what is written so far, and how a refusal leaves it.
 use Rattle.std.proofs.Common.{◌≡◌, ℕ, zero, suc, ◌+◌, ◌-◌, ◌≤◌, ◌<◌, List, ◌++◌, Option, Ok, Err, refl, sym, ap, ◌∙◌, subst, arith}
-use Rattle.std.specs.Io.KnownBytes.{append_known}
-use Rattle.std.proofs.lemmas.List.{append_assoc, append-nil}
-use Rattle.htl_edge.specs.Content.{Puts}
-use Rattle.htl_edge.proofs.Puts.{append_known-start, append_known-more, Puts-failed}
-use Rattle.htl_model.specs.declared.event.Event.{Event}
-use Rattle.htl_model.specs.Lists.{up_to}
-use Rattle.htl_object.specs.declared.object.Object.{Object}
-use Rattle.htl_console.specs.declared.shown.Shown.{Shown}
-use Rattle.htl_machine.specs.Calls.{Seen, Follows, IsUpTo, IsSameRun, text_between}
-use Rattle.htl_machine.specs.Passing.{IsPassing, ArePassing}
-use Rattle.htl_machine.specs.Programs.{lines_of}
+use Rattle.htl_machine.proofs.Words.{append_known, append_assoc, append-nil, Puts, append_known-start, append_known-more, Puts-failed, Event, up_to, Object, Shown, Seen, Follows, IsUpTo, IsSameRun, text_between, IsPassing, ArePassing, lines_of}
 
 -- a list that is joined in two parts
 pub up_to_more : {A : Type 0} (f : ℕ → List A) (k j : ℕ) → up_to f (k + j) ≡ up_to f k ++ up_to (λ n. f (k + n)) j

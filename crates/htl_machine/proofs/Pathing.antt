@@ -1,20 +1,8 @@
 -- A whole instant, by the addresses of its path: records, the write phase, the sensors, the switch phase, the read phase.
 use Rattle.std.proofs.Common.{◌≡◌, ℕ, ◌<◌, List, length, Some, ap, ◌∙◌}
-use Rattle.htl_model.specs.declared.event.Event.{Event}
-use Rattle.htl_model.specs.declared.state.Stay.{Stay}
-use Rattle.htl_model.specs.Lists.{up_to}
-use Rattle.htl_model.specs.Tables.{Tables}
-use Rattle.htl_model.specs.Ranges.{AreInRange}
-use Rattle.htl_model.specs.Meaning.{state, before, stay_of, sense}
-use Rattle.htl_ecode.specs.declared.ecode.ECode.{ECode}
-use Rattle.htl_ecode.specs.Paths.{writes_done, switches_done, reads_done}
-use Rattle.htl_ecode.proofs.Spelled.{ModeReads}
-use Rattle.htl_emach.specs.Contents.{Content}
-use Rattle.htl_machine.specs.Worlds.{effects, all_writes, with_sensors}
+use Rattle.htl_machine.proofs.Words.{Event, Stay, up_to, Tables, AreInRange, state, before, stay_of, sense, ECode, writes_done, switches_done, reads_done, ModeReads, Content, effects, all_writes, with_sensors, Turn, standing_at}
 use Rattle.htl_machine.proofs.Tying.{replay, addresses, write_phase, read_phase}
 use Rattle.htl_machine.specs.Plans.{with_records, next_world}
-use Rattle.htl_machine.specs.ListTurns.{Turn}
-use Rattle.htl_refine.proofs.Standing.{standing_at}
 use Rattle.htl_machine.proofs.Standing.{standing_before}
 use Rattle.htl_machine.proofs.SwitchPhase.{switch_phase}
 

@@ -1,10 +1,6 @@
 -- Whether a round of some root module begins.
 use Rattle.std.proofs.Common.{◌≡◌, ℕ, zero, suc, ◌%◌, ◌<◌, false, not, ◌&&◌, eqb, [], ap, arith}
-use Rattle.std.proofs.lemmas.Bool.{ne_eqb}
-use Rattle.std.specs.List.{list_any}
-use Rattle.htl_model.specs.Selections.{root_modules}
-use Rattle.htl_model.specs.Tables.{Tables}
-use Rattle.htl_machine.specs.Timing.{opens, some_round_begins}
+use Rattle.htl_machine.proofs.Words.{ne_eqb, list_any, root_modules, Tables, opens, some_round_begins}
 
 pub divides : (p at : ℕ) → 0 < p → (not (eqb p 0) && eqb (at % p) 0) ≡ eqb (at % p) 0
 divides zero at h = absurd (omega (arith, h))

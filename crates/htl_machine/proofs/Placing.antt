@@ -1,16 +1,8 @@
 -- An invocation that reads a port is fed by the one that writes it.
 use Rattle.std.proofs.Common.{◌≡◌, ℕ, zero, suc, Bool, true, eqb, List, [], ◌∷◌, slice_get, Option, Some, refl, ap, ◌∙◌}
-use Rattle.std.specs.List.{list_any}
-use Rattle.std.proofs.lemmas.Bool.{eq-eqb, and_from, or_left, or_right}
-use Rattle.htl_model.specs.declared.parts.Inv.{Inv}
-use Rattle.htl_model.specs.declared.parts.End.{End}
+use Rattle.htl_machine.proofs.Words.{list_any, eq-eqb, and_from, or_left, or_right, Inv, End, Tables, is_read_from, feeds_at, feeds, is_port, not_some, same_Some}
 use Rattle.htl_model.specs.declared.parts.End.TheVariants as E
-use Rattle.htl_model.specs.Tables.{Tables}
-use Rattle.htl_model.specs.PortOrder.{is_read_from, feeds_at, feeds}
-use Rattle.htl_model.specs.PortWriters.{is_port}
-use Rattle.htl_refine.proofs.RecordOrder.{not_some}
 use Rattle.htl_machine.proofs.Outs.{IsWriter}
-use Rattle.std.proofs.lemmas.Option.{same_Some}
 
 any_there : (f : End → Bool) (ends : List End) (k : ℕ) (e : End) → slice_get ends k ≡ Some e → f e ≡ true → list_any f ends ≡ true
 any_there f [] k e at h = not_some e at

@@ -1,11 +1,6 @@
 -- What the records of a walk show of one position: its slices and its end, as instants of a run in which the walk begins at s.
 use Rattle.std.proofs.Common.{◌≡◌, ◌≤◌, ℕ, zero, suc, ◌+◌, Bool, true, false, cond, ◌&&◌, List, [], ◌∷◌, ◌++◌, map, slice_get, Option, Some, None, refl, ap, ap₂, ◌∙◌, subst, arith}
-use Rattle.std.proofs.lemmas.Bool.{eqb-true, eq-eqb, and_parts}
-use Rattle.htl_model.specs.Lists.{joined}
-use Rattle.htl_walk.specs.Walk.{Left, slice_onto, slices, is_position, AllWithin}
-use Rattle.htl_refine.specs.ServedJobs.{spent, Finishes}
-use Rattle.htl_refine.proofs.RecordOrder.{not_some}
-use Rattle.std.proofs.lemmas.Option.{same_Some}
+use Rattle.htl_machine.proofs.Words.{eqb-true, eq-eqb, and_parts, joined, Left, slice_onto, slices, is_position, AllWithin, spent, Finishes, not_some, same_Some}
 
 -- ---- its slices
 

@@ -1,8 +1,6 @@
 -- The last position of an invocation, job by job from the back.
 use Rattle.std.proofs.Common.{◌≡◌, ℕ, suc, ◌+◌, ◌-◌, ◌<◌, ◌≤◌, Bool, true, false, cond, ◌&&◌, eqb, List, [], ◌∷◌, ◌++◌, length, take, get_or, Option, Some, None, refl, sym, ap, ◌∙◌, arith}
-use Rattle.std.proofs.lemmas.List.{take_more, length-take-le}
-use Rattle.htl_walk.specs.declared.job.Job.{Job}
-use Rattle.htl_machine.specs.Turns.{later_or, position_from}
+use Rattle.htl_machine.proofs.Words.{take_more, length-take-le, Job, later_or, position_from}
 
 last_one : (q : ℕ) (xs : List Job) (x : Job) (i : ℕ) → position_from q (xs ++ x ∷ []) i ≡ cond (x.present && eqb x.inv i) (Some (q + length xs)) (position_from q xs i)
 last_one q [] x i = ap (λ n. cond (x.present && eqb x.inv i) (Some n) None) (let e : q ≡ q + 0 = omega arith in e)

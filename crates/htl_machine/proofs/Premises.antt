@@ -1,17 +1,7 @@
 -- What the calls of an instant ask for, from what the machine holds before it.
 use Rattle.std.proofs.Common.{◌≡◌, ℕ, ◌-◌, ◌≤◌, true, false, ◌&&◌, ltb, [], length, get_or, refl, sym, ap, ◌∙◌, arith}
-use Rattle.std.proofs.lemmas.Bool.{ltb-false}
-use Rattle.htl_model.specs.Tables.{Tables}
-use Rattle.htl_walk.specs.Walk.{job_at}
-use Rattle.htl_walk.proofs.Work.{job_there}
+use Rattle.htl_machine.proofs.Words.{ltb-false, Tables, job_at, job_there, Round, IsTold, no_round, pending_is, Plan, list_walk, count_left_before, Content, SMachineStands, SMachineAt, Records}
 use Rattle.htl_smach.specs.Rounds as rounds
-use Rattle.htl_smach.specs.Rounds.{Round, IsTold, no_round}
-use Rattle.htl_smach.proofs.RoundRecords.{pending_is}
-use Rattle.htl_refine.specs.ListPlans.{ListPlan as Plan, list_walk}
-use Rattle.htl_refine.specs.RecordCounts.{count_left_before}
-use Rattle.htl_emach.specs.Contents.{Content}
-use Rattle.htl_machine.specs.Follows.{SMachineStands, SMachineAt}
-use Rattle.htl_machine.specs.Recording.{Records}
 use Rattle.htl_machine.proofs.SMachineInstants.{s_machine_opens}
 use Rattle.htl_machine.proofs.Releasing.{flag_at}
 

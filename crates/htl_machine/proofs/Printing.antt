@@ -1,33 +1,10 @@
 -- The lines of records: one by one, and all that are due.
 use Rattle.std.proofs.Common.{◌≡◌, ℕ, zero, suc, ◌+◌, ◌-◌, ◌≤◌, ◌<◌, Bool, true, false, cond, List, [], ◌∷◌, ◌++◌, length, take, drop, slice_get, Option, Some, None, option_map, Result, Ok, Err, refl, sym, ap, ap₂, ◌∙◌, subst, arith, append_assoc, append-nil, ◌⊎◌, inl, inr}
-use Rattle.std.proofs.lemmas.Option.{slice_get_past, same_Some}
-use Rattle.std.specs.Io.KnownBytes.{append_known}
-use Rattle.htl_edge.specs.Content.{Puts}
-use Rattle.htl_edge.proofs.Puts.{append_known-start, append_known-more, Puts-failed, Puts-second}
-use Rattle.htl_model.specs.Lists.{joined}
-use Rattle.htl_model.specs.Tables.{Tables}
-use Rattle.htl_walk.specs.declared.job.Job.{Job}
-use Rattle.htl_walk.specs.declared.schedule.SInstr.{SInstr}
+use Rattle.htl_machine.proofs.Words.{slice_get_past, same_Some, append_known, Puts, append_known-start, append_known-more, Puts-failed, Puts-second, joined, Tables, Job, SInstr, Round, next_left, after, told, told_from, Content, Shown, done_line, step_line, shows_jobs, Tally, one_record, with_records, Plan, list_walk, SMachineAt, due_by, IsRecording, Prints, Counted, IsPrinting, inv_at, slice_lines, record_text, some_records, not_some, take_more_get, cases_up_to}
 use Rattle.htl_smach.specs.declared.left.Left.{Left}
-use Rattle.htl_smach.specs.Rounds.{Round, next_left, after, told, told_from}
-use Rattle.htl_emach.specs.Contents.{Content}
-use Rattle.htl_console.specs.declared.shown.Shown.{Shown}
-use Rattle.htl_console.specs.Lines.{done_line, step_line}
-use Rattle.htl_console.specs.Shows.{shows_jobs}
-use Rattle.htl_machine.specs.declared.tally.Tally.{Tally}
-use Rattle.htl_machine.specs.Counts.{one_record, with_records}
-use Rattle.htl_refine.specs.ListPlans.{ListPlan as Plan, list_walk}
-use Rattle.htl_machine.specs.Follows.{SMachineAt}
-use Rattle.htl_machine.specs.Leaving.{due_by}
-use Rattle.htl_machine.specs.Recording.{IsRecording}
-use Rattle.htl_machine.specs.Printing.{Prints, Counted, IsPrinting}
-use Rattle.htl_machine.specs.Texts.{inv_at, slice_lines, record_text, some_records}
 use Rattle.htl_machine.specs.RecordLines.{place_lines, job_lines, record_lines}
-use Rattle.htl_refine.proofs.RecordOrder.{not_some}
 use Rattle.htl_machine.proofs.Putting.{Puts-first}
 use Rattle.htl_machine.proofs.SMachineInstants.{next_some, next_none, told_get}
-use Rattle.htl_smach.proofs.RoundRecords.{take_more_get}
-use Rattle.htl_base.proofs.Numbers.{cases_up_to}
 
 -- ---- the lines of one record
 

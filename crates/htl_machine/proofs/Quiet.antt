@@ -1,52 +1,7 @@
 -- Over instants at which nothing is due a machine goes on as it stands.
 use Rattle.std.proofs.Common.{◌≡◌, ℕ, zero, suc, ◌+◌, ◌-◌, ◌%◌, ◌<◌, ◌≤◌, Bool, true, false, cond, ◌||◌, not, eqb, List, [], ◌∷◌, ◌++◌, length, get_or, slice_get, map, Option, Some, None, IfSome, ℤ, pos, refl, sym, ap, ap₂, ◌∙◌, subst, arith}
-use Rattle.std.proofs.lemmas.Bool.Decides.{nat_tests}
-use Rattle.std.specs.Io.KnownBytes.{append_known}
-use Rattle.std.proofs.lemmas.List.{append-nil}
-use Rattle.std.proofs.lemmas.Option.{slice_get_within}
-use Rattle.htl_model.specs.declared.event.Event.{Event}
-use Rattle.htl_model.specs.declared.line.Line.{Line}
-use Rattle.htl_model.specs.declared.line.Line.TheVariants.{ValueLine, ModeLine}
-use Rattle.htl_model.specs.declared.parts.Comm.{Comm}
-use Rattle.htl_model.specs.Functions.{same}
-use Rattle.htl_model.specs.Lines.{lines_text}
-use Rattle.htl_model.specs.Lists.{joined, up_to}
-use Rattle.htl_model.specs.Meaning.{state, before, value_in, mode_in_state, value_line, mode_line, value_lines, same_mode}
-use Rattle.htl_model.specs.Frames.{hyper}
-use Rattle.htl_model.specs.Tables.{Tables, mode_period}
-use Rattle.htl_walk.specs.declared.schedule.SInstr.{SInstr}
+use Rattle.htl_machine.proofs.Words.{nat_tests, append_known, append-nil, slice_get_within, Event, Line, ValueLine, ModeLine, Comm, same, lines_text, joined, up_to, state, before, value_in, mode_in_state, value_line, mode_line, value_lines, same_mode, hyper, Tables, mode_period, SInstr, next_left, ECode, Done, e_path, spelled_departs_not, Block, Content, IsDueAt, IsNext, IsNextOf, phase_path, sound, Sound, Object, IsAccepted, records, Shown, shows_code, shows_values, Tally, Seen, IsUpTo, schedule_by, text_between, node_by, path_lines, IsLoaded, IsReadyAt, due_by, IsOpened, closing_text, IsPassing, ArePassing, IsOnward, lines_of, schedules_of, Records, replay, s_machine_replay, AreShown, ShowsNothing, e_line, record_text, records_of, some_records, some_round_begins, IsQuiet, AreQuiet, IsEmpty, PassOver, beginnings_end, standing_at, up_to_none}
 use Rattle.htl_smach.specs.Rounds as rounds
-use Rattle.htl_smach.specs.Rounds.{next_left}
-use Rattle.htl_ecode.specs.declared.ecode.ECode.{ECode}
-use Rattle.htl_ecode.specs.Paths.{Done, e_path}
-use Rattle.htl_ecode.proofs.SpellingLaws.{spelled_departs_not}
-use Rattle.htl_emach.specs.declared.trigger.Block.{Block}
-use Rattle.htl_emach.specs.Contents.{Content}
-use Rattle.htl_emach.specs.Due.{IsDueAt, IsNext, IsNextOf}
-use Rattle.htl_emach.specs.Following.{phase_path}
-use Rattle.htl_emach.proofs.Soundness.{sound}
-use Rattle.htl_emach.proofs.Switching.{Sound}
-use Rattle.htl_object.specs.declared.object.Object.{Object}
-use Rattle.htl_object.specs.Accepted.{IsAccepted}
-use Rattle.htl_refine.specs.FrameRecords.{records}
-use Rattle.htl_console.specs.declared.shown.Shown.{Shown}
-use Rattle.htl_console.specs.Shows.{shows_code, shows_values}
-use Rattle.htl_machine.specs.declared.tally.Tally.{Tally}
-use Rattle.htl_machine.specs.Calls.{Seen, IsUpTo, schedule_by, text_between}
-use Rattle.htl_machine.specs.StandingList.{node_by}
-use Rattle.htl_machine.specs.Doing.{path_lines}
-use Rattle.htl_machine.specs.Follows.{IsLoaded}
-use Rattle.htl_machine.specs.Instant.{IsReadyAt}
-use Rattle.htl_machine.specs.Leaving.{due_by}
-use Rattle.htl_machine.specs.Opening.{IsOpened, closing_text}
-use Rattle.htl_machine.specs.Passing.{IsPassing, ArePassing, IsOnward}
-use Rattle.htl_machine.specs.Programs.{lines_of, schedules_of}
-use Rattle.htl_machine.specs.Recording.{Records}
-use Rattle.htl_machine.specs.Running.{replay}
-use Rattle.htl_machine.specs.Readiness.{s_machine_replay}
-use Rattle.htl_machine.specs.Sensors.{AreShown, ShowsNothing}
-use Rattle.htl_machine.specs.Texts.{e_line, record_text, records_of, some_records}
-use Rattle.htl_machine.specs.Timing.{some_round_begins}
 use Rattle.htl_machine.proofs.Accepted.{accepted_is_loaded}
 use Rattle.htl_machine.proofs.After.{closed_values, s_machine_goes_on, lines_are_composed, next_up_to, passed_of, records_go_on, list_goes_on, text_goes_on}
 use Rattle.htl_machine.proofs.Agreeing.{modes_open}
@@ -55,13 +10,9 @@ use Rattle.htl_machine.proofs.Passing.{up_to_more}
 use Rattle.htl_machine.proofs.Ready.{ready}
 use Rattle.htl_machine.proofs.Recording.{recording_start, recording_end}
 use Rattle.htl_machine.proofs.LoadedRecords.{loaded_records}
-use Rattle.htl_machine.specs.Quiet.{IsQuiet, AreQuiet, IsEmpty, PassOver}
-use Rattle.htl_refine.proofs.BeginningsEnd.{beginnings_end}
 use Rattle.htl_machine.proofs.NextLists.{begins_whole}
-use Rattle.htl_refine.proofs.Standing.{standing_at}
 use Rattle.htl_machine.proofs.Idle.{IsIdle, idle, round_ends}
 use Rattle.htl_machine.proofs.Settling.{same_mode_self, same_self}
-use Rattle.htl_refine.proofs.RecordLists.{up_to_none}
 
 -- ---- where nothing changes there are no lines
 

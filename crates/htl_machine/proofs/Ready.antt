@@ -1,33 +1,7 @@
 -- Before an instant the S machine stands ready, by the list that the machine keeps.
 use Rattle.std.proofs.Common.{◌≡◌, ◌≤◌, ◌<◌, ℕ, zero, suc, ◌-◌, false, List, [], length, get_or, Option, Some, None, IfSome, refl, sym, ap, ◌∙◌, subst, arith}
-use Rattle.std.proofs.lemmas.Option.{get_or_from_slice_get}
-use Rattle.htl_emach.specs.Contents.{Content}
-use Rattle.htl_object.specs.Accepted.{IsAccepted}
-use Rattle.htl_model.specs.declared.event.Event.{Event}
-use Rattle.htl_model.specs.Lists.{joined}
-use Rattle.htl_model.specs.Frames.{hyper}
-use Rattle.htl_model.specs.Tables.{Tables}
-use Rattle.htl_object.specs.declared.object.Object.{Object}
-use Rattle.htl_object.specs.Ranges.{IsShort}
-use Rattle.htl_refine.specs.Records.{AreTookWithin}
-use Rattle.htl_refine.proofs.Inherit.{map_at}
-use Rattle.htl_smach.specs.Rounds.{Round, Stands, IsTold, no_round}
-use Rattle.htl_walk.specs.declared.job.Job.{Job}
-use Rattle.htl_walk.specs.declared.schedule.SInstr.{SInstr}
-use Rattle.htl_walk.specs.declared.schedule.Schedule.{Schedule}
-use Rattle.htl_walk.specs.Walk.{InForm}
-use Rattle.htl_machine.specs.declared.numbering.ListAt.{ListAt}
-use Rattle.htl_machine.specs.Calls.{Seen, IsUpTo, GoesBy, schedule_by}
-use Rattle.htl_machine.specs.Follows.{SMachineFollows, SMachineStands, IsLoaded}
-use Rattle.htl_machine.specs.Instant.{IsReadyAt}
-use Rattle.htl_machine.specs.Leaving.{due_by}
+use Rattle.htl_machine.proofs.Words.{get_or_from_slice_get, Content, IsAccepted, Event, joined, hyper, Tables, Object, IsShort, AreTookWithin, map_at, Round, Stands, IsTold, no_round, Job, SInstr, Schedule, InForm, ListAt, Seen, IsUpTo, GoesBy, schedule_by, SMachineFollows, SMachineStands, IsLoaded, IsReadyAt, due_by, schedules_of, AreOf, record_text, list_texts, some_records, Turn, AreTurns, turn_walk, left_before, turn_at, turn_by, node_by, turn_list, not_some, all_at, item_at}
 use Rattle.htl_machine.specs.Plans.{with_records}
-use Rattle.htl_machine.specs.Programs.{schedules_of}
-use Rattle.htl_machine.specs.Recording.{AreOf}
-use Rattle.htl_machine.specs.Texts.{record_text, list_texts, some_records}
-use Rattle.htl_machine.specs.ListTurns.{Turn, AreTurns, turn_walk, left_before}
-use Rattle.htl_machine.specs.RunLists.{turn_at, turn_by}
-use Rattle.htl_machine.specs.StandingList.{node_by, turn_list}
 use Rattle.htl_machine.proofs.RunLists.{node_below}
 use Rattle.htl_machine.proofs.Accepted.{accepted_is_loaded}
 use Rattle.htl_machine.proofs.Alone.{records_nothing}
@@ -36,8 +10,6 @@ use Rattle.htl_machine.proofs.Meeting.{records_are}
 use Rattle.htl_machine.proofs.Premises.{no_list, stands_told, first_s_machine, first_recorded}
 use Rattle.htl_machine.proofs.LoadedLists.{loaded_listed, loaded_of, loaded_turns, loaded_code, loaded_run}
 use Rattle.htl_machine.proofs.FrameValues.{count_grows}
-use Rattle.htl_refine.proofs.RecordOrder.{not_some}
-use Rattle.htl_base.proofs.Places.{all_at, item_at}
 
 -- ---- where there is no list
 

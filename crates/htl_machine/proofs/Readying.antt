@@ -1,14 +1,7 @@
 -- The read phase goes on by one instruction, and what it releases is told.
 use Rattle.std.proofs.Common.{◌≡◌, ℕ, List, [], ◌∷◌, slice_get, Option, Some, None, refl, ap, ◌∙◌}
-use Rattle.htl_smach.specs.declared.state.PosState.{PosState}
-use Rattle.htl_smach.specs.declared.state.PosState.TheVariants.{Pending}
-use Rattle.htl_smach.specs.Rounds.{Round, state_of}
-use Rattle.htl_ecode.specs.declared.ecode.ECode.{ECode}
-use Rattle.htl_ecode.specs.declared.instr.EInstr.{EInstr}
+use Rattle.htl_machine.proofs.Words.{PosState, Pending, Round, state_of, ECode, EInstr, Done, position_from, made_ready, released_to, s_machine_does, s_machine_at, s_machine_replay}
 use Rattle.htl_ecode.specs.declared.instr.EInstr.TheVariants as I
-use Rattle.htl_ecode.specs.Paths.{Done}
-use Rattle.htl_machine.specs.Turns.{position_from}
-use Rattle.htl_machine.specs.Readiness.{made_ready, released_to, s_machine_does, s_machine_at, s_machine_replay}
 
 -- but for flags the round stays
 ready_only : (s : PosState) (r : Round) (p : ℕ) → made_ready s r p ≡ record r { released = (made_ready s r p).released }

@@ -1,27 +1,10 @@
 -- The text and the totals of a run are those of the pieces of walks that its instants leave.
 use Rattle.std.proofs.Common.{◌≡◌, ℕ, zero, suc, ◌+◌, Bool, cond, List, [], ◌∷◌, ◌++◌, length, map, Option, Some, None, refl, sym, ◌∙◌, ap, ap₂, length-append}
-use Rattle.std.specs.List.{count_by}
-use Rattle.std.proofs.lemmas.List.{length-map}
-use Rattle.std.proofs.lemmas.List.Sums.{sum_by-append, sum_by-cons}
-use Rattle.htl_model.specs.declared.event.Event.{Event}
-use Rattle.htl_model.specs.Lists.{up_to}
-use Rattle.htl_model.specs.Frames.{hyper, frame_of}
-use Rattle.htl_model.specs.Tables.{Tables}
-use Rattle.htl_model.proofs.Locality.{up_to_same}
-use Rattle.htl_walk.specs.declared.schedule.SInstr.{SInstr}
+use Rattle.htl_machine.proofs.Words.{count_by, length-map, sum_by-append, sum_by-cons, Event, up_to, hyper, frame_of, Tables, up_to_same, SInstr, ECode, e_path, old_records_by, new_records_by, records, IsFeasibleRun, Shown, Turn, old_turn, turn_old_records, turn_new_records, records_text, list_texts, instant_text, records_of, sum_to, capped, jobs_before, e_before, s_before, old_lines, e_lines, change_lines, new_lines, lines, jobs_done, e_done, s_done, turn_by, turn_at, list_turn}
 use Rattle.htl_walk.specs.Walk as walks
 use Rattle.htl_smach.specs.declared.left.Left.{Left}
-use Rattle.htl_ecode.specs.declared.ecode.ECode.{ECode}
-use Rattle.htl_ecode.specs.Paths.{e_path}
-use Rattle.htl_refine.specs.FrameRecords.{old_records_by, new_records_by, records}
-use Rattle.htl_refine.specs.ServedFrames.{IsFeasibleRun}
-use Rattle.htl_console.specs.declared.shown.Shown.{Shown}
-use Rattle.htl_machine.specs.ListTurns.{Turn}
-use Rattle.htl_machine.specs.Texts.{old_turn, turn_old_records, turn_new_records, records_text, list_texts, instant_text, records_of, sum_to, capped, jobs_before, e_before, s_before}
 use Rattle.htl_machine.specs.Texts as texts
-use Rattle.htl_machine.specs.Lines.{old_lines, e_lines, change_lines, new_lines, lines, jobs_done, e_done, s_done}
 use Rattle.htl_machine.specs.Lines as runs
-use Rattle.htl_machine.specs.RunLists.{turn_by, turn_at, list_turn}
 use Rattle.htl_machine.proofs.Counting.{sum_same}
 use Rattle.htl_machine.proofs.InstantRecords.{as_told}
 use Rattle.htl_machine.proofs.ListRecords.{list_records, old_list_text, new_list_text}

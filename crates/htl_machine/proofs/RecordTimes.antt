@@ -1,9 +1,6 @@
 -- What the records of a walk give that are left at an instant: summed over the instants before one, it is what those before it give.
 use Rattle.std.proofs.Common.{◌≡◌, ◌≤◌, ℕ, zero, suc, ◌+◌, Bool, true, false, cond, eqb, ltb, List, [], ◌∷◌, ◌++◌, slice_get, Some, refl, sym, ap, ap₂, ◌∙◌, arith, append_assoc}
-use Rattle.std.proofs.lemmas.Bool.{eqb-true, eqb-false, ltb-true, ltb-false, le-ltb}
-use Rattle.htl_model.specs.Lists.{joined, up_to}
-use Rattle.htl_walk.specs.Walk.{Left}
-use Rattle.htl_refine.specs.RecordCounts.{Rises}
+use Rattle.htl_machine.proofs.Words.{eqb-true, eqb-false, ltb-true, ltb-false, le-ltb, joined, up_to, Left, Rises}
 
 -- ---- what items give
 

@@ -1,30 +1,11 @@
 -- The loop that leaves the records of an instant and completes jobs.
 use Rattle.std.proofs.Common.{◌≡◌, ℕ, zero, suc, ◌+◌, ◌-◌, ◌≤◌, ◌<◌, Bool, true, cond, List, length, slice_get, Option, Some, None, IfSome, option_map, refl, sym, ap, ap₂, ◌∙◌, subst, arith, ◌⊎◌, inl, inr}
-use Rattle.std.proofs.lemmas.Option.{slice_get_within, same_Some}
-use Rattle.htl_model.specs.Tables.{Tables}
-use Rattle.htl_model.specs.Ranges.{AreInRange}
-use Rattle.htl_model.specs.FrameRules.{KeptApart}
-use Rattle.htl_walk.specs.declared.job.Job.{Job}
-use Rattle.htl_walk.specs.declared.schedule.SInstr.{SInstr}
+use Rattle.htl_machine.proofs.Words.{slice_get_within, same_Some, Tables, AreInRange, KeptApart, Job, SInstr, job_at, walk_from, job_there, Round, Stands, IsInForm, IsTold, next_left, moved, after, told, answer_is, Content, completed, IsShaped, Plan, list_walk, complete_at, complete_by, run_records, SMachineAt, due_by, AreOf, IsJobOf, Records, IsRecording, not_some, last_is, cases_up_to}
 use Rattle.htl_walk.specs.Walk as walks
-use Rattle.htl_walk.specs.Walk.{job_at, walk_from}
-use Rattle.htl_walk.proofs.Work.{job_there}
 use Rattle.htl_smach.specs.declared.left.Left.{Left}
 use Rattle.htl_smach.specs.Rounds as rounds
-use Rattle.htl_smach.specs.Rounds.{Round, Stands, IsInForm, IsTold, next_left, moved, after, told}
-use Rattle.htl_smach.proofs.Answering.{answer_is}
-use Rattle.htl_emach.specs.Contents.{Content, completed}
-use Rattle.htl_emach.specs.Shapes.{IsShaped}
-use Rattle.htl_refine.specs.ListPlans.{ListPlan as Plan, list_walk}
-use Rattle.htl_machine.specs.Completing.{complete_at, complete_by, run_records}
-use Rattle.htl_machine.specs.Follows.{SMachineAt}
-use Rattle.htl_machine.specs.Leaving.{due_by}
-use Rattle.htl_machine.specs.Recording.{AreOf, IsJobOf, Records, IsRecording}
-use Rattle.htl_refine.proofs.RecordOrder.{not_some}
-use Rattle.htl_refine.proofs.FinishingRecords.{last_is}
 use Rattle.htl_machine.proofs.SMachineInstants.{next_some, next_none, moves_on, told_get}
 use Rattle.htl_machine.proofs.Leaving.{is_running, instr_there, still_pending}
-use Rattle.htl_base.proofs.Numbers.{cases_up_to}
 
 -- one record more, at the end
 run_more : (t : Tables) (jobs : List Job) (ls : List walks.Left) (n k : ℕ) (w : Content) → run_records t jobs ls (suc n) k w ≡ complete_by t jobs (slice_get ls (k + n)) (run_records t jobs ls n k w)

@@ -1,28 +1,10 @@
 -- The releases of an instant: exactly the invocations that stand and are released then, and the flags afterwards.
 use Rattle.std.proofs.Common.{◌≡◌, ◌≢◌, ℕ, zero, suc, ◌+◌, ◌-◌, ◌≤◌, ◌<◌, Bool, true, false, cond, ◌&&◌, eqb, ltb, List, [], ◌∷◌, ◌++◌, length, get_or, slice_get, Option, Some, None, refl, sym, ap, ap₂, ◌∙◌, subst, arith, ◌⊎◌, inl, inr}
-use Rattle.std.proofs.lemmas.Bool.{eqb-true, eq-eqb, lt-ltb, le-ltb, and_parts, cases_eq, and_from}
-use Rattle.std.proofs.lemmas.List.{get_or-set_same, get_or-set_other, length-set, length-map}
-use Rattle.htl_model.specs.declared.parts.Inv.{Inv}
-use Rattle.htl_model.specs.declared.state.Stay.{Stay}
-use Rattle.htl_model.specs.Lists.{numbered}
-use Rattle.htl_model.specs.Tables.{Tables, mode_module, is_concrete, release}
-use Rattle.htl_model.specs.Meaning.{stay_of}
-use Rattle.htl_walk.specs.declared.job.Job.{Job}
+use Rattle.htl_machine.proofs.Words.{eqb-true, eq-eqb, lt-ltb, le-ltb, and_parts, cases_eq, and_from, get_or-set_same, get_or-set_other, length-set, length-map, Inv, Stay, numbered, Tables, mode_module, is_concrete, release, stay_of, Job, counts, next_offset, Want, Does, all_do, waits_for, block_chain, wanted_reads, all_reads, InvStands, AreJobsSoFar, HaveWindows, position_from, released_before, raise_at, raise_want, raise_all, IsStanding, not_some, same_Some}
 use Rattle.htl_ecode.specs.declared.instr.EInstr.TheVariants as I
-use Rattle.htl_ecode.specs.Offsets.{counts, next_offset}
-use Rattle.htl_ecode.specs.Chains.{Want, Does, all_do, waits_for, block_chain}
 use Rattle.htl_ecode.specs.Chains as C
-use Rattle.htl_machine.specs.Worlds.{wanted_reads, all_reads}
-use Rattle.htl_machine.specs.Values.{InvStands}
-use Rattle.htl_machine.specs.JobsSoFar.{AreJobsSoFar, HaveWindows}
-use Rattle.htl_machine.specs.Turns.{position_from}
-use Rattle.htl_machine.specs.Follows.{released_before}
-use Rattle.htl_machine.specs.ReleaseFlags.{raise_at, raise_want, raise_all}
-use Rattle.htl_refine.proofs.Standing.{IsStanding}
-use Rattle.htl_refine.proofs.RecordOrder.{not_some}
 use Rattle.htl_machine.proofs.Asked.{In, AsksFor, asks_left, do_right, asks_joined, joined_asks, asks_up_to, up_to_asks, numbered_in, in_numbered, copied, not_called, among_reads}
 use Rattle.htl_machine.proofs.JobWindows.{position_some, last_open}
-use Rattle.std.proofs.lemmas.Option.{same_Some}
 
 -- ---- who is asked for
 

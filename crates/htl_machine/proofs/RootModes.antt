@@ -1,19 +1,6 @@
 -- Root modules: a mode of one has its period, and a mode that refines none is of one.
 use Rattle.std.proofs.Common.{◌≡◌, ℕ, ◌<◌, length, Option, Some, None, refl, sym, ◌∙◌, ap, arith}
-use Rattle.std.specs.Prelude.{slice_get}
-use Rattle.std.proofs.lemmas.Option.{slice_get_within}
-use Rattle.htl_model.specs.declared.parts.Mode.{Mode}
-use Rattle.htl_model.specs.declared.parts.Module.{Module}
-use Rattle.htl_model.specs.FrameRules.{KeptApart}
-use Rattle.htl_model.specs.Frames.{unit_start, unit_period}
-use Rattle.htl_model.specs.Ranges.{AreInRange, IsModeInRange}
-use Rattle.htl_model.specs.SecondWriters.{parent_mode}
-use Rattle.htl_model.specs.Selections.{is_root, root_modules}
-use Rattle.htl_model.specs.Tables.{Tables, mode_module, mode_period}
-use Rattle.htl_refine.proofs.Members.{at_place}
-use Rattle.htl_refine.proofs.OwnPeriods.{same_period}
-use Rattle.htl_refine.proofs.Positions.{root_is}
-use Rattle.htl_base.proofs.Places.{each_at, item_at}
+use Rattle.htl_machine.proofs.Words.{slice_get_within, Mode, Module, KeptApart, unit_start, unit_period, AreInRange, IsModeInRange, parent_mode, is_root, root_modules, Tables, mode_module, mode_period, at_place, same_period, root_is, each_at, item_at, slice_get}
 
 module _ (t : Tables) (range : AreInRange t) (kept : KeptApart t 16) where
   first12 : KeptApart t 12

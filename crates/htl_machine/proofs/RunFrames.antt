@@ -1,31 +1,10 @@
 -- A run's frames.
 use Rattle.std.proofs.Common.{◌≡◌, ℕ, zero, suc, ◌+◌, ◌-◌, ◌*◌, ◌/◌, ◌%◌, ◌≤◌, ◌<◌, ◌⊎◌, List, [], ◌∷◌, length, get_or, map, slice_get, take, Some, refl, sym, ap, subst, arith, inl, inr}
-use Rattle.std.proofs.Math.Nat.{div-add-mod}
-use Rattle.std.proofs.lemmas.List.{length-map}
-use Rattle.htl_model.specs.declared.event.Event.{Event}
-use Rattle.htl_model.specs.Tables.{Tables}
-use Rattle.htl_model.specs.Ranges.{AreInRange}
-use Rattle.htl_model.specs.FrameRules.{KeptApart}
-use Rattle.htl_walk.specs.declared.job.Job.{Job}
-use Rattle.htl_walk.specs.declared.schedule.SInstr.{SInstr}
-use Rattle.htl_model.specs.declared.frame.Place.{Place}
-use Rattle.htl_model.specs.Frames.{frame_of, starts, known_by}
-use Rattle.htl_walk.specs.PathJobs.{placed_job, legs_of}
-use Rattle.htl_refine.specs.DerivedPaths.{derived_place}
-use Rattle.htl_refine.specs.ListPlans.{no_leg}
-use Rattle.htl_refine.specs.FrameRuns.{frame_modes, frame_places, frame_jobs, frame_at, walk_of}
-use Rattle.htl_refine.specs.ServedFrames.{IsServing}
-use Rattle.htl_refine.proofs.Fronts.{front_there}
-use Rattle.htl_refine.proofs.ServedFrames.{frames_are_served}
-use Rattle.htl_refine.proofs.ServedSoFar.{front_served}
-use Rattle.htl_walk.proofs.Starts.{known_few}
-use Rattle.htl_machine.specs.FramePlacing.{frame_start, begun_by}
-use Rattle.htl_machine.specs.RunFrames.{now_of, RunFrames, FeasibleRuns, ValuesGoOn, RunReady}
+use Rattle.htl_machine.proofs.Words.{div-add-mod, length-map, Event, Tables, AreInRange, KeptApart, Job, SInstr, Place, frame_of, starts, known_by, placed_job, legs_of, derived_place, no_leg, frame_modes, frame_places, frame_jobs, frame_at, walk_of, IsServing, front_there, frames_are_served, front_served, known_few, frame_start, begun_by, now_of, RunFrames, FeasibleRuns, ValuesGoOn, RunReady, known_rises}
 use Rattle.htl_machine.proofs.FramesHaveJobs.{frame_jobs_so_far}
 use Rattle.htl_machine.proofs.FramePlaced.{there_front}
 use Rattle.htl_machine.proofs.FrameValues.{all_ready, values_carried}
 use Rattle.htl_machine.proofs.Periods.{begins_or_not}
-use Rattle.htl_walk.proofs.NodeWalks.{known_rises}
 
 leg_known : (h : ℕ) (xs : List Place) (later_starts : List ℕ) (i d : ℕ) → i < length (legs_of h xs later_starts) → (get_or (legs_of h xs later_starts) i no_leg).from ≤ d → (get_or (legs_of h xs later_starts) i no_leg).known ≤ known_by d xs
 leg_known h xs [] i d l e = absurd (omega arith)

@@ -1,58 +1,13 @@
 -- A run whose lists are feasible goes on list by list, whatever the periods of its root modules.
 use Rattle.std.proofs.Common.{◌≡◌, ℕ, zero, suc, ◌+◌, ◌-◌, ◌*◌, ◌/◌, ◌%◌, ◌≤◌, ◌<◌, ◌⊎◌, true, false, leb, is_some, pred, List, [], ◌∷◌, ◌++◌, length, get_or, map, slice_get, take, Option, Some, None, refl, sym, ap, ap₂, ◌∙◌, subst, arith, length-append, inl, inr}
 use mathlib.Core.Path.{fun_ext}
-use Rattle.std.proofs.lemmas.Bool.{le-leb, lt-leb, cases_eq}
-use Rattle.std.proofs.lemmas.List.{append_assoc, length-map, length-take}
-use Rattle.std.proofs.Math.Nat.{div-add-mod, mod-lt}
-use Rattle.htl_model.specs.declared.event.Event.{Event}
-use Rattle.htl_model.specs.declared.frame.Place.{Place}
-use Rattle.htl_model.specs.Frames.{frame_of, node, starts, rounds, root_periods, begins, known_by, multiple_of, starts_below, nodes}
-use Rattle.htl_model.specs.Selections.{root_modules}
-use Rattle.htl_model.specs.Tables.{Tables, is_concrete, task_worst}
-use Rattle.htl_model.specs.declared.parts.Inv.{Inv}
-use Rattle.htl_model.proofs.Listed.{get_list_to}
-use Rattle.htl_walk.specs.declared.job.Job.{Job}
-use Rattle.htl_walk.specs.declared.schedule.SInstr.{SInstr}
-use Rattle.htl_walk.specs.PathJobs.{placed_job, next_of}
-use Rattle.htl_walk.specs.Paths.{Leg, AreInForm, list_point, end_to_end, path_point}
-use Rattle.htl_walk.specs.Refinement.{HaveLengths, AreWithinWorst}
-use Rattle.htl_walk.specs.Walk.{Left, Point, InForm, job_at, work, first_point, last_point, finish}
-use Rattle.htl_walk.proofs.Nodes.{nodes_within}
+use Rattle.htl_machine.proofs.Words.{le-leb, lt-leb, cases_eq, append_assoc, length-map, length-take, div-add-mod, mod-lt, Event, Place, frame_of, node, starts, rounds, root_periods, begins, known_by, multiple_of, starts_below, nodes, root_modules, Tables, is_concrete, task_worst, Inv, get_list_to, Job, SInstr, placed_job, next_of, Leg, AreInForm, list_point, end_to_end, path_point, HaveLengths, AreWithinWorst, Left, Point, InForm, job_at, work, first_point, last_point, finish, nodes_within, job_there, work_present, derived_place, Frame, path_of, frame_modes, frame_places, frame_at, walks_of, walk_of, place, standing_places, no_leg, leg_at, list_plan, list_walk, records_before, count_left_before, done_by, IsServing, IsFeasibleRun, front_there, job_front, mapped, count_split, done_split, legs_many, leg_from, leg_knows, begins_by, form_at, list_walks, placed_present, paths_read, places_ordered, states_are_selections, round_of, run_of, frames_are_served, have_lengths, within_worst, paths_are, work_done, length-walk, frame_start, begun_by, Now, AreFrames, Turn, turn_walk, records_so_far, AreTurns, IsTurn, IsListed, AreListed, now_of, turn_of, begun_of, list_number, list_turn, RunsGoByLists, not_some, goes_on, round_down, get_taken, same_Some}
 use Rattle.htl_walk.proofs.Starts.{Rises, starts_rise, first_start, known_few}
-use Rattle.htl_walk.proofs.Work.{job_there, work_present}
-use Rattle.htl_refine.specs.DerivedPaths.{derived_place}
-use Rattle.htl_refine.specs.FrameRuns.{Frame, path_of, frame_modes, frame_places, frame_at, walks_of, walk_of}
-use Rattle.htl_refine.specs.FramePlaces.{place, standing_places}
-use Rattle.htl_refine.specs.ListPlans.{no_leg, leg_at, list_plan, list_walk, records_before}
-use Rattle.htl_refine.specs.RecordCounts.{count_left_before, done_by}
-use Rattle.htl_refine.specs.ServedFrames.{IsServing, IsFeasibleRun}
-use Rattle.htl_refine.proofs.Fronts.{front_there, job_front}
-use Rattle.htl_refine.proofs.Inherit.{mapped}
-use Rattle.htl_refine.proofs.ListCounts.{count_split, done_split}
-use Rattle.htl_refine.proofs.ListsFollow.{legs_many, leg_from, leg_knows, begins_by}
-use Rattle.htl_refine.proofs.ListWalks.{form_at, list_walks}
-use Rattle.htl_refine.proofs.PathDerived.{placed_present}
-use Rattle.htl_refine.proofs.PathRead.{paths_read}
-use Rattle.htl_refine.proofs.PlaceOrder.{places_ordered}
-use Rattle.htl_refine.proofs.StateLaws.{states_are_selections}
-use Rattle.htl_refine.proofs.RoundOrder.{round_of, run_of}
-use Rattle.htl_refine.proofs.ServedFrames.{frames_are_served, have_lengths, within_worst, paths_are}
-use Rattle.htl_refine.proofs.WorkDone.{work_done, length-walk}
-use Rattle.htl_machine.specs.FramePlacing.{frame_start, begun_by}
-use Rattle.htl_machine.specs.FramesGoOn.{Now, AreFrames}
-use Rattle.htl_machine.specs.ListTurns.{Turn, turn_walk, records_so_far, AreTurns, IsTurn, IsListed, AreListed}
-use Rattle.htl_machine.specs.RunFrames.{now_of}
-use Rattle.htl_machine.specs.RunLists.{turn_of, begun_of, list_number, list_turn, RunsGoByLists}
 use Rattle.htl_machine.proofs.FramePlaced.{at_place_is}
 use Rattle.htl_machine.proofs.ListStarts.{StandsAt, stands_at, some_begun, begun_next, ends_next, ends_within, known_same}
 use Rattle.htl_machine.proofs.ListValues.{take_front}
 use Rattle.htl_machine.proofs.RunFrames.{feasible_runs}
-use Rattle.htl_refine.proofs.RecordOrder.{not_some}
-use Rattle.htl_refine.proofs.OwnRounds.{goes_on}
 use Rattle.htl_machine.proofs.Periods.{begins_or_not}
-use Rattle.htl_base.proofs.Numbers.{round_down}
-use Rattle.htl_base.proofs.Places.{get_taken}
-use Rattle.std.proofs.lemmas.Option.{same_Some}
 
 -- the records of list j among those of its frame
 split_at : (ws : List (List Left)) (j : ℕ) (x : List Left) → slice_get ws j ≡ Some x → (rest : List Left) × (end_to_end ws ≡ (end_to_end (take j ws) ++ x) ++ rest)

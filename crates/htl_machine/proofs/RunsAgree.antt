@@ -1,33 +1,9 @@
 -- Lists of two runs whose sensors and lengths agree before an instant are the same before it.
 use Rattle.std.proofs.Common.{◌≡◌, ℕ, suc, ◌+◌, ◌-◌, ◌≤◌, ◌<◌, List, length, get_or, map, take, Option, sym, ap, ap₂, ◌∙◌, arith, option_map}
 use mathlib.Core.Path.{fun_ext}
-use Rattle.std.proofs.lemmas.Option.{get_or_from_slice_get}
-use Rattle.htl_model.specs.declared.event.Event.{Event}
-use Rattle.htl_model.specs.declared.state.State.{State}
-use Rattle.htl_model.specs.declared.state.Stay.{Stay}
-use Rattle.htl_model.specs.Frames.{frame_of, starts, node, root_periods}
-use Rattle.htl_model.specs.Tables.{Tables}
-use Rattle.htl_walk.specs.declared.job.Job.{Job}
-use Rattle.htl_walk.specs.declared.schedule.SInstr.{SInstr}
-use Rattle.htl_walk.specs.Paths.{Leg, AreWithin, end_to_end}
-use Rattle.htl_walk.specs.Walk.{Left}
-use Rattle.htl_refine.specs.AgreeingRuns.{AreAlike, AreSameSoFar, begun_by_offset}
-use Rattle.htl_refine.specs.FrameRuns.{Frame, frame_modes, frame_places, frame_at, path_of, walks_of}
-use Rattle.htl_refine.specs.ListPlans.{ListPlan, leg_at, list_plan}
-use Rattle.htl_refine.specs.Records.{took}
-use Rattle.htl_refine.specs.ServedFrames.{IsFeasibleRun}
-use Rattle.htl_refine.proofs.AlongPath.{legs_within}
-use Rattle.htl_refine.proofs.FramesAgree.{frames_agree}
-use Rattle.htl_refine.proofs.FrontPlans.{leg_same, front_plan, front_walks}
-use Rattle.htl_refine.proofs.Fronts.{take_map}
-use Rattle.htl_refine.proofs.NodeRead.{nodes_read, nodes_agree}
-use Rattle.htl_refine.proofs.StateLaws.{states_are_selections}
-use Rattle.htl_machine.specs.FramePlacing.{frame_start}
-use Rattle.htl_machine.specs.ListTurns.{Turn}
-use Rattle.htl_machine.specs.RunLists.{list_number, list_turn}
+use Rattle.htl_machine.proofs.Words.{get_or_from_slice_get, Event, State, Stay, frame_of, starts, node, root_periods, Tables, Job, SInstr, Leg, AreWithin, end_to_end, Left, AreAlike, AreSameSoFar, begun_by_offset, Frame, frame_modes, frame_places, frame_at, path_of, walks_of, ListPlan, leg_at, list_plan, took, IsFeasibleRun, legs_within, frames_agree, leg_same, front_plan, front_walks, take_map, nodes_read, nodes_agree, states_are_selections, frame_start, Turn, list_number, list_turn, known_rises, starts_order}
 use Rattle.htl_machine.proofs.Events.{Alike, state_same}
 use Rattle.htl_machine.proofs.RunLists.{rise, past, serving, stands, known_is, few}
-use Rattle.htl_walk.proofs.NodeWalks.{known_rises, starts_order}
 
 module _ (t : Tables) (lists : List (List SInstr)) (es fs : List Event) (now : ℕ) (run : IsFeasibleRun t lists es) (alike : Alike t es fs now) (n : ℕ) (early : n < now) where
   abbrev f : ℕ

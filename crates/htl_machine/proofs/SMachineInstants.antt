@@ -1,19 +1,8 @@
 -- The S machine over an instant: which records it answers, when a list is over, and where it stands afterwards.
 use Rattle.std.proofs.Common.{◌≡◌, ℕ, zero, suc, ◌+◌, ◌-◌, ◌≤◌, ◌<◌, Bool, true, false, cond, ◌&&◌, leb, ltb, List, [], ◌∷◌, length, slice_get, replicate, Option, Some, None, option_map, refl, sym, ap, ap₂, ◌∙◌, arith}
-use Rattle.std.proofs.lemmas.Bool.{lt-ltb, le-ltb, le-leb}
-use Rattle.std.proofs.lemmas.Bool.Decides.{nat_tests}
-use Rattle.htl_walk.specs.declared.job.Job.{Job}
-use Rattle.htl_walk.specs.Walk.{Point, Left, walk_from, InForm}
+use Rattle.htl_machine.proofs.Words.{lt-ltb, le-ltb, le-leb, nat_tests, Job, Point, Left, walk_from, InForm, Round, told, told_from, walk_records, next_left, left_until, moved, count_left_before, Plan, list_walk, released_before, SMachineStands, SMachineAt, times_within, count_all, length-walk, none_below}
 use Rattle.htl_smach.specs.Rounds as rounds
-use Rattle.htl_smach.specs.Rounds.{Round, told, told_from, walk_records, next_left, left_until, moved}
-use Rattle.htl_refine.specs.RecordCounts.{count_left_before}
-use Rattle.htl_refine.specs.ListPlans.{ListPlan as Plan, list_walk}
-use Rattle.htl_machine.specs.Follows.{released_before, SMachineStands, SMachineAt}
-use Rattle.htl_refine.proofs.RecordOrder.{times_within}
 use Rattle.htl_machine.proofs.Turning.{at_count, before_count}
-use Rattle.htl_refine.proofs.ListCounts.{count_all}
-use Rattle.htl_refine.proofs.WorkDone.{length-walk}
-use Rattle.htl_base.proofs.Tests.{none_below}
 
 pub told_get : (start m : ℕ) (ls : List Left) (k : ℕ) → slice_get (told_from start m ls) k ≡ option_map (told start (m + k)) (slice_get ls k)
 told_get start m [] k = refl

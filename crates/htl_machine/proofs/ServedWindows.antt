@@ -1,11 +1,5 @@
 -- Who is served has a window behind its release.
-use Rattle.std.proofs.Common.{ℕ, List, ap, arith}
-use Rattle.std.proofs.lemmas.Option.{slice_get_within}
-use Rattle.htl_walk.specs.declared.job.Job.{Job}
-use Rattle.htl_walk.specs.Walk.{Left}
-use Rattle.htl_refine.specs.ServedSoFar.{IsServedSoFar}
-use Rattle.htl_machine.specs.JobsSoFar.{HaveWindows}
-use Rattle.htl_walk.proofs.Work.{job_is}
+use Rattle.htl_machine.proofs.Words.{ℕ, List, ap, arith, slice_get_within, Job, Left, IsServedSoFar, HaveWindows, job_is}
 
 pub windows_of : (jobs : List Job) (ls : List Left) (frame n : ℕ) → IsServedSoFar jobs ls frame n → HaveWindows jobs
 windows_of jobs ls frame n run p j at here =

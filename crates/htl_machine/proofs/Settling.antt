@@ -1,20 +1,6 @@
 -- What is marked is gone over in order, and the rest passed over.
 use Rattle.std.proofs.Common.{◌≡◌, ◌≢◌, ℕ, zero, suc, ◌+◌, ◌<◌, ◌≤◌, ◌⊎◌, Bool, true, false, cond, not, ◌||◌, eqb, List, [], ◌∷◌, ◌++◌, length, get_or, set, Option, Some, None, ℤ, pos, negsuc, refl, sym, ap, ◌∙◌, subst, arith, inl, inr, length-set, get_or-set_same, get_or-set_other, append-nil}
-use Rattle.std.specs.Io.KnownBytes.{append_known}
-use Rattle.std.proofs.lemmas.Bool.{cases_lt}
-use Rattle.std.proofs.lemmas.Bool.Decides.{nat_tests}
-use Rattle.std.proofs.lemmas.List.{ext_get_or}
-use Rattle.htl_model.specs.declared.line.Line.{Line}
-use Rattle.htl_model.specs.declared.line.Line.TheVariants.{ValueLine, ModeLine}
-use Rattle.htl_model.specs.Functions.{same}
-use Rattle.htl_model.specs.Lines.{lines_text}
-use Rattle.htl_model.specs.Lists.{up_to}
-use Rattle.htl_model.specs.Meaning.{same_mode}
-use Rattle.htl_model.specs.Tables.{Tables}
-use Rattle.htl_emach.specs.Calendars.{list_at}
-use Rattle.htl_machine.specs.Changing.{value_changes, mode_changes}
-use Rattle.htl_machine.specs.Marks.{is_marked}
-use Rattle.htl_machine.specs.declared.marks.Marks.{Marks}
+use Rattle.htl_machine.proofs.Words.{append_known, cases_lt, nat_tests, ext_get_or, Line, ValueLine, ModeLine, same, lines_text, up_to, same_mode, Tables, list_at, value_changes, mode_changes, is_marked, Marks}
 use Rattle.htl_machine.proofs.Putting.{IsPutting}
 
 -- ---- lists that become others at the marks

@@ -1,32 +1,8 @@
 -- A block passes no address twice, so it is no longer than the code.
 use Rattle.std.proofs.Common.{◌≡◌, ℕ, zero, suc, ◌+◌, ◌-◌, ◌*◌, ◌<◌, ◌≤◌, Bool, true, false, ◌||◌, eqb, List, [], ◌∷◌, ◌++◌, length, length-append, slice_get, Option, Some, None, ℤ, refl, sym, ap, ◌∙◌, subst, arith, ◌⊎◌, inl, inr}
 use Rattle.std.specs.List.{list_any, AllByRecursion, IsDistinct}
-use Rattle.std.proofs.lemmas.Bool.{eqb-true}
-use Rattle.std.proofs.lemmas.List.{length-map}
-use Rattle.std.proofs.lemmas.Map.Steps.{length-le_from_distinct_below}
-use Rattle.std.proofs.lemmas.Option.{slice_get_within, same_Some}
-use Rattle.htl_model.specs.declared.event.Event.{Event}
-use Rattle.htl_model.specs.Meaning.{state}
-use Rattle.htl_model.specs.Tables.{Tables}
-use Rattle.htl_ecode.specs.declared.ecode.ECode.{ECode}
-use Rattle.htl_ecode.specs.declared.instr.EInstr.{EInstr}
-use Rattle.htl_ecode.specs.Paths.{Done, on}
-use Rattle.htl_emach.specs.declared.trigger.EDone.{EDone}
-use Rattle.htl_emach.specs.Calendars.{Calendar, Standing, done_in, standing_after, with_trigger}
-use Rattle.htl_emach.specs.Following.{Midway, Onward, calendar_replay, done_of, from_module, phase_blocks, phase_path}
+use Rattle.htl_machine.proofs.Words.{eqb-true, length-map, length-le_from_distinct_below, slice_get_within, same_Some, Event, state, Tables, ECode, EInstr, Done, on, EDone, Calendar, Standing, done_in, standing_after, with_trigger, Midway, Onward, calendar_replay, done_of, from_module, phase_blocks, phase_path, Between, next_of_block, IsPhase, call_onward, every_module, steps, ModuleLaws, due_target, from_zero, is_sound, phase_is, Sound, spelled_departs_not, Spells, KeptApart, AreInRange, nothing_ends}
 use Rattle.htl_emach.specs.Leading.{Ends}
-use Rattle.htl_emach.specs.Pending.{Between}
-use Rattle.htl_emach.proofs.Inside.{next_of_block}
-use Rattle.htl_emach.proofs.Instants.{IsPhase, call_onward, every_module, steps}
-use Rattle.htl_emach.proofs.ModuleLaws.{ModuleLaws, due_target}
-use Rattle.htl_emach.proofs.Phases.{from_zero}
-use Rattle.htl_emach.proofs.Soundness.{sound as is_sound, phase_is}
-use Rattle.htl_emach.proofs.Switching.{Sound}
-use Rattle.htl_ecode.proofs.SpellingLaws.{spelled_departs_not}
-use Rattle.htl_ecode.specs.Spelling.{Spells}
-use Rattle.htl_model.specs.FrameRules.{KeptApart}
-use Rattle.htl_model.specs.Ranges.{AreInRange}
-use Rattle.htl_base.proofs.Places.{nothing_ends}
 
 none_all : (p : ℕ → Bool) (xs : List ℕ) → list_any p xs ≡ false → AllByRecursion (λ y. p y ≡ false) xs
 none_all p [] e = tt

@@ -1,21 +1,9 @@
 -- The sensors that are set at an instant are those of the meaning.
 use Rattle.std.proofs.Common.{◌≡◌, ℕ, zero, suc, ◌*◌, ◌/◌, ◌%◌, ◌<◌, Bool, true, false, cond, eqb, List, [], ◌∷◌, length, get_or, slice_get, Some, ℤ, pos, refl, sym, ap, ap₂, ◌∙◌, arith, inl, inr}
-use Rattle.std.proofs.lemmas.Option.{slice_get_within}
-use Rattle.std.proofs.lemmas.Bool.{eqb-true}
-use Rattle.htl_model.specs.declared.event.Event.{Event}
-use Rattle.htl_model.specs.declared.state.State.{State}
-use Rattle.htl_model.specs.declared.parts.Comm.{Comm}
-use Rattle.htl_model.specs.Tables.{Tables}
-use Rattle.htl_model.specs.Meaning.{state, sense, first_value, next_value, written}
-use Rattle.htl_model.proofs.Laws.{state_step, seen_before}
-use Rattle.htl_emach.specs.Contents.{Content}
-use Rattle.htl_machine.specs.Worlds.{with_sensors, shown, shown_at}
-use Rattle.htl_machine.specs.Values.{values_before}
-use Rattle.htl_machine.specs.Sensors.{AreShown}
+use Rattle.htl_machine.proofs.Words.{slice_get_within, eqb-true, Event, State, Comm, Tables, state, sense, first_value, next_value, written, state_step, seen_before, Content, with_sensors, shown, shown_at, values_before, AreShown, zero_down}
 use Rattle.htl_machine.proofs.Finishing.{list_to_at}
 use Rattle.htl_machine.proofs.Periods.{begins_or_not}
 use Rattle.htl_machine.proofs.Valued.{length-shown}
-use Rattle.htl_base.proofs.Numbers.{zero_down}
 
 list_is : (xs ys : List ℤ) → length xs ≡ length ys → ((k : ℕ) → k < length xs → get_or xs k (pos 0) ≡ get_or ys k (pos 0)) → xs ≡ ys
 list_is [] [] e h = refl

@@ -1,30 +1,7 @@
 -- What sensors are shown stays over an instant, and what one is shown makes it wait.
 use Rattle.std.proofs.Common.{◌≡◌, ◌≢◌, ℕ, suc, ◌<◌, ◌≤◌, Bool, true, false, cond, not, eqb, List, ◌++◌, length, get_or, set, Option, ℤ, pos, negsuc, refl, sym, ap, ◌∙◌, subst, arith, get_or-set_same, get_or-set_other}
-use Rattle.std.proofs.lemmas.Bool.{eqb-true}
-use Rattle.std.proofs.lemmas.Bool.Decides.{nat_tests}
-use Rattle.htl_model.specs.declared.event.Event.{Event}
-use Rattle.htl_model.specs.Functions.{same}
-use Rattle.htl_model.specs.Frames.{hyper}
-use Rattle.htl_model.specs.Tables.{Tables}
+use Rattle.htl_machine.proofs.Words.{eqb-true, nat_tests, Event, same, hyper, Tables, Round, Standing, list_at, Content, phase_path, IsAccepted, Seen, IsUpTo, GoesBy, ListAt, SMachineFollows, is_marked, MarksChanges, schedules_of, turn_at, records_of, MarksWaiting, Passed, Noted, Sensors, Tally}
 use Rattle.htl_smach.specs.declared.left.Left.{Left}
-use Rattle.htl_smach.specs.Rounds.{Round}
-use Rattle.htl_emach.specs.Calendars.{Standing, list_at}
-use Rattle.htl_emach.specs.Contents.{Content}
-use Rattle.htl_emach.specs.Following.{phase_path}
-use Rattle.htl_object.specs.Accepted.{IsAccepted}
-use Rattle.htl_machine.specs.Calls.{Seen, IsUpTo, GoesBy}
-use Rattle.htl_machine.specs.declared.numbering.ListAt.{ListAt}
-use Rattle.htl_machine.specs.Follows.{SMachineFollows}
-use Rattle.htl_machine.specs.Marks.{is_marked}
-use Rattle.htl_machine.specs.Noting.{MarksChanges}
-use Rattle.htl_machine.specs.Programs.{schedules_of}
-use Rattle.htl_machine.specs.RunLists.{turn_at}
-use Rattle.htl_machine.specs.Texts.{records_of}
-use Rattle.htl_machine.specs.Waiting.{MarksWaiting}
-use Rattle.htl_machine.specs.Wholes.{Passed}
-use Rattle.htl_machine.specs.declared.noted.Noted.{Noted}
-use Rattle.htl_machine.specs.declared.sensors.Sensors.{Sensors}
-use Rattle.htl_machine.specs.declared.tally.Tally.{Tally}
 use Rattle.htl_machine.proofs.After.{next_up_to}
 use Rattle.htl_machine.proofs.Calling.{counts_of}
 use Rattle.htl_machine.proofs.Composing.{counts_after}

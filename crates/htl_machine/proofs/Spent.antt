@@ -1,11 +1,6 @@
 -- A machine that is spent keeps its object, its sizes and its idle list, and nothing else.
 use Rattle.std.proofs.Common.{◌≡◌, ◌≤◌, ℕ, Bool, true, false, [], length, sym, ◌∙◌}
-use Rattle.htl_object.specs.Accepted.{IsAccepted}
-use Rattle.htl_machine.specs.Calls.{Seen}
-use Rattle.htl_machine.specs.Fitted.{IsFitted}
-use Rattle.htl_machine.specs.declared.noted.Noted.{Noted}
-use Rattle.htl_machine.specs.declared.path.Path.{Path}
-use Rattle.htl_machine.specs.declared.sensors.Sensors.{Sensors}
+use Rattle.htl_machine.proofs.Words.{IsAccepted, Seen, IsFitted, Noted, Path, Sensors}
 
 on_and_off : {A : Type 0} (b : Bool) → b ≡ true → b ≡ false → A
 on_and_off b on off = absurd (let same : true ≡ false = sym on ∙ off in cc)

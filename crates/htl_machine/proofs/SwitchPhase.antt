@@ -1,32 +1,9 @@
 -- The addresses of the switch phase leave the world as it is.
 use Rattle.std.proofs.Common.{◌≡◌, ℕ, suc, ◌+◌, Bool, true, false, cond, eqb, List, [], ◌∷◌, ◌++◌, length, map, zero, ◌<◌, Option, Some, None, Result, Ok, Err, ℤ, inl, inr, refl, sym, ap, ◌∙◌}
-use Rattle.htl_model.specs.declared.state.Stay.{Stay}
-use Rattle.htl_model.specs.declared.state.State.{State}
-use Rattle.htl_model.specs.Lists.{joined, numbered, up_to}
-use Rattle.htl_model.specs.declared.parts.Switch.{Switch}
-use Rattle.htl_ecode.specs.declared.fault.EKind.TheVariants.{Action}
-use Rattle.htl_model.specs.Tables.{Tables, mode_period, mode_module}
-use Rattle.htl_model.specs.Meaning.{stay_of}
-use Rattle.htl_ecode.specs.declared.ecode.ECode.{ECode}
-use Rattle.htl_ecode.specs.declared.instr.EInstr.{EInstr}
+use Rattle.htl_machine.proofs.Words.{Stay, State, joined, numbered, up_to, Switch, Action, Tables, mode_period, mode_module, stay_of, ECode, EInstr, EFault, parent_of, AreInRange, IsSwitchInRange, next_offset, same_instr, Want, Does, Waits, Turns, Tests, Asks, Arrives, all_do, waits_for, enter_chain, begin_chain, decide_chain, children, asks_for, test_of, tests_of, led_to, Landing, lands, bind, fault, pass, leaving, Step, read, steps_of, passed_by, entered, block_begun, decided, turn_step, step_from, begin_path, enter_path, followed, decide_path, switch_path, switches_done, holds_in, chain_path, bind_ok, IsLanding, land_is, same_is, reach_is, read_is, Reads, ModeReads, Content, effect, want_effect, effects, slice_get_within, each_at}
 use Rattle.htl_ecode.specs.declared.instr.EInstr.TheVariants as I
-use Rattle.htl_ecode.specs.declared.fault.EFault.{EFault}
-use Rattle.htl_model.specs.Ranges.{parent_of, AreInRange, IsSwitchInRange}
-use Rattle.htl_ecode.specs.Offsets.{next_offset}
-use Rattle.htl_ecode.specs.Instructions.{same_instr}
-use Rattle.htl_ecode.specs.Chains.{Want, Does, Waits, Turns, Tests, Asks, Arrives, all_do, waits_for, enter_chain, begin_chain, decide_chain, children, asks_for, test_of, tests_of, led_to}
-use Rattle.htl_ecode.specs.Jumps.{Landing, lands, bind, fault}
-use Rattle.htl_ecode.specs.Steps.{pass, leaving, Step, read, steps_of, passed_by}
-use Rattle.htl_ecode.specs.Departure.{entered, block_begun, decided}
-use Rattle.htl_ecode.specs.Paths.{turn_step, step_from, begin_path, enter_path, followed, decide_path, switch_path, switches_done, holds_in, chain_path}
-use Rattle.htl_ecode.proofs.Reading.{bind_ok, IsLanding, land_is, same_is, reach_is, read_is}
-use Rattle.htl_ecode.proofs.Spelled.{Reads, ModeReads}
-use Rattle.htl_emach.specs.Contents.{Content, effect}
-use Rattle.htl_machine.specs.Worlds.{want_effect, effects}
-use Rattle.std.proofs.lemmas.Option.{slice_get_within}
 use Rattle.htl_machine.proofs.Asked.{In, numbered_in}
 use Rattle.htl_machine.proofs.Tying.{replay, replay_more, jumps_do_nothing, one_does, same_effect, reached_does, chain_does, addresses, addresses_on, addresses_more}
-use Rattle.htl_base.proofs.Places.{each_at}
 
 -- what is required, but for calls
 abbrev pub IsQuiet : Want → Type 0

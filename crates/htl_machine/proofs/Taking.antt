@@ -1,23 +1,8 @@
 -- A machine that follows events follows a length more.
 use Rattle.std.proofs.Common.{◌≡◌, ℕ, zero, suc, ◌≤◌, ◌<◌, Bool, true, false, cond, ◌&&◌, eqb, leb, List, [], ◌∷◌, ◌++◌, length, get_or, set, map, Option, Some, None, pos, refl, sym, ap, ◌∙◌, subst, arith}
-use Rattle.std.proofs.lemmas.Bool.{eqb-true, eqb-false, le-leb}
-use Rattle.std.proofs.lemmas.List.{get_or-set_same, get_or-set_other}
-use Rattle.htl_model.specs.declared.event.Event.{Event}
+use Rattle.htl_machine.proofs.Words.{eqb-true, eqb-false, le-leb, get_or-set_same, get_or-set_other, Event, hyper, Tables, initial, SInstr, Round, HasValues, IsShaped, Content, ValuesFollow, inv_worst, took, IsTookWithin, AreTookWithin, finished_before, next_world, RunState, reading_of, SMachineStands, SMachineFollows, UpTo, RunStateFollows, IsLoaded, s_machine_taking, taken_as, turn_by, turn_at, list_turn, not_some}
 use Rattle.htl_model.specs.declared.event.Event.TheVariants as V
-use Rattle.htl_model.specs.Frames.{hyper}
-use Rattle.htl_model.specs.Tables.{Tables}
-use Rattle.htl_model.specs.Meaning.{initial}
-use Rattle.htl_walk.specs.declared.schedule.SInstr.{SInstr}
 use Rattle.htl_smach.specs.Rounds as rounds
-use Rattle.htl_smach.specs.Rounds.{Round}
-use Rattle.htl_emach.specs.Shapes.{HasValues, IsShaped}
-use Rattle.htl_emach.specs.Contents.{Content}
-use Rattle.htl_machine.specs.Values.{ValuesFollow}
-use Rattle.htl_refine.specs.Records.{inv_worst, took, IsTookWithin, AreTookWithin}
-use Rattle.htl_machine.specs.Plans.{finished_before, next_world}
-use Rattle.htl_machine.specs.Follows.{RunState, reading_of, SMachineStands, SMachineFollows, UpTo, RunStateFollows, IsLoaded, s_machine_taking, taken_as}
-use Rattle.htl_machine.specs.RunLists.{turn_by, turn_at, list_turn}
-use Rattle.htl_refine.proofs.RecordOrder.{not_some}
 use Rattle.htl_machine.proofs.Events.{Alike, values_alike, reading_more, sense_took, took_took}
 use Rattle.htl_machine.proofs.Following.{within_more, all_read, instant_values}
 use Rattle.htl_machine.proofs.TookLists.{took_so_far, took_s_machine}

@@ -1,20 +1,8 @@
 -- The text before an instant stays, whatever is read at that instant or later.
 use Rattle.std.proofs.Common.{◌≡◌, ◌<◌, ℕ, false, cond, eqb, leb, List, [], ◌∷◌, ◌++◌, refl, sym, ap, ◌∙◌, subst, arith}
-use Rattle.std.proofs.lemmas.Bool.{lt-leb, and_right}
-use Rattle.std.proofs.lemmas.List.{append_assoc, append-nil}
-use Rattle.htl_model.specs.declared.event.Event.{Event}
+use Rattle.htl_machine.proofs.Words.{lt-leb, and_right, append_assoc, append-nil, Event, Tables, sense, up_to_same, SInstr, ECode, IsTookWithin, AreTookWithin, Shown, reading_of, IsLoaded, AreReadFrom, instant_text, listed_text_before}
 use Rattle.htl_model.specs.declared.event.Event.TheVariants as V
-use Rattle.htl_model.specs.Tables.{Tables}
-use Rattle.htl_model.specs.Meaning.{sense}
-use Rattle.htl_model.proofs.Locality.{up_to_same}
-use Rattle.htl_walk.specs.declared.schedule.SInstr.{SInstr}
-use Rattle.htl_ecode.specs.declared.ecode.ECode.{ECode}
-use Rattle.htl_refine.specs.Records.{IsTookWithin, AreTookWithin}
-use Rattle.htl_console.specs.declared.shown.Shown.{Shown}
-use Rattle.htl_machine.specs.Follows.{reading_of, IsLoaded}
-use Rattle.htl_machine.specs.Laws.{AreReadFrom}
 use Rattle.htl_machine.specs.Lines as runs
-use Rattle.htl_machine.specs.Texts.{instant_text, listed_text_before}
 use Rattle.htl_machine.proofs.Events.{reading_more, sense_at, sense_end, sense_sense, took_at, took_end, took_sense}
 use Rattle.htl_machine.proofs.TextStays.{instant_same}
 use Rattle.htl_machine.proofs.LoadedRecords.{loaded_before}

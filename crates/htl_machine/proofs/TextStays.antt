@@ -1,23 +1,7 @@
 -- What was written before a reading stays where lists have left the same so far, so when a length comes.
 use Rattle.std.proofs.Common.{◌≡◌, ℕ, zero, suc, ◌≤◌, ◌<◌, cond, List, [], ◌∷◌, ◌++◌, Option, Some, None, refl, ap, ap₂, ◌∙◌, arith}
-use Rattle.htl_model.specs.declared.event.Event.{Event}
+use Rattle.htl_machine.proofs.Words.{Event, State, joined, lines_text, hyper, Tables, state, before, changes, up_to_same, SInstr, ECode, instant_path, IsTookWithin, AreTookWithin, turn_at, reading_of, IsLoaded, Shown, shows_values, shows_code, e_line, old_turn, turn_old_records, turn_new_records, records_text, list_texts, instant_text, listed_text_before, records_of}
 use Rattle.htl_model.specs.declared.event.Event.TheVariants as V
-use Rattle.htl_model.specs.declared.state.State.{State}
-use Rattle.htl_model.specs.Lists.{joined}
-use Rattle.htl_model.specs.Lines.{lines_text}
-use Rattle.htl_model.specs.Frames.{hyper}
-use Rattle.htl_model.specs.Tables.{Tables}
-use Rattle.htl_model.specs.Meaning.{state, before, changes}
-use Rattle.htl_model.proofs.Locality.{up_to_same}
-use Rattle.htl_walk.specs.declared.schedule.SInstr.{SInstr}
-use Rattle.htl_ecode.specs.declared.ecode.ECode.{ECode}
-use Rattle.htl_ecode.specs.Paths.{instant_path}
-use Rattle.htl_refine.specs.Records.{IsTookWithin, AreTookWithin}
-use Rattle.htl_machine.specs.RunLists.{turn_at}
-use Rattle.htl_machine.specs.Follows.{reading_of, IsLoaded}
-use Rattle.htl_console.specs.declared.shown.Shown.{Shown}
-use Rattle.htl_console.specs.Shows.{shows_values, shows_code}
-use Rattle.htl_machine.specs.Texts.{e_line, old_turn, turn_old_records, turn_new_records, records_text, list_texts, instant_text, listed_text_before, records_of}
 use Rattle.htl_machine.proofs.Events.{Alike, state_same, before_same}
 use Rattle.htl_machine.proofs.ListsSoFar.{AreSoFar, between_so_far, new_so_far, texts_so_far}
 use Rattle.htl_machine.proofs.LoadedLists.{loaded_turns}

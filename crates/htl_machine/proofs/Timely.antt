@@ -1,31 +1,7 @@
 -- The releases of an instant: who is released now isn't done yet, so the read phase tells exactly the flags that the list asks for.
 use Rattle.std.proofs.Common.{◌≡◌, ◌≢◌, ℕ, zero, suc, ◌+◌, ◌-◌, ◌≤◌, ◌<◌, Bool, true, false, cond, ◌&&◌, eqb, is_some, List, [], ◌∷◌, length, get_or, slice_get, set, take, Option, Some, None, refl, sym, ap, ap₂, ◌∙◌, arith, inl, inr, length-append}
-use Rattle.std.proofs.lemmas.Bool.{eqb-true}
-use Rattle.std.proofs.lemmas.List.{set-get_or}
-use Rattle.std.proofs.lemmas.Option.{slice_get_within, same_Some}
-use Rattle.htl_model.specs.declared.event.Event.{Event}
-use Rattle.htl_model.specs.Tables.{Tables}
-use Rattle.htl_model.specs.Ranges.{AreInRange}
-use Rattle.htl_model.specs.Meaning.{state}
-use Rattle.htl_walk.specs.declared.job.Job.{Job}
-use Rattle.htl_walk.specs.Walk.{Point, Left, job_at, last_point, finish, is_position}
-use Rattle.htl_smach.specs.declared.state.PosState.TheVariants.{Done as Finished}
-use Rattle.htl_smach.specs.Rounds.{Round, state_by, state_of}
-use Rattle.htl_ecode.specs.declared.ecode.ECode.{ECode}
+use Rattle.htl_machine.proofs.Words.{eqb-true, set-get_or, slice_get_within, same_Some, Event, Tables, AreInRange, state, Job, Point, Left, job_at, last_point, finish, is_position, Finished, Round, state_by, state_of, ECode, Want, Does, ModeReads, phase_path, all_reads, count_left_before, done_by, Turn, turn_walk, records_so_far, left_before, AreTurns, IsListed, position_from, SMachineAt, raise_at, raise_want, raise_all, made_ready, released_to, s_machine_replay, s_machine_want, s_machine_all, standing_at, not_some, done_some, job_is, length-walk}
 use Rattle.htl_ecode.specs.declared.instr.EInstr.TheVariants as I
-use Rattle.htl_ecode.specs.Chains.{Want, Does}
-use Rattle.htl_ecode.proofs.Spelled.{ModeReads}
-use Rattle.htl_emach.specs.Following.{phase_path}
-use Rattle.htl_machine.specs.Worlds.{all_reads}
-use Rattle.htl_refine.specs.RecordCounts.{count_left_before, done_by}
-use Rattle.htl_machine.specs.ListTurns.{Turn, turn_walk, records_so_far, left_before, AreTurns, IsListed}
-use Rattle.htl_machine.specs.Turns.{position_from}
-use Rattle.htl_machine.specs.Follows.{SMachineAt}
-use Rattle.htl_machine.specs.ReleaseFlags.{raise_at, raise_want, raise_all}
-use Rattle.htl_machine.specs.Readiness.{made_ready, released_to, s_machine_replay, s_machine_want, s_machine_all}
-use Rattle.htl_refine.proofs.Standing.{standing_at}
-use Rattle.htl_refine.proofs.RecordOrder.{not_some}
-use Rattle.htl_refine.proofs.DoneRecords.{done_some}
 use Rattle.htl_refine.proofs.DoneRecords as records
 use Rattle.htl_machine.proofs.JobWindows.{position_some}
 use Rattle.htl_machine.proofs.SMachineInstants.{count_within}
@@ -34,8 +10,6 @@ use Rattle.htl_machine.proofs.Asked.{AsksFor}
 use Rattle.htl_machine.proofs.Releasing.{release_of}
 use Rattle.htl_machine.proofs.Instants.{with_flags}
 use Rattle.htl_machine.proofs.Acting.{read_phase_acts}
-use Rattle.htl_walk.proofs.Work.{job_is}
-use Rattle.htl_refine.proofs.WorkDone.{length-walk}
 
 -- ---- flags
 

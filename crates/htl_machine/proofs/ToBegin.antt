@@ -1,47 +1,12 @@
 -- What a list that begins is for the machine.
 use Rattle.std.proofs.Common.{◌≡◌, ℕ, zero, suc, ◌+◌, ◌-◌, ◌*◌, ◌%◌, ◌≤◌, ◌<◌, cond, eqb, List, length, map, drop, get_or, Option, Some, None, sym, ap, ap₂, ◌∙◌, subst, arith}
-use Rattle.std.proofs.lemmas.List.{length-map}
-use Rattle.htl_model.specs.declared.event.Event.{Event}
-use Rattle.htl_model.specs.declared.frame.Place.{Place}
-use Rattle.htl_model.specs.Frames.{frame_limit, frame_of, hyper, starts}
-use Rattle.htl_model.specs.Meaning.{state}
-use Rattle.htl_model.specs.Tables.{Tables}
-use Rattle.htl_model.proofs.FrameLimits.{limits_kept}
-use Rattle.htl_walk.specs.declared.job.Job.{Job}
-use Rattle.htl_walk.specs.declared.schedule.SInstr.{SInstr}
-use Rattle.htl_walk.specs.PathJobs.{placed_job}
-use Rattle.htl_walk.specs.Walk.{InForm}
+use Rattle.htl_machine.proofs.Words.{length-map, Event, Place, frame_limit, frame_of, hyper, starts, state, Tables, limits_kept, Job, SInstr, placed_job, InForm, Round, ECode, ModeReads, phase_path, choice_of, derived_place, frame_modes, frame_places, nodes_below, path_of, AreTookWithin, modes_at, took, IsFeasibleRun, paths_read, states_are_selections, ListAt, IsToBegin, GoesBy, frame_start, IsLoaded, SMachineAt, list_begun, CanStart, IsAtEnd, Turn, AreTurns, next_list, next_node, s_machine_replay, turn_by, turn_at, list_turn, turn_list, next_at, raise_all, all_reads, standing_at}
 use Rattle.htl_smach.specs.Rounds as rounds
-use Rattle.htl_smach.specs.Rounds.{Round}
-use Rattle.htl_ecode.specs.declared.ecode.ECode.{ECode}
-use Rattle.htl_ecode.proofs.Spelled.{ModeReads}
-use Rattle.htl_emach.specs.Following.{phase_path}
-use Rattle.htl_refine.specs.BegunJobs.{choice_of}
-use Rattle.htl_refine.specs.DerivedPaths.{derived_place}
-use Rattle.htl_refine.specs.FrameRuns.{frame_modes, frame_places, nodes_below, path_of}
-use Rattle.htl_refine.specs.Records.{AreTookWithin, modes_at, took}
-use Rattle.htl_refine.specs.ServedFrames.{IsFeasibleRun}
-use Rattle.htl_refine.proofs.PathRead.{paths_read}
-use Rattle.htl_refine.proofs.StateLaws.{states_are_selections}
-use Rattle.htl_machine.specs.declared.numbering.ListAt.{ListAt}
-use Rattle.htl_machine.specs.Beginning.{IsToBegin}
-use Rattle.htl_machine.specs.Calls.{GoesBy}
-use Rattle.htl_machine.specs.FramePlacing.{frame_start}
-use Rattle.htl_machine.specs.Follows.{IsLoaded, SMachineAt}
-use Rattle.htl_machine.specs.ListBegun.{list_begun, CanStart, IsAtEnd}
-use Rattle.htl_machine.specs.ListTurns.{Turn, AreTurns}
-use Rattle.htl_machine.specs.NextLists.{next_list, next_node}
-use Rattle.htl_machine.specs.Readiness.{s_machine_replay}
-use Rattle.htl_machine.specs.RunLists.{turn_by, turn_at, list_turn}
-use Rattle.htl_machine.specs.StandingList.{turn_list, next_at}
-use Rattle.htl_machine.specs.ReleaseFlags.{raise_all}
-use Rattle.htl_machine.specs.Worlds.{all_reads}
 use Rattle.htl_machine.proofs.Instants.{with_flags, s_machine_told, windows}
 use Rattle.htl_machine.proofs.ListAdded.{lists_are_begun}
 use Rattle.htl_machine.proofs.LoadedLists.{loaded_code, loaded_listed, loaded_of, loaded_run, loaded_turns}
 use Rattle.htl_machine.proofs.NextLists.{lists_begin, at_is}
 use Rattle.htl_machine.proofs.RunLists.{few, length-jobs, stands}
-use Rattle.htl_refine.proofs.Standing.{standing_at}
 use Rattle.htl_machine.proofs.Timely.{read_phase_tells}
 
 -- ---- the list that comes next

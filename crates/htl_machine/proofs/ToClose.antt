@@ -1,24 +1,6 @@
 -- What the last part of an instant asks for, once the first is done.
 use Rattle.std.proofs.Common.{◌≡◌, ◌≤◌, ℕ, true, List, [], ℤ, Option, None, sym, subst, ◌∙◌}
-use Rattle.htl_model.specs.declared.event.Event.{Event}
-use Rattle.htl_model.specs.Tables.{Tables}
-use Rattle.htl_walk.specs.declared.schedule.SInstr.{SInstr}
-use Rattle.htl_walk.specs.declared.schedule.Schedule.{Schedule}
-use Rattle.htl_ecode.specs.declared.ecode.ECode.{ECode}
-use Rattle.htl_smach.specs.Rounds.{Round}
-use Rattle.htl_emach.specs.Calendars.{Standing}
-use Rattle.htl_emach.specs.Contents.{Content}
-use Rattle.htl_emach.specs.Following.{FollowsCode, Onward, phase_path}
-use Rattle.htl_object.specs.declared.object.Object.{Object}
-use Rattle.htl_object.specs.Accepted.{IsAccepted}
-use Rattle.htl_machine.specs.Asking.{IsToClose, IsToCloseAndBegin}
-use Rattle.htl_machine.specs.Calls.{Seen, IsUpTo}
-use Rattle.htl_machine.specs.Instant.{IsReadyAt}
-use Rattle.htl_machine.specs.Opening.{IsOpened}
-use Rattle.htl_machine.specs.Timing.{some_round_begins}
-use Rattle.htl_machine.specs.ListBegun.{IsAtEnd}
-use Rattle.htl_machine.specs.Programs.{schedules_of}
-use Rattle.htl_machine.specs.Starting.{instrs_of}
+use Rattle.htl_machine.proofs.Words.{Event, Tables, SInstr, Schedule, ECode, Round, Standing, Content, FollowsCode, Onward, phase_path, Object, IsAccepted, IsToClose, IsToCloseAndBegin, Seen, IsUpTo, IsReadyAt, IsOpened, some_round_begins, IsAtEnd, schedules_of, instrs_of}
 use Rattle.htl_machine.proofs.After.{opened_values, closed_values, to_begin}
 use Rattle.htl_machine.proofs.Asking.{noted_of, values_at, reads_at, begins_at}
 

@@ -1,44 +1,9 @@
 -- A length more: the lists of a run have left the same before it, and the S machine stands in the list as it takes so long.
 use Rattle.std.proofs.Common.{◌≡◌, ◌≢◌, ℕ, suc, ◌+◌, ◌-◌, ◌≤◌, ◌<◌, ◌⊎◌, Bool, true, false, cond, ◌&&◌, eqb, leb, ltb, List, [], ◌∷◌, ◌++◌, length, get_or, map, slice_get, set, take, Option, Some, None, refl, sym, ap, ap₂, ◌∙◌, subst, arith, inl, inr, option_map}
 use mathlib.Core.Path.{fun_ext}
-use Rattle.std.proofs.lemmas.Bool.{eq-eqb, ne_eqb, le-leb, ltb-true, ltb-false, cases_lt}
-use Rattle.std.proofs.lemmas.Bool.Decides.{nat_tests}
-use Rattle.std.proofs.lemmas.List.{get_or-set_same, get_or-set_other, length-set, length-take}
-use Rattle.std.proofs.lemmas.Option.{slice_get_within, same_Some}
-use Rattle.htl_model.specs.declared.event.Event.{Event}
+use Rattle.htl_machine.proofs.Words.{eq-eqb, ne_eqb, le-leb, ltb-true, ltb-false, cases_lt, nat_tests, get_or-set_same, get_or-set_other, length-set, length-take, slice_get_within, same_Some, Event, State, Stay, frame_of, starts, node, Tables, Job, SInstr, lists_of, AgreeBefore, legs_of, end_to_end, HaveLengths, Point, Left, job_at, work, first_point, job_there, work_present, job_is, Round, state_of, state_by, absent_idle, Frame, frame_modes, frame_places, frame_jobs, frame_at, path_of, walks_of, leg_at, list_start, list_plan, count_left_before, lengths_of, took, IsTookWithin, AreTookWithin, IsServing, IsFeasibleRun, point_long, job_front, later_time, later_released, later_unreleased, later_walks, lengths_later, walk_rises, have_lengths, frame_start, reading_of, SMachineAt, SMachineStands, with_length, set_pending, s_machine_taking, Turn, turn_walk, list_number, list_turn, position_from, get_taken, work_length, same_number_lists}
 use Rattle.htl_model.specs.declared.event.Event.TheVariants as V
-use Rattle.htl_model.specs.declared.state.State.{State}
-use Rattle.htl_model.specs.declared.state.Stay.{Stay}
-use Rattle.htl_model.specs.Frames.{frame_of, starts, node}
-use Rattle.htl_model.specs.Tables.{Tables}
-use Rattle.htl_walk.specs.declared.job.Job.{Job}
-use Rattle.htl_walk.specs.declared.schedule.SInstr.{SInstr}
-use Rattle.htl_walk.specs.Feasible.{lists_of}
-use Rattle.htl_walk.specs.Laws.{AgreeBefore}
-use Rattle.htl_walk.specs.PathJobs.{legs_of}
-use Rattle.htl_walk.specs.Paths.{end_to_end}
-use Rattle.htl_walk.specs.Refinement.{HaveLengths}
-use Rattle.htl_walk.specs.Walk.{Point, Left, job_at, work, first_point}
-use Rattle.htl_walk.proofs.Work.{job_there, work_present, job_is}
 use Rattle.htl_smach.specs.Rounds as rounds
-use Rattle.htl_smach.specs.Rounds.{Round, state_of, state_by}
-use Rattle.htl_smach.proofs.RoundRecords.{absent_idle}
-use Rattle.htl_refine.specs.FrameRuns.{Frame, frame_modes, frame_places, frame_jobs, frame_at, path_of, walks_of}
-use Rattle.htl_refine.specs.ListPlans.{leg_at, list_start, list_plan}
-use Rattle.htl_refine.specs.RecordCounts.{count_left_before}
-use Rattle.htl_refine.specs.Records.{lengths_of, took, IsTookWithin, AreTookWithin}
-use Rattle.htl_refine.specs.ServedFrames.{IsServing, IsFeasibleRun}
-use Rattle.htl_refine.proofs.FrontPlans.{point_long}
-use Rattle.htl_refine.proofs.Fronts.{job_front}
-use Rattle.htl_refine.proofs.LaterPoints.{later_time, later_released, later_unreleased, later_walks}
-use Rattle.htl_refine.proofs.LengthsLater.{lengths_later}
-use Rattle.htl_refine.proofs.RecordOrder.{walk_rises}
-use Rattle.htl_refine.proofs.ServedFrames.{have_lengths}
-use Rattle.htl_machine.specs.FramePlacing.{frame_start}
-use Rattle.htl_machine.specs.Follows.{reading_of, SMachineAt, SMachineStands, with_length, set_pending, s_machine_taking}
-use Rattle.htl_machine.specs.ListTurns.{Turn, turn_walk}
-use Rattle.htl_machine.specs.RunLists.{list_number, list_turn}
-use Rattle.htl_machine.specs.Turns.{position_from}
 use Rattle.htl_machine.proofs.JobWindows.{get_map, position_some, position_none}
 use Rattle.htl_machine.proofs.SMachineInstants.{s_machine_opens}
 use Rattle.htl_machine.proofs.Events.{state_same, sense_took, took_took, front_is, length-front}
@@ -48,9 +13,6 @@ use Rattle.htl_machine.proofs.ListsSoFar.{AreSoFar}
 use Rattle.htl_machine.proofs.RunLists.{past, serving, stands, there, from_is, few, length-jobs, are_turns, are_listed}
 use Rattle.htl_machine.proofs.InstantRecords.{none_before}
 use Rattle.htl_machine.proofs.Timely.{done_late}
-use Rattle.htl_base.proofs.Places.{get_taken}
-use Rattle.htl_walk.proofs.CodeWalk.{work_length}
-use Rattle.std.proofs.lemmas.Grind.{same_number_lists}
 
 module _ (t : Tables) (lists : List (List SInstr)) (es : List Event) (run : IsFeasibleRun t lists es) (i n : ℕ) (fits : IsTookWithin t (V.Took i n)) (now : ℕ) (reading : now ≡ reading_of 0 es) where
   abbrev fs : List Event

@@ -1,22 +1,6 @@
 -- From an invocation whose mode runs up to a root invocation and down again, with the period.
 use Rattle.std.proofs.Common.{◌≡◌, ◌<◌, ℕ, zero, suc, Bool, true, false, eqb, List, Option, Some, None, IfSome, refl, sym, ◌∙◌, ap, subst, arith}
-use Rattle.std.specs.Prelude.{slice_get}
-use Rattle.htl_model.specs.declared.parts.Inv.{Inv}
-use Rattle.htl_model.specs.declared.parts.Mode.{Mode}
-use Rattle.htl_model.specs.declared.parts.Module.{Module}
-use Rattle.htl_model.specs.FrameRules.{KeptApart}
-use Rattle.htl_model.specs.Chosen.{StandsFor, itself, below}
-use Rattle.htl_model.specs.Ranges.{AreInRange, IsModeThat, IsInvInRange}
-use Rattle.htl_model.specs.RefinementRules.{IsAbstractIn, ParentFault}
-use Rattle.htl_model.specs.SecondWriters.{parent_mode}
-use Rattle.htl_model.specs.Selected.{Runs, IsActive, IsEntry, IsSelection}
-use Rattle.htl_model.specs.Tables.{Tables, is_concrete, mode_module, mode_period}
-use Rattle.htl_refine.proofs.Chains.{right_parent}
-use Rattle.htl_refine.proofs.OwnPeriods.{parent_period}
-use Rattle.htl_base.proofs.Places.{each_at}
-use Rattle.std.proofs.lemmas.Option.{none-some}
-use Rattle.htl_base.proofs.Tests.{eqb_apart}
-use Rattle.std.proofs.lemmas.Bool.{eqb-true}
+use Rattle.htl_machine.proofs.Words.{Inv, Mode, Module, KeptApart, StandsFor, itself, below, AreInRange, IsModeThat, IsInvInRange, IsAbstractIn, ParentFault, parent_mode, Runs, IsActive, IsEntry, IsSelection, Tables, is_concrete, mode_module, mode_period, right_parent, parent_period, each_at, none-some, eqb_apart, eqb-true, slice_get}
 
 module _ (t : Tables) (range : AreInRange t) (kept : KeptApart t 16) (modes : List (Option ℕ)) (selection : IsSelection t modes) where
   kept12 : KeptApart t 12

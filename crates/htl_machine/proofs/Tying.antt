@@ -1,30 +1,10 @@
 -- The addresses of the write phase and of the read phase do what their blocks ask for.
 use Rattle.std.proofs.Common.{◌≡◌, ℕ, suc, ◌-◌, ◌*◌, Bool, true, false, cond, ◌&&◌, ◌||◌, eqb, List, [], ◌∷◌, ◌++◌, length, map, slice_get, zero, ◌<◌, Option, Some, None, Result, Ok, inl, inr, refl, sym, ap, ◌∙◌}
-use Rattle.htl_model.specs.declared.parts.Inv.{Inv}
-use Rattle.htl_model.specs.declared.parts.End.{End}
+use Rattle.htl_machine.proofs.Words.{Inv, End, Stay, State, joined, numbered, up_to, Tables, comm_period, offsets, release, stay_of, ECode, EInstr, EFault, counts, counted_in, places_at, next_offset, phase_offsets, holds, Want, Does, Waits, Turns, Tests, Asks, Arrives, all_do, call_of, calls_of, release_of, releases, calls, waits_for, block_chain, Step, Reached, reach, read, steps_of, passed_by, blocks, Done, on, chain_path, block_path, due_path, writes_done, reads_done, Jumps, reach_is, anchor_is, read_is, IsBlockPhase, spelled_stands, no_block, Content, effect, want_effect, effects, wanted_writes, wanted_reads, all_writes, all_reads, effect_at, or_parts}
 use Rattle.htl_model.specs.declared.parts.End.TheVariants as E
-use Rattle.htl_model.specs.declared.state.Stay.{Stay}
-use Rattle.htl_model.specs.declared.state.State.{State}
-use Rattle.htl_model.specs.Lists.{joined, numbered, up_to}
-use Rattle.htl_model.specs.Tables.{Tables, comm_period, offsets, release}
-use Rattle.htl_model.specs.Meaning.{stay_of}
-use Rattle.htl_ecode.specs.declared.ecode.ECode.{ECode}
-use Rattle.htl_ecode.specs.declared.instr.EInstr.{EInstr}
 use Rattle.htl_ecode.specs.declared.instr.EInstr.TheVariants as I
-use Rattle.htl_ecode.specs.declared.fault.EFault.{EFault}
-use Rattle.htl_ecode.specs.Offsets.{counts, counted_in, places_at, next_offset, phase_offsets, holds}
-use Rattle.htl_ecode.specs.Chains.{Want, Does, Waits, Turns, Tests, Asks, Arrives, all_do, call_of, calls_of, release_of, releases, calls, waits_for, block_chain}
-use Rattle.htl_ecode.specs.Steps.{Step, Reached, reach, read, steps_of, passed_by}
-use Rattle.htl_ecode.specs.Departure.{blocks}
-use Rattle.htl_ecode.specs.Paths.{Done, on, chain_path, block_path, due_path, writes_done, reads_done}
-use Rattle.htl_ecode.proofs.Reading.{Jumps, reach_is, anchor_is, read_is}
 use Rattle.htl_ecode.proofs.Spelled.{ModeReads, Stands}
-use Rattle.htl_ecode.proofs.BlockLaws.{IsBlockPhase, spelled_stands, no_block}
-use Rattle.htl_emach.specs.Contents.{Content, effect}
-use Rattle.htl_machine.specs.Worlds.{want_effect, effects, wanted_writes, wanted_reads, all_writes, all_reads}
-use Rattle.htl_machine.specs.Running.{effect_at}
 use Rattle.htl_machine.proofs.Valued.{effects_more}
-use Rattle.std.proofs.lemmas.Bool.{or_parts}
 
 -- the world after the instructions at these addresses
 abbrev pub replay : Tables → List EInstr → List ℕ → Content → Content

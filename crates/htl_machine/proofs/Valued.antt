@@ -1,31 +1,11 @@
 -- The writes that are due and then the sensors give the values of the instant.
 use Rattle.std.proofs.Common.{◌≡◌, ℕ, zero, suc, ◌+◌, ◌*◌, ◌/◌, ◌≤◌, ◌<◌, cond, List, [], ◌∷◌, ◌++◌, length, get_or, slice_get, map, Option, Some, None, ℤ, pos, refl, sym, ap, ◌∙◌, subst, arith, inl, inr}
 use mathlib.Core.Path.{fun_ext}
-use Rattle.std.proofs.lemmas.Option.{slice_get_within}
-use Rattle.htl_model.specs.declared.event.Event.{Event}
-use Rattle.htl_model.specs.declared.parts.Comm.{Comm}
-use Rattle.htl_model.specs.declared.parts.Inv.{Inv}
-use Rattle.htl_model.specs.declared.state.Stay.{Stay}
-use Rattle.htl_model.specs.declared.state.State.{State}
-use Rattle.htl_model.specs.declared.state.Write.{Write}
-use Rattle.htl_model.specs.Lists.{list_to, up_to}
-use Rattle.htl_model.specs.Tables.{Tables}
-use Rattle.htl_model.specs.Ranges.{AreInRange}
-use Rattle.htl_model.specs.Meaning.{state, before, stay_of, sense, out, next_value, next_values, written, written_by, write_from, first_value, first_values}
-use Rattle.htl_model.proofs.Laws.{state_step, seen_before}
-use Rattle.htl_ecode.specs.Chains.{Want}
-use Rattle.htl_emach.specs.Contents.{Content, buffer, comm_of}
-use Rattle.htl_machine.specs.Worlds.{effects, wanted_writes, all_writes, want_effect, shown, shown_at}
+use Rattle.htl_machine.proofs.Words.{slice_get_within, Event, Comm, Inv, Stay, State, Write, list_to, up_to, Tables, AreInRange, state, before, stay_of, sense, out, next_value, next_values, written, written_by, write_from, first_value, first_values, state_step, seen_before, Want, Content, buffer, comm_of, effects, wanted_writes, all_writes, want_effect, shown, shown_at, IsDue, AreDistinct, values_before, IsStanding, standing_at, not_some, length-list_to, length_mapped, zero_down}
 use Rattle.htl_emach.specs.Contents as contents
-use Rattle.htl_machine.specs.Values.{IsDue, AreDistinct, values_before}
-use Rattle.htl_refine.proofs.Standing.{IsStanding, standing_at}
-use Rattle.htl_refine.proofs.RecordOrder.{not_some}
 use Rattle.htl_machine.proofs.Asked.{due_of, due_asks}
 use Rattle.htl_machine.proofs.Moving.{Written, are_written}
 use Rattle.htl_machine.proofs.Due.{found_write, no_due}
-use Rattle.htl_model.proofs.Listed.{length-list_to}
-use Rattle.htl_base.proofs.Places.{length_mapped}
-use Rattle.htl_base.proofs.Numbers.{zero_down}
 
 -- the communicator at an output that is due
 due_comm : (t : Tables) (stays : List (Option Stay)) (now i k c : ℕ) → IsDue t stays now i k c → comm_of (slice_get (contents.writes_at t i) k) ≡ Some c

@@ -1,20 +1,6 @@
 -- The sensors that wait are gone over, and the others have what they are shown.
 use Rattle.std.proofs.Common.{◌≡◌, ◌≢◌, ℕ, suc, ◌+◌, ◌%◌, ◌<◌, ◌≤◌, ◌⊎◌, Bool, true, false, cond, ◌&&◌, eqb, List, length, get_or, set, slice_get, Option, Some, ℤ, pos, refl, sym, ap, ◌∙◌, subst, arith, inl, inr, length-set, get_or-set_same, get_or-set_other}
-use Rattle.std.proofs.lemmas.Bool.{cases_lt, ne_eqb, and_parts}
-use Rattle.std.proofs.lemmas.Bool.Decides.{nat_tests}
-use Rattle.htl_model.specs.declared.parts.Comm.{Comm}
-use Rattle.htl_model.specs.Tables.{Tables}
-use Rattle.htl_emach.specs.Calendars.{list_at}
-use Rattle.htl_emach.specs.Contents.{Content}
-use Rattle.htl_emach.specs.Shapes.{SensorsStay}
-use Rattle.htl_machine.specs.Marks.{is_marked}
-use Rattle.htl_machine.specs.Noting.{MarksChanges, KeepsNoted}
-use Rattle.htl_machine.specs.Sensors.{shown_then, AreSet, ShowsNothing}
-use Rattle.htl_machine.specs.Waiting.{MarksWaiting, takes_now}
-use Rattle.htl_machine.specs.declared.marks.Marks.{Marks}
-use Rattle.htl_machine.specs.declared.noted.Noted.{Noted}
-use Rattle.htl_machine.specs.declared.sensors.Sensors.{Sensors}
-use Rattle.std.proofs.lemmas.Option.{same_Some}
+use Rattle.htl_machine.proofs.Words.{cases_lt, ne_eqb, and_parts, nat_tests, Comm, Tables, list_at, Content, SensorsStay, is_marked, MarksChanges, KeepsNoted, shown_then, AreSet, ShowsNothing, MarksWaiting, takes_now, Marks, Noted, Sensors, same_Some}
 
 -- ---- the sensors stay
 

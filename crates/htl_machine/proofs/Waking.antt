@@ -1,20 +1,7 @@
 -- One more event, for the E machine: the triggers before an instant depend on the events before it alone.
 use Rattle.std.proofs.Common.{◌≡◌, ℕ, Bool, true, false, cond, ltb, List, slice_get, Option, Some, None, refl, sym, ap, ◌∙◌, arith}
-use Rattle.htl_model.specs.declared.event.Event.{Event}
-use Rattle.htl_model.specs.declared.parts.Module.{Module}
-use Rattle.htl_model.specs.declared.state.Stay.{Stay}
-use Rattle.htl_model.specs.declared.state.State.{State}
-use Rattle.htl_model.specs.Ranges.{AreInRange, parent_of}
-use Rattle.htl_model.specs.Tables.{Tables, mode_module}
-use Rattle.htl_model.specs.Meaning.{state, stay_of, mode_of, runs}
-use Rattle.htl_ecode.specs.declared.ecode.ECode.{ECode}
-use Rattle.htl_emach.specs.declared.trigger.Trigger.{Trigger}
-use Rattle.htl_emach.specs.Calendars.{Standing}
-use Rattle.htl_emach.specs.Pending.{Entry, opening, awaited, turning, is_called, entering, old_stay, new_stay}
-use Rattle.htl_emach.proofs.States.{parent_runs, parent_at, module_at, active_some, begins_now}
-use Rattle.htl_emach.specs.Following.{FollowsCode}
+use Rattle.htl_machine.proofs.Words.{Event, Module, Stay, State, AreInRange, parent_of, Tables, mode_module, state, stay_of, mode_of, runs, ECode, Trigger, Standing, Entry, opening, awaited, turning, is_called, entering, old_stay, new_stay, parent_runs, parent_at, module_at, active_some, begins_now, FollowsCode, none_below}
 use Rattle.htl_machine.proofs.Events.{Alike, before_same}
-use Rattle.htl_base.proofs.Tests.{none_below}
 
 module _ (t : Tables) (range : AreInRange t) (now : ℕ) where
   -- a root module that wasn't there begins in its start mode

@@ -1,38 +1,10 @@
 -- The calls of the whole machine: each carries the triggers of the E machine with all else.
 use Rattle.std.proofs.Common.{◌≡◌, ℕ, suc, ◌+◌, ◌-◌, ◌^◌, min, ◌<◌, false, cond, ◌&&◌, eqb, leb, List, [], ◌∷◌, ◌++◌, length, slice_get, IfSome, ℤ, sym, ap, ◌∙◌, subst, arith}
-use Rattle.std.specs.List.{count_by}
-use Rattle.std.proofs.lemmas.Bool.Decides.{nat_tests}
-use Rattle.htl_model.specs.declared.event.Event.{Event}
+use Rattle.htl_machine.proofs.Words.{count_by, nat_tests, Event, FitsType, hyper, Tables, sense, SInstr, Round, ECode, Spells, e_path, spells_or_departs, ModeReads, spelled_reads, Standing, first_standing, StandsSafely, IsShaped, phase_path, sound, reads_follows, first_follows, IsTookWithin, Content, next_world, turn_at, RunState, reading_of, SMachineFollows, IsLoaded, at_reading, shown_as, s_machine_taking, taken_as, Shown, instant_text, records_of, Counts, RunStands, Followed, Whole, WholeFollowed, Passed}
 use Rattle.htl_model.specs.declared.event.Event.TheVariants as V
-use Rattle.htl_model.specs.Ranges.{FitsType}
-use Rattle.htl_model.specs.Frames.{hyper}
-use Rattle.htl_model.specs.Tables.{Tables}
-use Rattle.htl_model.specs.Meaning.{sense}
-use Rattle.htl_walk.specs.declared.schedule.SInstr.{SInstr}
 use Rattle.htl_smach.specs.declared.left.Left.{Left}
 use Rattle.htl_smach.specs.Rounds as rounds
-use Rattle.htl_smach.specs.Rounds.{Round}
-use Rattle.htl_ecode.specs.declared.ecode.ECode.{ECode}
-use Rattle.htl_ecode.specs.Spelling.{Spells}
-use Rattle.htl_ecode.specs.Paths.{e_path}
-use Rattle.htl_ecode.proofs.SpellingLaws.{spells_or_departs}
-use Rattle.htl_ecode.proofs.Spelled.{ModeReads, spelled_reads}
-use Rattle.htl_emach.specs.Calendars.{Standing, first_standing}
-use Rattle.htl_emach.specs.Safety.{StandsSafely}
-use Rattle.htl_emach.specs.Shapes.{IsShaped}
-use Rattle.htl_emach.specs.Following.{phase_path}
-use Rattle.htl_emach.proofs.Soundness.{sound}
-use Rattle.htl_emach.proofs.Instants.{reads_follows, first_follows}
 use Rattle.htl_emach.specs.Following as machines
-use Rattle.htl_refine.specs.Records.{IsTookWithin}
-use Rattle.htl_emach.specs.Contents.{Content}
-use Rattle.htl_machine.specs.Plans.{next_world}
-use Rattle.htl_machine.specs.RunLists.{turn_at}
-use Rattle.htl_machine.specs.Follows.{RunState, reading_of, SMachineFollows, IsLoaded, at_reading, shown_as, s_machine_taking, taken_as}
-use Rattle.htl_console.specs.declared.shown.Shown.{Shown}
-use Rattle.htl_machine.specs.Texts.{instant_text, records_of}
-use Rattle.htl_machine.specs.Machines.{Counts, RunStands, Followed}
-use Rattle.htl_machine.specs.Wholes.{Whole, WholeFollowed, Passed}
 use Rattle.htl_machine.proofs.Events.{sense_at, sense_took, sense_sense}
 use Rattle.htl_machine.proofs.Meeting.{next_is}
 use Rattle.htl_machine.proofs.Advancing.{instant_stands, read_stands, sense_stands, took_stands}

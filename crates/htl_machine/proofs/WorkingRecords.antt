@@ -1,17 +1,6 @@
 -- A record that has a slice, or finishes a job, is of a position with work, and is left behind that position's release.
 use Rattle.std.proofs.Common.{◌≡◌, ◌<◌, ◌≤◌, ◌⊎◌, inl, inr, ℕ, zero, suc, ◌+◌, ◌-◌, Bool, true, false, ltb, List, [], ◌∷◌, ◌++◌, length, slice_get, get_or, Option, Some, None, refl, sym, ap, ◌∙◌, subst, arith}
-use Rattle.std.proofs.lemmas.Bool.{cases_lt, ltb-true}
-use Rattle.htl_walk.specs.declared.job.Job.{Job}
-use Rattle.htl_walk.specs.declared.schedule.SInstr.{SInstr}
-use Rattle.htl_walk.specs.declared.schedule.SInstr.TheVariants.{Dispatch}
-use Rattle.htl_walk.specs.Paths.{Leg, list_point, walks_from, end_to_end}
-use Rattle.htl_walk.specs.Walk.{Point, Left, job_at, dispatch_begins, time_after, work_after, slice_between, finishes_by, next_point, left_by, walk_from, last_point}
-use Rattle.htl_walk.proofs.Acceptance.{left_falls_to}
-use Rattle.htl_walk.proofs.Steps.{left_falls, left_same}
-use Rattle.htl_refine.proofs.RecordOrder.{not_some}
-use Rattle.htl_refine.proofs.SliceOrder.{slice_inside}
-use Rattle.htl_base.proofs.Places.{get_back, within_front}
-use Rattle.std.proofs.lemmas.Option.{same_Some}
+use Rattle.htl_machine.proofs.Words.{cases_lt, ltb-true, Job, SInstr, Dispatch, Leg, list_point, walks_from, end_to_end, Point, Left, job_at, dispatch_begins, time_after, work_after, slice_between, finishes_by, next_point, left_by, walk_from, last_point, left_falls_to, left_falls, left_same, not_some, slice_inside, get_back, within_front, same_Some}
 
 -- the record has a slice, or finishes a job
 abbrev pub DoesWork : Left → Type 0

@@ -1,23 +1,6 @@
 -- What was written stays, whatever events come: the text of the instants before a reading.
 use Rattle.std.proofs.Common.{◌≡◌, ℕ, zero, suc, ◌+◌, ◌-◌, ◌^◌, min, ◌<◌, cond, eqb, List, [], ◌++◌, Option, Some, None, refl, ap, ap₂, ◌∙◌, arith}
-use Rattle.htl_model.specs.declared.event.Event.{Event}
-use Rattle.htl_model.specs.declared.state.State.{State}
-use Rattle.htl_model.specs.Lists.{joined}
-use Rattle.htl_model.specs.Lines.{lines_text}
-use Rattle.htl_model.specs.Frames.{hyper}
-use Rattle.htl_model.specs.Tables.{Tables}
-use Rattle.htl_model.specs.Meaning.{state, before, changes}
-use Rattle.htl_model.proofs.Locality.{up_to_same}
-use Rattle.htl_walk.specs.declared.schedule.SInstr.{SInstr}
-use Rattle.htl_ecode.specs.declared.ecode.ECode.{ECode}
-use Rattle.htl_ecode.specs.Paths.{instant_path}
-use Rattle.htl_refine.specs.Records.{took, AreTookWithin}
-use Rattle.htl_console.specs.declared.shown.Shown.{Shown}
-use Rattle.htl_console.specs.Shows.{shows_values, shows_code}
-use Rattle.htl_machine.specs.ListTurns.{Turn, left_before}
-use Rattle.htl_machine.specs.RunLists.{turn_at}
-use Rattle.htl_machine.specs.Texts.{e_line, some_records, old_turn, turn_old_records, turn_new_records, records_text, list_texts, instant_text, listed_text_before, capped}
-use Rattle.htl_machine.specs.Follows.{IsLoaded}
+use Rattle.htl_machine.proofs.Words.{Event, State, joined, lines_text, hyper, Tables, state, before, changes, up_to_same, SInstr, ECode, instant_path, took, AreTookWithin, Shown, shows_values, shows_code, Turn, left_before, turn_at, e_line, some_records, old_turn, turn_old_records, turn_new_records, records_text, list_texts, instant_text, listed_text_before, capped, IsLoaded}
 use Rattle.htl_machine.proofs.Events.{Alike, state_same, before_same}
 use Rattle.htl_machine.proofs.Following.{turn_same}
 

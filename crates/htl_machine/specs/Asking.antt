@@ -1,20 +1,10 @@
 -- What the parts of an instant ask for, of a machine that stands before it.
 use Rattle.std.specs.Prelude.{◌≡◌, ◌≤◌, ◌<◌, ℕ, List, [], length, ℤ, Option, None}
-use Rattle.htl_model.specs.declared.event.Event.{Event}
-use Rattle.htl_model.specs.FrameRules.{KeptApart}
+use Rattle.htl_machine.specs.Common.{Event, KeptApart, Tables, SInstr, ECode, Round, Standing, list_at, Content, Onward, phase_path, StandsSafely, IsShaped}
 use Rattle.htl_model.specs.Frames.{frame_limit}
 use Rattle.htl_model.specs.FunctionTypes.{FitPlaces}
 use Rattle.htl_model.specs.Meaning.{state, before, mode_in_state}
-use Rattle.htl_model.specs.Tables.{Tables}
-use Rattle.htl_walk.specs.declared.schedule.SInstr.{SInstr}
-use Rattle.htl_ecode.specs.declared.ecode.ECode.{ECode}
-use Rattle.htl_smach.specs.Rounds.{Round}
 use Rattle.htl_ecode.specs.Spelling.{Spells}
-use Rattle.htl_emach.specs.Calendars.{Standing, list_at}
-use Rattle.htl_emach.specs.Contents.{Content}
-use Rattle.htl_emach.specs.Following.{Onward, phase_path}
-use Rattle.htl_emach.specs.Safety.{StandsSafely}
-use Rattle.htl_emach.specs.Shapes.{IsShaped}
 use Rattle.htl_machine.specs.Running.{replay}
 use Rattle.htl_machine.specs.Beginning.{IsToBegin}
 use Rattle.htl_machine.specs.Doing.{IsStarting}

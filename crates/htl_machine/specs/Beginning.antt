@@ -1,13 +1,6 @@
 -- The beginning of a list.
 use Rattle.std.specs.Prelude.{◌≡◌, ◌≤◌, ◌<◌, ◌+◌, ◌-◌, ◌%◌, ℕ, suc, List, [], length, get_or, Option}
-use Rattle.htl_model.specs.declared.event.Event.{Event}
-use Rattle.htl_model.specs.Frames.{frame_of, starts}
-use Rattle.htl_model.specs.Tables.{Tables}
-use Rattle.htl_walk.specs.declared.schedule.SInstr.{SInstr}
-use Rattle.htl_smach.specs.Rounds.{Round, Stands, IsInForm}
-use Rattle.htl_ecode.specs.declared.ecode.ECode.{ECode}
-use Rattle.htl_emach.specs.Following.{phase_path}
-use Rattle.htl_refine.specs.Records.{modes_at}
+use Rattle.htl_machine.specs.Common.{Event, frame_of, starts, Tables, SInstr, Round, Stands, IsInForm, ECode, phase_path, modes_at}
 use Rattle.htl_machine.specs.declared.numbering.ListAt.{ListAt}
 use Rattle.htl_machine.specs.Follows.{SMachineAt}
 use Rattle.htl_machine.specs.ListBegun.{list_begun, CanStart}

@@ -1,24 +1,8 @@
 -- What contracts see of a machine, what it follows, and what its calls write.
 use Rattle.std.specs.Prelude.{◌≡◌, ℕ, zero, suc, ◌+◌, ◌-◌, ◌≤◌, ◌<◌, Bool, false, true, List, length, get_or, map, slice_get, Option, Some, None, ℤ, pos}
-use Rattle.htl_model.specs.declared.event.Event.{Event}
-use Rattle.htl_model.specs.Lists.{up_to}
-use Rattle.htl_model.specs.Frames.{hyper}
-use Rattle.htl_model.specs.declared.parts.Comm.{Comm}
-use Rattle.htl_model.specs.declared.parts.Inv.{Inv}
+use Rattle.htl_machine.specs.Common.{Event, up_to, hyper, Comm, Inv, Tables, is_concrete, task_worst, sense, state, SInstr, Round, no_round, ECode, Standing, Content, StandsSafely, HasValues, IsShaped, AreTookWithin, took, Object, Shown}
 use Rattle.htl_model.specs.Ranges.{FitsType}
-use Rattle.htl_model.specs.Tables.{Tables, is_concrete, task_worst}
-use Rattle.htl_model.specs.Meaning.{sense, state}
-use Rattle.htl_walk.specs.declared.schedule.SInstr.{SInstr}
-use Rattle.htl_smach.specs.Rounds.{Round, no_round}
-use Rattle.htl_ecode.specs.declared.ecode.ECode.{ECode}
-use Rattle.htl_emach.specs.Calendars.{Standing}
-use Rattle.htl_emach.specs.Contents.{Content}
 use Rattle.htl_emach.specs.Following as machines
-use Rattle.htl_emach.specs.Safety.{StandsSafely}
-use Rattle.htl_emach.specs.Shapes.{HasValues, IsShaped}
-use Rattle.htl_refine.specs.Records.{AreTookWithin, took}
-use Rattle.htl_object.specs.declared.object.Object.{Object}
-use Rattle.htl_console.specs.declared.shown.Shown.{Shown}
 use Rattle.htl_machine.specs.declared.numbering.ListAt.{ListAt}
 use Rattle.htl_machine.specs.Programs.{schedules_of, lines_of}
 use Rattle.htl_machine.specs.ListTurns.{Turn}

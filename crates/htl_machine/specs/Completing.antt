@@ -1,8 +1,5 @@
 -- What records do to the world.
-use Rattle.std.specs.Prelude.{ℕ, zero, suc, cond, List, slice_get, Option, Some, None}
-use Rattle.htl_model.specs.Tables.{Tables}
-use Rattle.htl_walk.specs.declared.job.Job.{Job}
-use Rattle.htl_walk.specs.Walk.{Left, job_at}
+use Rattle.htl_machine.specs.Common.{ℕ, zero, suc, cond, List, slice_get, Option, Some, None, Tables, Job, Left, job_at}
 use Rattle.htl_emach.specs.Contents.{Content, completed}
 
 abbrev pub complete_at : Tables → List Job → Option ℕ → Content → Content

@@ -1,25 +1,11 @@
 -- The instructions of a phase while they are done: their lines, their number, and the releases that the S machine is told.
 use Rattle.std.specs.Prelude.{◌≡◌, ℕ, cond, eqb, List, [], length, Option, None}
-use Rattle.std.specs.Io.KnownBytes.{append_known}
-use Rattle.htl_model.specs.declared.event.Event.{Event}
-use Rattle.htl_model.specs.Lists.{joined}
-use Rattle.htl_model.specs.Tables.{Tables}
-use Rattle.htl_walk.specs.declared.schedule.SInstr.{SInstr}
+use Rattle.htl_machine.specs.Common.{append_known, Event, joined, Tables, SInstr, Round, ECode, EInstr, Content, Standing, StandsSafely, state, Shown, instr_line, shows_code}
 use Rattle.htl_smach.specs.Rounds as rounds
-use Rattle.htl_smach.specs.Rounds.{Round}
-use Rattle.htl_ecode.specs.declared.ecode.ECode.{ECode}
-use Rattle.htl_ecode.specs.declared.instr.EInstr.{EInstr}
 use Rattle.htl_ecode.specs.Paths as paths
-use Rattle.htl_emach.specs.Contents.{Content}
-use Rattle.htl_emach.specs.Calendars.{Standing}
 use Rattle.htl_emach.specs.Pending.{Between}
-use Rattle.htl_emach.specs.Safety.{StandsSafely}
 use Rattle.htl_emach.specs.Shapes.{IsShaped, SensorsStay}
-use Rattle.htl_model.specs.Meaning.{state}
 use Rattle.htl_machine.specs.Running.{IsRunning}
-use Rattle.htl_console.specs.declared.shown.Shown.{Shown}
-use Rattle.htl_console.specs.Lines.{instr_line}
-use Rattle.htl_console.specs.Shows.{shows_code}
 use Rattle.htl_machine.specs.declared.tally.Tally.{Tally}
 use Rattle.htl_machine.specs.Counts.{with_instrs}
 use Rattle.htl_machine.specs.Readiness.{s_machine_replay}

@@ -1,9 +1,7 @@
 -- What a machine's fields keep whatever it follows: a place for each item of the tables, the jobs of the S machine, marks of
 -- what is another than was noted, and of the sensors that wait, and an instant before which nothing is due.
 use Rattle.std.specs.Prelude.{◌≡◌, ◌≤◌, ℕ, Bool, false, List, [], length}
-use Rattle.htl_object.specs.declared.object.Object.{Object}
-use Rattle.htl_object.specs.Accepted.{IsAccepted}
-use Rattle.htl_console.specs.declared.shown.Shown.{Shown}
+use Rattle.htl_machine.specs.Common.{Object, IsAccepted, Shown}
 use Rattle.htl_machine.specs.Calls.{Seen}
 use Rattle.htl_machine.specs.Noting.{MarksChanges}
 use Rattle.htl_machine.specs.Numbering.{IsPath}

@@ -1,25 +1,10 @@
 -- When a machine follows tables, schedules and events.
 use Rattle.std.specs.Prelude.{◌≡◌, ℕ, zero, suc, ◌-◌, ◌≤◌, ◌<◌, Bool, false, ◌&&◌, ltb, List, [], ◌∷◌, length, get_or, set, map, Option, Some, None, ℤ, pos}
-use Rattle.htl_model.specs.declared.event.Event.{Event}
+use Rattle.htl_machine.specs.Common.{Event, hyper, Tables, sense, Job, SInstr, HasValues, IsShaped, Round, no_round, state_of, PosState, Pending, AreInRange, KeptApart, AreTookWithin, took, Content, count_left_before, Plan, list_walk}
 use Rattle.htl_model.specs.declared.event.Event.TheVariants as V
-use Rattle.htl_model.specs.Frames.{hyper}
-use Rattle.htl_model.specs.Tables.{Tables}
-use Rattle.htl_model.specs.Meaning.{sense}
-use Rattle.htl_walk.specs.declared.job.Job.{Job}
-use Rattle.htl_walk.specs.declared.schedule.SInstr.{SInstr}
-use Rattle.htl_emach.specs.Shapes.{HasValues, IsShaped}
 use Rattle.htl_smach.specs.Rounds as rounds
-use Rattle.htl_smach.specs.Rounds.{Round, no_round, state_of}
-use Rattle.htl_smach.specs.declared.state.PosState.{PosState}
-use Rattle.htl_smach.specs.declared.state.PosState.TheVariants.{Pending}
-use Rattle.htl_model.specs.Ranges.{AreInRange}
-use Rattle.htl_model.specs.FrameRules.{KeptApart}
 use Rattle.htl_walk.specs.Feasible.{AreFeasible}
-use Rattle.htl_refine.specs.Records.{AreTookWithin, took}
-use Rattle.htl_emach.specs.Contents.{Content}
 use Rattle.htl_machine.specs.Values.{ValuesFollow}
-use Rattle.htl_refine.specs.RecordCounts.{count_left_before}
-use Rattle.htl_refine.specs.ListPlans.{ListPlan as Plan, list_walk}
 use Rattle.htl_machine.specs.ListTurns.{Turn}
 use Rattle.htl_machine.specs.Plans.{finished_before}
 use Rattle.htl_machine.specs.Turns.{position_from}

@@ -1,17 +1,10 @@
 -- Who stands at the positions of a frame so far.
 use Rattle.std.specs.Prelude.{◌≡◌, ℕ, ◌+◌, ◌-◌, ◌*◌, ◌/◌, ◌≤◌, ◌<◌, List, take, slice_get, Option, Some}
-use Rattle.htl_model.specs.declared.event.Event.{Event}
+use Rattle.htl_machine.specs.Common.{Event, Inv, Stay, KeptApart, state, AreInRange, Tables, window_end, frame_modes, frame_places, frame_jobs}
 use Rattle.htl_model.specs.declared.frame.Place.{Place}
-use Rattle.htl_model.specs.declared.parts.Inv.{Inv}
-use Rattle.htl_model.specs.declared.state.Stay.{Stay}
-use Rattle.htl_model.specs.FrameRules.{KeptApart}
 use Rattle.htl_model.specs.Frames.{frame_of, known_by}
-use Rattle.htl_model.specs.Meaning.{state}
-use Rattle.htl_model.specs.Ranges.{AreInRange}
-use Rattle.htl_model.specs.Tables.{Tables, window_end}
 use Rattle.htl_walk.specs.PathJobs.{placed_jobs}
 use Rattle.htl_refine.specs.FramePlaces.{place, standing_places, AreOrdered}
-use Rattle.htl_refine.specs.FrameRuns.{frame_modes, frame_places, frame_jobs}
 use Rattle.htl_machine.specs.JobsSoFar.{AreJobsSoFar}
 use Rattle.htl_machine.specs.Values.{InvStands}
 

@@ -1,14 +1,6 @@
 -- From instant to instant: the frame that runs, the jobs that are finished, and what its records do.
 use Rattle.std.specs.Prelude.{◌≡◌, ℕ, zero, suc, ◌-◌, ◌≤◌, ◌⊎◌, Bool, false, List, slice_get, Some}
-use Rattle.htl_model.specs.declared.event.Event.{Event}
-use Rattle.htl_model.specs.Tables.{Tables}
-use Rattle.htl_model.specs.Ranges.{AreInRange}
-use Rattle.htl_model.specs.FrameRules.{KeptApart}
-use Rattle.htl_model.specs.Meaning.{sense, state, before}
-use Rattle.htl_walk.specs.declared.job.Job.{Job}
-use Rattle.htl_walk.specs.Walk.{Left}
-use Rattle.htl_emach.specs.Contents.{Content}
-use Rattle.htl_refine.specs.RecordCounts.{count_left_before, done_by}
+use Rattle.htl_machine.specs.Common.{Event, Tables, AreInRange, KeptApart, sense, state, before, Job, Left, Content, count_left_before, done_by}
 use Rattle.htl_refine.specs.ServedSoFar.{IsServedSoFar}
 use Rattle.htl_machine.specs.JobsSoFar.{AreJobsSoFar}
 use Rattle.htl_machine.specs.Completing.{run_records}

@@ -1,12 +1,6 @@
 -- How the machine stands as an instant begins, and what it owes once the instant is done.
 use Rattle.std.specs.Prelude.{◌≡◌, ◌≤◌, ℕ, ◌-◌, true, List, length}
-use Rattle.htl_model.specs.declared.event.Event.{Event}
-use Rattle.htl_model.specs.Lists.{joined}
-use Rattle.htl_model.specs.Frames.{hyper}
-use Rattle.htl_walk.specs.declared.schedule.SInstr.{SInstr}
-use Rattle.htl_smach.specs.Rounds.{Round, Stands, IsInForm, IsTold}
-use Rattle.htl_emach.specs.Contents.{Content}
-use Rattle.htl_refine.specs.ListPlans.{ListPlan as Plan}
+use Rattle.htl_machine.specs.Common.{Event, joined, hyper, SInstr, Round, Stands, IsInForm, IsTold, Content, Plan}
 use Rattle.htl_machine.specs.Calls.{Seen}
 use Rattle.htl_machine.specs.Follows.{SMachineAt}
 use Rattle.htl_machine.specs.Leaving.{due_by}

@@ -1,21 +1,8 @@
 -- A run's text as lines of their kinds, and the job lines that its records owe.
 use Rattle.std.specs.Prelude.{◌≡◌, ℕ, suc, ◌*◌, ◌/◌, Bool, true, false, cond, eqb, ◌||◌, List, [], ◌∷◌, ◌++◌, All, Option, Some, None}
-use Rattle.std.specs.List.{filter}
+use Rattle.htl_machine.specs.Common.{filter, Event, Line, joined, up_to, hyper, Tables, Job, SInstr, Left, EInstr, RunningList, lists_at, left_in, begun_before, begins_at, frame_at, rounds_before, slice_line, done_line, instr_line, step_line}
 use Rattle.htl_base.specs.Names.{is_name}
-use Rattle.htl_model.specs.declared.event.Event.{Event}
-use Rattle.htl_model.specs.declared.line.Line.{Line}
 use Rattle.htl_model.specs.Lines.{line_text, totals_line}
-use Rattle.htl_model.specs.Lists.{joined, up_to}
-use Rattle.htl_model.specs.Frames.{hyper}
-use Rattle.htl_model.specs.Tables.{Tables}
-use Rattle.htl_walk.specs.declared.job.Job.{Job}
-use Rattle.htl_walk.specs.declared.schedule.SInstr.{SInstr}
-use Rattle.htl_walk.specs.Walk.{Left}
-use Rattle.htl_ecode.specs.declared.instr.EInstr.{EInstr}
-use Rattle.htl_refine.specs.FrameRecords.{RunningList, lists_at, left_in, begun_before, begins_at}
-use Rattle.htl_refine.specs.FrameRuns.{frame_at}
-use Rattle.htl_refine.specs.Records.{rounds_before}
-use Rattle.htl_console.specs.Lines.{slice_line, done_line, instr_line, step_line}
 use Rattle.htl_machine.specs.Texts.{inv_at}
 
 -- a line of a run's text: a slice of an invocation's job, a job that is done, an E instruction, a value or mode that changed, an

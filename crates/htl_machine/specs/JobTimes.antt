@@ -1,13 +1,8 @@
 -- What the job lines of a run show of one job of one round.
 use Rattle.std.specs.Prelude.{◌≡◌, ◌≤◌, ℕ, ◌+◌, ◌*◌, Bool, true, cond, ◌&&◌, eqb, ltb, leb, List, [], ◌∷◌, get_or, slice_get, Some, None}
-use Rattle.htl_model.specs.declared.event.Event.{Event}
+use Rattle.htl_machine.specs.Common.{Event, joined, Tables, mode_period, Job, SInstr, frame_modes, frame_places, frame_at}
 use Rattle.htl_model.specs.Frames.{frame_of, no_place}
-use Rattle.htl_model.specs.Lists.{joined}
-use Rattle.htl_model.specs.Tables.{Tables, mode_period}
-use Rattle.htl_walk.specs.declared.job.Job.{Job}
-use Rattle.htl_walk.specs.declared.schedule.SInstr.{SInstr}
 use Rattle.htl_walk.specs.Walk.{AllWithin}
-use Rattle.htl_refine.specs.FrameRuns.{frame_modes, frame_places, frame_at}
 use Rattle.htl_refine.specs.ServedJobs.{spent}
 use Rattle.htl_machine.specs.JobLines.{RunLine}
 use Rattle.htl_machine.specs.JobLines.RunLine.{SliceLine, DoneLine}

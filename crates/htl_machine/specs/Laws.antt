@@ -1,21 +1,9 @@
 -- The laws of a run, over definitions alone.
 use Rattle.std.specs.Prelude.{◌≡◌, ◌≤◌, ◌<◌, ℕ, true, List, [], ◌∷◌, ◌++◌, length, map}
-use Rattle.std.specs.List.{filter}
-use Rattle.htl_model.specs.declared.event.Event.{Event}
+use Rattle.htl_machine.specs.Common.{filter, Event, lines_text, up_to, sense, value_lines, frame_of, root_modules, Object, IsAccepted, AreTookWithin, Shown, shows_jobs, frame_at}
 use Rattle.htl_model.specs.declared.event.Event.TheVariants as V
-use Rattle.htl_model.specs.Lines.{lines_text}
-use Rattle.htl_model.specs.Lists.{up_to}
-use Rattle.htl_model.specs.Meaning.{sense, value_lines}
-use Rattle.htl_model.specs.Frames.{frame_of}
-use Rattle.htl_model.specs.Selections.{root_modules}
-use Rattle.htl_object.specs.declared.object.Object.{Object}
-use Rattle.htl_object.specs.Accepted.{IsAccepted}
-use Rattle.htl_refine.specs.Records.{AreTookWithin}
-use Rattle.htl_console.specs.declared.shown.Shown.{Shown}
 use Rattle.htl_console.specs.declared.shown.Shown.TheVariants.{Values}
-use Rattle.htl_console.specs.Shows.{shows_jobs}
 use Rattle.htl_machine.specs.Follows.{reading_of, IsLoaded}
-use Rattle.htl_refine.specs.FrameRuns.{frame_at}
 use Rattle.htl_refine.specs.ServedJobs.{AllServed}
 use Rattle.htl_machine.specs.JobLines.{printed, job_lines_to, ShowsJobs, begins_as_job, text_lines, HasNames}
 use Rattle.htl_machine.specs.JobTimes.{AllToldInTime}

@@ -1,9 +1,6 @@
 -- The S machine while the records of an instant are left.
 use Rattle.std.specs.Prelude.{◌≡◌, ◌≤◌, ℕ, suc, ◌-◌, List}
-use Rattle.htl_walk.specs.declared.schedule.SInstr.{SInstr}
-use Rattle.htl_smach.specs.Rounds.{Round}
-use Rattle.htl_refine.specs.RecordCounts.{count_left_before}
-use Rattle.htl_refine.specs.ListPlans.{ListPlan as Plan, list_walk}
+use Rattle.htl_machine.specs.Common.{SInstr, Round, count_left_before, Plan, list_walk}
 use Rattle.htl_machine.specs.Follows.{SMachineAt}
 
 -- the records of the list that are left at an instant or before, as a number

@@ -47,3 +47,4 @@ pub mod Asking
 pub mod Marks
 pub mod Noting
 pub mod Waiting
+mod Common

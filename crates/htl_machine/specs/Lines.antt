@@ -1,23 +1,6 @@
 -- The lines of a run, instant by instant, and its totals.
 use Rattle.std.specs.Prelude.{ℕ, suc, ◌*◌, ◌/◌, Bool, cond, List, [], ◌++◌, length, slice_get, count_by, Option, Some, None}
-use Rattle.std.specs.List.{filter}
-use Rattle.htl_model.specs.declared.event.Event.{Event}
-use Rattle.htl_model.specs.Lines.{lines_text, totals_line}
-use Rattle.htl_model.specs.Lists.{joined, up_to}
-use Rattle.htl_model.specs.Meaning.{value_lines}
-use Rattle.htl_model.specs.Frames.{hyper}
-use Rattle.htl_model.specs.Tables.{Tables}
-use Rattle.htl_walk.specs.declared.job.Job.{Job}
-use Rattle.htl_walk.specs.declared.schedule.SInstr.{SInstr}
-use Rattle.htl_walk.specs.Walk.{Left}
-use Rattle.htl_ecode.specs.declared.ecode.ECode.{ECode}
-use Rattle.htl_ecode.specs.Paths.{e_path}
-use Rattle.htl_refine.specs.FrameRecords.{RunningList, lists_at, left_in, begun_before, begins_at, records}
-use Rattle.htl_refine.specs.FrameRuns.{frame_at}
-use Rattle.htl_refine.specs.Records.{rounds_before}
-use Rattle.htl_console.specs.declared.shown.Shown.{Shown}
-use Rattle.htl_console.specs.Shows.{shows_values, shows_jobs, shows_code}
-use Rattle.htl_console.specs.Lines.{done_line, step_line}
+use Rattle.htl_machine.specs.Common.{filter, Event, lines_text, totals_line, joined, up_to, value_lines, hyper, Tables, Job, SInstr, Left, ECode, e_path, RunningList, lists_at, left_in, begun_before, begins_at, records, frame_at, rounds_before, Shown, shows_values, shows_jobs, shows_code, done_line, step_line}
 use Rattle.htl_machine.specs.Texts.{inv_at, slice_lines, e_line, capped}
 
 -- lines that are shown or left out

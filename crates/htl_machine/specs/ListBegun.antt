@@ -1,15 +1,7 @@
 -- The S machine as a list of a run begins.
 use Rattle.std.specs.Prelude.{◌≡◌, ◌≤◌, ◌<◌, ℕ, ◌+◌, ◌-◌, ◌%◌, pred, cond, eqb, List, length, get_or, Option}
-use Rattle.htl_model.specs.declared.event.Event.{Event}
-use Rattle.htl_model.specs.Frames.{frame_of}
-use Rattle.htl_model.specs.Tables.{Tables}
-use Rattle.htl_walk.specs.declared.schedule.SInstr.{SInstr}
-use Rattle.htl_walk.specs.Refinement.{HaveLengths, AreWithinWorst}
-use Rattle.htl_smach.specs.Adding.{CanBegin}
+use Rattle.htl_machine.specs.Common.{Event, frame_of, Tables, SInstr, HaveLengths, AreWithinWorst, CanBegin, new_jobs, modes_at, took, IsFeasibleRun}
 use Rattle.htl_smach.specs.Rounds.{Round, round_begun, added}
-use Rattle.htl_refine.specs.BegunJobs.{new_jobs}
-use Rattle.htl_refine.specs.Records.{modes_at, took}
-use Rattle.htl_refine.specs.ServedFrames.{IsFeasibleRun}
 use Rattle.htl_machine.specs.Follows.{SMachineAt}
 use Rattle.htl_machine.specs.RunLists.{list_turn}
 use Rattle.htl_machine.specs.Starting.{kept_lengths}

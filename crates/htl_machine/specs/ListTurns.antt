@@ -1,11 +1,8 @@
 -- The list that stands at an instant: of which frame and node it is, what the processor knows in it, and what the lists before it left.
 use Rattle.std.specs.Prelude.{◌≡◌, ◌<◌, ◌≤◌, ◌⊎◌, ℕ, suc, ◌+◌, ◌-◌, Bool, true, List, ◌++◌, length, take, get_or}
-use Rattle.htl_model.specs.declared.event.Event.{Event}
-use Rattle.htl_model.specs.Tables.{Tables}
-use Rattle.htl_walk.specs.Refinement.{HaveLengths, AreWithinWorst}
+use Rattle.htl_machine.specs.Common.{Event, Tables, HaveLengths, AreWithinWorst, count_left_before, done_by}
 use Rattle.htl_walk.specs.Walk.{Left, InForm, job_at, last_point}
 use Rattle.htl_refine.specs.ListPlans.{ListPlan, list_walk}
-use Rattle.htl_refine.specs.RecordCounts.{count_left_before, done_by}
 use Rattle.htl_machine.specs.FramesGoOn.{AreFrames}
 use Rattle.htl_machine.specs.Turns.{finished_in}
 

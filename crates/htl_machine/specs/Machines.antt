@@ -1,11 +1,7 @@
 -- What a machine owes with each call: what it follows, and what it wrote.
 use Rattle.std.specs.Prelude.{◌≡◌, ℕ, List}
-use Rattle.htl_model.specs.declared.event.Event.{Event}
-use Rattle.htl_model.specs.Tables.{Tables}
-use Rattle.htl_walk.specs.declared.schedule.SInstr.{SInstr}
-use Rattle.htl_ecode.specs.declared.ecode.ECode.{ECode}
+use Rattle.htl_machine.specs.Common.{Event, Tables, SInstr, ECode, Shown}
 use Rattle.htl_machine.specs.Follows.{RunState, UpTo, RunStateFollows}
-use Rattle.htl_console.specs.declared.shown.Shown.{Shown}
 use Rattle.htl_machine.specs.Texts.{listed_text_before, TotalsFollow}
 
 -- the numbers that a machine counts

@@ -1,13 +1,6 @@
 -- Where a list begins, and which: by the list before it and the modes at that instant.
 use Rattle.std.specs.Prelude.{◌≡◌, ℕ, suc, ◌+◌, ◌*◌, ◌%◌, pred, cond, eqb, List, drop, Option}
-use Rattle.htl_model.specs.declared.event.Event.{Event}
-use Rattle.htl_model.specs.Frames.{frame_of, starts}
-use Rattle.htl_model.specs.Tables.{Tables}
-use Rattle.htl_walk.specs.declared.schedule.SInstr.{SInstr}
-use Rattle.htl_refine.specs.BegunJobs.{choice_of}
-use Rattle.htl_refine.specs.FrameRuns.{nodes_below}
-use Rattle.htl_refine.specs.Records.{modes_at}
-use Rattle.htl_refine.specs.ServedFrames.{IsFeasibleRun}
+use Rattle.htl_machine.specs.Common.{Event, frame_of, starts, Tables, SInstr, choice_of, nodes_below, modes_at, IsFeasibleRun}
 use Rattle.htl_machine.specs.RunLists.{list_turn}
 use Rattle.htl_machine.specs.Timing.{some_round_begins}
 

@@ -1,12 +1,8 @@
 -- The S machine where the next list of a frame begins.
 use Rattle.std.specs.Prelude.{ℕ, suc, ◌+◌, ◌-◌, List, [], length, take, drop, get_or}
-use Rattle.htl_walk.specs.declared.job.Job.{Job}
-use Rattle.htl_walk.specs.Refinement.{HaveLengths, AreWithinWorst}
-use Rattle.htl_smach.specs.Adding.{CanBegin}
-use Rattle.htl_smach.specs.Rounds.{Round, added}
+use Rattle.htl_machine.specs.Common.{Job, HaveLengths, AreWithinWorst, CanBegin, Round, added, leg_at, list_plan}
 use Rattle.htl_refine.specs.FrameRuns.{Frame}
 use Rattle.htl_refine.specs.ListLaws.{IsFollowed}
-use Rattle.htl_refine.specs.ListPlans.{leg_at, list_plan}
 use Rattle.htl_machine.specs.Follows.{SMachineAt}
 
 -- the positions that are new in list j + 1, and how long they take

@@ -1,10 +1,6 @@
 -- How the code keeps where a run stands in its frame: the numbers of the frame, and the jobs that it has so far.
 use Rattle.std.specs.Prelude.{◌≡◌, ◌≤◌, ◌<◌, ◌*◌, ℕ, suc, true, List, Option, Some, drop, get_or, length, take}
-use Rattle.htl_model.specs.Frames.{frame_of, starts}
-use Rattle.htl_model.specs.Tables.{Tables}
-use Rattle.htl_walk.specs.declared.job.Job.{Job}
-use Rattle.htl_refine.specs.BegunJobs.{choice_of, new_jobs}
-use Rattle.htl_refine.specs.FrameRuns.{nodes_below}
+use Rattle.htl_machine.specs.Common.{frame_of, starts, Tables, Job, choice_of, new_jobs, nodes_below}
 use Rattle.htl_machine.specs.declared.numbering.ListAt.{ListAt}
 use Rattle.htl_machine.specs.declared.numbering.Numbering.{Numbering}
 use Rattle.htl_machine.specs.declared.path.Path.{Path}

@@ -1,24 +1,10 @@
 -- The two parts of an instant: records, writes and sensors; switches, reads, what changed, and the first records of a list that begins.
 use Rattle.std.specs.Prelude.{◌≡◌, ◌≤◌, ◌-◌, ◌++◌, ℕ, cond, List, [], length, Option, ℤ}
-use Rattle.std.specs.declared.result.Result.{Result}
-use Rattle.htl_edge.specs.Content.{Puts}
-use Rattle.htl_model.specs.declared.event.Event.{Event}
-use Rattle.htl_model.specs.Lists.{joined}
-use Rattle.htl_model.specs.Lines.{lines_text}
-use Rattle.htl_model.specs.Meaning.{value_lines}
-use Rattle.htl_model.specs.Tables.{Tables}
-use Rattle.htl_walk.specs.declared.schedule.SInstr.{SInstr}
+use Rattle.htl_machine.specs.Common.{Result, Puts, Event, joined, lines_text, value_lines, Tables, SInstr, Round, ECode, Content, phase_path, Shown, shows_values, Plan}
 use Rattle.htl_smach.specs.declared.left.Left.{Left}
-use Rattle.htl_smach.specs.Rounds.{Round}
-use Rattle.htl_ecode.specs.declared.ecode.ECode.{ECode}
-use Rattle.htl_emach.specs.Contents.{Content}
-use Rattle.htl_emach.specs.Following.{phase_path}
 use Rattle.htl_machine.specs.Running.{replay}
-use Rattle.htl_console.specs.declared.shown.Shown.{Shown}
-use Rattle.htl_console.specs.Shows.{shows_values}
 use Rattle.htl_machine.specs.declared.tally.Tally.{Tally}
 use Rattle.htl_machine.specs.Counts.{with_records, with_instrs}
-use Rattle.htl_refine.specs.ListPlans.{ListPlan as Plan}
 use Rattle.htl_machine.specs.Follows.{SMachineAt}
 use Rattle.htl_machine.specs.Leaving.{due_by}
 use Rattle.htl_machine.specs.Recording.{Records}

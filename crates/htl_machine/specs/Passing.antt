@@ -1,8 +1,6 @@
 -- The machine while it goes from instant to instant.
 use Rattle.std.specs.Prelude.{◌≡◌, ◌≤◌, ℕ, List, Option}
-use Rattle.std.specs.Io.KnownBytes.{append_known}
-use Rattle.htl_model.specs.declared.event.Event.{Event}
-use Rattle.htl_object.specs.Accepted.{IsAccepted}
+use Rattle.htl_machine.specs.Common.{append_known, Event, IsAccepted}
 use Rattle.htl_machine.specs.Calls.{Seen, IsUpTo, IsSameRun, text_between}
 use Rattle.htl_machine.specs.Quiet.{AreQuiet}
 

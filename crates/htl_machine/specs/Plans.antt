@@ -1,9 +1,6 @@
 -- The lists of the processor, and what their records do to the world.
 use Rattle.std.specs.Prelude.{ℕ, zero, suc, ◌-◌, Bool, false, List}
-use Rattle.htl_model.specs.declared.event.Event.{Event}
-use Rattle.htl_model.specs.Tables.{Tables}
-use Rattle.htl_model.specs.Meaning.{sense, state, before}
-use Rattle.htl_emach.specs.Contents.{Content}
+use Rattle.htl_machine.specs.Common.{Event, Tables, sense, state, before, Content}
 use Rattle.htl_machine.specs.Completing.{run_records}
 use Rattle.htl_machine.specs.ListTurns.{Turn, turn_walk, left_before, turn_finished_by}
 use Rattle.htl_machine.specs.Worlds.{world_after}

@@ -1,16 +1,8 @@
 -- What is written and counted while the records of an instant are left.
 use Rattle.std.specs.Prelude.{◌≡◌, ◌≤◌, ℕ, ◌-◌, List, Option}
-use Rattle.std.specs.declared.result.Result.{Result}
-use Rattle.std.specs.Io.KnownBytes.{append_known}
-use Rattle.htl_edge.specs.Content.{Puts}
-use Rattle.htl_model.specs.Lists.{joined}
-use Rattle.htl_model.specs.Tables.{Tables}
-use Rattle.htl_walk.specs.declared.schedule.SInstr.{SInstr}
-use Rattle.htl_smach.specs.Rounds.{Round}
-use Rattle.htl_console.specs.declared.shown.Shown.{Shown}
+use Rattle.htl_machine.specs.Common.{Result, append_known, Puts, joined, Tables, SInstr, Round, Shown, Plan}
 use Rattle.htl_machine.specs.declared.tally.Tally.{Tally}
 use Rattle.htl_machine.specs.Counts.{with_records}
-use Rattle.htl_refine.specs.ListPlans.{ListPlan as Plan}
 use Rattle.htl_machine.specs.Follows.{SMachineAt}
 use Rattle.htl_machine.specs.Leaving.{due_by}
 use Rattle.htl_machine.specs.Texts.{record_text, some_records}

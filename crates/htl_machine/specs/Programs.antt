@@ -1,10 +1,5 @@
 -- What an object tells of its runs.
-use Rattle.std.specs.Prelude.{ℕ, List, map}
-use Rattle.htl_model.specs.declared.event.Event.{Event}
-use Rattle.htl_object.specs.declared.object.Object.{Object}
-use Rattle.htl_walk.specs.declared.schedule.SInstr.{SInstr}
-use Rattle.htl_walk.specs.declared.schedule.Schedule.{Schedule}
-use Rattle.htl_console.specs.declared.shown.Shown.{Shown}
+use Rattle.htl_machine.specs.Common.{ℕ, List, map, Event, Object, SInstr, Schedule, Shown}
 use Rattle.htl_machine.specs.Lines.{lines, text_before, run_text}
 
 -- the instructions of its schedules, by node

@@ -1,13 +1,7 @@
 -- The S machine while the read phase of an instant is done: its releases make jobs ready.
 use Rattle.std.specs.Prelude.{ℕ, true, List, [], ◌∷◌, slice_get, set, Option, Some, None}
-use Rattle.htl_smach.specs.declared.state.PosState.{PosState}
-use Rattle.htl_smach.specs.declared.state.PosState.TheVariants.{Pending}
-use Rattle.htl_smach.specs.Rounds.{Round, state_of}
-use Rattle.htl_ecode.specs.declared.ecode.ECode.{ECode}
-use Rattle.htl_ecode.specs.declared.instr.EInstr.{EInstr}
+use Rattle.htl_machine.specs.Common.{PosState, Pending, Round, state_of, ECode, EInstr, Want, Does, Done}
 use Rattle.htl_ecode.specs.declared.instr.EInstr.TheVariants as I
-use Rattle.htl_ecode.specs.Chains.{Want, Does}
-use Rattle.htl_ecode.specs.Paths.{Done}
 use Rattle.htl_machine.specs.Turns.{position_from}
 
 -- a position is made ready, where it is pending

@@ -1,12 +1,7 @@
 -- The lines of one record of a list.
 use Rattle.std.specs.Prelude.{ℕ, cond, List, [], ◌++◌, slice_get, Some, None}
-use Rattle.htl_model.specs.Tables.{Tables}
-use Rattle.htl_walk.specs.declared.job.Job.{Job}
-use Rattle.htl_walk.specs.declared.schedule.SInstr.{SInstr}
+use Rattle.htl_machine.specs.Common.{Tables, Job, SInstr, Shown, shows_jobs, shows_code, done_line, step_line}
 use Rattle.htl_smach.specs.declared.left.Left.{Left}
-use Rattle.htl_console.specs.declared.shown.Shown.{Shown}
-use Rattle.htl_console.specs.Shows.{shows_jobs, shows_code}
-use Rattle.htl_console.specs.Lines.{done_line, step_line}
 use Rattle.htl_machine.specs.Texts.{inv_at, slice_lines}
 
 -- its slice, and whether it did the last work of its job

@@ -1,13 +1,6 @@
 -- The world and the S machine while the records of an instant are left.
 use Rattle.std.specs.Prelude.{◌≡◌, ◌≤◌, ◌<◌, ℕ, ◌-◌, true, List, length, slice_get, IfSome, Some}
-use Rattle.htl_model.specs.Tables.{Tables, is_concrete}
-use Rattle.htl_walk.specs.declared.job.Job.{Job}
-use Rattle.htl_walk.specs.declared.schedule.SInstr.{SInstr}
-use Rattle.htl_walk.specs.Walk.{job_at}
-use Rattle.htl_smach.specs.Rounds.{Round, Stands, IsInForm, IsTold}
-use Rattle.htl_emach.specs.Contents.{Content}
-use Rattle.htl_emach.specs.Shapes.{IsShaped}
-use Rattle.htl_refine.specs.ListPlans.{ListPlan as Plan, list_walk}
+use Rattle.htl_machine.specs.Common.{Tables, is_concrete, Job, SInstr, job_at, Round, Stands, IsInForm, IsTold, Content, IsShaped, Plan, list_walk}
 use Rattle.htl_machine.specs.Completing.{run_records}
 use Rattle.htl_machine.specs.Follows.{SMachineAt}
 use Rattle.htl_machine.specs.Leaving.{due_by}

@@ -1,12 +1,6 @@
 -- A run, frame by frame.
 use Rattle.std.specs.Prelude.{ℕ, suc, ◌*◌, ◌<◌, List, take}
-use Rattle.htl_model.specs.declared.event.Event.{Event}
-use Rattle.htl_model.specs.FrameRules.{KeptApart}
-use Rattle.htl_model.specs.Frames.{frame_of}
-use Rattle.htl_model.specs.Ranges.{AreInRange}
-use Rattle.htl_model.specs.Tables.{Tables}
-use Rattle.htl_walk.specs.declared.schedule.SInstr.{SInstr}
-use Rattle.htl_emach.specs.Contents.{Content}
+use Rattle.htl_machine.specs.Common.{Event, KeptApart, frame_of, AreInRange, Tables, SInstr, Content}
 use Rattle.htl_refine.specs.FrameRuns.{frame_modes, frame_jobs, frame_at, walk_of}
 use Rattle.htl_refine.specs.ServedFrames.{IsServing, IsFeasibleRun}
 use Rattle.htl_machine.specs.FramePlacing.{frame_start, begun_by}

@@ -1,13 +1,9 @@
 -- A run, list by list: the list of its frame that stands at an instant.
 use Rattle.std.specs.Prelude.{ℕ, suc, ◌-◌, cond, leb, pred, List, [], ◌∷◌, take, Option, Some, None}
-use Rattle.htl_model.specs.declared.event.Event.{Event}
+use Rattle.htl_machine.specs.Common.{Event, Tables, SInstr, leg_at, list_plan, IsFeasibleRun}
 use Rattle.htl_model.specs.Frames.{hyper, starts, node}
-use Rattle.htl_model.specs.Tables.{Tables}
-use Rattle.htl_walk.specs.declared.schedule.SInstr.{SInstr}
 use Rattle.htl_walk.specs.Paths.{end_to_end}
 use Rattle.htl_refine.specs.FrameRuns.{frame_modes, path_of, frame_at, walks_of}
-use Rattle.htl_refine.specs.ListPlans.{leg_at, list_plan}
-use Rattle.htl_refine.specs.ServedFrames.{IsFeasibleRun}
 use Rattle.htl_machine.specs.FramePlacing.{frame_start}
 use Rattle.htl_machine.specs.ListTurns.{Turn, AreTurns, AreListed}
 

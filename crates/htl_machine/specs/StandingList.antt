@@ -1,8 +1,5 @@
 -- The list that stands, as the code keeps it, and the one that comes after it.
-use Rattle.std.specs.Prelude.{ℕ, List, [], get_or, Option, Some, None}
-use Rattle.htl_model.specs.Tables.{Tables}
-use Rattle.htl_walk.specs.declared.schedule.SInstr.{SInstr}
-use Rattle.htl_walk.specs.declared.schedule.Schedule.{Schedule}
+use Rattle.htl_machine.specs.Common.{ℕ, List, [], get_or, Option, Some, None, Tables, SInstr, Schedule}
 use Rattle.htl_machine.specs.declared.numbering.ListAt.{ListAt}
 use Rattle.htl_machine.specs.ListTurns.{Turn}
 use Rattle.htl_machine.specs.NextLists.{next_list, next_node}

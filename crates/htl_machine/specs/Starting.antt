@@ -1,8 +1,5 @@
 -- What a list that begins is given: how long its jobs take, and the instructions of its node.
-use Rattle.std.specs.Prelude.{ℕ, List, get_or, map}
-use Rattle.htl_walk.specs.declared.job.Job.{Job}
-use Rattle.htl_walk.specs.declared.schedule.SInstr.{SInstr}
-use Rattle.htl_walk.specs.declared.schedule.Schedule.{Schedule}
+use Rattle.htl_machine.specs.Common.{ℕ, List, get_or, map, Job, SInstr, Schedule}
 
 -- how long the jobs take, by what is kept of each invocation
 abbrev pub kept_lengths : List ℕ → List Job → List ℕ

@@ -1,23 +1,9 @@
 -- The text of a run: at each instant the records of the list before, the E instructions, the values and modes, and the records
 -- of the list that begins.
 use Rattle.std.specs.Prelude.{◌≡◌, ℕ, zero, suc, ◌+◌, ◌-◌, ◌^◌, cond, eqb, min, List, [], ◌++◌, length, take, drop, slice_get, count_by, Option, Some, None}
-use Rattle.htl_model.specs.declared.event.Event.{Event}
-use Rattle.htl_model.specs.Lines.{lines_text}
-use Rattle.htl_model.specs.Lists.{joined, up_to}
-use Rattle.htl_model.specs.Frames.{hyper}
-use Rattle.htl_model.specs.Tables.{Tables}
-use Rattle.htl_model.specs.Meaning.{value_lines}
-use Rattle.htl_walk.specs.declared.job.Job.{Job}
-use Rattle.htl_walk.specs.declared.schedule.SInstr.{SInstr}
-use Rattle.htl_walk.specs.Walk.{job_at}
+use Rattle.htl_machine.specs.Common.{Event, lines_text, joined, up_to, hyper, Tables, value_lines, Job, SInstr, job_at, ECode, Done, e_path, Plan, list_walk, Shown, shows_values, shows_jobs, shows_code, slice_line, done_line, step_line, instr_line}
 use Rattle.htl_smach.specs.declared.left.Left.{Left}
 use Rattle.htl_smach.specs.Rounds.{told_from}
-use Rattle.htl_ecode.specs.declared.ecode.ECode.{ECode}
-use Rattle.htl_ecode.specs.Paths.{Done, e_path}
-use Rattle.htl_refine.specs.ListPlans.{ListPlan as Plan, list_walk}
-use Rattle.htl_console.specs.declared.shown.Shown.{Shown}
-use Rattle.htl_console.specs.Shows.{shows_values, shows_jobs, shows_code}
-use Rattle.htl_console.specs.Lines.{slice_line, done_line, step_line, instr_line}
 use Rattle.htl_machine.specs.ListTurns.{Turn, left_before}
 use Rattle.htl_machine.specs.RunLists.{turn_at}
 

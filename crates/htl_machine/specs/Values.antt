@@ -1,10 +1,8 @@
 -- When values and buffers follow the meaning of tables and events.
 use Rattle.std.specs.Prelude.{◌≡◌, ℕ, zero, suc, ◌+◌, ◌*◌, ◌<◌, Bool, true, false, ◌||◌, eqb, List, [], length, get_or, slice_get, map, Some, ℤ, Option}
-use Rattle.htl_model.specs.declared.event.Event.{Event}
-use Rattle.htl_model.specs.declared.parts.Inv.{Inv}
+use Rattle.htl_machine.specs.Common.{Event, Inv, Stay}
 use Rattle.htl_model.specs.declared.parts.End.{End}
 use Rattle.htl_model.specs.declared.parts.End.TheVariants as E
-use Rattle.htl_model.specs.declared.state.Stay.{Stay}
 use Rattle.htl_model.specs.Tables.{Tables, comm_period, mode_module, is_concrete}
 use Rattle.htl_emach.specs.Contents.{Content, buffer}
 use Rattle.htl_model.specs.Meaning.{state, before, stay_of, val, out, writer_from}

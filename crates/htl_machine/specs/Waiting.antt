@@ -1,7 +1,6 @@
 -- The sensors that wait for an instance at which they take what they are shown.
 use Rattle.std.specs.Prelude.{◌≡◌, ◌%◌, ◌&&◌, ℕ, Bool, true, false, eqb, List, get_or, slice_get, Some, ℤ, pos}
-use Rattle.htl_model.specs.declared.parts.Comm.{Comm}
-use Rattle.htl_model.specs.Tables.{Tables}
+use Rattle.htl_machine.specs.Common.{Comm, Tables}
 use Rattle.htl_machine.specs.Marks.{is_marked}
 use Rattle.htl_machine.specs.declared.sensors.Sensors.{Sensors}
 

@@ -1,22 +1,12 @@
 -- The whole machine before an instant: the E machine's triggers beside what the machine holds, counted and wrote.
 use Rattle.std.specs.Prelude.{◌≡◌, ℕ, List, [], None}
-use Rattle.htl_model.specs.declared.event.Event.{Event}
-use Rattle.htl_model.specs.Tables.{Tables}
-use Rattle.htl_model.specs.Meaning.{sense}
-use Rattle.htl_walk.specs.declared.schedule.SInstr.{SInstr}
-use Rattle.htl_ecode.specs.declared.ecode.ECode.{ECode}
-use Rattle.htl_emach.specs.Calendars.{Standing}
-use Rattle.htl_emach.specs.Safety.{StandsSafely}
-use Rattle.htl_emach.specs.Shapes.{IsShaped}
-use Rattle.htl_emach.specs.Following.{Onward, phase_path}
+use Rattle.htl_machine.specs.Common.{Event, Tables, sense, SInstr, ECode, Standing, StandsSafely, IsShaped, Onward, phase_path, Content, Shown}
 use Rattle.htl_emach.specs.Following as machines
-use Rattle.htl_emach.specs.Contents.{Content}
 use Rattle.htl_machine.specs.Running.{replay}
 use Rattle.htl_machine.specs.Worlds.{with_sensors}
 use Rattle.htl_machine.specs.Plans.{with_records}
 use Rattle.htl_machine.specs.RunLists.{turn_at}
 use Rattle.htl_machine.specs.Follows.{RunState, RunStateFollows}
-use Rattle.htl_console.specs.declared.shown.Shown.{Shown}
 use Rattle.htl_machine.specs.Machines.{Counts, RunStands}
 
 pub record Whole (t : Tables) (code : ECode) (schedules : List (List SInstr)) (show : Shown) (es : List Event) (now : ℕ) (e : Standing) (m : RunState) (n : Counts) (written : List ℕ) : Type 0 where

@@ -1,12 +1,8 @@
 -- Values and buffers, and what E code and finished jobs do to them.
 use Rattle.std.specs.Prelude.{ℕ, ◌*◌, ◌-◌, ◌/◌, cond, List, [], ◌∷◌, length, get_or, slice_get, Option, Some, None, ℤ, pos}
-use Rattle.htl_model.specs.declared.parts.Comm.{Comm}
-use Rattle.htl_model.specs.declared.state.Stay.{Stay}
+use Rattle.htl_machine.specs.Common.{Comm, Stay, Tables, stay_of, Content, effect}
 use Rattle.htl_model.specs.Lists.{up_to, list_to}
-use Rattle.htl_model.specs.Tables.{Tables}
-use Rattle.htl_model.specs.Meaning.{stay_of}
 use Rattle.htl_ecode.specs.Chains.{Want, Does, block_chain}
-use Rattle.htl_emach.specs.Contents.{Content, effect}
 
 -- what the instructions that a chain requires do
 abbrev pub want_effect : Tables → Want → Content → Content

@@ -1,13 +1,6 @@
 -- Lists whose items differ, and the tests that find it.
 use Rattle.std.proofs.Common.{◌≡◌, ℕ, zero, suc, Bool, true, false, not, ◌&&◌, ◌||◌, eqb, eq-eqb, List, [], ◌∷◌, slice_get, Some, eqb-true, refl, sym, ◌∙◌, ap, arith}
-use Rattle.std.specs.List.{list_any}
-use Rattle.std.specs.Str.{bytes_eq}
-use Rattle.std.proofs.lemmas.Bool.Decides.{nat_tests}
-use Rattle.std.proofs.lemmas.Slice.Eq.{bytes_eq-Decides}
-use Rattle.htl_model.specs.Lists.{AreApart}
-use Rattle.htl_model.specs.Ranges.{are_different, are_different_owned, same_owned, are_different_pairs, same_pair, are_different_numbers}
-use Rattle.std.proofs.lemmas.Bool.{and_parts, not-true}
-use Rattle.htl_base.proofs.Tests.{or_second}
+use Rattle.htl_model.proofs.Words.{list_any, bytes_eq, nat_tests, bytes_eq-Decides, AreApart, are_different, are_different_owned, same_owned, are_different_pairs, same_pair, are_different_numbers, and_parts, not-true, or_second}
 
 pub apart_rest : {A : Type 0} (y : A) (xs : List A) → AreApart (y ∷ xs) → AreApart xs
 apart_rest y xs apart j k x less p q = apart (suc j) (suc k) x (omega (arith, less)) p q

@@ -1,11 +1,6 @@
 -- Rows of bits.
 use Rattle.std.proofs.Common.{◌≡◌, ◌≢◌, ◌<◌, ◌≤◌, ℕ, zero, suc, ◌*◌, ◌/◌, ◌%◌, ◌^◌, Bool, true, false, ◌||◌, eqb, max, replicate, refl, sym, ◌∙◌, ap, arith}
-use Rattle.std.specs.Int.{bit_at, w128}
-use Rattle.std.specs.Int.Bits.{bit_or}
-use Rattle.std.proofs.lemmas.Bool.Decides.{nat_tests}
-use Rattle.std.proofs.lemmas.Nat.Bits.{bit_at_or, bit_at-lt, bit_at-zero, bit_at-suc, bit_at_lowest, bit_at_set_same, bit_at_set_other}
-use Rattle.htl_model.specs.Bits.{has_bit, cell}
-use Rattle.htl_base.proofs.Places.{all_zero}
+use Rattle.htl_model.proofs.Words.{bit_at, w128, bit_or, nat_tests, bit_at_or, bit_at-lt, bit_at-zero, bit_at-suc, bit_at_lowest, bit_at_set_same, bit_at_set_other, has_bit, cell, all_zero}
 
 joined : (x y : ℕ) → x < 2 → y < 2 → eqb (max x y) 1 ≡ (eqb x 1 || eqb y 1)
 joined zero (suc (suc y)) p q = absurd (omega arith)

@@ -1,11 +1,6 @@
 -- The invocation that stands for another, step by step.
 use Rattle.std.proofs.Common.{◌≡◌, ◌≤◌, ◌<◌, ◌-◌, ℕ, zero, suc, true, false, cond, List, ◌∷◌, length, drop, drop-cons, get_or, replicate, Option, Some, None, refl, sym, ◌∙◌, ap, arith}
-use Rattle.std.specs.Prelude.{slice_get}
-use Rattle.std.proofs.lemmas.Option.{slice_get_within, slice_get-get_or}
-use Rattle.std.proofs.Math.Seq.{drop-length}
-use Rattle.htl_model.specs.declared.parts.Inv.{Inv}
-use Rattle.htl_model.specs.Tables.{Tables, is_concrete}
-use Rattle.htl_model.specs.Chosen.{itself_or, followed, child, child_from, chosen_in, is_child, AreChildrenFrom}
+use Rattle.htl_model.proofs.Words.{slice_get_within, slice_get-get_or, drop-length, Inv, Tables, is_concrete, itself_or, followed, child, child_from, chosen_in, is_child, AreChildrenFrom, slice_get}
 
 module _ (t : Tables) (modes : List (Option ℕ)) (k : ℕ) where
   pub chosen_past : (steps : ℕ) → length t.invs ≤ k → chosen_in steps t modes k ≡ None

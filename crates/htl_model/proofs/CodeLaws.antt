@@ -1,8 +1,6 @@
 -- Functions in memory are code where those of the tables are.
 use Rattle.std.proofs.Common.{zero, suc, List, [], ◌∷◌, map, All, arith}
-use Rattle.htl_model.specs.declared.function.Function.{Function}
-use Rattle.htl_model.specs.FunctionCode.{IsCode, HoldsCode}
-use Rattle.htl_model.specs.Tables.{fun_of}
+use Rattle.htl_model.proofs.Words.{Function, IsCode, HoldsCode, fun_of}
 
 pub code_held : (fs : List Function) → All IsCode (map fun_of fs) → All HoldsCode fs
 code_held [] h k d l = absurd (omega (arith, l))

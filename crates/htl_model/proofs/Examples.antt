@@ -1,8 +1,6 @@
 use Rattle.std.specs.Prelude.{◌≡◌, List, [], ◌∷◌, Some, None, pos, refl}
-use Rattle.htl_model.specs.declared.event.Event.{Event}
+use Rattle.htl_model.proofs.Words.{Event, v, m, run_lines, all_value_lines}
 use Rattle.htl_model.specs.declared.event.Event.TheVariants.{At, Sense, End}
-use Rattle.htl_model.specs.declared.line.Line.TheVariants.{ValueLine as v, ModeLine as m}
-use Rattle.htl_model.specs.Meaning.{run_lines, all_value_lines}
 use Rattle.htl_model.proofs.Sources.{empty_mode, doubling, preempted, refined, reentered, alternating, ports}
 
 abbrev two_readings : List Event

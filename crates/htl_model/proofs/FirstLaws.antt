@@ -1,8 +1,6 @@
 -- What a search along a list finds.
 use Rattle.std.proofs.Common.{◌≡◌, ℕ, zero, suc, ◌+◌, ◌<◌, ◌⊎◌, length, get_or, drop, drop-cons, add-one, List, [], ◌∷◌, Option, Some, None, refl, sym, ◌∙◌, ap, subst, arith, inl, inr}
-use Rattle.std.specs.Prelude.{slice_get}
-use Rattle.htl_model.specs.First.{or_else, first_from, first_to}
-use Rattle.htl_base.proofs.Numbers.{cases_below}
+use Rattle.htl_model.proofs.Words.{or_else, first_from, first_to, cases_below, slice_get}
 
 pub or_else_some : {A : Type 0} (a b : Option A) (y : A) → or_else a b ≡ Some y → (a ≡ Some y) ⊎ ((a ≡ None) × (b ≡ Some y))
 or_else_some (Some x) b y e = inl e

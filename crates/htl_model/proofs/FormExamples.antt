@@ -1,18 +1,8 @@
 -- Tables that break the rules on refinement, each with its numbers, and ones that just keep them.
 use Rattle.std.proofs.Common.{◌≡◌, ◌≢◌, ◌<◌, ◌⊎◌, ℕ, zero, suc, true, false, List, [], ◌∷◌, Option, Some, None, refl, sym, ap, ◌∙◌, subst, inl, inr, arith, codes}
-use Rattle.std.specs.Prelude.{pos, slice_get}
-use Rattle.htl_model.specs.declared.parts.Inv.{Inv}
-use Rattle.htl_model.specs.declared.parts.Module.{Module}
-use Rattle.htl_model.specs.declared.parts.End.{End}
+use Rattle.htl_model.proofs.Words.{Inv, Module, End, IntTy, Leads, direct, through, feeds, Precedes, Tables, mode_module, AbstractPlaces, Parents, SharedParents, Inheritance, Itself, Input, Site, IsRefined, IsAbstractIn, AsksMore, SharesParent, SecondChild, Broken, none-some, pos, slice_get}
 use Rattle.htl_model.specs.declared.parts.End.TheVariants as E
-use Rattle.htl_base.specs.declared.Ty.TheVariants.{Int as IntTy}
-use Rattle.htl_model.specs.PortOrder.{Leads, direct, through, feeds, Precedes}
-use Rattle.htl_model.specs.Tables.{Tables, mode_module}
-use Rattle.htl_model.specs.FormRules.{AbstractPlaces, Parents, SharedParents, Inheritance, Itself, Input, Site}
-use Rattle.htl_model.specs.RefinementRules.{IsRefined, IsAbstractIn, AsksMore, SharesParent, SecondChild}
-use Rattle.htl_model.specs.Broken.{Broken}
 use Rattle.htl_model.proofs.Sources.{plain, mode, module_named, task, call, int_one}
-use Rattle.std.proofs.lemmas.Option.{none-some}
 
 -- mode m holds an abstract invocation, whose window is 5 to 10 and whose worst case is 4; the mode n of a module with this parent
 -- holds the given invocations of a task with the worst case w

@@ -1,20 +1,9 @@
 -- The numbers of a frame from its parts.
 use Rattle.std.proofs.Common.{◌≡◌, ℕ, zero, suc, ◌+◌, ◌*◌, ◌/◌, ◌≤◌, ◌<◌, List, [], ◌∷◌, ◌++◌, length, map, add-one, take, get_or, slice_get, Option, Some, None, refl, sym, ap, ◌∙◌, arith, inl, inr}
-use Rattle.std.specs.List.{flat_map}
-use Rattle.std.proofs.Math.Nat.{pos_of_dvd_of_pos}
-use Rattle.std.proofs.lemmas.Nat.{le-div}
-use Rattle.std.proofs.lemmas.Nat.Gcd.{le_of_dvd}
-use Rattle.std.proofs.lemmas.Option.{slice_get_cases}
-use Rattle.htl_model.specs.declared.parts.Mode.{Mode}
-use Rattle.htl_model.specs.declared.parts.Module.{Module}
-use Rattle.htl_model.specs.Frames.{unit_start, unit_period, root_periods, gcd_in, common_multiple, multiple_of, hyper, frame_of, starts_below, starts, rounds_at, rounds, choices, paths, radices, ways, frame_limit, too_long}
-use Rattle.htl_model.specs.Ranges.{AreInRange, IsModeInRange}
-use Rattle.htl_model.specs.Selections.{is_root, root_modules}
-use Rattle.htl_model.specs.Tables.{Tables, mode_period}
+use Rattle.htl_model.proofs.Words.{flat_map, pos_of_dvd_of_pos, le-div, le_of_dvd, slice_get_cases, Mode, Module, unit_start, unit_period, root_periods, gcd_in, common_multiple, multiple_of, hyper, frame_of, starts_below, starts, rounds_at, rounds, choices, paths, radices, ways, frame_limit, too_long, AreInRange, IsModeInRange, is_root, root_modules, Tables, mode_period, each_at}
 use Rattle.htl_model.proofs.Divisors.{greatest_divisor}
 use Rattle.htl_model.proofs.FrameLimits.{limits_kept, one_divides, frame_is, too_short, radix_few, roots_have, rounds_have, choices_some, choices_starts}
 use Rattle.htl_model.proofs.SelectionLaws.{all_places_below}
-use Rattle.htl_base.proofs.Places.{each_at}
 
 -- ---- periods are some
 

@@ -1,16 +1,6 @@
 -- The limits of frames, and what is kept where none is exceeded.
 use Rattle.std.proofs.Common.{◌≡◌, ℕ, zero, suc, ◌+◌, ◌*◌, ◌/◌, ◌%◌, ◌≤◌, ◌<◌, Bool, true, false, cond, eqb, ltb, min, List, [], ◌∷◌, ◌++◌, length, map, drop, drop-cons, add-one, get_or, Option, Some, None, refl, sym, ap, ◌∙◌, arith, inl, inr}
-use Rattle.std.specs.List.{flat_map}
-use Rattle.std.proofs.lemmas.Bool.{cases_Bool, cases_lt}
-use Rattle.std.proofs.lemmas.Bool.Decides.{nat_tests}
-use Rattle.std.proofs.lemmas.List.{length-append, length-map}
-use Rattle.htl_model.specs.declared.frame.Round.{Round}
-use Rattle.htl_model.specs.declared.frame.Place.{Place}
-use Rattle.htl_model.specs.Frames.{unit_period, root_periods, gcd_in, common_multiple, multiple_of, frame_of, starts_below, starts, rounds_of, rounds_at, rounds, choices, mode_in, places_of, places_in, most_invs, most_positions, ways, too_long, last_of, exceeds, first_of, frame_limit, KeepsFrames}
-use Rattle.htl_model.specs.Ranges.{AreInRange}
-use Rattle.htl_model.specs.Selections.{is_root, root_modules, modes_of, invs_of}
-use Rattle.htl_model.specs.Tables.{Tables}
-use Rattle.std.proofs.Math.Nat.{mod-eq_of_lt, mul_assoc, le-mul_of_pos_right}
+use Rattle.htl_model.proofs.Words.{flat_map, cases_Bool, cases_lt, nat_tests, length-append, length-map, Round, Place, unit_period, root_periods, gcd_in, common_multiple, multiple_of, frame_of, starts_below, starts, rounds_of, rounds_at, rounds, choices, mode_in, places_of, places_in, most_invs, most_positions, ways, too_long, last_of, exceeds, first_of, frame_limit, KeepsFrames, AreInRange, is_root, root_modules, modes_of, invs_of, Tables, mod-eq_of_lt, mul_assoc, le-mul_of_pos_right}
 use Rattle.htl_model.proofs.ChoiceLaws.{capped}
 use Rattle.htl_model.proofs.SelectionLaws.{modes_some, all_places_below}
 

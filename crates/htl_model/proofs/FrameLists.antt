@@ -2,12 +2,7 @@
 -- same limits.
 use Rattle.std.proofs.Common.{◌≡◌, ℕ, ◌+◌, ◌*◌, ◌/◌, ◌%◌, min, max, cond, eqb, ltb, List, [], ◌∷◌, ◌++◌, length, map, get_or, Option, Some, None, refl, ◌∙◌, ap}
 use mathlib.Core.Path.{fun_ext}
-use Rattle.std.specs.List.{flat_map}
-use Rattle.htl_model.specs.Frames.{starts, unit_period, common_multiple, rounds_of, rounds_at, rounds, choices, paths, mode_in, radices, places_of, places_in, path_places, most_invs, most_positions, too_long, last_of, exceeds, first_of, frame_limit}
-use Rattle.htl_model.specs.Selections.{root_modules, modes_of, invs_of}
-use Rattle.htl_model.specs.Tables.{Tables}
-use Rattle.htl_model.specs.declared.frame.Place.{Place}
-use Rattle.htl_model.specs.declared.frame.Round.{Round}
+use Rattle.htl_model.proofs.Words.{flat_map, starts, unit_period, common_multiple, rounds_of, rounds_at, rounds, choices, paths, mode_in, radices, places_of, places_in, path_places, most_invs, most_positions, too_long, last_of, exceeds, first_of, frame_limit, root_modules, modes_of, invs_of, Tables, Place, Round}
 
 -- the tables with these three lists alone
 abbrev pub framed : Tables → Tables

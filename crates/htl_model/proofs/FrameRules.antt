@@ -1,19 +1,7 @@
 -- What divides a frame, and what the form rules say of its limits.
 use Rattle.std.proofs.Common.{◌≡◌, ℕ, zero, suc, ◌*◌, ◌/◌, ◌%◌, ◌<◌, List, [], ◌∷◌, length, map, get_or, slice_get, Bool, true, false, cond, ltb, Option, Some, None, option_map, refl, sym, ap, ◌∙◌, arith}
 use Rattle.std.specs.Prelude.{◌≤◌, ◌+◌, ◌-◌}
-use Rattle.std.proofs.lemmas.Bool.{eqb-true}
-use Rattle.std.proofs.lemmas.Option.{slice_get-get_or}
-use Rattle.std.proofs.Math.Nat.{mul-div_assoc, dvd-mul_left, mod_self}
-use Rattle.std.proofs.lemmas.Nat.Gcd.{dvd_trans, dvd_of_mod-eq-zero, mod-eq-zero_of_dvd}
-use Rattle.htl_model.specs.declared.parts.Mode.{Mode}
-use Rattle.htl_model.specs.Broken.{breach, BreaksAt, Broken, KeptTo}
-use Rattle.htl_model.specs.FormRules.{FrameLimits, Part, Itself, Input, Output, Test, Site}
-use Rattle.htl_model.specs.FrameRules.{KeptApart}
-use Rattle.htl_model.specs.Frames.{gcd_in, common_multiple, multiple_of, frame_of, unit_period, too_long, other_limit, frame_limit}
-use Rattle.htl_model.specs.PeriodRules.{first_mode}
-use Rattle.htl_model.specs.Ranges.{AreInRange}
-use Rattle.htl_model.specs.Selections.{is_root, root_modules, modes_of, mode_of_module}
-use Rattle.htl_model.specs.Tables.{Tables}
+use Rattle.htl_model.proofs.Words.{eqb-true, slice_get-get_or, mul-div_assoc, dvd-mul_left, mod_self, dvd_trans, dvd_of_mod-eq-zero, mod-eq-zero_of_dvd, Mode, breach, BreaksAt, Broken, KeptTo, FrameLimits, Part, Itself, Input, Output, Test, Site, KeptApart, gcd_in, common_multiple, multiple_of, frame_of, unit_period, too_long, other_limit, frame_limit, first_mode, AreInRange, is_root, root_modules, modes_of, mode_of_module, Tables}
 use Rattle.htl_model.proofs.Divisors.{greatest_divisor}
 use Rattle.htl_model.proofs.FrameBuild.{frame_is_multiple}
 use Rattle.htl_model.proofs.LimitCode.{with_unit, limit_none, limit_long, limit_rest}

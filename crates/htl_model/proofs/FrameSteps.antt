@@ -1,10 +1,6 @@
 -- Starts one after another, and the numbers of nodes place by place.
 use Rattle.std.proofs.Common.{◌≡◌, ℕ, zero, suc, ◌+◌, ◌-◌, ◌*◌, ◌/◌, ◌%◌, ◌≤◌, ◌<◌, true, false, cond, ◌||◌, eqb, min, List, [], ◌∷◌, ◌++◌, length, drop, drop-cons, map, get_or, add-one, refl, sym, ap, ◌∙◌, subst, arith}
-use Rattle.std.proofs.lemmas.Bool.{or_right}
-use Rattle.std.proofs.lemmas.List.{append-nil, length-append}
-use Rattle.std.proofs.Math.Nat.{mul-le-mul_left, mul-le-mul_right, mul-mod_left, le-mul_of_pos_right, mul_assoc}
-use Rattle.htl_model.specs.Frames.{begins, starts_below, gcd_in, ways, nodes_of, node_of}
-use Rattle.htl_base.proofs.Numbers.{product_parts}
+use Rattle.htl_model.proofs.Words.{or_right, append-nil, length-append, mul-le-mul_left, mul-le-mul_right, mul-mod_left, le-mul_of_pos_right, mul_assoc, begins, starts_below, gcd_in, ways, nodes_of, node_of, product_parts}
 
 -- ---- instants at which no round begins
 

@@ -1,12 +1,8 @@
 -- The recursion over the history, read as equations on the instants.
 use Rattle.std.proofs.Common.{◌≡◌, ℕ, zero, suc, ◌-◌, ◌≤◌, ◌<◌, cond, ltb, List, ◌∷◌, length, get_or, slice_get, Some, None, ℤ, pos, refl, sym, ap, ◌∙◌, arith, inl, inr}
-use Rattle.std.proofs.lemmas.Bool.{lt-ltb, le-ltb}
+use Rattle.htl_model.proofs.Words.{lt-ltb, le-ltb, Event, Tables, State, History, history, state, newest, state_after, past, sense, val, cases_at_most}
 use mathlib.Core.Path.{fun_ext}
-use Rattle.htl_model.specs.declared.event.Event.{Event}
-use Rattle.htl_model.specs.Tables.{Tables}
-use Rattle.htl_model.specs.declared.state.State.{State}
-use Rattle.htl_model.specs.Meaning.{History, history, state, newest, state_after, past, sense, val}
-use Rattle.htl_base.proofs.Numbers.{cases_at_most, cases_le}
+use Rattle.htl_base.proofs.Numbers.{cases_le}
 
 pub length-history : (t : Tables) (f : ℕ → ℕ → ℤ) (n : ℕ) → length (history t f n) ≡ suc n
 length-history t f zero = refl

@@ -32,3 +32,4 @@ pub mod StartLaws
 pub mod Stays
 pub mod TestLaws
 pub mod NumbersBelow
+pub mod Words

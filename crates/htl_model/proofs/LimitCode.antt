@@ -1,11 +1,6 @@
 -- The limits of frames, as the code finds them.
 use Rattle.std.proofs.Common.{◌≡◌, ℕ, ◌+◌, ◌-◌, ◌≤◌, ◌<◌, Bool, true, false, cond, ltb, min, List, [], ◌∷◌, ◌++◌, take, length, map, get_or, Option, Some, None, option_map, refl, sym, ap, ◌∙◌, arith}
-use Rattle.std.proofs.lemmas.Bool.Decides.{nat_tests}
-use Rattle.std.specs.List.{flat_map}
-use Rattle.htl_model.specs.declared.frame.Round.{Round}
-use Rattle.htl_model.specs.Frames.{unit_period, root_periods, starts_below, rounds_at, multiple_of, frame_of, starts, rounds, choices, most_positions, too_long, last_of, exceeds, first_of, frame_limit, over, other_limit}
-use Rattle.htl_model.specs.Selections.{root_modules}
-use Rattle.htl_model.specs.Tables.{Tables}
+use Rattle.htl_model.proofs.Words.{nat_tests, flat_map, Round, unit_period, root_periods, starts_below, rounds_at, multiple_of, frame_of, starts, rounds, choices, most_positions, too_long, last_of, exceeds, first_of, frame_limit, over, other_limit, root_modules, Tables}
 use Rattle.htl_model.proofs.FrameBuild.{frame_is_multiple, front_is}
 use Rattle.htl_model.proofs.FrameLimits.{long, not_too_long}
 

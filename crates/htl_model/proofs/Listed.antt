@@ -1,7 +1,6 @@
 -- The list of a function's values.
 use Rattle.std.proofs.Common.{◌≡◌, ℕ, zero, suc, ◌<◌, List, [], ◌∷◌, length, get_or, refl, sym, ap, ◌∙◌, arith, ◌++◌, inl, inr, length-append}
-use Rattle.htl_model.specs.Lists.{list_to}
-use Rattle.htl_base.proofs.Numbers.{cases_below}
+use Rattle.htl_model.proofs.Words.{list_to, cases_below}
 
 pub length-list_to : {A : Type 0} (f : ℕ → A) (n : ℕ) → length (list_to f n) ≡ n
 length-list_to f zero = refl

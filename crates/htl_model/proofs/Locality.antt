@@ -1,14 +1,7 @@
 -- What the meaning at an instant depends on.
 use Rattle.std.proofs.Common.{◌≡◌, ℕ, zero, suc, ◌*◌, ◌/◌, ◌≤◌, ◌<◌, cond, ◌&&◌, eqb, leb, List, [], ◌∷◌, ◌++◌, slice_get, length, Option, Some, None, ℤ, refl, ap, ap₂, ◌∙◌, arith}
 use mathlib.Core.Path.{fun_ext}
-use Rattle.htl_model.specs.declared.parts.Comm.{Comm}
-use Rattle.htl_model.specs.declared.event.Event.{Event}
-use Rattle.htl_model.specs.Tables.{Tables}
-use Rattle.htl_model.specs.declared.state.State.{State}
-use Rattle.htl_model.specs.declared.state.Stay.{Stay}
-use Rattle.htl_model.specs.Lists.{up_to, list_to}
-use Rattle.htl_model.specs.Meaning.{run_lines, value_lines, changes, no_state, History, history, newest, next_state, next_values, next_value, written, stays_at, first_state, first_values, first_value, past, sense}
-use Rattle.htl_base.proofs.Numbers.{round_down}
+use Rattle.htl_model.proofs.Words.{Comm, Event, Tables, State, Stay, up_to, list_to, run_lines, value_lines, changes, no_state, History, history, newest, next_state, next_values, next_value, written, stays_at, first_state, first_values, first_value, past, sense, round_down}
 
 -- two sensor readings that agree up to n
 abbrev pub Agree : (ℕ → ℕ → ℤ) → (ℕ → ℕ → ℤ) → ℕ → Type 0

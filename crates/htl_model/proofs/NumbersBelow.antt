@@ -1,12 +1,6 @@
 -- The numbers below a bound that pass a test: which they are, that each is there once, and how many they are.
 use Rattle.std.proofs.Common.{◌≡◌, ◌<◌, ◌≤◌, ◌⊎◌, ℕ, zero, suc, ◌+◌, Bool, true, false, cond, eqb, [], ◌∷◌, length, refl, sym, ◌∙◌, ap, subst, arith, inl, inr}
-use Rattle.std.specs.List.{list_any, IsDistinct, AllByRecursion}
-use Rattle.std.proofs.lemmas.Bool.Decides.{nat_tests}
-use Rattle.std.proofs.lemmas.Map.Keys.{IsDistinct-from_apart, IsDistinct-cons}
-use Rattle.htl_model.specs.NumbersBelow.{numbers_below, count_below}
-use Rattle.std.proofs.lemmas.Bool.{eq-eqb, or_cases, or_left, or_right}
-use Rattle.htl_base.proofs.Numbers.{cases_below}
-use Rattle.htl_base.proofs.Tests.{true_not_false}
+use Rattle.htl_model.proofs.Words.{list_any, IsDistinct, AllByRecursion, nat_tests, IsDistinct-from_apart, IsDistinct-cons, numbers_below, count_below, eq-eqb, or_cases, or_left, or_right, cases_below, true_not_false}
 
 pub has_number : (p : ℕ → Bool) (n k : ℕ) → list_any (eqb k) (numbers_below p n) ≡ true → (k < n) × (p k ≡ true)
 has_number p zero k h = cc

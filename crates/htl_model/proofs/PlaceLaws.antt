@@ -1,15 +1,6 @@
 -- The types of functions stand where the order of functions says.
 use Rattle.std.proofs.Common.{◌≡◌, ◌<◌, ℕ, zero, suc, ◌+◌, Bool, true, false, cond, List, [], ◌∷◌, ◌++◌, length, map, take, drop, set, get_or, slice_get, Some, refl, sym, ◌∙◌, ap, add-one, arith, length-append}
-use Rattle.std.proofs.Math.Seq.{take-suc, take-suc-set}
-use Rattle.std.proofs.lemmas.List.{drop-set-lt, length-map}
-use Rattle.std.specs.List.{flat_map}
-use Rattle.htl_base.specs.declared.Ty.{Ty}
-use Rattle.htl_model.specs.declared.parts.Switch.{Switch}
-use Rattle.htl_model.specs.declared.parts.Task.{Task}
-use Rattle.htl_model.specs.Ranges.{AreInRange}
-use Rattle.htl_model.specs.Tables.{Tables, function_count, count_before, output_function, switch_function}
-use Rattle.htl_model.specs.FunctionTypes.{FunctionType, output_type, task_types, switch_type, function_types}
-use Rattle.htl_base.proofs.Places.{get_back, get_front, get_mapped}
+use Rattle.htl_model.proofs.Words.{take-suc, take-suc-set, drop-set-lt, length-map, flat_map, Ty, Switch, Task, AreInRange, Tables, function_count, count_before, output_function, switch_function, FunctionType, output_type, task_types, switch_type, function_types, get_back, get_front, get_mapped}
 
 -- ---- look-ups in lists that are joined
 

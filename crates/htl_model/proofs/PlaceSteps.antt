@@ -1,10 +1,6 @@
 -- One round more of a path, and one choice more.
 use Rattle.std.proofs.Common.{◌≡◌, ℕ, zero, suc, ◌+◌, ◌*◌, ◌/◌, ◌%◌, ◌<◌, cond, ◌&&◌, eqb, min, List, ◌++◌, length, drop, drop-cons, get_or, add-one, refl, sym, ap, ◌∙◌, arith}
-use Rattle.std.proofs.Math.Nat.{mul_assoc}
-use Rattle.htl_model.specs.declared.frame.Round.{Round}
-use Rattle.htl_model.specs.Frames.{choices, mode_in, mode_from, places_of, places_in}
-use Rattle.htl_model.specs.Selections.{modes_of, invs_of}
-use Rattle.htl_model.specs.Tables.{Tables}
+use Rattle.htl_model.proofs.Words.{mul_assoc, Round, choices, mode_in, mode_from, places_of, places_in, modes_of, invs_of, Tables}
 use Rattle.htl_model.proofs.ChoiceLaws.{capped}
 
 abbrev pub no_round : Round

@@ -1,21 +1,7 @@
 -- The rows of a table of writers.
 use Rattle.std.proofs.Common.{◌≡◌, ◌<◌, ◌≤◌, ◌⊎◌, ℕ, suc, ◌+◌, Bool, true, false, ◌&&◌, ◌||◌, eqb, ltb, List, [], ◌∷◌, length, get_or, Some, refl, sym, ◌∙◌, ap, subst, arith, inl, inr}
-use Rattle.std.specs.Prelude.{slice_get}
-use Rattle.std.specs.List.{list_any}
-use Rattle.std.proofs.lemmas.Bool.Decides.{nat_tests}
-use Rattle.std.proofs.lemmas.Option.{slice_get_within, get_or_from_slice_get}
-use Rattle.htl_model.specs.declared.parts.Inv.{Inv}
-use Rattle.htl_model.specs.declared.parts.End.{End}
+use Rattle.htl_model.proofs.Words.{list_any, nat_tests, slice_get_within, get_or_from_slice_get, Inv, End, is_read_from, feeds_at, writes_to, is_from, is_port, cell, AreInRange, IsInvInRange, IsEndInRange, Tables, some_place, and_none, eq-eqb, slice_get}
 use Rattle.htl_model.specs.declared.parts.End.TheVariants as E
-use Rattle.htl_model.specs.PortOrder.{is_read_from, feeds_at}
-use Rattle.htl_model.specs.PortTable.{writes_to, is_from}
-use Rattle.htl_model.specs.PortWriters.{is_port}
-use Rattle.htl_model.specs.Bits.{cell}
-use Rattle.htl_model.specs.Ranges.{AreInRange, IsInvInRange, IsEndInRange}
-use Rattle.htl_model.specs.Tables.{Tables}
-use Rattle.htl_base.proofs.Places.{some_place}
-use Rattle.htl_base.proofs.Tests.{and_none}
-use Rattle.std.proofs.lemmas.Bool.{eq-eqb}
 
 -- one writer more among those before number q
 pub one_writer : (w : ℕ → Bool) (q r : ℕ) (old new last : Bool) → old ≡ (ltb r q && w r) → last ≡ w q → new ≡ (old || (eqb r q && last)) → new ≡ (ltb r (q + 1) && w r)

@@ -1,14 +1,6 @@
 -- Items whose keys don't fall: those of one key stand together.
 use Rattle.std.proofs.Common.{◌≡◌, ◌≤◌, ◌<◌, ◌⊎◌, ℕ, zero, suc, ◌+◌, Bool, true, false, cond, eqb, List, [], ◌∷◌, ◌++◌, ◌||◌, length, get_or, map, Some, refl, sym, ◌∙◌, ap, arith, inl, inr}
-use Rattle.std.specs.Prelude.{slice_get}
-use Rattle.std.specs.List.Sorted.{IsNonDecreasing}
-use Rattle.std.proofs.lemmas.Bool.{lt-ltb, le-ltb, cases_lt, eq-eqb, false_from_ne_true}
-use Rattle.std.proofs.lemmas.Bool.Decides.{nat_tests}
-use Rattle.std.proofs.lemmas.List.{get_or-map, length-map}
-use Rattle.std.proofs.lemmas.Option.{slice_get_within, get_or_from_slice_get}
-use Rattle.htl_model.specs.Lists.{places_from}
-use Rattle.htl_model.specs.RootModes.{below}
-use Rattle.htl_base.proofs.Numbers.{cases_less_same}
+use Rattle.htl_model.proofs.Words.{IsNonDecreasing, lt-ltb, le-ltb, cases_lt, eq-eqb, false_from_ne_true, nat_tests, get_or-map, length-map, slice_get_within, get_or_from_slice_get, places_from, below, cases_less_same, slice_get}
 
 -- no key is below one before it
 abbrev pub Rises : {X : Type 0} → (X → ℕ) → List X → Type 0

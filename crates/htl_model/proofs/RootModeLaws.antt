@@ -1,27 +1,11 @@
 -- The modes of all root modules in a selection, digit by digit, and the positions as one pass over the invocations meets them.
 use Rattle.std.proofs.Common.{◌≡◌, ◌≤◌, ◌<◌, ◌⊎◌, ◌+◌, ◌-◌, ◌*◌, ◌/◌, ◌%◌, ℕ, zero, suc, Bool, true, false, ◌&&◌, ◌||◌, cond, eqb, List, [], ◌∷◌, ◌++◌, length, map, replicate, drop, drop-cons, get_or, slice_get, Option, Some, None, add-one, leb, set, min, refl, sym, ◌∙◌, ap, arith, inl, inr}
-use Rattle.std.specs.List.{flat_map}
-use Rattle.std.specs.List.Sorted.{IsNonDecreasing}
-use Rattle.std.proofs.Math.Nat.{div-div-eq-div-mul, mul_comm}
-use Rattle.std.proofs.lemmas.Bool.Decides.{nat_tests}
-use Rattle.std.proofs.lemmas.Option.{slice_get_within, slice_get-get_or, slice_get_cases}
-use Rattle.std.proofs.lemmas.List.{get_or-set_same, get_or-set_other}
-use Rattle.htl_model.specs.declared.parts.Inv.{Inv}
-use Rattle.htl_model.specs.declared.parts.Mode.{Mode}
-use Rattle.htl_model.specs.declared.parts.Module.{Module}
-use Rattle.htl_model.specs.Lists.{places_from}
-use Rattle.htl_model.specs.Ranges.{AreInRange, IsInvInRange, IsModeInRange}
-use Rattle.htl_model.specs.RootModes.{root_entry, AreRootModes, below, modes_below}
-use Rattle.htl_model.specs.Selected.{entry, is_at, is_running}
-use Rattle.htl_model.specs.Selections.{is_root, modes_of, choices_from, root_mode, invs_of, positions}
-use Rattle.htl_model.specs.Tables.{Tables, mode_module}
+use Rattle.htl_model.proofs.Words.{flat_map, IsNonDecreasing, div-div-eq-div-mul, mul_comm, nat_tests, slice_get_within, slice_get-get_or, slice_get_cases, get_or-set_same, get_or-set_other, Inv, Mode, Module, places_from, AreInRange, IsInvInRange, IsModeInRange, root_entry, AreRootModes, below, modes_below, entry, is_at, is_running, is_root, modes_of, choices_from, root_mode, invs_of, positions, Tables, mode_module, eq-eqb, ne_eqb, cases_lt, cases_order, cases_up_to}
 use Rattle.htl_model.proofs.ChoiceLaws.{capped}
 use Rattle.htl_model.proofs.ChosenLaws.{get_none}
 use Rattle.htl_model.proofs.RisingKeys.{Rises, rises, unequal, most_below, all_below, key_below, key_above, run_length, run_at, places_same, none_pass, in_two, AreInTurn}
 use Rattle.htl_model.proofs.SelectionLaws.{modes_some, cut_front}
 use Rattle.htl_model.proofs.PortTableLaws.{all_at}
-use Rattle.std.proofs.lemmas.Bool.{eq-eqb, ne_eqb, cases_lt, cases_order}
-use Rattle.htl_base.proofs.Numbers.{cases_up_to}
 
 pub modes_rise : (t : Tables) → AreInRange t → Rises (λ (m : Mode). m.«module») t.modes
 modes_rise t r = rises (λ (m : Mode). m.«module») t.modes r.modes_by_module

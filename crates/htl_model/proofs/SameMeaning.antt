@@ -1,25 +1,8 @@
 -- Functions that mean the same give the same values, modes and lines.
 use Rattle.std.proofs.Common.{◌≡◌, ℕ, zero, suc, ◌+◌, ◌*◌, ◌/◌, Bool, true, false, cond, not, ◌&&◌, eqb, List, [], ◌∷◌, ◌++◌, get_or, slice_get, length, map, Option, Some, None, ℤ, pos, refl, ap, ap₂, ◌∙◌}
 use mathlib.Core.Path.{fun_ext}
-use Rattle.std.specs.List.{flat_map}
-use Rattle.htl_model.specs.declared.parts.Comm.{Comm}
-use Rattle.htl_model.specs.declared.parts.Module.{Module}
-use Rattle.htl_model.specs.declared.parts.Inv.{Inv}
-use Rattle.htl_model.specs.declared.parts.Switch.{Switch}
-use Rattle.htl_model.specs.declared.parts.End.{End}
+use Rattle.htl_model.proofs.Words.{flat_map, Comm, Module, Inv, Switch, End, Event, Line, ValueLine, ModeLine, Stay, State, Write, is_zero, up_to, list_to, line_text, lines_text, Tables, Fun, mode_period, comm_period, output_function, switch_function, function_value, input_value, out_by, out, end_to, with_start, write_in, write_from, round_start, written_by, written, next_value, next_values, switch_holds, target_from, go_on, go_on_or_begin, next_stay, next_stay_at, runs, stays_to, stays_at, stay_of, first_values, first_state, state_after, next_state, past, History, newest, history, changes, before, state, sense, value_lines, with_functions, MeanTheSame, SameRuns}
 use Rattle.htl_model.specs.declared.parts.End.TheVariants as E
-use Rattle.htl_model.specs.declared.event.Event.{Event}
-use Rattle.htl_model.specs.declared.line.Line.{Line}
-use Rattle.htl_model.specs.declared.line.Line.TheVariants.{ValueLine, ModeLine}
-use Rattle.htl_model.specs.declared.state.Stay.{Stay}
-use Rattle.htl_model.specs.declared.state.State.{State}
-use Rattle.htl_model.specs.declared.state.Write.{Write}
-use Rattle.htl_model.specs.Functions.{is_zero}
-use Rattle.htl_model.specs.Lists.{up_to, list_to}
-use Rattle.htl_model.specs.Lines.{line_text, lines_text}
-use Rattle.htl_model.specs.Tables.{Tables, Fun, mode_period, comm_period, output_function, switch_function, function_value}
-use Rattle.htl_model.specs.Meaning.{input_value, out_by, out, end_to, with_start, write_in, write_from, round_start, written_by, written, next_value, next_values, switch_holds, target_from, go_on, go_on_or_begin, next_stay, next_stay_at, runs, stays_to, stays_at, stay_of, first_values, first_state, state_after, next_state, past, History, newest, history, changes, before, state, sense, value_lines}
-use Rattle.htl_model.specs.Exchanged.{with_functions, MeanTheSame, SameRuns}
 
 -- ---- outputs
 

@@ -1,16 +1,8 @@
 -- Tables in range stay in range when their functions are exchanged, and have the same selections; the same invocations stand for others.
 use Rattle.std.proofs.Common.{◌≡◌, ◌≤◌, ◌<◌, ℕ, zero, suc, ◌+◌, ◌*◌, ◌/◌, ◌%◌, cond, List, [], ◌∷◌, length, drop, get_or, Option, Some, None, All, IfSome, refl, sym, ◌∙◌, ap, subst}
 use mathlib.Core.Path.{fun_ext}
-use Rattle.std.specs.List.{flat_map}
-use Rattle.htl_model.specs.declared.parts.Inv.{Inv}
-use Rattle.htl_model.specs.declared.parts.Module.{Module}
-use Rattle.htl_model.specs.declared.parts.End.{End}
+use Rattle.htl_model.proofs.Words.{flat_map, Inv, Module, End, KeepsLimits, AreInRange, IsModeThat, parent_of, is_within, IsModuleInRange, IsEndInRange, IsInvInRange, IsFunInRange, is_root, root_modules, modes_of, choices_from, selection_count, root_mode, invs_of, positions, Tables, Fun, mode_module, with_functions}
 use Rattle.htl_model.specs.declared.parts.End.TheVariants as E
-use Rattle.htl_model.specs.Broken.{KeepsLimits}
-use Rattle.htl_model.specs.Ranges.{AreInRange, IsModeThat, parent_of, is_within, IsModuleInRange, IsEndInRange, IsInvInRange, IsFunInRange}
-use Rattle.htl_model.specs.Selections.{is_root, root_modules, modes_of, choices_from, selection_count, root_mode, invs_of, positions}
-use Rattle.htl_model.specs.Tables.{Tables, Fun, mode_module}
-use Rattle.htl_model.specs.Exchanged.{with_functions}
 
 module _ (t : Tables) (fs : List Fun) where
   within_same : (steps : ℕ) (o : Option ℕ) → is_within steps t o ≡ is_within steps (with_functions t fs) o
@@ -100,5 +92,4 @@ module _ (t : Tables) (fs : List Fun) where
         selections = subst (λ (n : ℕ). n ≤ 1024) selection_count_same h.selections;
         positions = λ sel less. subst (λ (ps : List ℕ). length ps ≤ 128) (positions_same sel) (h.positions sel (subst (λ (n : ℕ). sel < n) (sym selection_count_same) less));
       }
-
   -- ---- what stands for an invocation

@@ -1,22 +1,7 @@
 -- The form rules say nothing of functions: tables break the same rules whatever functions they have.
 use Rattle.std.proofs.Common.{◌≡◌, ◌≤◌, ◌<◌, ◌⊎◌, ℕ, ◌*◌, List, [], ◌∷◌, Option, Some, None, refl, sym, ◌∙◌, ap, subst, inl, inr}
-use Rattle.htl_base.specs.declared.Ty.{Ty}
-use Rattle.htl_model.specs.declared.parts.Inv.{Inv}
-use Rattle.htl_model.specs.declared.parts.Mode.{Mode}
-use Rattle.htl_model.specs.declared.parts.End.{End}
+use Rattle.htl_model.proofs.Words.{Ty, Inv, Mode, End, Breach, breach, PartBreaks, ModeBreaks, BreaksAt, Broken, Formed, IsFirstBroken, site_of, FormFault, ReadLate, WriteOutside, TypeDiffers, WindowEmpty, AbstractRead, SensorWritten, input_types, output_types, FormRule, FrameLimits, Divides, Offsets, Ends, Windows, PortWriters, PortCycles, AbstractPorts, Sensors, ConcreteWriters, AbstractPlaces, Parents, SharedParents, Inheritance, Part, Itself, Input, Output, Test, Site, FrameExceeds, EndNotDivided, IsOnCycle, AreOnCycles, InCycle, Unwritten, Rewritten, IsRefined, StandsUnrefined, IsAbstractIn, ParentAstray, ParentFault, SharesParent, SecondChild, AsksMore, Exceeds, IsWriterOf, Unordered, OnPath, itself, above, AreSameWrite, WritesBefore, SecondWriter, Tables, Fun, comm_period, mode_period, task_worst, offsets, release, window_end, greatest, least_or, with_functions, frame_limit}
 use Rattle.htl_model.specs.declared.parts.End.TheVariants as E
-use Rattle.htl_model.specs.Broken.{Breach, breach, PartBreaks, ModeBreaks, BreaksAt, Broken, Formed, IsFirstBroken, site_of}
-use Rattle.htl_model.specs.declared.form_fault.FormFault.{FormFault}
-use Rattle.htl_model.specs.EndRules.{ReadLate, WriteOutside, TypeDiffers, WindowEmpty, AbstractRead, SensorWritten, input_types, output_types}
-use Rattle.htl_model.specs.FormRules.{FormRule, FrameLimits, Divides, Offsets, Ends, Windows, PortWriters, PortCycles, AbstractPorts, Sensors, ConcreteWriters, AbstractPlaces, Parents, SharedParents, Inheritance, Part, Itself, Input, Output, Test, Site}
-use Rattle.htl_model.specs.PeriodRules.{FrameExceeds, EndNotDivided}
-use Rattle.htl_model.specs.PortOrder.{IsOnCycle, AreOnCycles, InCycle}
-use Rattle.htl_model.specs.PortWriters.{Unwritten, Rewritten}
-use Rattle.htl_model.specs.RefinementRules.{IsRefined, StandsUnrefined, IsAbstractIn, ParentAstray, ParentFault, SharesParent, SecondChild, AsksMore, Exceeds, IsWriterOf, Unordered}
-use Rattle.htl_model.specs.SecondWriters.{OnPath, itself, above, AreSameWrite, WritesBefore, SecondWriter}
-use Rattle.htl_model.specs.Tables.{Tables, Fun, comm_period, mode_period, task_worst, offsets, release, window_end, greatest, least_or}
-use Rattle.htl_model.specs.Exchanged.{with_functions}
-use Rattle.htl_model.specs.Frames.{frame_limit}
 use Rattle.htl_model.proofs.FrameLists.{limit_framed}
 
 -- ---- windows

@@ -1,10 +1,7 @@
 -- Selections and positions of two root modules with two modes each, and a refinement between them.
 use Rattle.std.specs.Prelude.{◌≡◌, [], ◌∷◌, Some, None, refl, codes, map, true, false, pos}
 use Rattle.htl_model.specs.declared.parts.End.TheVariants as E
-use Rattle.htl_model.specs.Tables.{Tables, release, window_end, output_function, switch_function}
-use Rattle.htl_model.specs.Chosen.{chosen}
-use Rattle.htl_model.specs.Selected.{is_selection}
-use Rattle.htl_model.specs.Selections.{selection_count, root_mode, positions, root_period}
+use Rattle.htl_model.proofs.Words.{Tables, release, window_end, output_function, switch_function, chosen, is_selection, selection_count, root_mode, positions, root_period}
 use Rattle.htl_model.proofs.Sources.{plain, mode, module_named, task, call, switch, int_one, refined, reentered}
 
 abbrev two_by_two : Tables

@@ -1,17 +1,7 @@
 -- Laws of selections: modules in range have modes, and a cap on the choices changes no quotient.
 use Rattle.std.proofs.Common.{◌≡◌, ◌≤◌, ◌<◌, ◌+◌, ◌-◌, ◌*◌, ◌/◌, ◌%◌, ◌^◌, ℕ, zero, suc, Bool, true, false, cond, List, [], ◌∷◌, ◌++◌, length, drop, get_or, slice_get, Option, Some, None, min, refl, sym, subst, ◌∙◌, ap, arith, inl, inr, length-drop, IfSome, eq-eqb}
 use Rattle.std.specs.List.{flat_map, All}
-use Rattle.std.proofs.lemmas.List.Elements.{All-append, All-get_or, All-from_get_or}
-use Rattle.std.proofs.Math.Nat.{div-eq_of_lt}
-use Rattle.std.proofs.lemmas.Nat.{mul-lt}
-use Rattle.std.proofs.lemmas.Option.{slice_get_cases, slice_get-get_or}
-use Rattle.htl_model.specs.declared.parts.Module.{Module}
-use Rattle.htl_model.specs.Lists.{places_from}
-use Rattle.htl_model.specs.declared.parts.Task.{Task}
-use Rattle.htl_model.specs.Tables.{Tables, mode_period, function_count, count_at, count_before}
-use Rattle.htl_model.specs.Ranges.{AreInRange, IsModeThat}
-use Rattle.htl_model.specs.Selections.{is_root, mode_of_module, modes_of, choices_from, root_mode, invs_of, root_modules, root_period, inv_of_mode, positions}
-use Rattle.std.proofs.lemmas.Bool.{cases_lt}
+use Rattle.htl_model.proofs.Words.{All-append, All-get_or, All-from_get_or, div-eq_of_lt, mul-lt, slice_get_cases, slice_get-get_or, Module, places_from, Task, Tables, mode_period, function_count, count_at, count_before, AreInRange, IsModeThat, is_root, mode_of_module, modes_of, choices_from, root_mode, invs_of, root_modules, root_period, inv_of_mode, positions, cases_lt}
 
 -- ---- places that pass a test
 

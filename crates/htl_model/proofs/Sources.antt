@@ -1,19 +1,7 @@
 -- The worked examples as tables.
 use Rattle.std.specs.Prelude.{ℕ, Bool, true, false, List, [], ◌∷◌, Option, Some, None, ℤ, pos, codes}
-use Rattle.htl_base.specs.declared.Ty.{Ty}
-use Rattle.htl_base.specs.declared.Ty.TheVariants.{Int as IntTy, Bool as BoolTy}
-use Rattle.htl_base.specs.declared.operator.UnOp.TheVariants.{Not}
-use Rattle.htl_base.specs.declared.operator.BinOp.TheVariants.{Add, Sub, Mul, Div, Lt, Gt, Ge}
-use Rattle.htl_model.specs.declared.parts.Comm.{Comm}
-use Rattle.htl_model.specs.declared.parts.Mode.{Mode}
-use Rattle.htl_model.specs.declared.parts.Module.{Module}
-use Rattle.htl_model.specs.declared.parts.Task.{Task}
-use Rattle.htl_model.specs.declared.parts.Inv.{Inv}
-use Rattle.htl_model.specs.declared.parts.Switch.{Switch}
-use Rattle.htl_model.specs.declared.parts.End.{End}
+use Rattle.htl_model.proofs.Words.{Ty, IntTy, BoolTy, Not, Add, Sub, Mul, Div, Lt, Gt, Ge, Comm, Mode, Module, Task, Inv, Switch, End, Term, Number, Arg, Unary, Binary, Choose, Tables, Fun, Formula}
 use Rattle.htl_model.specs.declared.parts.End.TheVariants as E
-use Rattle.htl_model.specs.Functions.{Term, Number, Arg, Unary, Binary, Choose}
-use Rattle.htl_model.specs.Tables.{Tables, Fun, Formula}
 
 abbrev pub plain : List ℕ → ℕ → ℤ → Comm
 plain n p x = record { name = n; ty = IntTy; sensor = false; period = p; init = x }

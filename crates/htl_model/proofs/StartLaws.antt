@@ -1,17 +1,6 @@
 -- The invocations of a mode stand together, and a search for what breaks a rule there looks at them alone.
 use Rattle.std.proofs.Common.{◌≡◌, ◌<◌, ◌≤◌, ℕ, zero, suc, ◌+◌, Bool, true, false, cond, eqb, List, [], ◌∷◌, length, get_or, drop, map, Some, None, refl, ◌∙◌, ap, subst, arith}
-use Rattle.std.specs.Prelude.{slice_get}
-use Rattle.std.proofs.lemmas.Bool.Decides.{nat_tests}
-use Rattle.std.proofs.lemmas.List.{get_or-map, length-map}
-use Rattle.std.proofs.lemmas.Option.{slice_get_within, get_or_from_slice_get}
-use Rattle.htl_model.specs.declared.parts.Inv.{Inv}
-use Rattle.htl_model.specs.declared.parts.Switch.{Switch}
-use Rattle.htl_model.specs.First.{first_from}
-use Rattle.htl_model.specs.Ranges.{AreInRange}
-use Rattle.htl_model.specs.Found.{Found}
-use Rattle.htl_model.specs.Search.{Tests, at_inv, at_read, at_switch, told, inv_in_mode}
-use Rattle.htl_model.specs.Starts.{IsStartOf}
-use Rattle.htl_model.specs.Tables.{Tables}
+use Rattle.htl_model.proofs.Words.{nat_tests, get_or-map, length-map, slice_get_within, get_or_from_slice_get, Inv, Switch, first_from, AreInRange, Found, Tests, at_inv, at_read, at_switch, told, inv_in_mode, IsStartOf, Tables, slice_get}
 use Rattle.htl_model.proofs.FirstLaws.{nothing_first, nothing_from, nothing_before}
 
 -- the modes of invocations don't fall

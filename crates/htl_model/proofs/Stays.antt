@@ -1,10 +1,6 @@
 -- Where a module is, by where the modules are.
 use Rattle.std.proofs.Common.{◌≡◌, ℕ, zero, suc, ◌<◌, List, [], ◌∷◌, ◌++◌, length, slice_get, Option, Some, None, ℤ, refl, sym, ap, ◌∙◌, arith, inl, inr, length-append}
-use Rattle.htl_model.specs.Tables.{Tables}
-use Rattle.htl_model.specs.declared.state.Stay.{Stay}
-use Rattle.htl_model.specs.Meaning.{stay_of, stays_to, next_stay_at}
-use Rattle.htl_base.proofs.Places.{within_front}
-use Rattle.htl_base.proofs.Numbers.{cases_below}
+use Rattle.htl_model.proofs.Words.{Tables, Stay, stay_of, stays_to, next_stay_at, within_front, cases_below}
 
 pub length-stays_to : (t : Tables) (v : List ℤ) (now : ℕ) (old : List (Option Stay)) (k : ℕ) → length (stays_to t v now old k) ≡ k
 length-stays_to t v now old zero = refl

@@ -1,8 +1,6 @@
 -- In a tree of programs each module stands once in the order, so the modules in order have no more of a kind than the source.
 use Rattle.std.proofs.Common.{◌≡◌, inl, inr, ℕ, zero, suc, ◌+◌, ◌≤◌, ◌<◌, Bool, true, false, cond, eqb, List, [], ◌∷◌, length, take, slice_get, Option, Some, None, refl, sym, ◌∙◌, ap, ap₂, subst, arith, ◌≢◌, map, set, sum, sum_by, length-set, get_or-set_other, flat_map, count_by, ltb}
-use Rattle.htl_names.proofs.Words.{cases_eq, ne_eqb, nat_tests, same_Some, slice_get_within, get_or_from_slice_get, slice_get-get_or, length-flat_map, sum_by-le, sum-map, sum_by-cons, sum_by-append, sum_by_push, sum_by-set, get_or-le-sum_by, list_to, get_mapped, modules_of, PlainProgram, PlainMode, PlainModule, Key, ModeAt, ModuleAt, is_module, flat_map_at, place_in, refined_place, nth_module, mode_in, modules_at, modes_at, modules_in, mode_kids, kids, order, module_at, mode_at, module_modes, mode_order, named_program, naming, refined_by}
-use Rattle.htl_text.specs.Bounds.{modes_of}
-use Rattle.htl_names.specs.Order.{below}
+use Rattle.htl_names.proofs.Words.{cases_eq, ne_eqb, nat_tests, same_Some, slice_get_within, get_or_from_slice_get, slice_get-get_or, length-flat_map, sum_by-le, sum-map, sum_by-cons, sum_by-append, sum_by_push, sum_by-set, get_or-le-sum_by, list_to, get_mapped, modules_of, PlainProgram, PlainMode, PlainModule, Key, ModeAt, ModuleAt, is_module, flat_map_at, place_in, refined_place, nth_module, mode_in, modules_at, modes_at, modules_in, mode_kids, kids, order, module_at, mode_at, module_modes, mode_order, named_program, naming, refined_by, modes_of, below}
 use Rattle.htl_names.proofs.FlatMaps.{at_part, same_part, flat_map_is, most_in_part}
 use Rattle.htl_names.proofs.ListLaws.{flat_map_flat_map, flat_map_places}
 use Rattle.htl_names.proofs.ModulePlaces.{Exists, Comes, top, under, kid, comes}

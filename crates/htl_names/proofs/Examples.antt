@@ -1,7 +1,6 @@
 -- Small sources and the name rules that they break, worked out by the definitions.
 use Rattle.std.proofs.Common.{◌≡◌, ◌+◌, ◌∷◌, ℕ, List, [], Some, None, pos, refl, arith}
-use Rattle.htl_names.proofs.Words.{first_some, Variable, PlainProgram, PlainModule, PlainMode, PlainTask, Concrete, Id, InvokeNode, ParamNode, entry, symbols_of, module_key, NameBroken, RepeatedName, UnknownName, WrongKind, ParentName, Span, unknown_token, uses, input_use}
-use Rattle.htl_text.specs.declared.tree.Num.{Num}
+use Rattle.htl_names.proofs.Words.{first_some, Variable, PlainProgram, PlainModule, PlainMode, PlainTask, Concrete, Id, InvokeNode, ParamNode, entry, symbols_of, module_key, NameBroken, RepeatedName, UnknownName, WrongKind, ParentName, Span, unknown_token, uses, input_use, Num}
 use Rattle.htl_base.specs.declared.Ty.TheVariants as ty
 use Rattle.htl_names.specs.declared.fault.NameFault.TheVariants as fault
 

@@ -1,8 +1,6 @@
 -- Where the items of lists and of their parts stand, and whose they are.
 use Rattle.std.proofs.Common.{◌≡◌, ℕ, zero, suc, ◌+◌, ◌<◌, ◌≤◌, inl, inr, List, [], ◌∷◌, ◌++◌, length, take, slice_get, Some, refl, sym, ◌∙◌, ap, ap₂, subst, arith, length-append, take-append-drop, get_or, map, cond, Bool, eqb, leb, flat_map, count_by}
-use Rattle.htl_names.proofs.Words.{length-map, slice_get_within, same_Some, none-some, slice_get-get_or, flat_map-append, cases_lt, nat_tests, sum_by-cons, sum_by-append, list_to, length-list_to, get_list_to, get_mapped, flat_map_at}
-use Rattle.std.specs.List.Sorted.{IsNonDecreasing}
-use Rattle.htl_base.proofs.Places.{from_map, get_back, get_either, get_front}
+use Rattle.htl_names.proofs.Words.{length-map, slice_get_within, same_Some, none-some, slice_get-get_or, flat_map-append, cases_lt, nat_tests, sum_by-cons, sum_by-append, list_to, length-list_to, get_list_to, get_mapped, flat_map_at, IsNonDecreasing, from_map, get_back, get_either, get_front}
 
 -- ---- the front and the back of a list
 

@@ -1,11 +1,6 @@
 -- The names of the tables of a tree differ, and the tables are in range.
 use Rattle.std.proofs.Common.{◌≤◌, ◌≡◌, ◌<◌, ◌+◌, ℕ, List, map, length, take, slice_get, Some, refl, sym, ◌∙◌, ap, ap₂, subst, arith, None, Option, IfSome, All}
-use Rattle.htl_names.proofs.Words.{slice_get_within, same_Some, length-map, All-map, AreApart, Mode, Module, Task, Inv, IsModeInRange, IsTaskInRange, IsCommInRange, AreInRange, IsPortInRange, IsEndInRange, IsInvInRange, IsModeThat, IsSwitchInRange, mode_module, out_params, comms_of, modules_of, invokes_of, names_of, InvokeNode, PlainProgram, PlainModule, PlainTask, PlainMode, PlainSwitch, Id, EndNode, ModeAt, Entry, entry, module_entries, comm_entry, entries, layout, symbols_of, meaning, comm_item, comm_items, mode_item, mode_items, module_items, port_item, port_items, task_item, task_items, invoke_item, invoke_items, switch_item, tables_of_tree, module_number, modes_before, tasks_before, mode_number, end_item, refined_mode, parent_number, comms_in, comm_key, module_key, task_key, mode_key, port_key, invoke_key, flat_map_at, AreNamesRight, module_at, tasks_at, ports_at, invokes_at, switches_at, usage, uses, comm_use, end_use, MeetsBounds, MeetsInvokeBounds, IsNarrowEnd, IsNarrowInvoke, mode_in, ModuleAt, refined_by}
-use Rattle.htl_model.specs.declared.parts.Comm.{Comm}
-use Rattle.htl_model.specs.declared.parts.Port.{Port}
-use Rattle.htl_model.specs.declared.parts.Switch.{Switch}
-use Rattle.htl_model.proofs.Apart.{different, different_owned, different_pairs, different_numbers}
-use Rattle.htl_text.specs.Bounds.{modes_of}
+use Rattle.htl_names.proofs.Words.{slice_get_within, same_Some, length-map, All-map, AreApart, Mode, Module, Task, Inv, IsModeInRange, IsTaskInRange, IsCommInRange, AreInRange, IsPortInRange, IsEndInRange, IsInvInRange, IsModeThat, IsSwitchInRange, mode_module, out_params, comms_of, modules_of, invokes_of, names_of, InvokeNode, PlainProgram, PlainModule, PlainTask, PlainMode, PlainSwitch, Id, EndNode, ModeAt, Entry, entry, module_entries, comm_entry, entries, layout, symbols_of, meaning, comm_item, comm_items, mode_item, mode_items, module_items, port_item, port_items, task_item, task_items, invoke_item, invoke_items, switch_item, tables_of_tree, module_number, modes_before, tasks_before, mode_number, end_item, refined_mode, parent_number, comms_in, comm_key, module_key, task_key, mode_key, port_key, invoke_key, flat_map_at, AreNamesRight, module_at, tasks_at, ports_at, invokes_at, switches_at, usage, uses, comm_use, end_use, MeetsBounds, MeetsInvokeBounds, IsNarrowEnd, IsNarrowInvoke, mode_in, ModuleAt, refined_by, Comm, Port, Switch, different, different_owned, different_pairs, different_numbers, modes_of, all_at, from_map}
 use Rattle.htl_text.specs.declared.tree.EndNode.TheVariants as end
 use Rattle.htl_names.proofs.EntryLaws.{declared, one_place, one_entry, source_entries, entries_are, Origin, of_comm, of_module, of_task, of_mode as mode_origin, of_port, of_invoke}
 use Rattle.htl_names.proofs.FlatMaps.{at_part, same_part, part_of, given, counted, few_owned, owners_order, stands as item_stands}
@@ -18,7 +13,6 @@ use Rattle.htl_names.proofs.NameUses.{mode_period_span, worst_span, known, used_
 use Rattle.htl_names.proofs.Places.{modes_in, tasks_in, program_of_module, within as inside, part_in_source}
 use Rattle.htl_names.proofs.Ordering.{kept_limit, right_tree, number_is, are_few, few_in_mode, instances}
 use Rattle.htl_names.proofs.ListLaws.{few_reads, read_of, distinct_once, distinct_apart, among_at}
-use Rattle.htl_base.proofs.Places.{all_at, from_map}
 
 -- items differ by what they are called, where those called alike stand at one place
 apart_by : {B N : Type 0} (called : B → N) (ys : List B) → ((j k : ℕ) (y z : B) → slice_get ys j ≡ Some y → slice_get ys k ≡ Some z → called y ≡ called z → j ≡ k) → AreApart (map called ys)

@@ -1,9 +1,7 @@
 -- The root selections of a tree's tables are as many as the tree's, and have no more positions than the limit.
 use Rattle.std.proofs.Common.{◌≡◌, ◌<◌, ◌≤◌, ◌+◌, ◌*◌, cond, ℕ, suc, Bool, true, false, List, [], ◌∷◌, ◌++◌, map, length, slice_get, Option, Some, None, filter, sum, refl, sym, ◌∙◌, ap, subst, arith, length-append, flat_map}
-use Rattle.htl_names.proofs.Words.{AllZip, sum_by-cons, slice_get_within, same_Some, KeepsLimits, places_from, Tables, mode_module, Inv, Mode, PlainProgram, PlainModule, PlainMode, MeetsBounds, Layout, layout, symbols_of, mode_item, module_item, module_items_at, invoke_item, tables_of_tree, most_invokes, most_positions, selections, choices, plain_root_modules, flat_map_at, AreNamesRight, modules_at, invokes_at, nth_module, mode_in, ModeAt, ModuleAt, Module}
-use Rattle.std.proofs.lemmas.Nat.{mul-le}
+use Rattle.htl_names.proofs.Words.{AllZip, sum_by-cons, slice_get_within, same_Some, KeepsLimits, places_from, Tables, mode_module, Inv, Mode, PlainProgram, PlainModule, PlainMode, MeetsBounds, Layout, layout, symbols_of, mode_item, module_item, module_items_at, invoke_item, tables_of_tree, most_invokes, most_positions, selections, choices, plain_root_modules, flat_map_at, AreNamesRight, modules_at, invokes_at, nth_module, mode_in, ModeAt, ModuleAt, Module, mul-le, own_mode}
 use Rattle.htl_model.specs.Selections.{is_root, root_modules, mode_of_module, inv_of_mode, modes_of, invs_of, choices_from, root_mode}
-use Rattle.htl_model.proofs.RootModeLaws.{own_mode}
 use Rattle.htl_names.proofs.InRange.{names-in-range}
 use Rattle.htl_names.proofs.Numbered.{module_count, each_mode, mode_owner, one_module}
 use Rattle.htl_names.proofs.ModulePlaces.{is_root_module, exist, roots_of}

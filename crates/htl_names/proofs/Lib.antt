@@ -23,4 +23,4 @@ mod Searches
 mod Reaching
 pub mod SmallFunctions
 pub mod TreeBounds
-mod Words
+pub mod Words

@@ -1,11 +1,6 @@
 -- A tally has the lengths of the lists of items, and the loop over the limits finds the first that is exceeded.
 use Rattle.std.proofs.Common.{◌≡◌, ◌+◌, ◌*◌, ◌-◌, ◌^◌, ℕ, min, List, [], ◌∷◌, length, map, fold, refl, sym, ◌∙◌, ap, ap₂, arith, mul_assoc, ◌≤◌, ◌<◌, suc, sum, get_or, length-append, flat_map}
-use Rattle.htl_names.proofs.Words.{one-mul, fold-append, sum_by-cons, get_or_from_slice_get, slice_get_within, slice_get-get_or, greatest, modules_of, PlainProgram, PlainModule, PlainMode, NameFault, Limits, NameBroken, IsKept, IsFirstOf, symbols_of, counts, most_invokes, limits, choices, plain_root_modules, modules_at, capped, no_modes, no_tally, with_mode, with_module, with_program, chosen, selected, placed, IsTally}
-use Rattle.htl_model.proofs.ChoiceLaws.{capped as product_capped}
-use Rattle.htl_text.specs.Bounds.{modes_of}
-use Rattle.htl_names.specs.declared.limits.ModeTally.{ModeTally}
-use Rattle.htl_names.specs.declared.limits.ModuleTally.{ModuleTally}
-use Rattle.htl_names.specs.declared.limits.Tally.{Tally}
+use Rattle.htl_names.proofs.Words.{one-mul, fold-append, sum_by-cons, get_or_from_slice_get, slice_get_within, slice_get-get_or, greatest, modules_of, PlainProgram, PlainModule, PlainMode, NameFault, Limits, NameBroken, IsKept, IsFirstOf, symbols_of, counts, most_invokes, limits, choices, plain_root_modules, modules_at, capped, no_modes, no_tally, with_mode, with_module, with_program, chosen, selected, placed, IsTally, product_capped, modes_of, ModeTally, ModuleTally, Tally}
 use Rattle.htl_names.specs.declared.fault.NameFault.TheVariants as fault
 
 -- ---- folds

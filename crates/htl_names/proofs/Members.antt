@@ -1,8 +1,7 @@
 -- Lists: what holds of each item, and which items there are.
 use Rattle.std.proofs.Common.{◌≡◌, ℕ, zero, suc, ◌+◌, ◌<◌, List, [], ◌∷◌, ◌++◌, map, slice_get, Some, All, refl, sym, ◌∙◌, ap, subst, arith, length, get_or, flat_map}
-use Rattle.htl_names.proofs.Words.{All-nil, All-cons, none-some, same_Some, slice_get-get_or, flat_map_single, get_mapped, flat_map_at, map_at}
+use Rattle.htl_names.proofs.Words.{All-nil, All-cons, none-some, same_Some, slice_get-get_or, flat_map_single, get_mapped, flat_map_at, map_at, all_at, from_map, get_back, get_front}
 use Rattle.htl_names.proofs.FlatMaps.{at_part, at_flat, part_of, given, flat_map_parts}
-use Rattle.htl_base.proofs.Places.{all_at, from_map, get_back, get_front}
 
 -- P holds of each item
 abbrev pub Each : {A : Type 0} → (A → Type 0) → List A → Type 0

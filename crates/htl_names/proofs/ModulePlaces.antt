@@ -1,11 +1,9 @@
 -- The modules in the order of the tables: where each comes from, and which of them are root modules.
 use Rattle.std.proofs.Common.{◌≡◌, ◌⊎◌, inl, inr, ℕ, zero, suc, ◌+◌, ◌<◌, Bool, true, false, cond, List, [], ◌∷◌, length, take, slice_get, Option, Some, None, filter, refl, ◌∙◌, ap, subst, sym, arith, flat_map}
-use Rattle.htl_names.proofs.Words.{common_steps, filter-append, none-some, same_Some, PlainProgram, PlainModule, PlainMode, Key, ModeAt, ModuleAt, module_at, modules_at, modes_at, modules_in, mode_kids, kids, order, named_program, nth_module, mode_in}
-use Rattle.htl_names.specs.Order.{below}
+use Rattle.htl_names.proofs.Words.{common_steps, filter-append, none-some, same_Some, PlainProgram, PlainModule, PlainMode, Key, ModeAt, ModuleAt, module_at, modules_at, modes_at, modules_in, mode_kids, kids, order, named_program, nth_module, mode_in, below, item_at}
 use Rattle.htl_names.proofs.Naming.{Names}
 use Rattle.htl_names.proofs.Members.{In}
 use Rattle.htl_names.proofs.FlatMaps.{at_flat, flat_part, part_of, of_list_to}
-use Rattle.htl_base.proofs.Places.{item_at}
 
 -- the module of a module
 abbrev pub Exists : List PlainProgram → ModuleAt → Type 0

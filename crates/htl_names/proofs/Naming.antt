@@ -1,11 +1,9 @@
 -- The modes that name programs, and the levels of programs by the table of refined modes.
 use Rattle.std.proofs.Common.{◌≡◌, ℕ, zero, suc, ◌≤◌, ◌<◌, Bool, true, cond, eqb, List, [], ◌∷◌, map, length, slice_get, Some, None, refl, ◌∙◌, ap, arith, ◌+◌, count_by}
-use Rattle.htl_names.proofs.Words.{list_any, nat_tests, sum_by-cons, slice_get_within, none-some, same_Some, PlainProgram, PlainMode, Key, ModeAt, symbols_of, mode_at, named_program, links, targets, named_by, named_from, Naming, mode_naming, module_naming, program_naming, naming, refined_in, level_by, level, levels_by, levels, Named, AreNamed, map_at, list_to, greatest}
-use Rattle.htl_names.specs.Named.{refined_at}
+use Rattle.htl_names.proofs.Words.{list_any, nat_tests, sum_by-cons, slice_get_within, none-some, same_Some, PlainProgram, PlainMode, Key, ModeAt, symbols_of, mode_at, named_program, links, targets, named_by, named_from, Naming, mode_naming, module_naming, program_naming, naming, refined_in, level_by, level, levels_by, levels, Named, AreNamed, map_at, list_to, greatest, refined_at, from_map}
 use Rattle.htl_names.proofs.Members.{In, Each, in_part_at, each_at, each_flat_map_at, each_weaker}
 use Rattle.htl_names.proofs.ListLaws.{among_place}
 use Rattle.htl_names.proofs.Places.{program_of_module, module_of_mode}
-use Rattle.htl_base.proofs.Places.{from_map}
 
 -- ---- the mode that names a program
 

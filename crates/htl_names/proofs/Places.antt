@@ -1,7 +1,6 @@
 -- What tests tell, what stands at a place of a tree, and where among all of its kind.
 use Rattle.std.proofs.Common.{◌≡◌, ℕ, ◌<◌, inl, inr, refl, ◌+◌, List, [], length, slice_get, Option, Some, None, ◌∙◌, ap, sym, flat_map}
-use Rattle.htl_names.proofs.Words.{cases_eq, none-some, slice_get_within, modules_of, PlainProgram, PlainModule, PlainMode, PlainTask, module_at, tasks_at, modes_at, mode_at, module_modes, mode_order, ModeAt, mode_in, ModuleAt, length-list_to}
-use Rattle.htl_text.specs.Bounds.{modes_of}
+use Rattle.htl_names.proofs.Words.{cases_eq, none-some, slice_get_within, modules_of, PlainProgram, PlainModule, PlainMode, PlainTask, module_at, tasks_at, modes_at, mode_at, module_modes, mode_order, ModeAt, mode_in, ModuleAt, length-list_to, modes_of}
 use Rattle.htl_names.proofs.FlatMaps.{at_flat, flat_map_is, same_length}
 
 pub stable : (m n : ℕ) → ((m ≡ n → ⊥) → ⊥) → m ≡ n

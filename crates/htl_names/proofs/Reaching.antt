@@ -1,7 +1,6 @@
 -- The search for the programs that are reached: which are marked, and which wait.
 use Rattle.std.proofs.Common.{◌≡◌, ◌<◌, ◌+◌, ◌⊎◌, ℕ, zero, suc, Bool, true, false, cond, List, [], ◌∷◌, ◌++◌, length, map, get_or, replicate, sym, ◌∙◌, ap, arith}
-use Rattle.htl_names.proofs.Words.{nat_tests, common_steps, length-map, MarksReached, Graph, Naming, targets, named_by, Reached, root}
-use Rattle.std.proofs.Math.ListN.{set}
+use Rattle.htl_names.proofs.Words.{nat_tests, common_steps, length-map, MarksReached, Graph, Naming, targets, named_by, Reached, root, set}
 use Rattle.std.proofs.lemmas.List.{get_or-map}
 use Rattle.htl_names.proofs.ListLaws.{is_among}
 use Rattle.htl_names.specs.Programs.{below}

@@ -1,9 +1,6 @@
 -- What the searches of single rules find, and the first fault over all rules.
 use Rattle.std.proofs.Common.{◌≡◌, ◌<◌, ℕ, zero, suc, List, [], ◌∷◌, slice_get, Option, Some, None, refl, sym, ap, subst, arith, ◌≤◌, Result, Ok, Err, ◌∙◌, inl, inr, length, Bool, true, false, cond, leb, leb-true, le-leb, MatchOption, IsErrAnd}
-use Rattle.htl_names.proofs.Words.{none-some, same_Some, slice_get_within, first_some, NameFault, PlainProgram, NameRule, RepeatedName, UnknownName, WrongKind, ParentName, NameBroken, IsFirstNameFault, AreNamesRight, IsResolved, IsKept, KeptBelow, IsFirstOf, IsSearched, IsRefusal, Key, Entry, entries, symbols_of, Named, AreNamed, refined_by, EntriesAreApart, IsRepeat, wrong_tokens, Judged, kinds, token_of, is_kind, IsWrongKind, wrong_token, Use, look_up, unknown_by, unknown_token, uses, IsUnknown, Id, ModeAt, absent, orphan_at, orphan_token, ParentUse, invoke_parent, mode_parents, module_parents, program_parents, parents, parent_in, IsOrphan}
-use Rattle.std.proofs.Math.Nat.{eq-or-lt_of_le}
-use Rattle.htl_names.specs.NameRules.{order_of}
-use Rattle.htl_names.specs.Named.{refined_at}
+use Rattle.htl_names.proofs.Words.{none-some, same_Some, slice_get_within, first_some, NameFault, PlainProgram, NameRule, RepeatedName, UnknownName, WrongKind, ParentName, NameBroken, IsFirstNameFault, AreNamesRight, IsResolved, IsKept, KeptBelow, IsFirstOf, IsSearched, IsRefusal, Key, Entry, entries, symbols_of, Named, AreNamed, refined_by, EntriesAreApart, IsRepeat, wrong_tokens, Judged, kinds, token_of, is_kind, IsWrongKind, wrong_token, Use, look_up, unknown_by, unknown_token, uses, IsUnknown, Id, ModeAt, absent, orphan_at, orphan_token, ParentUse, invoke_parent, mode_parents, module_parents, program_parents, parents, parent_in, IsOrphan, eq-or-lt_of_le, order_of, refined_at}
 use Rattle.htl_names.specs.Rows.{wrong_of}
 use Rattle.htl_names.proofs.Members.{Each, each_at, each_always, each_flat_map, each_flat_map_at}
 use Rattle.htl_names.specs.declared.fault.NameFault.TheVariants as fault

@@ -1,15 +1,12 @@
 -- The functions of a source have few nodes, and arguments that are there.
 use Rattle.std.proofs.Common.{◌≡◌, ◌≤◌, ◌<◌, ◌+◌, ℕ, zero, suc, length-append, cond, eqb, List, [], ◌∷◌, length, map, slice_get, Some, refl, sym, ◌∙◌, ap, ap₂, subst, arith, flat_map, All}
-use Rattle.htl_names.proofs.Words.{AllZip, flat_map-map, map-map, slice_get_within, AllZip-long, length-map, IsSmallFunction, AreSmall, ArgumentsBelow, nodes, AreInRange, IsFunInRange, Tables, Fun, Formula, Compiled, function_count, count_before, Task, get_mapped, ParamNode, names_of, out_params, out_values, tree_nodes, Expr, Variable, Prefix, Infix, Choice, PlainProgram, PlainTask, PlainOut, PlainOuts, PlainSwitch, Concrete, Abstract, Id, MeetsBounds, MeetsTaskBounds, Layout, layout, meaning, term_by, types_of, is_abstract, task_item, task_items, module_task_items, switch_items, function_items, input_place, flat_output_function, outs_functions, task_functions, module_functions, comms_in, switch_item, mode_switch_items, read_place, flat_switch_function, mode_functions, tables_of_tree, comm_key, AreNamesRight, tasks_at, switches_at, input_use, output_uses, outputs_uses, ModeAt, ModuleAt}
-use Rattle.htl_base.specs.declared.Ty.TheVariants.{Bool as BoolTy}
-use Rattle.htl_model.specs.FunctionTypes.{FunctionType, output_type, task_types, switch_type, comm_type, function_types}
+use Rattle.htl_names.proofs.Words.{AllZip, flat_map-map, map-map, slice_get_within, AllZip-long, length-map, IsSmallFunction, AreSmall, ArgumentsBelow, nodes, AreInRange, IsFunInRange, Tables, Fun, Formula, Compiled, function_count, count_before, Task, get_mapped, ParamNode, names_of, out_params, out_values, tree_nodes, Expr, Variable, Prefix, Infix, Choice, PlainProgram, PlainTask, PlainOut, PlainOuts, PlainSwitch, Concrete, Abstract, Id, MeetsBounds, MeetsTaskBounds, Layout, layout, meaning, term_by, types_of, is_abstract, task_item, task_items, module_task_items, switch_items, function_items, input_place, flat_output_function, outs_functions, task_functions, module_functions, comms_in, switch_item, mode_switch_items, read_place, flat_switch_function, mode_functions, tables_of_tree, comm_key, AreNamesRight, tasks_at, switches_at, input_use, output_uses, outputs_uses, ModeAt, ModuleAt, BoolTy, FunctionType, output_type, task_types, switch_type, comm_type, function_types, all_at, item_at}
 use Rattle.htl_names.proofs.ListLaws.{zip_append, zip_map, zip_parts, zip_at, distinct_has, among_at, place_within, few_reads}
 use Rattle.htl_names.proofs.FlatMaps.{flat_map_is, flat_map_parts}
 use Rattle.htl_names.proofs.Members.{All-from_places, In, in_first, in_second, in_part, in_mapped, at_place, map_flat_map_at}
 use Rattle.htl_names.proofs.Numbered.{task_small, switch_small}
 use Rattle.htl_names.proofs.Places.{tasks_in}
 use Rattle.htl_names.proofs.NameUses.{known, used_in_task}
-use Rattle.htl_base.proofs.Places.{all_at, item_at}
 
 -- ---- expressions
 

@@ -1,11 +1,8 @@
 -- The table of symbols: its look-ups, and names that repeat.
 use Rattle.std.proofs.Common.{◌≡◌, ℕ, cond, List, [], ◌∷◌, Some, refl, ap, ◌<◌, ◌≤◌, suc, take, map, slice_get, None, sym, ◌∙◌, arith, inl, inr}
-use Rattle.htl_names.proofs.Words.{Key, same_key, look_up, pair_of, none-some, Entry, Repeats, AreApartTo}
-use Rattle.std.specs.Map.{lookup}
-use Rattle.std.proofs.Math.Nat.{eq-or-lt_of_le}
+use Rattle.htl_names.proofs.Words.{Key, same_key, look_up, pair_of, none-some, Entry, Repeats, AreApartTo, lookup, eq-or-lt_of_le, from_take, into_take}
 use Rattle.htl_names.proofs.EntryLaws.{found, some}
 use Rattle.htl_names.specs.contracts.key.KeyPartialEq.TheImpl as key_impl
-use Rattle.htl_base.proofs.Places.{from_take, into_take}
 
 pub lookup_is : (k : Key) (es : List (Key × ℕ)) → lookup ((key_impl.eq-value).it k) es ≡ look_up k es
 lookup_is k [] = refl

@@ -1,10 +1,8 @@
 -- A tree of programs: its levels, how many programs it has, and the table of refined modes.
 use Rattle.std.proofs.Common.{◌≡◌, ℕ, zero, suc, ◌+◌, ◌≤◌, ◌<◌, inl, inr, true, eqb, List, [], ◌∷◌, length, Some, refl, sym, ◌∙◌, ap, subst, arith, cond, eq-or-lt_of_le, flat_map, count_by}
-use Rattle.htl_names.proofs.Words.{list_any, nat_tests, le-length_from_below, list_to, length-list_to, PlainProgram, PlainModule, Key, ModeAt, Reached, root, Naming, mode_naming, module_naming, program_naming, naming, namings, targets, links, IsMisplaced, refined_by, level, length-map, sum_by-cons, modules_of}
-use Rattle.htl_names.specs.Programs.{below as beneath}
+use Rattle.htl_names.proofs.Words.{list_any, nat_tests, le-length_from_below, list_to, length-list_to, PlainProgram, PlainModule, Key, ModeAt, Reached, root, Naming, mode_naming, module_naming, program_naming, naming, namings, targets, links, IsMisplaced, refined_by, level, length-map, sum_by-cons, modules_of, beneath, modes_of}
 use Rattle.htl_names.proofs.Places.{stable}
 use Rattle.htl_names.proofs.Naming.{Names, in_naming, naming_counts, naming_below, refined_one, refined_none, link_names}
-use Rattle.htl_text.specs.Bounds.{modes_of}
 use Rattle.htl_names.proofs.Members.{In, each_at}
 use Rattle.htl_names.proofs.ListLaws.{among_at, flat_map_flat_map}
 use Rattle.htl_names.proofs.FlatMaps.{list_to_at, flat_map_at_shorter, flat_map_at_single}

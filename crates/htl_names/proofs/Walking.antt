@@ -1,7 +1,6 @@
 -- Steps of walks along lists, and down the tree of programs.
 use Rattle.std.proofs.Common.{◌≡◌, ◌+◌, ℕ, suc, List, [], ◌∷◌, ◌++◌, length, map, refl, ◌∙◌, ap, arith, append_assoc, append-nil, ◌<◌, ◌-◌, flat_map}
-use Rattle.htl_names.proofs.Words.{flat_map-append, mode_of, PlainProgram, ModeNode, map_at, flat_map_at, Key, ModuleAt, mode_kids, modes_at}
-use Rattle.htl_names.specs.Order.{below}
+use Rattle.htl_names.proofs.Words.{flat_map-append, mode_of, PlainProgram, ModeNode, map_at, flat_map_at, Key, ModuleAt, mode_kids, modes_at, below}
 
 pub map_at-append : {A B : Type 0} (g : ℕ → A → B) (k n : ℕ) (xs ys : List A) → n ≡ k + length xs → map_at g k (xs ++ ys) ≡ map_at g k xs ++ map_at g n ys
 map_at-append g k n [] ys is = let same : k ≡ n = omega (arith, is) in ap (λ m. map_at g m ys) same

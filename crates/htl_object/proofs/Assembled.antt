@@ -1,9 +1,6 @@
 -- The object that is put together of lists.
 use Rattle.std.proofs.Common.{◌≡◌, ℕ, List, map, sym, ◌∙◌, ap}
-use Rattle.htl_object.specs.declared.lists.Anchors.{Anchors}
-use Rattle.htl_object.specs.declared.lists.Lists.{Lists}
-use Rattle.htl_model.specs.Tables.{Fun, Compiled}
-use Rattle.htl_object.specs.Lists.{object_from, object_of_lists, tables_from, tables_of_lists}
+use Rattle.htl_object.proofs.Words.{Anchors, Lists, Fun, Compiled, object_from, object_of_lists, tables_from, tables_of_lists}
 
 pub assembled : (l : Lists) (fs : List Fun) → fs ≡ map (λ c. Compiled c) l.functions → tables_of_lists l ≡ tables_from l fs
 assembled l fs e = ap (tables_from l) (sym e)

@@ -1,9 +1,6 @@
 -- Items with equal ones written once: the numbers and the blocks say the items.
 use Rattle.std.proofs.Common.{◌≡◌, ◌≤◌, ◌<◌, ℕ, zero, suc, max, ◌+◌, Bool, true, false, ◌||◌, not, cond, List, [], ◌∷◌, ◌++◌, length, map, get_or, inl, inr, refl, sym, ap, subst, ◌∙◌, arith, append_assoc, append-nil}
-use Rattle.std.proofs.lemmas.Bool.{false≢true, cases_lt}
-use Rattle.std.proofs.lemmas.List.{length-append}
-use Rattle.std.specs.List.{list_any}
-use Rattle.htl_object.specs.Blocks.{count_from, with_block, blocks_from, number_in, numbers_from}
+use Rattle.htl_object.proofs.Words.{false≢true, cases_lt, length-append, list_any, count_from, with_block, blocks_from, number_in, numbers_from}
 
 module _ {A : Type 0} (same : A → A → Bool) where
   -- blocks that are found stay in front

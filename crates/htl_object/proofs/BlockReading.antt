@@ -1,15 +1,7 @@
 -- Blocks that are read one after the other, with the pieces of the bytes that spell them.
 use Rattle.std.proofs.Common.{◌≡◌, ◌+◌, ◌-◌, ◌<◌, ◌≤◌, ℕ, suc, max, Bool, true, false, not, List, [], ◌∷◌, ◌++◌, length, map, take, All, Ok, Err, inl, inr, refl, sym, ap, subst, ◌∙◌, arith}
-use Rattle.std.proofs.lemmas.Bool.{not-true, cases_lt}
-use Rattle.std.proofs.lemmas.List.{take_at, length-append}
-use Rattle.std.proofs.lemmas.List.Elements.{All-push, All-cons}
-use Rattle.std.specs.List.{list_any}
-use Rattle.std.specs.Str.{bytes_eq}
-use Rattle.htl_walk.specs.declared.schedule.Schedule.{Schedule}
-use Rattle.htl_object.specs.Blocks.{same_schedule, with_block, count_from, block_count, is_new, block_at, AreSpelled}
+use Rattle.htl_object.proofs.Words.{not-true, cases_lt, take_at, length-append, All-push, All-cons, list_any, bytes_eq, Schedule, same_schedule, with_block, count_from, block_count, is_new, block_at, AreSpelled, schedule_bytes, schedule_at, IsSchedule, Spelling}
 use Rattle.htl_object.specs.Reading.{IsBytes, Read, ◌>>=◌, bad_at, need}
-use Rattle.htl_object.specs.Schedules.{schedule_bytes, schedule_at, IsSchedule}
-use Rattle.htl_object.specs.declared.malformed.MalKind.TheVariants.{Spelling}
 use Rattle.htl_object.proofs.BlockLaws.{count_from-least, with_block-new}
 use Rattle.htl_object.proofs.BlockSpellings.{any_spelled, with_block_spelled}
 use Rattle.htl_object.proofs.ScheduleLaws.{schedule, schedule_equal, same_spelling, count_from-last}

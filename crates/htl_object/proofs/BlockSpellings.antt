@@ -1,10 +1,6 @@
 -- Items with equal ones written once, by their spellings: the numbers are the same, and the blocks are those of the spellings.
 use Rattle.std.proofs.Common.{◌≡◌, ◌+◌, ℕ, Bool, true, false, ◌||◌, not, cond, List, [], ◌∷◌, ◌++◌, map, All, refl, ap, ◌∙◌}
-use Rattle.std.proofs.lemmas.List.{map-append}
-use Rattle.std.proofs.lemmas.List.Elements.{All-head, All-tail, All-push}
-use Rattle.std.specs.List.{list_any}
-use Rattle.std.specs.Str.{bytes_eq}
-use Rattle.htl_object.specs.Blocks.{with_block, blocks_from, number_in, numbers_from}
+use Rattle.htl_object.proofs.Words.{map-append, All-head, All-tail, All-push, list_any, bytes_eq, with_block, blocks_from, number_in, numbers_from}
 
 -- two that fit are the same exactly where their spellings are
 module _ {A : Type 0} (same : A → A → Bool) (spell : A → List ℕ) (fits : A → Type 0) (agree : (a b : A) → fits a → fits b → same a b ≡ bytes_eq (spell a) (spell b)) where

@@ -1,16 +1,6 @@
 -- Lists whose items fit those before them: item by item, apart, and with owners that don't fall.
 use Rattle.std.proofs.Common.{◌≡◌, ◌≤◌, ◌<◌, ◌+◌, ◌-◌, ℕ, zero, suc, Bool, true, false, cond, ◌||◌, List, [], ◌∷◌, ◌++◌, length, map, take, get_or, slice_get, Option, Some, None, All, refl, sym, ◌∙◌, ap, subst, arith, inl, inr, append-nil, append_assoc}
-use Rattle.std.specs.List.{list_any, count_by}
-use Rattle.std.specs.List.Sorted.{IsNonDecreasing}
-use Rattle.std.proofs.lemmas.List.{length-map}
-use Rattle.std.proofs.lemmas.List.Sums.{sum_by-cons, sum_by-append}
-use Rattle.std.proofs.lemmas.Option.{slice_get_cases, slice_get-get_or, slice_get_within}
-use Rattle.htl_model.specs.Lists.{AreApart}
-use Rattle.htl_object.specs.Items.{Each}
-use Rattle.htl_base.proofs.Places.{all_at, from_map, from_take, get_mapped}
-use Rattle.htl_base.proofs.Tests.{true_not_false, or_second}
-use Rattle.htl_base.proofs.Numbers.{cases_at_most}
-use Rattle.std.proofs.lemmas.Bool.{or_from}
+use Rattle.htl_object.proofs.Words.{list_any, count_by, IsNonDecreasing, length-map, sum_by-cons, sum_by-append, slice_get_cases, slice_get-get_or, slice_get_within, AreApart, Each, all_at, from_map, from_take, get_mapped, true_not_false, or_second, cases_at_most, or_from}
 
 -- ---- by place
 

@@ -1,16 +1,6 @@
 -- The definitions compute: the first bad fields of some bytes, and what bytes say.
 use Rattle.std.proofs.Common.{◌≡◌, ◌+◌, ℕ, false, true, pos, List, [], ◌∷◌, ◌++◌, Some, None, Ok, Err, take, drop, replicate, refl}
-use Rattle.std.specs.Prelude.{codes}
-use Rattle.htl_base.specs.declared.Ty.TheVariants.{Int}
-use Rattle.htl_model.specs.declared.parts.Inv.{Inv}
-use Rattle.htl_model.specs.declared.parts.Mode.{Mode}
-use Rattle.htl_object.specs.Files.{first_bad, is_node_count}
-use Rattle.htl_object.specs.Invocations.{is_inv_mode}
-use Rattle.htl_object.specs.Modes.{mode_at}
-use Rattle.htl_object.specs.Objects.{object_bytes, object_in}
-use Rattle.htl_object.specs.Reading.{short}
-use Rattle.htl_object.specs.declared.malformed.MalKind.TheVariants.{Magic, Version, Short, Index, Tag, Spelling, Trailing}
-use Rattle.htl_object.specs.declared.object.Object.{Object}
+use Rattle.htl_object.proofs.Words.{codes, Int, Inv, Mode, first_bad, is_node_count, is_inv_mode, mode_at, object_bytes, object_in, short, Magic, Version, Short, Index, Tag, Spelling, Trailing, Object}
 
 -- ---- bytes
 

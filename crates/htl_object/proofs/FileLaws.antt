@@ -1,35 +1,7 @@
 -- The two laws of objects, and that what is written is read again.
 use Rattle.std.proofs.Common.{◌≡◌, ℕ, ◌==◌, List, [], ◌++◌, length, Option, None, Ok, Err, refl, sym, ap, subst, ◌∙◌, ◌↔◌}
-use Rattle.std.specs.Prelude.{nat_le}
-use Rattle.std.specs.Int.{w16, to_be_bytes}
-use Rattle.std.specs.List.{flat_map}
-use Rattle.std.proofs.lemmas.Bool.{eqb-true}
-use Rattle.std.proofs.lemmas.List.{append-nil, nil_from_length}
-use Rattle.htl_object.specs.declared.malformed.MalKind.TheVariants.{Index, Trailing}
-use Rattle.htl_model.specs.declared.parts.Comm.{Comm}
-use Rattle.htl_model.specs.declared.parts.Mode.{Mode}
-use Rattle.htl_model.specs.declared.parts.Module.{Module}
-use Rattle.htl_model.specs.declared.parts.Port.{Port}
-use Rattle.htl_model.specs.declared.parts.Task.{Task}
-use Rattle.htl_model.specs.declared.parts.Inv.{Inv}
-use Rattle.htl_model.specs.declared.parts.Switch.{Switch}
-use Rattle.htl_model.specs.declared.function.Code.{Code}
-use Rattle.htl_ecode.specs.declared.instr.EInstr.{EInstr}
-use Rattle.htl_walk.specs.declared.schedule.Schedule.{Schedule}
-use Rattle.htl_object.specs.declared.lists.Anchors.{Anchors}
-use Rattle.htl_object.specs.declared.lists.Counts.{Counts}
-use Rattle.htl_object.specs.declared.lists.Lists.{Lists}
+use Rattle.htl_object.proofs.Words.{nat_le, w16, to_be_bytes, flat_map, eqb-true, Index, Trailing, Comm, Mode, Module, Port, Task, Inv, Switch, Code, EInstr, Schedule, Anchors, Counts, Lists, comm_bytes, mode_bytes, module_bytes, port_bytes, task_bytes, inv_bytes, switch_bytes, code_bytes, Fits16, counts_of, counts_bytes, counts_at, AreCounts, anchors_bytes, anchors_at, AreAnchors, is_node_count, e_code_bytes, e_code_at, IsECode, counted_functions, front_bytes, front_at, IsFront, IsFrontInRange, with_schedules, file_bytes, file_at, IsFileInRange, whole_at, fault_of, first_bad, tables_of_lists, head_bytes, append-nil, nil_from_length}
 use Rattle.htl_object.specs.Reading.{IsBytes, Read, ◌>>=◌, bad_at, need, limited_count}
-use Rattle.htl_object.specs.Comms.{comm_bytes}
-use Rattle.htl_object.specs.Modes.{mode_bytes}
-use Rattle.htl_object.specs.Modules.{module_bytes}
-use Rattle.htl_object.specs.Ports.{port_bytes, task_bytes}
-use Rattle.htl_object.specs.Invocations.{inv_bytes, switch_bytes}
-use Rattle.htl_object.specs.Instructions.{code_bytes}
-use Rattle.htl_object.specs.Items.{Fits16}
-use Rattle.htl_object.specs.Files.{counts_of, counts_bytes, counts_at, AreCounts, anchors_bytes, anchors_at, AreAnchors, is_node_count, e_code_bytes, e_code_at, IsECode, counted_functions, front_bytes, front_at, IsFront, IsFrontInRange, with_schedules, file_bytes, file_at, IsFileInRange, whole_at, fault_of, first_bad}
-use Rattle.htl_object.specs.Lists.{tables_of_lists}
-use Rattle.htl_object.specs.Versions.{head_bytes}
 use Rattle.htl_object.proofs.VersionLaws.{head, tail}
 use Rattle.htl_object.proofs.Lawful.{IsCodec, given-value, needed, bound, field, last, checked, counted, items, whole}
 use Rattle.htl_object.proofs.FieldLaws.{number16, number32}

@@ -1,57 +1,13 @@
 -- The lists of an object in range are in range, each item by those before it.
 use Rattle.std.proofs.Common.{◌≡◌, ◌≤◌, ◌<◌, ℕ, zero, suc, Bool, true, false, not, cond, ◌&&◌, eqb, List, [], ◌∷◌, ◌++◌, length, map, take, drop, get_or, slice_get, Option, Some, None, All, IfSome, ℤ, pos, refl, sym, ◌∙◌, ap, subst, arith, inl, inr, take-append-drop}
-use Rattle.std.specs.Prelude.{nat_le, nat_lt, FitsSigned}
-use Rattle.std.specs.Int.{w64}
-use Rattle.std.specs.List.{list_any, count_by}
-use Rattle.std.specs.Ordering.{int_eq}
-use Rattle.std.specs.Str.{bytes_eq}
-use Rattle.std.proofs.lemmas.Bool.Decides.{nat_tests, Decides-int_eq}
-use Rattle.std.proofs.lemmas.List.{length-map}
-use Rattle.std.proofs.lemmas.List.Sums.{sum_by-append, sum_by-cons}
-use Rattle.std.proofs.lemmas.Option.{slice_get-get_or, slice_get_within, slice_get_cases}
-use Rattle.std.proofs.lemmas.Slice.Eq.{bytes_eq-Decides}
-use Rattle.htl_base.specs.Names.{is_name}
-use Rattle.htl_base.specs.declared.Ty.{Ty}
+use Rattle.htl_object.proofs.Words.{nat_le, nat_lt, FitsSigned, w64, list_any, count_by, int_eq, bytes_eq, nat_tests, Decides-int_eq, length-map, sum_by-append, sum_by-cons, slice_get-get_or, slice_get_within, slice_get_cases, bytes_eq-Decides, is_name, Ty, EInstr, apart_names, apart_owned, apart_pairs, apart_numbers, length-list_to, get_list_to, AreApart, list_to, FitsType, IsSpan, IsModeThat, parent_of, is_within, IsEndInRange, IsFunInRange, AreInRange, IsCommInRange, IsModeInRange, IsPortInRange, IsInvInRange, IsSwitchInRange, IsTaskInRange, Tables, Fun, Compiled, mode_module, Code, Comm, End, Inv, Mode, Module, Port, Switch, Task, is_named_comm, is_span, is_owner, is_of, AreAnchors, IsFrontInRange, IsFileInRange, is_node_count, is_parent, is_read, last_inv_mode, last_switch_mode, Each, Fits16, IsComm, IsMode, IsOption, IsModule, IsPort, AreTypes, IsTask, IsEnd, AreEnds, IsInv, IsSwitch, IsCode, IsEInstr, IsSInstr, IsFInstr, codes_of, anchors_of, lists_of, tables_of_lists, is_named_mode, last_module, is_named_module, is_mode_of, is_within_before, HasWidths, KeepsFunction, IsObject, is_named_port, is_named_task, last_mode, last_owner, IsPhased, IsShort, IsSchedule, Anchors, Object, Schedule, all_at, and_from, eq-eqb, eqb-true, not_from_false, or_left, or_right, and_first}
 use Rattle.htl_base.specs.declared.Ty.TheVariants as ty
-use Rattle.htl_ecode.specs.declared.instr.EInstr.{EInstr}
 use Rattle.htl_ecode.specs.declared.instr.EInstr.TheVariants as I
-use Rattle.htl_model.proofs.Apart.{apart_names, apart_owned, apart_pairs, apart_numbers}
-use Rattle.htl_model.proofs.Listed.{length-list_to, get_list_to}
-use Rattle.htl_model.specs.Lists.{AreApart, list_to}
-use Rattle.htl_model.specs.Ranges.{FitsType, IsSpan, IsModeThat, parent_of, is_within, IsEndInRange, IsFunInRange, AreInRange, IsCommInRange, IsModeInRange, IsPortInRange, IsInvInRange, IsSwitchInRange, IsTaskInRange}
-use Rattle.htl_model.specs.Tables.{Tables, Fun, Compiled, mode_module}
-use Rattle.htl_model.specs.declared.function.Code.{Code}
-use Rattle.htl_model.specs.declared.parts.Comm.{Comm}
-use Rattle.htl_model.specs.declared.parts.End.{End}
 use Rattle.htl_model.specs.declared.parts.End.TheVariants as E
-use Rattle.htl_model.specs.declared.parts.Inv.{Inv}
-use Rattle.htl_model.specs.declared.parts.Mode.{Mode}
-use Rattle.htl_model.specs.declared.parts.Module.{Module}
-use Rattle.htl_model.specs.declared.parts.Port.{Port}
-use Rattle.htl_model.specs.declared.parts.Switch.{Switch}
-use Rattle.htl_model.specs.declared.parts.Task.{Task}
 use Rattle.htl_object.proofs.Each.{each_of, every, none_before, last_least, length_take, get_take}
 use Rattle.htl_object.proofs.NodeCounts.{nodes_few, node_count_so, small as le_test}
 use Rattle.htl_object.proofs.ListRanges.{counted, itself, module_of_mode, right}
 use Rattle.htl_object.proofs.Listed.{all_codes, object_again}
-use Rattle.htl_object.specs.Comms.{is_named_comm}
-use Rattle.htl_object.specs.Fields.{is_span, is_owner, is_of}
-use Rattle.htl_object.specs.Files.{AreAnchors, IsFrontInRange, IsFileInRange, is_node_count}
-use Rattle.htl_object.specs.Invocations.{is_parent, is_read, last_inv_mode, last_switch_mode}
-use Rattle.htl_object.specs.Items.{Each, Fits16, IsComm, IsMode, IsOption, IsModule, IsPort, AreTypes, IsTask, IsEnd, AreEnds, IsInv, IsSwitch, IsCode, IsEInstr, IsSInstr, IsFInstr}
-use Rattle.htl_object.specs.Lists.{codes_of, anchors_of, lists_of, tables_of_lists}
-use Rattle.htl_object.specs.Modes.{is_named_mode, last_module}
-use Rattle.htl_object.specs.Modules.{is_named_module, is_mode_of, leads_up_within as is_within_before}
-use Rattle.htl_object.specs.Objects.{HasWidths, KeepsFunction, IsObject}
-use Rattle.htl_object.specs.Ports.{is_named_port, is_named_task, last_mode, last_owner}
-use Rattle.htl_object.specs.Ranges.{IsPhased, IsShort}
-use Rattle.htl_object.specs.Schedules.{IsSchedule}
-use Rattle.htl_object.specs.declared.lists.Anchors.{Anchors}
-use Rattle.htl_object.specs.declared.object.Object.{Object}
-use Rattle.htl_walk.specs.declared.schedule.Schedule.{Schedule}
-use Rattle.htl_base.proofs.Places.{all_at}
-use Rattle.std.proofs.lemmas.Bool.{and_from, eq-eqb, eqb-true, not_from_false, or_left, or_right}
-use Rattle.htl_base.proofs.Tests.{and_first}
 
 -- ---- tests
 

@@ -1,18 +1,6 @@
 -- The functions of tables, one after the other: how many there are, and where each stands.
 use Rattle.std.proofs.Common.{◌≡◌, ◌≤◌, ◌<◌, ◌*◌, ◌^◌, ℕ, zero, suc, ◌+◌, Bool, true, false, cond, List, length, map, add-one, get_or, slice_get, Option, Some, None, IfSome, sym, ◌∙◌, ap, subst, arith, inl, inr}
-use Rattle.std.proofs.lemmas.List.{length-map}
-use Rattle.std.proofs.lemmas.Option.{slice_get_cases, slice_get-get_or}
-use Rattle.htl_base.specs.declared.Ty.{Ty}
-use Rattle.htl_base.specs.declared.Ty.TheVariants.{Bool as BoolTy}
-use Rattle.htl_model.specs.declared.function.Function.{Function}
-use Rattle.htl_model.specs.declared.parts.Switch.{Switch}
-use Rattle.htl_model.specs.declared.parts.Task.{Task}
-use Rattle.htl_model.specs.Ranges.{AreInRange, IsTaskInRange}
-use Rattle.htl_model.specs.Tables.{Tables, Fun, fun_of, function_count, count_at, count_before}
-use Rattle.htl_model.proofs.SelectionLaws.{output_within}
-use Rattle.htl_model.specs.FunctionTypes.{function_types, output_type, comm_type}
-use Rattle.htl_model.proofs.PlaceLaws.{output_types_at, switch_types_at}
-use Rattle.htl_base.proofs.Places.{each_at, get_mapped}
+use Rattle.htl_object.proofs.Words.{length-map, slice_get_cases, slice_get-get_or, Ty, BoolTy, Function, Switch, Task, AreInRange, IsTaskInRange, Tables, Fun, fun_of, function_count, count_at, count_before, output_within, function_types, output_type, comm_type, output_types_at, switch_types_at, each_at, get_mapped}
 
 -- ---- how many functions there are
 

@@ -1,17 +1,9 @@
 -- Instructions and functions.
 use Rattle.std.proofs.Common.{◌≡◌, ℕ, List, [], ◌∷◌, ◌++◌, Ok, refl}
-use Rattle.std.specs.Prelude.{nat_le}
-use Rattle.htl_base.specs.declared.Ty.{Ty}
-use Rattle.htl_object.specs.declared.malformed.MalKind.TheVariants.{Tag, Index}
-use Rattle.htl_ecode.specs.declared.instr.EInstr.{EInstr}
+use Rattle.htl_object.proofs.Words.{nat_le, Ty, Tag, Index, EInstr, FInstr, SInstr, Code, is_phase, phase_at, e_bytes, e_table, e_instr_at, s_bytes, s_table, s_instr_at, f_bytes, f_table, f_instr_at, is_body, code_bytes, code_at, IsPhase, IsEInstr, IsSInstr, IsFInstr, IsCode}
 use Rattle.htl_ecode.specs.declared.instr.EInstr.TheVariants as E
-use Rattle.htl_model.specs.declared.function.FInstr.{FInstr}
 use Rattle.htl_model.specs.declared.function.FInstr.TheVariants as F
-use Rattle.htl_walk.specs.declared.schedule.SInstr.{SInstr}
 use Rattle.htl_walk.specs.declared.schedule.SInstr.TheVariants as S
-use Rattle.htl_model.specs.declared.function.Code.{Code}
-use Rattle.htl_object.specs.Instructions.{is_phase, phase_at, e_bytes, e_table, e_instr_at, s_bytes, s_table, s_instr_at, f_bytes, f_table, f_instr_at, is_body, code_bytes, code_at}
-use Rattle.htl_object.specs.Items.{IsPhase, IsEInstr, IsSInstr, IsFInstr, IsCode}
 use Rattle.htl_object.proofs.Lawful.{IsCodec, field, last, checked, counted, whole}
 use Rattle.htl_object.proofs.Tagged.{TableTakes, ◌&◌, of_plain, of_parts, tagged}
 use Rattle.htl_object.proofs.FieldLaws.{byte, number16, number32, value, type}

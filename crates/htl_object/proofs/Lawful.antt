@@ -1,12 +1,7 @@
 -- A reader that is right, and what is right when it is built of such.
 use Rattle.std.proofs.Common.{◌≡◌, ℕ, zero, suc, Bool, true, false, List, [], ◌∷◌, ◌++◌, length, Ok, Err, refl, sym, ap, subst, ◌∙◌, append_assoc, arith}
-use Rattle.std.specs.List.{flat_map}
-use Rattle.std.proofs.lemmas.List.{append-nil}
-use Rattle.std.proofs.lemmas.List.Concat.{flat_map-cons}
-use Rattle.htl_object.specs.declared.malformed.MalKind.{MalKind}
-use Rattle.htl_object.specs.declared.malformed.Bad.{Bad}
+use Rattle.htl_object.proofs.Words.{flat_map, flat_map-cons, MalKind, Bad, Each, append-nil}
 use Rattle.htl_object.specs.Reading.{IsBytes, Read, ◌>>=◌, bad_at, need, field_at, items_at}
-use Rattle.htl_object.specs.Items.{Each}
 
 -- ---- bytes
 

@@ -31,3 +31,4 @@ pub mod Examples
 pub mod VersionExamples
 pub mod NodeExamples
 pub mod PhaseLaws
+pub mod Words

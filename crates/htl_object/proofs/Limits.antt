@@ -1,29 +1,8 @@
 -- What is read of a file keeps the limits on selections and positions.
 use Rattle.std.proofs.Common.{◌≡◌, ◌≤◌, ◌<◌, ◌+◌, ◌*◌, ◌/◌, ◌%◌, ℕ, zero, suc, Bool, true, false, cond, ◌&&◌, eqb, List, [], ◌∷◌, ◌++◌, length, drop, slice_get, Option, Some, None, refl, sym, ◌∙◌, ap, arith, inl, inr, length-append}
-use Rattle.std.specs.Prelude.{nat_le, is_none}
-use Rattle.std.specs.List.{flat_map, count_by}
-use Rattle.std.proofs.Math.Nat.{mul_comm, mul_assoc}
-use Rattle.std.proofs.lemmas.Bool.Decides.{nat_tests}
-use Rattle.std.proofs.lemmas.List.Sums.{sum_by-cons}
-use Rattle.std.proofs.lemmas.Option.{slice_get-get_or, slice_get_within}
-use Rattle.htl_object.specs.Modules.{is_mode_of}
-use Rattle.htl_object.specs.Files.{IsFileInRange, is_root_number as is_root_at, selections_to, selections_of, widest_to, positions_to, is_node_count}
-use Rattle.htl_object.specs.declared.lists.Lists.{Lists}
-use Rattle.htl_model.proofs.SelectionLaws.{modes_some, no_modules}
+use Rattle.htl_object.proofs.Words.{nat_le, is_none, flat_map, count_by, mul_comm, mul_assoc, nat_tests, sum_by-cons, slice_get-get_or, slice_get_within, is_mode_of, IsFileInRange, is_root_at, selections_to, selections_of, widest_to, positions_to, is_node_count, Lists, modes_some, no_modules, KeepsLimits, frame_limit, nodes, places_from, AreInRange, is_root, root_modules, mode_of_module, inv_of_mode, modes_of, invs_of, choices_from, selection_count, root_mode, positions, Tables, Inv, Mode, Module, tables_of_lists, eqb-true, cases_below}
 pub use Rattle.htl_model.proofs.SelectionLaws.{place_passes}
-use Rattle.htl_model.specs.Broken.{KeepsLimits}
-use Rattle.htl_model.specs.Frames.{frame_limit, nodes}
-use Rattle.htl_model.specs.Lists.{places_from}
-use Rattle.htl_model.specs.Ranges.{AreInRange}
-use Rattle.htl_model.specs.Selections.{is_root, root_modules, mode_of_module, inv_of_mode, modes_of, invs_of, choices_from, selection_count, root_mode, positions}
-use Rattle.htl_model.specs.Tables.{Tables}
-use Rattle.htl_model.specs.declared.parts.Inv.{Inv}
-use Rattle.htl_model.specs.declared.parts.Mode.{Mode}
-use Rattle.htl_model.specs.declared.parts.Module.{Module}
 use Rattle.htl_object.proofs.ListRanges.{at_most, lists_in_range}
-use Rattle.htl_object.specs.Lists.{tables_of_lists}
-use Rattle.std.proofs.lemmas.Bool.{eqb-true}
-use Rattle.htl_base.proofs.Numbers.{cases_below}
 
 -- ---- places that pass, and how many
 

@@ -1,46 +1,9 @@
 -- What is read of a file is tables in range.
 use Rattle.std.proofs.Common.{◌≡◌, ◌≤◌, ◌<◌, ◌+◌, ℕ, zero, suc, Bool, true, false, not, cond, ◌&&◌, eqb, List, [], ◌∷◌, length, map, take, slice_get, Option, Some, None, All, IfSome, ℤ, pos, refl, sym, ◌∙◌, ap, subst, arith, inl, inr}
-use Rattle.std.specs.Prelude.{nat_le, nat_lt}
-use Rattle.std.specs.List.{list_any, count_by, sum_by}
-use Rattle.std.specs.Ordering.{int_eq}
-use Rattle.std.specs.Str.{bytes_eq}
-use Rattle.std.proofs.lemmas.Bool.Decides.{nat_tests, Decides-int_eq}
-use Rattle.std.proofs.lemmas.List.{length-map}
-use Rattle.std.proofs.lemmas.List.Elements.{All-map}
-use Rattle.std.proofs.lemmas.List.Sums.{sum_by-cons}
-use Rattle.std.proofs.lemmas.Option.{slice_get_within}
-use Rattle.std.proofs.lemmas.Slice.Eq.{bytes_eq-Decides}
-use Rattle.htl_base.specs.declared.Ty.{Ty}
+use Rattle.htl_object.proofs.Words.{nat_le, nat_lt, int_eq, bytes_eq, nat_tests, Decides-int_eq, length-map, All-map, sum_by-cons, slice_get_within, bytes_eq-Decides, Ty, is_span, is_owner, is_of, is_named_comm, is_named_mode, last_module, is_named_module, is_mode_of, is_within_before, is_named_port, is_named_task, last_mode, last_owner, is_port_of, is_inv_task, is_parent, is_target, is_read, last_inv_mode, last_switch_mode, is_body, IsFrontInRange, Each, Fits16, IsComm, IsMode, IsModule, IsPort, IsTask, IsEnd, AreEnds, IsInv, IsSwitch, IsCode, Lists, are_different_numbers, FitsType, IsSpan, IsCommInRange, IsModeInRange, IsModeThat, parent_of, is_within, IsPortInRange, IsTaskInRange, IsEndInRange, IsInvInRange, IsSwitchInRange, IsFunInRange, AreInRange, Tables, Compiled, mode_module, task_count, count_before, Code, Comm, End, Inv, Mode, Module, Port, Switch, Task, different, different_owned, different_pairs, different_numbers, AreApart, tables_of_lists, and_from, eq-eqb, eqb-true, not-true, or_cases, and_first, from_take, list_any, count_by, sum_by}
 use Rattle.htl_base.specs.declared.Ty.TheVariants as ty
-use Rattle.htl_object.specs.Fields.{is_span, is_owner, is_of}
-use Rattle.htl_object.specs.Comms.{is_named_comm}
-use Rattle.htl_object.specs.Modes.{is_named_mode, last_module}
-use Rattle.htl_object.specs.Modules.{is_named_module, is_mode_of, leads_up_within as is_within_before}
-use Rattle.htl_object.specs.Ports.{is_named_port, is_named_task, last_mode, last_owner}
-use Rattle.htl_object.specs.Invocations.{is_port_of, is_inv_task, is_parent, is_target, is_read, last_inv_mode, last_switch_mode}
-use Rattle.htl_object.specs.Instructions.{is_body}
-use Rattle.htl_object.specs.Files.{IsFrontInRange}
-use Rattle.htl_object.specs.Items.{Each, Fits16, IsComm, IsMode, IsModule, IsPort, IsTask, IsEnd, AreEnds, IsInv, IsSwitch, IsCode}
-use Rattle.htl_object.specs.declared.lists.Lists.{Lists}
-use Rattle.htl_model.specs.Ranges.{are_different_numbers, FitsType, IsSpan, IsCommInRange, IsModeInRange, IsModeThat, parent_of, is_within, IsPortInRange, IsTaskInRange, IsEndInRange, IsInvInRange, IsSwitchInRange, IsFunInRange, AreInRange}
-use Rattle.htl_model.specs.Tables.{Tables, Compiled, mode_module, function_count as task_count, count_before}
-use Rattle.htl_model.specs.declared.function.Code.{Code}
-use Rattle.htl_model.specs.declared.parts.Comm.{Comm}
-use Rattle.htl_model.specs.declared.parts.End.{End}
 use Rattle.htl_model.specs.declared.parts.End.TheVariants as E
-use Rattle.htl_model.specs.declared.parts.Inv.{Inv}
-use Rattle.htl_model.specs.declared.parts.Mode.{Mode}
-use Rattle.htl_model.specs.declared.parts.Module.{Module}
-use Rattle.htl_model.specs.declared.parts.Port.{Port}
-use Rattle.htl_model.specs.declared.parts.Switch.{Switch}
-use Rattle.htl_model.specs.declared.parts.Task.{Task}
-use Rattle.htl_model.proofs.Apart.{different, different_owned, different_pairs, different_numbers}
-use Rattle.htl_model.specs.Lists.{AreApart}
 use Rattle.htl_object.proofs.Each.{at_place, all_of, length_take, apart, rising, few_from}
-use Rattle.htl_object.specs.Lists.{tables_of_lists}
-use Rattle.std.proofs.lemmas.Bool.{and_from, eq-eqb, eqb-true, not-true, or_cases}
-use Rattle.htl_base.proofs.Tests.{and_first}
-use Rattle.htl_base.proofs.Places.{from_take}
 
 -- ---- tests
 

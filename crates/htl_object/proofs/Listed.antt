@@ -1,21 +1,6 @@
 -- The lists of an object, and the object of lists: each gives the other back.
 use Rattle.std.proofs.Common.{◌≡◌, ◌≤◌, ◌<◌, ℕ, zero, suc, List, [], ◌∷◌, ◌++◌, length, map, take, get_or, slice_get, Some, All, refl, sym, ◌∙◌, ap, arith}
-use Rattle.std.proofs.Math.Seq.{take-suc}
-use Rattle.std.proofs.lemmas.List.{length-map}
-use Rattle.std.proofs.lemmas.List.Elements.{All-head, All-tail}
-use Rattle.std.proofs.lemmas.Option.{slice_get-get_or, slice_get_within}
-use Rattle.htl_ecode.specs.declared.ecode.ECode.{ECode}
-use Rattle.htl_ecode.specs.declared.instr.EInstr.{EInstr}
-use Rattle.htl_model.specs.Lists.{list_to}
-use Rattle.htl_model.specs.Tables.{Tables, Fun, Formula, Compiled}
-use Rattle.htl_model.specs.declared.function.Code.{Code}
-use Rattle.htl_object.specs.Files.{IsFileInRange}
-use Rattle.htl_object.specs.Lists.{object_of_lists, codes_of, anchors_of, lists_of}
-use Rattle.htl_object.specs.Ranges.{IsFunctionCode, IsInRange}
-use Rattle.htl_object.specs.declared.lists.Anchors.{Anchors}
-use Rattle.htl_object.specs.declared.lists.Lists.{Lists}
-use Rattle.htl_object.specs.declared.object.Object.{Object}
-use Rattle.htl_base.proofs.Places.{get_mapped, take_all}
+use Rattle.htl_object.proofs.Words.{take-suc, length-map, All-head, All-tail, slice_get-get_or, slice_get_within, ECode, EInstr, list_to, Tables, Fun, Formula, Compiled, Code, IsFileInRange, object_of_lists, codes_of, anchors_of, lists_of, IsFunctionCode, IsInRange, Anchors, Lists, Object, get_mapped, take_all}
 
 -- ---- lists by their places
 

@@ -1,7 +1,6 @@
 -- Names that are looked up in place of the items that have them.
 use Rattle.std.proofs.Common.{◌≡◌, Bool, ◌||◌, not, List, [], ◌∷◌, Result, refl, ap, subst, map, ◌∙◌}
-use Rattle.std.specs.Prelude.{IfOk}
-use Rattle.std.specs.List.{list_any}
+use Rattle.htl_object.proofs.Words.{IfOk, list_any}
 
 any_mapped : {A B : Type 0} (p : B → Bool) (f : A → B) (xs : List A) → list_any p (map f xs) ≡ list_any (λ x. p (f x)) xs
 any_mapped p f [] = refl

@@ -1,18 +1,8 @@
 -- A count of schedules is one of nodes, which are few.
 use Rattle.std.proofs.Common.{◌≡◌, ◌≤◌, ℕ, true, ◌&&◌, eqb, List, length, None, refl, sym, ap, arith}
-use Rattle.std.specs.Prelude.{nat_le, is_none}
-use Rattle.std.proofs.lemmas.Bool.Decides.{nat_tests}
-use Rattle.std.proofs.lemmas.List.{length-map}
-use Rattle.htl_model.proofs.FrameLimits.{limits_kept, rounds_have, choices_some, choices_starts}
-use Rattle.htl_model.proofs.FrameSteps.{nodes_small}
-use Rattle.htl_model.specs.Broken.{KeepsLimits}
-use Rattle.htl_model.specs.Frames.{starts, rounds, rounds_at, choices, radices, ways, nodes, frame_limit}
-use Rattle.htl_model.specs.Ranges.{AreInRange}
-use Rattle.htl_model.specs.Tables.{Tables}
+use Rattle.htl_object.proofs.Words.{nat_le, is_none, nat_tests, length-map, limits_kept, rounds_have, choices_some, choices_starts, nodes_small, KeepsLimits, starts, rounds, rounds_at, choices, radices, ways, nodes, frame_limit, AreInRange, Tables, selections_of, positions_to, are_few, is_node_count, and_from, eq-eqb}
 use Rattle.htl_object.proofs.Limits.{selections_are}
 use Rattle.htl_object.proofs.Widest.{most_few}
-use Rattle.htl_object.specs.Files.{selections_of, positions_to, are_few, is_node_count}
-use Rattle.std.proofs.lemmas.Bool.{and_from, eq-eqb}
 
 pub small : (n m : ℕ) → n ≤ m → nat_le n m ≡ true
 small n m h = grind (arith, nat_tests)

@@ -1,18 +1,9 @@
 -- The definitions compute: an object of two root modules of periods 10 and 20, which has a schedule for each of two nodes.
 use Rattle.std.proofs.Common.{◌≡◌, ℕ, true, false, pos, List, [], ◌∷◌, Option, Some, None, Ok, refl}
-use Rattle.std.specs.Prelude.{codes}
-use Rattle.htl_base.specs.declared.Ty.TheVariants.{Int}
-use Rattle.htl_model.specs.Frames.{nodes}
-use Rattle.htl_model.specs.Selections.{selection_count}
-use Rattle.htl_model.specs.Tables.{Tables, Compiled}
+use Rattle.htl_object.proofs.Words.{codes, Int, nodes, selection_count, Tables, Compiled, first_bad, is_node_count, object_bytes, object_in, Index, Object, Schedule}
 use Rattle.htl_model.specs.declared.function.FInstr.TheVariants as F
 use Rattle.htl_model.specs.declared.parts.End.TheVariants as E
-use Rattle.htl_object.specs.Files.{first_bad, is_node_count}
-use Rattle.htl_object.specs.Objects.{object_bytes, object_in}
-use Rattle.htl_object.specs.declared.malformed.MalKind.TheVariants.{Index}
-use Rattle.htl_object.specs.declared.object.Object.{Object}
 use Rattle.htl_walk.specs.declared.schedule.SInstr.TheVariants as S
-use Rattle.htl_walk.specs.declared.schedule.Schedule.{Schedule}
 
 -- module F computes u anew in each of its rounds, of so many ticks, and module G w in each of its own
 abbrev two : ℕ → ℕ → Tables

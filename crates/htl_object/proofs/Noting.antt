@@ -1,13 +1,7 @@
 -- What is noted of the items before, with one item more.
 use Rattle.std.proofs.Common.{◌≡◌, ◌<◌, ◌≤◌, ◌&&◌, ◌||◌, ◌+◌, ◌-◌, ℕ, zero, suc, Bool, true, false, cond, List, [], ◌∷◌, ◌++◌, length, get_or, replicate, Option, Some, None, refl, sym, ◌∙◌, ap, subst, arith}
 use Rattle.std.specs.Prelude.{◌==◌, slice_get, count_by}
-use Rattle.std.specs.List.{list_any}
-use Rattle.std.proofs.lemmas.Bool.Decides.{nat_tests}
-use Rattle.std.proofs.lemmas.List.Sums.{sum_by-cons}
-use Rattle.htl_model.specs.declared.parts.Inv.{Inv}
-use Rattle.htl_object.specs.Notes.{CountsMode, IsNoted, IsAdded}
-use Rattle.htl_object.specs.declared.notes.InvNotes.{InvNotes}
-use Rattle.htl_base.proofs.Places.{none_marked}
+use Rattle.htl_object.proofs.Words.{list_any, nat_tests, sum_by-cons, Inv, CountsMode, IsNoted, IsAdded, InvNotes, none_marked}
 
 -- one item more of which a test is asked
 pub any_more : {A : Type 0} (p : A → Bool) (xs : List A) (x : A) → list_any p (xs ++ x ∷ []) ≡ (list_any p xs || p x)

@@ -1,39 +1,15 @@
 -- The laws of objects, from those of the lists of a file.
 use Rattle.std.proofs.Common.{◌≡◌, ℕ, true, List, length, All, Option, Some, None, Ok, Err, refl, sym, ap, subst, ◌∙◌}
-use Rattle.std.proofs.lemmas.List.Elements.{All-map}
-use Rattle.std.specs.Prelude.{FitsSigned}
-use Rattle.std.specs.Int.{w64}
-use Rattle.htl_base.specs.Names.{is_name}
-use Rattle.htl_ecode.specs.declared.instr.EInstr.{EInstr}
+use Rattle.htl_object.proofs.Words.{All-map, FitsSigned, w64, is_name, EInstr, Compiled, Code, Comm, Mode, Module, Port, Task, Schedule, AreAnchors, IsFileInRange, file_bytes, first_bad, fault_of, malformed_at, whole_at, IsSchedule, Is32, IsComm, IsMode, IsModule, IsPort, IsTask, IsCode, IsEInstr, IsSInstr, IsFInstr, OneSpelling, OneObject, NoBadField, SaysItself, object_of_lists, lists_of, HasWidths, KeepsFunction, KeepsTypes, IsObject, object_bytes, object_or, object_in, object_at, IsDecoded, IsReadAs, DecodeFault, Anchors, Lists, Bad, Malformed, Object}
 use Rattle.htl_ecode.specs.declared.instr.EInstr.TheVariants as I
-use Rattle.htl_model.specs.Tables.{Compiled}
-use Rattle.htl_model.specs.declared.function.Code.{Code}
-use Rattle.htl_model.specs.declared.parts.Comm.{Comm}
-use Rattle.htl_model.specs.declared.parts.Mode.{Mode}
-use Rattle.htl_model.specs.declared.parts.Module.{Module}
-use Rattle.htl_model.specs.declared.parts.Port.{Port}
-use Rattle.htl_model.specs.declared.parts.Task.{Task}
-use Rattle.htl_walk.specs.declared.schedule.Schedule.{Schedule}
 use Rattle.htl_object.proofs.Each.{all_of}
 use Rattle.htl_object.proofs.FileLaws.{whole-again, whole-takes, one-file, no-bad-field}
 use Rattle.htl_object.proofs.FileRanges.{file_in_range}
 use Rattle.htl_object.proofs.Listed.{lists_again, object_again}
 use Rattle.htl_object.proofs.Lawful.{given-value}
 use Rattle.htl_object.proofs.ObjectRange.{lists_are_object}
-use Rattle.htl_object.specs.Files.{AreAnchors, IsFileInRange, file_bytes, first_bad, fault_of, malformed_at, whole_at}
-use Rattle.htl_object.specs.Schedules.{IsSchedule}
-use Rattle.htl_object.specs.Items.{Is32, IsComm, IsMode, IsModule, IsPort, IsTask, IsCode, IsEInstr, IsSInstr, IsFInstr}
-use Rattle.htl_object.specs.Laws.{OneSpelling, OneObject, NoBadField, SaysItself}
-use Rattle.htl_object.specs.Lists.{object_of_lists, lists_of}
-use Rattle.htl_object.specs.Objects.{HasWidths, KeepsFunction, KeepsTypes, IsObject, object_bytes, object_or, object_in, object_at, IsDecoded, IsReadAs}
 use Rattle.htl_object.specs.Reading.{IsBytes, Read, ◌>>=◌}
-use Rattle.htl_object.specs.declared.decoding.DecodeFault.{DecodeFault}
 use Rattle.htl_object.specs.declared.decoding.DecodeFault.TheVariants as fault
-use Rattle.htl_object.specs.declared.lists.Anchors.{Anchors}
-use Rattle.htl_object.specs.declared.lists.Lists.{Lists}
-use Rattle.htl_object.specs.declared.malformed.Bad.{Bad}
-use Rattle.htl_object.specs.declared.malformed.Malformed.{Malformed}
-use Rattle.htl_object.specs.declared.object.Object.{Object}
 
 -- ---- what is read keeps its types
 

@@ -1,23 +1,10 @@
 -- What is read of a file is an object in range.
 use Rattle.std.proofs.Common.{◌∙◌, arith}
-use Rattle.std.specs.Prelude.{nat_le}
-use Rattle.std.proofs.lemmas.List.{length-map}
-use Rattle.std.proofs.lemmas.List.Elements.{All-map}
-use Rattle.htl_object.specs.Files.{IsFileInRange}
-use Rattle.htl_object.specs.Schedules.{IsSchedule}
-use Rattle.htl_object.specs.Items.{IsEInstr}
-use Rattle.htl_object.specs.declared.lists.Anchors.{Anchors}
-use Rattle.htl_object.specs.declared.lists.Lists.{Lists}
-use Rattle.htl_ecode.specs.declared.instr.EInstr.{EInstr}
+use Rattle.htl_object.proofs.Words.{nat_le, length-map, All-map, IsFileInRange, IsSchedule, IsEInstr, Anchors, Lists, EInstr, Compiled, Code, IsFunctionCode, IsPhased, IsShort, IsInRange, object_of_lists, and_first}
 use Rattle.htl_ecode.specs.declared.instr.EInstr.TheVariants as I
-use Rattle.htl_model.specs.Tables.{Compiled}
-use Rattle.htl_model.specs.declared.function.Code.{Code}
-use Rattle.htl_object.specs.Ranges.{IsFunctionCode, IsPhased, IsShort, IsInRange}
 use Rattle.htl_object.proofs.Each.{all_of}
 use Rattle.htl_object.proofs.ListRanges.{at_most, right, lists_in_range}
 use Rattle.htl_object.proofs.Limits.{lists_keep_limits, frames_kept, counted_schedules}
-use Rattle.htl_object.specs.Lists.{object_of_lists}
-use Rattle.htl_base.proofs.Tests.{and_first}
 
 phased : (i : EInstr) → IsEInstr i → IsPhased i
 phased (I.Future d p x) h = (at_most 1 p (and_first (nat_le 1 p) (nat_le p 3) h.1.0.1), at_most p 3 (right (nat_le 1 p) (nat_le p 3) h.1.0.1))

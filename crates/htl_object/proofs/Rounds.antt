@@ -1,12 +1,7 @@
 -- One round of a loop that goes up a list.
 use Rattle.std.proofs.Common.{◌≡◌, ◌+◌, ◌<◌, ℕ, Bool, List, [], ◌∷◌, ◌++◌, length, map, take, drop, get_or, Option, All, ap, sym, subst, ◌∙◌, append_assoc}
-use Rattle.std.specs.List.{flat_map}
-use Rattle.std.proofs.lemmas.List.{take_more, drop_more, map_more, flat_map_more}
-use Rattle.std.proofs.lemmas.List.Elements.{All-push}
-use Rattle.std.specs.Io.KnownBytes.{append_known}
-use Rattle.htl_object.specs.Bytes.{Puts}
+use Rattle.htl_object.proofs.Words.{flat_map, take_more, drop_more, map_more, flat_map_more, All-push, append_known, Puts, with_block, blocks_from, number_in, numbers_from}
 use Rattle.htl_object.proofs.Appends.{PutsBut, appends, puts_same}
-use Rattle.htl_object.specs.Blocks.{with_block, blocks_from, number_in, numbers_from}
 
 module _ {X : Type 0} (xs : List X) (i : ℕ) (x : X) (lt : i < length xs) (is : x ≡ get_or xs i x) where
   next : take i xs ++ x ∷ [] ≡ take (i + 1) xs

@@ -1,26 +1,11 @@
 -- Schedules, and lists of them with equal ones written once: what is spelled is read, and what is read is spelled so.
 use Rattle.std.proofs.Common.{◌≡◌, ◌≤◌, ◌<◌, ◌^◌, ℕ, zero, suc, max, ◌+◌, Bool, true, false, not, List, [], ◌∷◌, ◌++◌, length, map, get_or, All, refl, sym, ap, subst, ◌∙◌, arith, append_assoc, append-nil}
-use Rattle.std.specs.Prelude.{nat_le}
-use Rattle.std.specs.Int.{w16, w32, to_be_bytes}
-use Rattle.std.specs.List.{list_any, flat_map}
-use Rattle.std.specs.Str.{bytes_eq}
-use Rattle.std.proofs.lemmas.Bool.{false≢true, not-true, leb-true, le-leb}
-use Rattle.std.proofs.lemmas.List.{length-map}
-use Rattle.std.proofs.lemmas.List.Folds.{flat_map-map}
-use Rattle.std.proofs.lemmas.Slice.Eq.{slice_eq-Decides, bytes_eq-Decides}
-use Rattle.htl_walk.specs.declared.schedule.SInstr.{SInstr}
+use Rattle.htl_object.proofs.Words.{nat_le, w16, w32, to_be_bytes, list_any, flat_map, bytes_eq, false≢true, not-true, leb-true, le-leb, length-map, flat_map-map, slice_eq-Decides, bytes_eq-Decides, SInstr, Schedule, s_code_at, schedule_bytes, schedule_at, IsSchedule, s_bytes, Each, Every, Fits16, Is32, IsSInstr, Index, Spelling, instr_numbers, same_schedule, with_block, blocks_from, number_in, numbers_from, block_numbers, block_list, blocks_bytes, count_from, block_count, block_number_at, is_new, block_at, schedules_of, blocks_at, IsShort}
 use Rattle.htl_walk.specs.declared.schedule.SInstr.TheVariants as S
-use Rattle.htl_walk.specs.declared.schedule.Schedule.{Schedule}
-use Rattle.htl_object.specs.Schedules.{s_code_at, schedule_bytes, schedule_at, IsSchedule}
-use Rattle.htl_object.specs.Instructions.{s_bytes}
-use Rattle.htl_object.specs.Items.{Each, Every, Fits16, Is32, IsSInstr}
 use Rattle.htl_object.specs.Reading.{◌>>=◌, field_at, number_at}
-use Rattle.htl_object.specs.declared.malformed.MalKind.TheVariants.{Index, Spelling}
 use Rattle.htl_object.proofs.Lawful.{IsCodec, given-value, field, last, checked, counted, items, whole}
 use Rattle.htl_object.proofs.FieldLaws.{number16, number32}
 use Rattle.htl_object.proofs.InstructionLaws.{s_instr}
-use Rattle.htl_object.specs.Blocks.{instr_numbers, same_schedule, with_block, blocks_from, number_in, numbers_from, block_numbers, block_list, blocks_bytes, count_from, block_count, block_number_at, is_new, block_at, schedules_of, blocks_at}
-use Rattle.htl_object.specs.Ranges.{IsShort}
 use Rattle.htl_object.proofs.BlockSpellings.{numbers_spelled, blocks_spelled}
 use Rattle.htl_object.proofs.Each.{every}
 use Rattle.htl_object.proofs.BlockLaws.{said, step, length-numbers, length-blocks, Steps, News, count_from-least, back, with_block-new, with_block-old}

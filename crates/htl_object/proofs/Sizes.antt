@@ -1,16 +1,8 @@
 -- How many outputs the tasks that were read have, whatever the bytes.
 use Rattle.std.proofs.Common.{◌≡◌, ℕ, zero, suc, ◌+◌, ◌*◌, ◌≤◌, Bool, true, false, cond, List, [], ◌∷◌, ◌++◌, length, Ok, ap, subst, arith}
 use Rattle.std.specs.Prelude.{sum_by, nat_le, not}
-use Rattle.std.specs.Int.{w16}
-use Rattle.std.proofs.lemmas.Bool.{leb-true}
-use Rattle.std.proofs.lemmas.List.{length-append}
-use Rattle.std.proofs.lemmas.List.Sums.{sum_by-append}
-use Rattle.htl_object.specs.declared.malformed.Bad.{Bad}
-use Rattle.htl_object.specs.declared.malformed.MalKind.TheVariants.{Spelling, Index}
-use Rattle.htl_model.specs.declared.parts.Task.{Task}
+use Rattle.htl_object.proofs.Words.{w16, leb-true, length-append, sum_by-append, Bad, Spelling, Index, Task, type_at, types_at, task_at, last_owner, is_named_task}
 use Rattle.htl_object.specs.Reading.{Read, ◌>>=◌, bad_at, need, items_at, limited_count, number_at}
-use Rattle.htl_object.specs.Fields.{type_at}
-use Rattle.htl_object.specs.Ports.{types_at, task_at, last_owner, is_named_task}
 use Rattle.htl_object.proofs.Lawful.{IsCodec, bound, needed, given-value}
 use Rattle.htl_object.proofs.FieldLaws.{name, owner, flag, span}
 use Rattle.htl_object.proofs.ItemLaws.{types}

@@ -1,21 +1,7 @@
 -- What is put at the end of bytes, piece by piece.
 use Rattle.std.proofs.Common.{◌≡◌, ℕ, ◌+◌, suc, List, [], ◌∷◌, ◌++◌, map, length, get_or, All, Option, Some, refl, ap, sym, subst, ◌∙◌, append-nil, arith}
-use Rattle.std.specs.List.{flat_map}
-use Rattle.std.proofs.lemmas.List.Concat.{flat_map-append}
-use Rattle.std.proofs.lemmas.List.Elements.{All-append, All-cons, All-nil}
-use Rattle.std.proofs.lemmas.Option.{slice_get-get_or}
-use Rattle.htl_ecode.specs.declared.ecode.ECode.{ECode}
-use Rattle.htl_model.proofs.Listed.{length-list_to, get_list_to}
-use Rattle.htl_model.specs.Lists.{list_to}
-use Rattle.htl_model.specs.Tables.{Fun, Formula, Compiled, fun_of}
-use Rattle.htl_model.specs.declared.function.Function.{Function}
+use Rattle.htl_object.proofs.Words.{flat_map, flat_map-append, All-append, All-cons, All-nil, slice_get-get_or, ECode, length-list_to, get_list_to, list_to, Fun, Formula, Compiled, fun_of, Function, Puts, anchors_bytes, AreAnchors, code_bytes, function_bytes, Is32, codes_of, anchors_of, Anchors}
 use Rattle.htl_object.proofs.Appends.{appends, puts_same}
-use Rattle.htl_object.specs.Bytes.{Puts}
-use Rattle.htl_object.specs.Files.{anchors_bytes, AreAnchors}
-use Rattle.htl_object.specs.Instructions.{code_bytes, function_bytes}
-use Rattle.htl_object.specs.Items.{Is32}
-use Rattle.htl_object.specs.Lists.{codes_of, anchors_of}
-use Rattle.htl_object.specs.declared.lists.Anchors.{Anchors}
 
 pub anchors_more : (f : ℕ → Anchors) (m : ℕ) (old mid new : Option (List ℕ)) → Puts (flat_map anchors_bytes (list_to f m)) old mid → Puts (anchors_bytes (f m)) mid new
     → Puts (flat_map anchors_bytes (list_to f (m + 1))) old new

@@ -1,9 +1,6 @@
 -- A value by its tag: a table of readers.
 use Rattle.std.proofs.Common.{◌≡◌, ℕ, ◌==◌, Bool, true, false, cond, List, [], ◌∷◌, ◌++◌, Ok, refl, sym, ap, subst, ◌∙◌}
-use Rattle.std.proofs.lemmas.Bool.{eqb-true}
-use Rattle.htl_object.specs.declared.malformed.MalKind.TheVariants.{Tag}
-use Rattle.htl_object.specs.declared.malformed.Bad.{Bad}
-use Rattle.htl_object.specs.Reading.{IsBytes, Read, bad_at, choose, tagged_at, plain_at}
+use Rattle.htl_object.proofs.Words.{eqb-true, Tag, Bad, IsBytes, Read, bad_at, choose, tagged_at, plain_at}
 use Rattle.htl_object.proofs.Lawful.{IsBytes-behind, IsCodec, Lawful, Taken, given-value}
 
 -- what an alternative reads is spelled with its tag, and fits

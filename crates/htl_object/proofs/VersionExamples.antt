@@ -1,12 +1,7 @@
 -- The definitions compute: schedules written once, and the first bad fields of heads and tails.
 use Rattle.std.proofs.Common.{◌≡◌, ◌==◌, ℕ, List, [], ◌∷◌, ◌++◌, Option, Some, None, Ok, Err, take, refl}
-use Rattle.std.specs.Prelude.{codes}
-use Rattle.htl_object.specs.Reading.{Read, short}
-use Rattle.htl_object.specs.declared.malformed.MalKind.TheVariants.{Version, Index, Tag, Spelling}
+use Rattle.htl_object.proofs.Words.{codes, Read, short, Version, Index, Tag, Spelling, Schedule, block_numbers, block_list, head_bytes, head_at, tail_bytes, tail_at}
 use Rattle.htl_walk.specs.declared.schedule.SInstr.TheVariants as S
-use Rattle.htl_walk.specs.declared.schedule.Schedule.{Schedule}
-use Rattle.htl_object.specs.Blocks.{block_numbers, block_list}
-use Rattle.htl_object.specs.Versions.{head_bytes, head_at, tail_bytes, tail_at}
 
 -- ---- four nodes with two schedules
 

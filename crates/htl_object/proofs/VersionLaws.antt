@@ -1,21 +1,10 @@
 -- The two items in which the versions differ: what is spelled is read, and what is read is spelled so.
 use Rattle.std.proofs.Common.{◌≡◌, ◌==◌, ◌||◌, ℕ, Bool, true, false, cond, List, ◌++◌, length, take, drop, Option, Some, None, Ok, refl, sym, ap, ◌∙◌, arith}
-use Rattle.std.specs.Prelude.{codes, nat_le}
-use Rattle.std.specs.Int.{w16, to_be_bytes}
-use Rattle.std.specs.Str.{bytes_eq}
-use Rattle.std.proofs.lemmas.Bool.{le-leb, eqb-true}
-use Rattle.std.proofs.lemmas.List.{take_at, drop_at, take-append-drop, length-append}
-use Rattle.std.proofs.lemmas.Slice.Eq.{bytes_eq-Decides}
-use Rattle.htl_base.specs.Names.{is_name}
-use Rattle.htl_object.specs.Fields.{name_bytes, name_at}
-use Rattle.htl_object.specs.Items.{Fits16}
+use Rattle.htl_object.proofs.Words.{codes, nat_le, w16, to_be_bytes, bytes_eq, le-leb, eqb-true, take_at, drop_at, take-append-drop, length-append, bytes_eq-Decides, is_name, name_bytes, name_at, Fits16, MalKind, Magic, Version, Index, text_at, version_of, platform_bytes, head_bytes, head_at, platform_at, IsPlatformName, tail_bytes, tail_at}
 use Rattle.htl_object.specs.Reading.{IsBytes, Read, ◌>>=◌, bad_at, short, need}
-use Rattle.htl_object.specs.declared.malformed.MalKind.{MalKind}
-use Rattle.htl_object.specs.declared.malformed.MalKind.TheVariants.{Magic, Version, Index}
 use Rattle.htl_object.proofs.Lawful.{IsCodec, Lawful, Taken, given-value, needed, field, last, checked, counted, whole}
 use Rattle.htl_object.proofs.FieldLaws.{number16, name}
 use Rattle.htl_object.proofs.ScheduleLaws.{AreSchedules, schedule, blocks}
-use Rattle.htl_object.specs.Versions.{text_at, version_of, platform_bytes, head_bytes, head_at, platform_at, IsPlatformName, tail_bytes, tail_at}
 
 -- just this text
 text : (kind : MalKind) (t : List ℕ) → IsCodec (λ x. x) (λ x. x ≡ t) (text_at kind t)

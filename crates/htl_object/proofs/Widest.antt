@@ -1,23 +1,8 @@
 -- A selection of each root module's widest mode.
 use Rattle.std.proofs.Common.{◌≡◌, ◌≤◌, ◌<◌, ◌⊎◌, ◌+◌, ◌*◌, ◌/◌, ◌%◌, ℕ, zero, suc, max, Bool, true, false, cond, eqb, List, [], ◌∷◌, length, drop, get_or, slice_get, Option, Some, None, refl, sym, ◌∙◌, ap, arith, inl, inr, length-append}
-use Rattle.std.specs.List.{flat_map, count_by}
-use Rattle.std.proofs.Math.Nat.{mul_comm, mul_assoc}
-use Rattle.std.proofs.lemmas.Bool.Decides.{nat_tests}
-use Rattle.std.proofs.lemmas.Nat.{div-mul-add, mod-mul-add, mul-add-lt}
-use Rattle.std.proofs.lemmas.Option.{slice_get-get_or, slice_get_within}
-use Rattle.htl_model.proofs.SelectionLaws.{modes_some, no_modules}
-use Rattle.htl_model.specs.Broken.{KeepsLimits}
-use Rattle.htl_model.specs.Lists.{places_from}
-use Rattle.htl_model.specs.Ranges.{AreInRange}
-use Rattle.htl_model.specs.Selections.{is_root, root_modules, mode_of_module, inv_of_mode, modes_of, invs_of, choices_from, selection_count, root_mode}
-use Rattle.htl_model.specs.Tables.{Tables}
-use Rattle.htl_model.specs.declared.parts.Inv.{Inv}
-use Rattle.htl_model.specs.declared.parts.Mode.{Mode}
-use Rattle.htl_model.specs.declared.parts.Module.{Module}
+use Rattle.htl_object.proofs.Words.{flat_map, count_by, mul_comm, mul_assoc, nat_tests, div-mul-add, mod-mul-add, mul-add-lt, slice_get-get_or, slice_get_within, modes_some, no_modules, KeepsLimits, places_from, AreInRange, is_root, root_modules, mode_of_module, inv_of_mode, modes_of, invs_of, choices_from, selection_count, root_mode, Tables, Inv, Mode, Module, widest_to, positions_to, is_mode_of}
 use Rattle.htl_object.proofs.Limits.{count_places, dropped, root_same, count_some}
 use Rattle.htl_object.proofs.ListRanges.{mode_of}
-use Rattle.htl_object.specs.Files.{widest_to, positions_to}
-use Rattle.htl_object.specs.Modules.{is_mode_of}
 
 -- ---- the widest mode of a module
 

@@ -1,15 +1,12 @@
 -- Schedules with equal ones written once: for each schedule the number of its block, and then the blocks.
 use Rattle.std.specs.Prelude.{◌≡◌, ℕ, suc, max, not, nat_le, Bool, cond, List, [], ◌∷◌, ◌++◌, map, get_or, Ok, All}
-use Rattle.std.specs.Int.{w16, to_be_bytes}
+use Rattle.htl_object.specs.Common.{w16, to_be_bytes, bytes_eq, SInstr, Schedule}
 use Rattle.std.specs.List.{flat_map, list_any, position_or_len}
-use Rattle.std.specs.Str.{bytes_eq}
 use Rattle.htl_object.specs.Schedules.{schedule_bytes, schedule_at, IsSchedule}
 use Rattle.htl_object.specs.Reading.{Read, ◌>>=◌, field_at, items_at, number_at}
 use Rattle.htl_object.specs.declared.malformed.MalKind.TheVariants.{Index, Spelling}
 use Rattle.std.specs.Cmp.Lexicographic.{pointwise}
-use Rattle.htl_walk.specs.declared.schedule.SInstr.{SInstr}
 use Rattle.htl_walk.specs.declared.schedule.SInstr.TheVariants as S
-use Rattle.htl_walk.specs.declared.schedule.Schedule.{Schedule}
 
 -- ---- blocks of a list, for any test of equality
 

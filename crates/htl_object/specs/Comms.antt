@@ -1,10 +1,7 @@
 -- Communicators.
 use Rattle.std.specs.Prelude.{ℕ, Bool, not, List, ◌++◌, Ok}
-use Rattle.std.specs.Int.{w32, to_be_bytes}
-use Rattle.std.specs.List.{list_any}
-use Rattle.std.specs.Str.{bytes_eq}
+use Rattle.htl_object.specs.Common.{w32, to_be_bytes, list_any, bytes_eq, Comm}
 use Rattle.htl_object.specs.declared.malformed.MalKind.TheVariants.{Spelling}
-use Rattle.htl_model.specs.declared.parts.Comm.{Comm}
 use Rattle.htl_object.specs.Reading.{Read, ◌>>=◌, bad_at, need}
 use Rattle.htl_object.specs.Fields.{name_bytes, type_bytes, flag_bytes, value_bytes, name_at, type_at, flag_at, span_at, init_at}
 

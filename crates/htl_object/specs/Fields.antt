@@ -2,9 +2,7 @@
 use Rattle.std.specs.Prelude.{ℕ, ℤ, pos, Bool, true, false, cond, ◌==◌, ◌&&◌, ◌||◌, List, [], ◌∷◌, length, take, drop, Option, Some, None, Ok, nat_lt, nat_le}
 use Rattle.std.specs.Ordering.{int_eq}
 use Rattle.std.specs.Int.{w16, w32, w64, to_be_bytes, cast_signed, cast_unsigned}
-use Rattle.htl_base.specs.declared.limits.TheConstants.{MAX_PERIOD}
-use Rattle.htl_base.specs.Names.{is_name}
-use Rattle.htl_base.specs.declared.Ty.{Ty}
+use Rattle.htl_object.specs.Common.{MAX_PERIOD, is_name, Ty}
 use Rattle.htl_base.specs.declared.Ty.TheVariants.{Int, Bool as Truth}
 use Rattle.htl_object.specs.declared.malformed.MalKind.TheVariants.{Index, Spelling}
 use Rattle.htl_object.specs.Reading.{Read, ◌>>=◌, bad_at, short, need, field_at, byte_at, number_at, tagged_at, plain_at}

@@ -1,19 +1,10 @@
 -- The lists of a file: their one spelling, their ranges, and the first bad field of bytes.
 use Rattle.std.specs.Prelude.{◌≡◌, ℕ, zero, suc, ◌+◌, ◌-◌, ◌*◌, max, ◌==◌, ◌&&◌, Bool, false, cond, slice_get, is_none, List, [], ◌++◌, length, Option, Some, None, Ok, Err, nat_le, count_by, sum_by}
-use Rattle.std.specs.Int.{w16, w32, to_be_bytes}
-use Rattle.std.specs.List.{flat_map}
+use Rattle.htl_object.specs.Common.{w16, w32, to_be_bytes, flat_map, frame_limit, nodes, Tables, Mode, Module, Task, Inv, EInstr, Schedule}
 use Rattle.htl_base.specs.declared.limits.TheConstants.{MAX_COMMUNICATORS, MAX_MODULES, MAX_MODES, MAX_PORTS, MAX_TASKS, MAX_INVOCATIONS, MAX_SWITCHES, MAX_SELECTIONS, MAX_POSITIONS}
 use Rattle.htl_object.specs.declared.malformed.MalKind.TheVariants.{Trailing}
 use Rattle.htl_object.specs.declared.malformed.Malformed.{Malformed}
 use Rattle.htl_object.specs.declared.malformed.Bad.{Bad}
-use Rattle.htl_model.specs.Frames.{frame_limit, nodes}
-use Rattle.htl_model.specs.Tables.{Tables}
-use Rattle.htl_model.specs.declared.parts.Mode.{Mode}
-use Rattle.htl_model.specs.declared.parts.Module.{Module}
-use Rattle.htl_model.specs.declared.parts.Task.{Task}
-use Rattle.htl_model.specs.declared.parts.Inv.{Inv}
-use Rattle.htl_ecode.specs.declared.instr.EInstr.{EInstr}
-use Rattle.htl_walk.specs.declared.schedule.Schedule.{Schedule}
 use Rattle.htl_object.specs.declared.lists.Anchors.{Anchors}
 use Rattle.htl_object.specs.declared.lists.Counts.{Counts}
 use Rattle.htl_object.specs.declared.lists.Lists.{Lists}

@@ -1,19 +1,13 @@
 -- Instructions: a tag and its operands.
 use Rattle.std.specs.Prelude.{ℕ, ◌&&◌, Bool, List, [], ◌∷◌, ◌++◌, Ok, nat_le, length}
-use Rattle.std.specs.Int.{w16, w32, to_be_bytes}
+use Rattle.htl_object.specs.Common.{w16, w32, to_be_bytes, EInstr, FInstr, SInstr, Fun, Formula, Compiled, Code, flat_map}
 use Rattle.htl_base.specs.declared.limits.TheConstants.{MAX_INSTRUCTIONS, MAX_ARGUMENTS}
 use Rattle.htl_object.specs.declared.malformed.MalKind.TheVariants.{Tag, Index}
-use Rattle.htl_ecode.specs.declared.instr.EInstr.{EInstr}
 use Rattle.htl_ecode.specs.declared.instr.EInstr.TheVariants as E
-use Rattle.htl_model.specs.declared.function.FInstr.{FInstr}
 use Rattle.htl_model.specs.declared.function.FInstr.TheVariants as F
-use Rattle.htl_walk.specs.declared.schedule.SInstr.{SInstr}
 use Rattle.htl_walk.specs.declared.schedule.SInstr.TheVariants as S
-use Rattle.htl_model.specs.Tables.{Fun, Formula, Compiled}
-use Rattle.htl_model.specs.declared.function.Code.{Code}
 use Rattle.htl_object.specs.Reading.{Read, ◌>>=◌, field_at, byte_at, number_at, tagged_at, plain_at, one_at, two_at, three_at, items_at, list_at}
 use Rattle.htl_object.specs.Fields.{value_bytes, value_at, type_bytes, type_at}
-use Rattle.std.specs.List.{flat_map}
 
 -- ---- E code
 

@@ -1,24 +1,9 @@
 -- What is asked of each item of an object.
 use Rattle.std.specs.Prelude.{◌≡◌, ℕ, ◌<◌, ◌^◌, Bool, true, not, nat_le, nat_lt, length, Option, IfSome, List, [], ◌∷◌, ◌++◌, FitsSigned}
-use Rattle.std.specs.Int.{w64}
-use Rattle.htl_base.specs.declared.limits.TheConstants.{MAX_ENDS, MAX_ARGUMENTS}
-use Rattle.htl_base.specs.Names.{is_name}
-use Rattle.htl_model.specs.declared.parts.Comm.{Comm}
-use Rattle.htl_model.specs.declared.parts.Mode.{Mode}
-use Rattle.htl_base.specs.declared.Ty.{Ty}
-use Rattle.htl_model.specs.declared.parts.Module.{Module}
-use Rattle.htl_model.specs.declared.parts.Port.{Port}
-use Rattle.htl_model.specs.declared.parts.Task.{Task}
-use Rattle.htl_model.specs.declared.parts.End.{End}
+use Rattle.htl_object.specs.Common.{w64, MAX_ENDS, MAX_ARGUMENTS, is_name, Comm, Mode, Ty, Module, Port, Task, End, Inv, Switch, SInstr, Code, EInstr, FInstr}
 use Rattle.htl_model.specs.declared.parts.End.TheVariants as N
-use Rattle.htl_model.specs.declared.parts.Inv.{Inv}
-use Rattle.htl_model.specs.declared.parts.Switch.{Switch}
-use Rattle.htl_walk.specs.declared.schedule.SInstr.{SInstr}
 use Rattle.htl_walk.specs.declared.schedule.SInstr.TheVariants as S
-use Rattle.htl_model.specs.declared.function.Code.{Code}
-use Rattle.htl_ecode.specs.declared.instr.EInstr.{EInstr}
 use Rattle.htl_ecode.specs.declared.instr.EInstr.TheVariants as E
-use Rattle.htl_model.specs.declared.function.FInstr.{FInstr}
 use Rattle.htl_model.specs.declared.function.FInstr.TheVariants as F
 use Rattle.htl_object.specs.Fields.{is_span, is_of, is_owner}
 use Rattle.htl_object.specs.Comms.{is_named_comm}

@@ -21,3 +21,4 @@ pub mod Reading
 pub mod SameNames
 pub mod Schedules
 pub mod Versions
+mod Common

@@ -2,8 +2,7 @@
 use Rattle.std.specs.Prelude.{ℕ, List, [], ◌∷◌, length, map, get_or}
 use Rattle.htl_ecode.specs.declared.ecode.ECode.{ECode}
 use Rattle.htl_model.specs.Lists.{list_to}
-use Rattle.htl_model.specs.Tables.{Tables, Fun, Formula, Compiled}
-use Rattle.htl_model.specs.declared.function.Code.{Code}
+use Rattle.htl_object.specs.Common.{Tables, Fun, Formula, Compiled, Code}
 use Rattle.htl_object.specs.declared.lists.Anchors.{Anchors}
 use Rattle.htl_object.specs.declared.lists.Counts.{Counts}
 use Rattle.htl_object.specs.declared.lists.Lists.{Lists}

@@ -1,10 +1,7 @@
 -- Modes: their owners don't fall along the list, and the names of one owner differ.
 use Rattle.std.specs.Prelude.{ℕ, ◌==◌, ◌&&◌, ◌-◌, Bool, not, List, ◌++◌, Ok, Some, None, length, slice_get}
-use Rattle.std.specs.Int.{w16, w32, to_be_bytes}
-use Rattle.std.specs.List.{list_any}
-use Rattle.std.specs.Str.{bytes_eq}
+use Rattle.htl_object.specs.Common.{w16, w32, to_be_bytes, list_any, bytes_eq, Mode}
 use Rattle.htl_object.specs.declared.malformed.MalKind.TheVariants.{Spelling}
-use Rattle.htl_model.specs.declared.parts.Mode.{Mode}
 use Rattle.htl_object.specs.Reading.{Read, ◌>>=◌, bad_at, need}
 use Rattle.htl_object.specs.Fields.{name_bytes, name_at, owner_at, span_at}
 

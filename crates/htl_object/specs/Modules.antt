@@ -1,11 +1,7 @@
 -- Modules: a parent is a mode of an earlier module, a start one of the module itself.
 use Rattle.std.specs.Prelude.{ℕ, zero, suc, ◌==◌, Bool, true, false, not, List, ◌++◌, Option, Ok, Some, None, length, slice_get}
-use Rattle.std.specs.Int.{w16, to_be_bytes}
-use Rattle.std.specs.List.{list_any}
-use Rattle.std.specs.Str.{bytes_eq}
+use Rattle.htl_object.specs.Common.{w16, to_be_bytes, list_any, bytes_eq, Mode, Module}
 use Rattle.htl_object.specs.declared.malformed.MalKind.TheVariants.{Spelling, Index}
-use Rattle.htl_model.specs.declared.parts.Mode.{Mode}
-use Rattle.htl_model.specs.declared.parts.Module.{Module}
 use Rattle.htl_object.specs.Reading.{Read, ◌>>=◌, bad_at, need, field_at, number_at}
 use Rattle.htl_object.specs.Fields.{name_bytes, option_bytes, name_at, option_at}
 

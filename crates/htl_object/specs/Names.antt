@@ -1,11 +1,6 @@
 -- The names of items, each under its owner.
 use Rattle.std.specs.Prelude.{ℕ, ◌==◌, ◌&&◌, Bool, List, map}
-use Rattle.std.specs.Str.{bytes_eq}
-use Rattle.htl_model.specs.declared.parts.Comm.{Comm}
-use Rattle.htl_model.specs.declared.parts.Mode.{Mode}
-use Rattle.htl_model.specs.declared.parts.Module.{Module}
-use Rattle.htl_model.specs.declared.parts.Port.{Port}
-use Rattle.htl_model.specs.declared.parts.Task.{Task}
+use Rattle.htl_object.specs.Common.{bytes_eq, Comm, Mode, Module, Port, Task}
 use Rattle.htl_object.specs.declared.names.OwnedName.{OwnedName}
 
 abbrev pub owned : ℕ → List ℕ → OwnedName

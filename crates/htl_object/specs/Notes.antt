@@ -1,7 +1,6 @@
 -- What is noted of the items before the next.
 use Rattle.std.specs.Prelude.{◌≡◌, ◌<◌, ◌≤◌, ◌==◌, ◌&&◌, ◌||◌, ◌+◌, ℕ, Bool, false, List, get_or, slice_get, Some, count_by}
-use Rattle.std.specs.List.{list_any}
-use Rattle.htl_model.specs.declared.parts.Inv.{Inv}
+use Rattle.htl_object.specs.Common.{list_any, Inv}
 use Rattle.htl_object.specs.Invocations.{last_inv_mode}
 use Rattle.htl_object.specs.declared.notes.InvNotes.{InvNotes}
 

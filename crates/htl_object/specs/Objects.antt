@@ -1,10 +1,7 @@
 -- An object as bytes: its one spelling, and what bytes say.
 use Rattle.std.specs.Prelude.{◌≡◌, ℕ, true, List, Result, Ok, Err, Some, All, FitsSigned}
-use Rattle.std.specs.Int.{w64}
-use Rattle.htl_base.specs.Names.{is_name}
-use Rattle.htl_ecode.specs.declared.instr.EInstr.{EInstr}
+use Rattle.htl_object.specs.Common.{w64, is_name, EInstr, Fun, Formula, Compiled}
 use Rattle.htl_ecode.specs.declared.instr.EInstr.TheVariants as E
-use Rattle.htl_model.specs.Tables.{Fun, Formula, Compiled}
 use Rattle.htl_object.specs.Files.{file_bytes, whole_at, malformed_at, first_bad}
 use Rattle.htl_object.specs.Items.{Is16, Is32, IsFInstr, IsSInstr}
 use Rattle.htl_object.specs.Lists.{lists_of, object_of_lists}

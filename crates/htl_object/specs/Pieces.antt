@@ -1,8 +1,6 @@
 -- Pieces of bytes as keys of an index.
 use Rattle.std.specs.Prelude.{◌≡◌, ◌∷◌, ℕ, List, [], IsTrue}
-use Rattle.std.specs.Str.{bytes_eq}
-use Rattle.std.proofs.Common.{ap}
-use Rattle.std.proofs.lemmas.Slice.Eq.{bytes_eq-Decides}
+use Rattle.htl_object.specs.Common.{bytes_eq, ap, bytes_eq-Decides}
 use Rattle.htl_object.specs.declared.block_reader.Piece.{Piece}
 
 -- a piece is hashed as a whole

@@ -1,13 +1,7 @@
 -- Ports and tasks: names differ within their owners.
 use Rattle.std.specs.Prelude.{ℕ, ◌==◌, ◌&&◌, ◌-◌, Bool, not, List, ◌++◌, Ok, Some, None, length, slice_get}
-use Rattle.std.specs.Int.{w16, w32, to_be_bytes}
-use Rattle.std.specs.List.{list_any, flat_map}
-use Rattle.std.specs.Str.{bytes_eq}
-use Rattle.htl_base.specs.declared.limits.TheConstants.{MAX_ENDS}
-use Rattle.htl_base.specs.declared.Ty.{Ty}
+use Rattle.htl_object.specs.Common.{w16, w32, to_be_bytes, list_any, flat_map, bytes_eq, MAX_ENDS, Ty, Port, Task}
 use Rattle.htl_object.specs.declared.malformed.MalKind.TheVariants.{Spelling}
-use Rattle.htl_model.specs.declared.parts.Port.{Port}
-use Rattle.htl_model.specs.declared.parts.Task.{Task}
 use Rattle.htl_object.specs.Reading.{Read, ◌>>=◌, bad_at, need, list_at}
 use Rattle.htl_object.specs.Fields.{name_bytes, type_bytes, flag_bytes, name_at, type_at, flag_at, owner_at, span_at}
 

@@ -1,13 +1,8 @@
 -- The ranges of the numbers in an object.
 use Rattle.std.specs.Prelude.{◌≡◌, ◌≤◌, None, length, All}
-use Rattle.htl_ecode.specs.declared.instr.EInstr.{EInstr}
+use Rattle.htl_object.specs.Common.{EInstr, KeepsLimits, frame_limit, nodes, AreInRange, Fun, Formula, Compiled, Schedule}
 use Rattle.htl_ecode.specs.declared.instr.EInstr.TheVariants as I
-use Rattle.htl_model.specs.Broken.{KeepsLimits}
-use Rattle.htl_model.specs.Frames.{frame_limit, nodes}
-use Rattle.htl_model.specs.Ranges.{AreInRange}
-use Rattle.htl_model.specs.Tables.{Fun, Formula, Compiled}
 use Rattle.htl_object.specs.declared.object.Object.{Object}
-use Rattle.htl_walk.specs.declared.schedule.Schedule.{Schedule}
 
 abbrev pub IsFunctionCode : Fun → Type 0
 IsFunctionCode (Formula first e) = ⊥

@@ -2,9 +2,8 @@
 use Rattle.std.specs.Prelude.{◌≡◌, ◌∷◌, ◌++◌, ℕ, Bool, true, false, ◌&&◌, eqb, List, [], IsTrue}
 use Rattle.std.specs.Bool.{Decides}
 use Rattle.std.specs.Hash as fed
-use Rattle.std.specs.Str.{bytes_eq}
+use Rattle.htl_object.specs.Common.{bytes_eq, bytes_eq-Decides}
 use Rattle.std.proofs.Common.{refl, sym, ◌∙◌, ap, subst, eqb-true, eq-eqb}
-use Rattle.std.proofs.lemmas.Slice.Eq.{bytes_eq-Decides}
 use Rattle.htl_object.specs.declared.names.OwnedName.{OwnedName}
 use Rattle.htl_object.specs.Names.{owned, same_name}
 

@@ -1,12 +1,9 @@
 -- One schedule.
 use Rattle.std.specs.Prelude.{ℕ, List, [], ◌++◌, length, Ok}
-use Rattle.std.specs.Int.{w32, to_be_bytes}
-use Rattle.std.specs.List.{flat_map}
+use Rattle.htl_object.specs.Common.{w32, to_be_bytes, flat_map, SInstr, Schedule}
 use Rattle.htl_object.specs.Instructions.{s_bytes, s_instr_at}
 use Rattle.htl_object.specs.Items.{Every, Is32, IsSInstr}
 use Rattle.htl_object.specs.Reading.{Read, ◌>>=◌, items_at, number_at}
-use Rattle.htl_walk.specs.declared.schedule.SInstr.{SInstr}
-use Rattle.htl_walk.specs.declared.schedule.Schedule.{Schedule}
 
 abbrev pub schedule_bytes : Schedule → List ℕ
 schedule_bytes s = to_be_bytes w32 (length s.instrs) ++ flat_map s_bytes s.instrs

@@ -1,16 +1,12 @@
 -- The two versions of the file, which differ in the first item and in the last.
 use Rattle.std.specs.Prelude.{◌≡◌, true, ℕ, ◌==◌, ◌||◌, cond, Bool, List, [], ◌++◌, length, take, drop, Option, Some, None, Ok, nat_le, codes}
-use Rattle.std.specs.Int.{w16, to_be_bytes}
-use Rattle.std.specs.List.{flat_map}
-use Rattle.std.specs.Str.{bytes_eq}
-use Rattle.htl_base.specs.Names.{is_name}
+use Rattle.htl_object.specs.Common.{w16, to_be_bytes, flat_map, bytes_eq, is_name, Schedule}
 use Rattle.htl_object.specs.Blocks.{blocks_at, blocks_bytes}
 use Rattle.htl_object.specs.Fields.{name_bytes, name_at}
 use Rattle.htl_object.specs.Reading.{Read, ◌>>=◌, bad_at, short, need, field_at, items_at, number_at}
 use Rattle.htl_object.specs.Schedules.{schedule_at, schedule_bytes}
 use Rattle.htl_object.specs.declared.malformed.MalKind.{MalKind}
 use Rattle.htl_object.specs.declared.malformed.MalKind.TheVariants.{Magic, Version, Index}
-use Rattle.htl_walk.specs.declared.schedule.Schedule.{Schedule}
 
 -- ---- the head: a text, the version, and in version 2 the platform's name
 

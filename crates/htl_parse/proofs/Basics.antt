@@ -1,20 +1,13 @@
 -- Single tokens, types and constants: what is read is spelled so, and the other way round.
 use Rattle.std.proofs.Common.{◌≡◌, ℕ, Bool, true, false, cond, List, ◌∷◌, Option, None, Some, Ok, Err, refl, sym, subst, ap}
 use Rattle.std.specs.Prelude.{◌==◌}
-use Rattle.htl_base.specs.declared.Ty.{Ty}
-use Rattle.htl_parse.specs.Codes.{word_code}
-use Rattle.htl_text.specs.Placed.{Placed, Put}
-use Rattle.htl_text.specs.Statements.{SpellsType, int, bool, SpellsConst, positive, negative, true_word, false_word, SpellsClause, absent, present}
+use Rattle.htl_parse.proofs.Words.{Ty, word_code, Placed, Put, SpellsType, int, bool, SpellsConst, positive, negative, true_word, false_word, SpellsClause, absent, present, Word, Id, Num, ConstNode}
 use Rattle.htl_parse.specs.Reading.{◌>>=◌, after_word, name_at, number_at, type_at, negative_at, const_at, clause_by, clause_at}
 use Rattle.htl_parse.proofs.Coding.{word_code-equal, code-same}
 use Rattle.htl_parse.proofs.Sound.{Holds}
 use Rattle.htl_text.specs.declared.token.Token.TheVariants as token
 use Rattle.htl_text.specs.declared.token.Sign.TheVariants as sign
-use Rattle.htl_text.specs.declared.token.Word.{Word}
 use Rattle.htl_text.specs.declared.token.Word.TheVariants as word
-use Rattle.htl_text.specs.declared.tree.Id.{Id}
-use Rattle.htl_text.specs.declared.tree.Num.{Num}
-use Rattle.htl_text.specs.declared.tree.ConstNode.{ConstNode}
 
 -- a word stands at the front of ts, and us is what follows
 abbrev pub OpensWord : Word → List Placed → List Placed → Type 0

@@ -1,31 +1,10 @@
 -- A tree that few tokens without long runs spell is bounded.
 use Rattle.std.proofs.Common.{arith, ◌≡◌, ◌≤◌, ◌+◌, ℕ, List, [], ◌∷◌, length, map, ℤ, Bool, Option, Result, Ok, Err, sym, subst, ap}
-use Rattle.std.specs.Prelude.{IfOk}
+use Rattle.htl_parse.proofs.Words.{IfOk, length-map, All-nil, All-cons, All-map, sum_by-cons, Ty, tree_nodes, IsBoundedExpr, IsBoundedConst, IsBoundedComm, IsBoundedTask, IsBoundedEnd, IsBoundedInvoke, IsBoundedSwitch, IsBoundedMode, IsBoundedModule, IsBoundedProgram, task_size, invoke_size, switch_size, mode_size, module_size, program_size, tree_size, IsBounded, PlainOut, PlainTask, PlainSwitch, PlainMode, PlainModule, PlainProgram, tree_of, Placed, Put, tokens_numbered, AreSpellable, SpellsEach, no_other, another, SpellsClause, absent, present, SpellsType, int, bool, SpellsConst, positive, negative, true_const, false_const, SpellsComm, communicator, sensor, SpellsParam, SpellsOut, SpellsTask, concrete, abstract_task, SpellsPort, port, SpellsEnd, SpellsInvoke, invoke, SpellsSwitch, switch, SpellsMode, mode, SpellsModule, a_module, SpellsProgram, program, SpellsSource, source, length-within, size-few, Token, Word, Id, ParamNode, ConstNode, CommNode, InvokeNode, Spell, IsParsed, AreShort, ParseFault, Tree}
 use Rattle.std.specs.List.{All, sum_by}
-use Rattle.std.proofs.lemmas.List.{length-map}
-use Rattle.std.proofs.lemmas.List.Elements.{All-nil, All-cons, All-map}
-use Rattle.std.proofs.lemmas.List.Sums.{sum_by-cons}
-use Rattle.htl_base.specs.declared.Ty.{Ty}
-use Rattle.htl_text.specs.Bounds.{tree_nodes, IsBoundedExpr, IsBoundedConst, IsBoundedComm, IsBoundedTask, IsBoundedEnd, IsBoundedInvoke, IsBoundedSwitch, IsBoundedMode, IsBoundedModule, IsBoundedProgram, task_size, invoke_size, switch_size, mode_size, module_size, program_size, tree_size, IsBounded}
-use Rattle.htl_text.specs.Nodes.{PlainOut, PlainTask, PlainSwitch, PlainMode, PlainModule, PlainProgram, tree_of}
-use Rattle.htl_text.specs.Placed.{Placed, Put, tokens_numbered}
-use Rattle.htl_text.specs.Spellable.{AreSpellable}
-use Rattle.htl_text.specs.Statements.{SpellsEach, no_other, another, SpellsClause, absent, present, SpellsType, int, bool, SpellsConst, positive, negative, true_word as true_const, false_word as false_const, SpellsComm, communicator, sensor, SpellsParam, SpellsOut, SpellsTask, concrete, abstract_task, SpellsPort, port, SpellsEnd, SpellsInvoke, invoke, SpellsSwitch, switch, SpellsMode, mode, SpellsModule, a_module, SpellsProgram, program, SpellsSource, source}
-use Rattle.htl_text.proofs.Sizes.{length-within, size-few}
-use Rattle.htl_text.specs.declared.token.Token.{Token}
 use Rattle.htl_text.specs.declared.token.Token.TheVariants as token
 use Rattle.htl_text.specs.declared.token.Sign.TheVariants as sign
-use Rattle.htl_text.specs.declared.token.Word.{Word}
 use Rattle.htl_text.specs.declared.token.Word.TheVariants as word
-use Rattle.htl_text.specs.declared.tree.Id.{Id}
-use Rattle.htl_text.specs.declared.tree.ParamNode.{ParamNode}
-use Rattle.htl_text.specs.declared.tree.ConstNode.{ConstNode}
-use Rattle.htl_text.specs.declared.tree.CommNode.{CommNode}
-use Rattle.htl_text.specs.declared.tree.InvokeNode.{InvokeNode}
-use Rattle.htl_parse.specs.Answers.{Spell, IsParsed}
-use Rattle.htl_parse.specs.Runs.{AreShort}
-use Rattle.htl_parse.specs.declared.parser.ParseFault.{ParseFault}
-use Rattle.htl_text.specs.declared.tree.Tree.{Tree}
 use Rattle.htl_parse.proofs.BoundedRuns.{plain, plain-numbered, length-plain, AreFit, behind, run-fit, nodes-weight, names-weight, expr-run, expr-short, expr-bounded, listed, listed-few, list-run, list-short, param_weight, IsAny, param-run, out_weight, IsBoundedOut, out-run, end_weight, end-run}
 
 -- ---- statements

@@ -1,24 +1,9 @@
 -- What stands within a run of tokens has at most as many parts as the run has tokens.
 use Rattle.std.proofs.Common.{arith, ◌≡◌, ◌≤◌, ◌+◌, ◌*◌, ℕ, zero, suc, false, List, [], ◌∷◌, ◌++◌, length, take, drop, Option, None, Some, refl, sym, subst, ap, ◌∙◌, append_assoc, length-append, length-take-le}
 use Rattle.std.specs.List.{All, sum_by}
-use Rattle.std.proofs.lemmas.List.{take-append-drop}
-use Rattle.std.proofs.lemmas.List.Elements.{All-nil, All-cons}
-use Rattle.std.proofs.lemmas.List.Sums.{sum_by-cons}
-use Rattle.htl_base.specs.declared.operator.BinOp.{BinOp}
-use Rattle.htl_text.specs.Bounds.{tree_nodes, names_of, HasLiterals, IsBoundedExpr, IsBoundedEnd}
-use Rattle.htl_text.specs.Expressions.{Expr, Prefix, Infix, Choice}
-use Rattle.htl_text.specs.Grammar.{Level, Spells, prefix_of, or_of, and_of, compare_of, sum_of, product_of, conj, or, cmp, and, sum, compare, prod, add, unary, multiply, atom, prefix, number, brackets, choice}
-use Rattle.htl_text.specs.Nodes.{PlainOut}
-use Rattle.htl_text.specs.Placed.{Placed, Put, tokens_numbered}
-use Rattle.htl_text.specs.Spellable.{AreSpellable}
-use Rattle.htl_text.specs.Statements.{SpellsMore, no_more, comma, SpellsList, empty, items, int, bool, SpellsParam, param, SpellsOut, out, SpellsEnd, comm_end, port_end}
-use Rattle.htl_text.specs.declared.token.Token.{Token}
+use Rattle.htl_parse.proofs.Words.{take-append-drop, All-nil, All-cons, sum_by-cons, BinOp, tree_nodes, names_of, HasLiterals, IsBoundedExpr, IsBoundedEnd, Expr, Prefix, Infix, Choice, Level, Spells, prefix_of, or_of, and_of, compare_of, sum_of, product_of, conj, or, cmp, and, sum, compare, prod, add, unary, multiply, atom, prefix, number, brackets, choice, PlainOut, Placed, Put, tokens_numbered, AreSpellable, SpellsMore, no_more, comma, SpellsList, empty, items, int, bool, SpellsParam, param, SpellsOut, out, SpellsEnd, comm_end, port_end, Token, Sign, ParamNode, EndNode, ends_run, IsStatementRun, IsLong, AreShort}
 use Rattle.htl_text.specs.declared.token.Token.TheVariants as token
-use Rattle.htl_text.specs.declared.token.Sign.{Sign}
 use Rattle.htl_text.specs.declared.token.Sign.TheVariants as sign
-use Rattle.htl_text.specs.declared.tree.ParamNode.{ParamNode}
-use Rattle.htl_text.specs.declared.tree.EndNode.{EndNode}
-use Rattle.htl_parse.specs.Runs.{ends_run, IsStatementRun, IsLong, AreShort}
 
 -- ---- tokens that are left
 

@@ -1,20 +1,11 @@
 -- Reading operands and the operators between them in one loop reads what each level does.
 use Rattle.std.proofs.Common.{arith, ◌≡◌, ◌≤◌, ◌<◌, ◌+◌, ◌-◌, ℕ, zero, suc, Bool, true, false, cond, List, ◌∷◌, length, Option, None, Some, Result, Ok, Err, refl, sym, ap, subst, ◌∙◌, inl, inr}
 use Rattle.std.specs.Prelude.{◌==◌, ◌⊎◌}
-use Rattle.htl_base.specs.declared.operator.BinOp.{BinOp}
-use Rattle.htl_text.specs.Placed.{Placed, Put}
-use Rattle.htl_text.specs.Expressions.{Expr, Infix}
-use Rattle.htl_text.specs.declared.expression.Node.{Node}
-use Rattle.htl_text.specs.Grammar.{or_of, and_of, compare_of, sum_of, product_of}
+use Rattle.htl_parse.proofs.Words.{BinOp, Placed, Put, Expr, Infix, Node, or_of, and_of, compare_of, sum_of, product_of, Sign, PassesBinary, Puts, Stop, level_of, operator_at, level_by, limit_behind, unary_by, product_by, sum_by, compare_by, and_by, further, grown, compared, read_expr}
 use Rattle.htl_text.specs.declared.token.Token.TheVariants as token
-use Rattle.htl_text.specs.declared.token.Sign.{Sign}
 use Rattle.htl_text.specs.declared.token.Sign.TheVariants as sign
-use Rattle.htl_parse.specs.Cursors.{PassesBinary, Puts}
-use Rattle.htl_parse.specs.declared.stop.Stop.{Stop}
 use Rattle.htl_parse.specs.declared.stop.Stop.TheVariants as stop
-use Rattle.htl_parse.specs.Levels.{level_of, operator_at, level_by, limit_behind}
 use Rattle.htl_parse.specs.Reading.{Read, Reader, ◌>>=◌}
-use Rattle.htl_parse.specs.ReadingExpressions.{unary_by, product_by, sum_by, compare_by, and_by, further, grown, compared, read_expr}
 use Rattle.htl_parse.proofs.Complete.{IsFree, tail-done, compared-done}
 use Rattle.htl_parse.proofs.Fixed.{Shrinks, further-is}
 use Rattle.htl_parse.proofs.Descent.{unary-shrinks, product-shrinks, compare-shrinks, and-shrinks}

@@ -1,11 +1,8 @@
 -- Different signs have different numbers, and so have words.
 use Rattle.std.proofs.Common.{arith, ◌≡◌, ℕ, true, List, [], ◌∷◌, get_or, refl, sym, ap, ◌∙◌}
 use Rattle.std.specs.Prelude.{◌==◌}
-use Rattle.std.proofs.lemmas.Bool.Decides.{nat_tests}
-use Rattle.htl_parse.specs.Codes.{sign_code, word_code}
-use Rattle.htl_text.specs.declared.token.Sign.{Sign}
+use Rattle.htl_parse.proofs.Words.{nat_tests, sign_code, word_code, Sign, Word}
 use Rattle.htl_text.specs.declared.token.Sign.TheVariants as sign
-use Rattle.htl_text.specs.declared.token.Word.{Word}
 use Rattle.htl_text.specs.declared.token.Word.TheVariants as word
 
 abbrev signs : List Sign

@@ -1,15 +1,9 @@
 -- What is spelled so is read, where no operator follows that would go on.
 use Rattle.std.proofs.Common.{arith, ◌≡◌, ◌≤◌, ◌<◌, ℕ, zero, suc, List, ◌∷◌, length, Option, None, Some, Ok, refl, ap, ◌∙◌}
-use Rattle.htl_base.specs.declared.operator.UnOp.{UnOp}
+use Rattle.htl_parse.proofs.Words.{UnOp, BinOp, Placed, Put, Expr, Prefix, Infix, Choice, Level, Or, And, Compare, Sum, Product, Unary, Atom, Spells, prefix_of, or_of, and_of, compare_of, sum_of, product_of, conj, or, cmp, and, sum, compare, prod, add, unary, multiply, atom, prefix, brackets, choice, atom_by, unary_by, grown, tail, further, chain, compared, product_by, sum_by, compare_by, and_by, or_by, expr_at, Sign}
 use Rattle.htl_base.specs.declared.operator.UnOp.TheVariants as un
-use Rattle.htl_base.specs.declared.operator.BinOp.{BinOp}
-use Rattle.htl_text.specs.Placed.{Placed, Put}
-use Rattle.htl_text.specs.Expressions.{Expr, Prefix, Infix, Choice}
-use Rattle.htl_text.specs.Grammar.{Level, Or, And, Compare, Sum, Product, Unary, Atom, Spells, prefix_of, or_of, and_of, compare_of, sum_of, product_of, conj, or, cmp, and, sum, compare, prod, add, unary, multiply, atom, prefix, brackets, choice}
 use Rattle.htl_parse.specs.Reading.{Read, Reader, ◌>>=◌, after_sign}
-use Rattle.htl_parse.specs.ReadingExpressions.{atom_by, unary_by, grown, tail, further, chain, compared, product_by, sum_by, compare_by, and_by, or_by, expr_at}
 use Rattle.htl_text.specs.declared.token.Token.TheVariants as token
-use Rattle.htl_text.specs.declared.token.Sign.{Sign}
 use Rattle.htl_text.specs.declared.token.Sign.TheVariants as sign
 
 -- a spelling has at least one token

@@ -1,13 +1,10 @@
 -- Operands: where no prefix operator stands next, and what each level leaves.
 use Rattle.std.proofs.Common.{◌≡◌, List, ◌∷◌, None, refl, sym, ap}
-use Rattle.htl_text.specs.Placed.{Placed, Put}
-use Rattle.htl_text.specs.Grammar.{prefix_of, And, Compare, Product, Unary}
-use Rattle.htl_parse.specs.ReadingExpressions.{atom_by, unary_by, product_by, compare_by, and_by, read_expr}
+use Rattle.htl_parse.proofs.Words.{Placed, Put, prefix_of, And, Compare, Product, Unary, atom_by, unary_by, product_by, compare_by, and_by, read_expr, PassesOperator}
 use Rattle.htl_parse.proofs.Fixed.{Shrinks, shrinks, read_expr-sound}
 use Rattle.htl_parse.proofs.Sound.{unary-sound, product-sound, compare-sound, and-sound}
 use Rattle.htl_text.specs.declared.token.Token.TheVariants as token
 use Rattle.htl_text.specs.declared.token.Sign.TheVariants as sign
-use Rattle.htl_parse.specs.Cursors.{PassesOperator}
 
 -- no prefix operator stands next
 pub unary-plain : (old new : List Placed) → PassesOperator prefix_of old new None → unary_by read_expr old ≡ atom_by read_expr new

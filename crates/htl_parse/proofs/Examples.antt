@@ -1,12 +1,9 @@
 -- Tokens that begin a source, and the first with which they begin none, as the definitions compute them.
 use Rattle.std.proofs.Common.{List, [], ◌∷◌, ◌++◌, refl}
-use Rattle.htl_text.specs.Placed.{Put}
-use Rattle.htl_text.specs.Statements.{source, program, no_other}
-use Rattle.htl_text.specs.declared.token.Token.{Token}
+use Rattle.htl_parse.proofs.Words.{Put, source, program, no_other, Token, Begins, IsMisfit}
 use Rattle.htl_text.specs.declared.token.Token.TheVariants as token
 use Rattle.htl_text.specs.declared.token.Sign.TheVariants as sign
 use Rattle.htl_text.specs.declared.token.Word.TheVariants as word
-use Rattle.htl_parse.specs.Answers.{Begins, IsMisfit}
 use Rattle.htl_parse.specs.ReadingStatements.{program_at, source_at}
 use Rattle.htl_parse.proofs.Stopping.{misfit-left}
 

@@ -1,16 +1,12 @@
 -- Reading needs no bound: an expression is what one level reads over expressions.
 use Rattle.std.proofs.Common.{arith, ◌≡◌, ◌≤◌, ◌<◌, ℕ, zero, suc, List, [], ◌∷◌, length, Option, None, Some, Result, Ok, Err, refl, ap, ◌∙◌}
 use Rattle.htl_base.specs.declared.operator.UnOp.TheVariants as un
-use Rattle.htl_base.specs.declared.operator.BinOp.{BinOp}
-use Rattle.htl_text.specs.Placed.{Placed, Put}
-use Rattle.htl_text.specs.Expressions.{Expr, Prefix, Infix}
-use Rattle.htl_text.specs.Grammar.{Level, Or, And, Compare, Sum, Product, Unary, Spells, or_of, and_of, compare_of, sum_of, product_of}
+use Rattle.htl_parse.proofs.Words.{BinOp, Placed, Put, Expr, Prefix, Infix, Level, Or, And, Compare, Sum, Product, Unary, Spells, or_of, and_of, compare_of, sum_of, product_of, Sign}
 use Rattle.htl_parse.specs.Reading.{Read, Reader, ◌>>=◌, after_sign}
 use Rattle.htl_parse.specs.ReadingExpressions.{bracketed, chosen, atom_by, unary_by, grown, tail, further, chain, compared, product_by, sum_by, compare_by, and_by, or_by, expr_at, read_expr}
 use Rattle.htl_parse.proofs.Complete.{shorter}
 use Rattle.htl_parse.proofs.Sound.{Holds, IsSound, Opens, after_sign-sound, unary-sound, product-sound, sum-sound, compare-sound, and-sound, expr-sound}
 use Rattle.htl_text.specs.declared.token.Token.TheVariants as token
-use Rattle.htl_text.specs.declared.token.Sign.{Sign}
 use Rattle.htl_text.specs.declared.token.Sign.TheVariants as sign
 use Rattle.htl_text.specs.declared.token.Word.TheVariants as word
 

@@ -1,15 +1,9 @@
 -- Fronts of lists of tokens, and how what was read is part of a whole.
 use Rattle.std.proofs.Common.{arith, ◌≡◌, ℕ, ℤ, Bool, true, false, cond, List, [], ◌∷◌, ◌++◌, ◌+◌, length, Ok, Err, refl, sym, subst, ap, ◌∙◌, append_assoc}
 use Rattle.std.specs.Prelude.{◌==◌}
-use Rattle.htl_text.specs.Placed.{Placed, Put}
-use Rattle.htl_text.specs.declared.token.Token.{Token}
+use Rattle.htl_parse.proofs.Words.{Placed, Put, Token, Sign, Word, sign_code, word_code, Id, Num}
 use Rattle.htl_text.specs.declared.token.Token.TheVariants as token
-use Rattle.htl_text.specs.declared.token.Sign.{Sign}
-use Rattle.htl_text.specs.declared.token.Word.{Word}
-use Rattle.htl_parse.specs.Codes.{sign_code, word_code}
 use Rattle.htl_parse.specs.Reading.{Read, ◌>>=◌, after_sign, after_word, name_at, number_at}
-use Rattle.htl_text.specs.declared.tree.Id.{Id}
-use Rattle.htl_text.specs.declared.tree.Num.{Num}
 use Rattle.htl_parse.proofs.Coding.{sign_code-equal, word_code-equal}
 
 -- these tokens, numbered from n on, and then rest

@@ -1,16 +1,12 @@
 -- Steps of reading a list in brackets.
 use Rattle.std.proofs.Common.{arith, ◌≡◌, ◌<◌, ℕ, zero, suc, List, [], ◌∷◌, ◌++◌, length, None, Some, Ok, Err, refl, sym, subst, ap, ◌∙◌, append_assoc, append-nil}
-use Rattle.htl_text.specs.Placed.{Placed, Put}
+use Rattle.htl_parse.proofs.Words.{Placed, Put, param_at, out_at, end_at, more_at, items_at, SpellsParam, SpellsOut, SpellsEnd, Passes}
 use Rattle.htl_parse.specs.Reading.{Read, Reader, ◌>>=◌}
-use Rattle.htl_parse.specs.ReadingStatements.{param_at, out_at, end_at}
-use Rattle.htl_parse.specs.ReadingLists.{more_at, items_at}
 use Rattle.htl_parse.proofs.Sound.{Holds}
 use Rattle.htl_parse.proofs.Statements.{param-sound, param-shorter, out-sound, out-shorter, end-sound, end-shorter}
-use Rattle.htl_text.specs.Statements.{SpellsParam, SpellsOut, SpellsEnd}
 use Rattle.htl_parse.proofs.Listing.{more-is}
 use Rattle.htl_text.specs.declared.token.Token.TheVariants as token
 use Rattle.htl_text.specs.declared.token.Sign.TheVariants as sign
-use Rattle.htl_parse.specs.Cursors.{Passes}
 
 abbrev pub with_front : {X : Type 0} → List X → Read (List X) → Read (List X)
 with_front front r = r >>= λ xs. Ok (front ++ xs.0, xs.1)

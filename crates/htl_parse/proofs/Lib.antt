@@ -31,3 +31,4 @@ pub mod ViableParts
 pub mod ViableSources
 pub mod ViableStatements
 pub mod Whole
+pub mod Words

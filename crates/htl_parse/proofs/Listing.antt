@@ -1,9 +1,7 @@
 -- Lists in brackets: what is read is spelled so, and the other way round.
 use Rattle.std.proofs.Common.{arith, ◌≡◌, ◌≤◌, ◌<◌, ℕ, zero, suc, List, [], ◌∷◌, length, Ok, refl, sym, subst, ap, ◌∙◌}
-use Rattle.htl_text.specs.Placed.{Placed, Put}
+use Rattle.htl_parse.proofs.Words.{Placed, Put, SpellsMore, no_more, comma, SpellsList, empty, items, more_at, items_at, closed_at, closing_at, list_at}
 use Rattle.htl_parse.specs.Reading.{Read, Reader, ◌>>=◌, after_sign}
-use Rattle.htl_text.specs.Statements.{SpellsMore, no_more, comma, SpellsList, empty, items}
-use Rattle.htl_parse.specs.ReadingLists.{more_at, items_at, closed_at, closing_at, list_at}
 use Rattle.htl_parse.proofs.Sound.{Holds, then, after_sign-sound}
 use Rattle.htl_parse.proofs.Fixed.{bind-same}
 use Rattle.htl_text.specs.declared.token.Token.TheVariants as token

@@ -1,16 +1,11 @@
 -- Reading expressions looks no further than to the token at which it stops.
 use Rattle.std.proofs.Common.{arith, ◌≤◌, ℕ, zero, suc, List, ◌∷◌, length, Option, None, Some, Ok, refl, inl, inr}
 use Rattle.htl_base.specs.declared.operator.UnOp.TheVariants as un
-use Rattle.htl_base.specs.declared.operator.BinOp.{BinOp}
-use Rattle.htl_text.specs.Placed.{Placed, Put}
-use Rattle.htl_text.specs.Expressions.{Expr, Prefix, Infix, Choice}
-use Rattle.htl_text.specs.Grammar.{Or, Unary, Spells, or_of, and_of, compare_of, sum_of, product_of}
+use Rattle.htl_parse.proofs.Words.{BinOp, Placed, Put, Expr, Prefix, Infix, Choice, Or, Unary, Spells, or_of, and_of, compare_of, sum_of, product_of, Sign, bracketed, chosen, atom_by, unary_by, grown, tail, chain, compared, product_by, sum_by, compare_by, and_by, or_by, expr_at}
 use Rattle.htl_text.specs.declared.token.Token.TheVariants as token
-use Rattle.htl_text.specs.declared.token.Sign.{Sign}
 use Rattle.htl_text.specs.declared.token.Sign.TheVariants as sign
 use Rattle.htl_text.specs.declared.token.Word.TheVariants as word
 use Rattle.htl_parse.specs.Reading.{Reader, ◌>>=◌, left_of}
-use Rattle.htl_parse.specs.ReadingExpressions.{bracketed, chosen, atom_by, unary_by, grown, tail, chain, compared, product_by, sum_by, compare_by, and_by, or_by, expr_at}
 use Rattle.htl_parse.proofs.ViableExpressions.{IsTelling, unary-tells, expr-tells}
 use Rattle.htl_parse.proofs.Locality.{Alike, here, later, Both, Local, less-then, both-then, local-ok, local-then, local-sign, tells-less}
 

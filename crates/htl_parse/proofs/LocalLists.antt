@@ -1,10 +1,9 @@
 -- Reading lists and repeated items looks no further than to the token at which it stops.
 use Rattle.std.proofs.Common.{arith, ◌≡◌, ◌≤◌, ◌<◌, ℕ, zero, suc, Bool, true, false, List, ◌∷◌, length, Ok, Err, refl, sym, subst, inl, inr}
-use Rattle.htl_text.specs.Placed.{Placed, Put}
+use Rattle.htl_parse.proofs.Words.{Placed, Put, more_at, items_at, closed_at, closing_at, list_at, again_at, each_at, repeated_at}
 use Rattle.htl_text.specs.declared.token.Token.TheVariants as token
 use Rattle.htl_text.specs.declared.token.Sign.TheVariants as sign
 use Rattle.htl_parse.specs.Reading.{Read, Reader, ◌>>=◌, left_of}
-use Rattle.htl_parse.specs.ReadingLists.{more_at, items_at, closed_at, closing_at, list_at, again_at, each_at, repeated_at}
 use Rattle.htl_parse.proofs.Fronts.{Tells}
 use Rattle.htl_parse.proofs.Sound.{Holds}
 use Rattle.htl_parse.proofs.Locality.{Alike, here, later, Both, Local, less-then, both-then, local-ok, local-then, local-sign}

@@ -1,19 +1,11 @@
 -- Reading statements looks no further than to the token at which it stops.
 use Rattle.std.proofs.Common.{arith, ◌≡◌, ◌≤◌, ◌+◌, ℕ, Bool, true, false, cond, List, ◌∷◌, length, Some, Ok, Err, refl, sym, subst, inl, inr}
 use Rattle.std.specs.Prelude.{◌==◌}
-use Rattle.htl_text.specs.Placed.{Placed, Put}
-use Rattle.htl_text.specs.Expressions.{Expr}
-use Rattle.htl_text.specs.Grammar.{Spells, Or}
-use Rattle.htl_text.specs.Nodes.{Concrete, Abstract}
-use Rattle.htl_text.specs.Statements.{SpellsComm, SpellsTask, SpellsPort, SpellsInvoke, SpellsSwitch, SpellsMode, SpellsModule, SpellsProgram}
+use Rattle.htl_parse.proofs.Words.{Placed, Put, Expr, Spells, Or, Concrete, Abstract, SpellsComm, SpellsTask, SpellsPort, SpellsInvoke, SpellsSwitch, SpellsMode, SpellsModule, SpellsProgram, Word, word_code, expr_at, read_expr, list_at, repeated_at}
 use Rattle.htl_text.specs.declared.token.Token.TheVariants as token
 use Rattle.htl_text.specs.declared.token.Sign.TheVariants as sign
-use Rattle.htl_text.specs.declared.token.Word.{Word}
 use Rattle.htl_text.specs.declared.token.Word.TheVariants as word
-use Rattle.htl_parse.specs.Codes.{word_code}
 use Rattle.htl_parse.specs.Reading.{Read, Reader, ◌>>=◌, after_sign, after_word, place_at, name_at, number_at, type_at, negative_at, const_at, clause_by, clause_at, left_of}
-use Rattle.htl_parse.specs.ReadingExpressions.{expr_at, read_expr}
-use Rattle.htl_parse.specs.ReadingLists.{list_at, repeated_at}
 use Rattle.htl_parse.specs.ReadingStatements.{param_at, out_at, kind_at, begins_comm, comm_at, outputs_at, task_by, task_at, begins_task, port_at, begins_port, instance_at, port_end_at, end_at, invoke_at, begins_invoke, switch_at, begins_switch, begins_mode, mode_at, begins_module, module_at, begins_program, program_at, source_at}
 use Rattle.htl_parse.proofs.Fixed.{read_expr-at}
 use Rattle.htl_parse.proofs.ViableExpressions.{read_expr-tells}

@@ -1,10 +1,8 @@
 -- Two lists of tokens that are alike up to and with a token: reading stops before it or at it in both, or in none.
 use Rattle.std.proofs.Common.{arith, ◌≡◌, ◌≤◌, ℕ, Bool, true, false, cond, List, [], ◌∷◌, ◌++◌, length, Ok, Err, refl, sym, subst, ◌∙◌, inl, inr}
 use Rattle.std.specs.Prelude.{◌==◌, ◌⊎◌}
-use Rattle.htl_text.specs.Placed.{Placed, Put}
+use Rattle.htl_parse.proofs.Words.{Placed, Put, Sign, sign_code}
 use Rattle.htl_text.specs.declared.token.Token.TheVariants as token
-use Rattle.htl_text.specs.declared.token.Sign.{Sign}
-use Rattle.htl_parse.specs.Codes.{sign_code}
 use Rattle.htl_parse.specs.Reading.{Read, left_of, Reader, ◌>>=◌, after_sign}
 use Rattle.htl_parse.proofs.Fronts.{Tells, Fronts}
 

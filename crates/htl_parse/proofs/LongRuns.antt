@@ -1,11 +1,6 @@
 -- From a token that ends a run on: where the next long run can stand.
 use Rattle.std.proofs.Common.{arith, ◌≡◌, ◌≤◌, ◌<◌, ◌+◌, ◌-◌, ℕ, zero, suc, Bool, true, false, List, [], ◌∷◌, ◌++◌, length, take, drop, Some, refl, sym, subst, ap, ◌∙◌, length-append, length-take-le}
-use Rattle.std.specs.Prelude.{nat_lt, slice_get}
-use Rattle.std.proofs.lemmas.List.{take-append-drop, length-drop}
-use Rattle.std.proofs.lemmas.Bool.Decides.{nat_tests}
-use Rattle.htl_text.proofs.AtPlaces.{drop-at}
-use Rattle.htl_text.specs.declared.token.Token.{Token}
-use Rattle.htl_parse.specs.Runs.{ends_run, IsStatementRun, TellsEnd, IsLong, AreShort, IsFirstLong}
+use Rattle.htl_parse.proofs.Words.{nat_lt, slice_get, nat_tests, drop-at, Token, ends_run, IsStatementRun, TellsEnd, IsLong, AreShort, IsFirstLong, take-append-drop, length-drop}
 
 -- the tokens from a place on, and one before them
 pub run-before : (ts : List Token) (begin place : ℕ) → begin < place → place ≤ begin + 513 → IsStatementRun (take (begin + 513 - place) (drop place ts)) → TellsEnd ts (place - 1) false

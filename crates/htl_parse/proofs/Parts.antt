@@ -1,14 +1,6 @@
 -- Communicators, tasks, ports, invocations and switches: what is read is spelled so, and the other way round.
 use Rattle.std.proofs.Common.{arith, ◌≡◌, ◌<◌, ◌≤◌, ℕ, Bool, true, false, List, [], ◌∷◌, length, Option, Ok, Err, refl, sym, subst, ◌∙◌}
-use Rattle.htl_base.specs.declared.Ty.{Ty}
-use Rattle.htl_text.specs.Placed.{Placed, Put}
-use Rattle.htl_text.specs.Expressions.{Expr}
-use Rattle.htl_text.specs.Grammar.{Spells, Or}
-use Rattle.htl_text.specs.Nodes.{PlainOuts, Concrete, Abstract, PlainTask, PlainSwitch}
-use Rattle.htl_text.specs.Statements.{SpellsType, SpellsList, SpellsConst, positive, SpellsClause, absent, present, SpellsParam, SpellsOut, SpellsEnd, SpellsComm, communicator, sensor, SpellsTask, concrete, abstract_task, SpellsPort, port, SpellsInvoke, invoke, SpellsSwitch, switch}
-use Rattle.htl_parse.specs.Reading.{Read, after_sign, after_word, place_at, name_at, number_at, type_at, const_at, clause_at}
-use Rattle.htl_parse.specs.ReadingExpressions.{read_expr}
-use Rattle.htl_parse.specs.ReadingLists.{list_at}
+use Rattle.htl_parse.proofs.Words.{Ty, Placed, Put, Expr, Spells, Or, PlainOuts, Concrete, Abstract, PlainTask, PlainSwitch, SpellsType, SpellsList, SpellsConst, positive, SpellsClause, absent, present, SpellsParam, SpellsOut, SpellsEnd, SpellsComm, communicator, sensor, SpellsTask, concrete, abstract_task, SpellsPort, port, SpellsInvoke, invoke, SpellsSwitch, switch, Read, after_sign, after_word, place_at, name_at, number_at, type_at, const_at, clause_at, read_expr, list_at, Word, Id, Num, ConstNode, CommNode, ParamNode, InvokeNode}
 use Rattle.htl_parse.specs.ReadingStatements.{param_at, out_at, kind_at, begins_comm, comm_at, outputs_at, task_by, task_at, begins_task, port_at, begins_port, end_at, invoke_at, begins_invoke, switch_at, begins_switch}
 use Rattle.htl_parse.proofs.Basics.{word-sound, name-sound, number-sound, type-sound, type-complete, const-sound, const-complete, clause-sound, clause-complete}
 use Rattle.htl_parse.proofs.Complete.{shorter}
@@ -18,14 +10,7 @@ use Rattle.htl_parse.proofs.Sound.{Holds, then, after_sign-sound}
 use Rattle.htl_parse.proofs.Statements.{behind, read_expr-complete, type-shorter, param-sound, param-complete, param-shorter, params-sound, params-complete, params-shorter, outs-sound, outs-complete, outs-shorter, ends-sound, ends-complete, ends-shorter}
 use Rattle.htl_text.specs.declared.token.Token.TheVariants as token
 use Rattle.htl_text.specs.declared.token.Sign.TheVariants as sign
-use Rattle.htl_text.specs.declared.token.Word.{Word}
 use Rattle.htl_text.specs.declared.token.Word.TheVariants as word
-use Rattle.htl_text.specs.declared.tree.Id.{Id}
-use Rattle.htl_text.specs.declared.tree.Num.{Num}
-use Rattle.htl_text.specs.declared.tree.ConstNode.{ConstNode}
-use Rattle.htl_text.specs.declared.tree.CommNode.{CommNode}
-use Rattle.htl_text.specs.declared.tree.ParamNode.{ParamNode}
-use Rattle.htl_text.specs.declared.tree.InvokeNode.{InvokeNode}
 
 -- where the word of a communicator stands, and which it is
 abbrev pub OpensKind : List Placed → Bool → List Placed → Type 0

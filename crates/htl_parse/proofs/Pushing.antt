@@ -1,19 +1,10 @@
 -- The nodes of an expression are put behind those that stand.
 use Rattle.std.proofs.Common.{arith, ◌≡◌, ◌-◌, ℕ, List, [], ◌∷◌, ◌++◌, length, Some, Result, Ok, ap, ◌∙◌, append_assoc}
-use Rattle.std.proofs.lemmas.List.{length-append}
-use Rattle.htl_base.specs.declared.operator.UnOp.{UnOp}
-use Rattle.htl_base.specs.declared.operator.BinOp.{BinOp}
-use Rattle.htl_text.specs.Placed.{Placed}
-use Rattle.htl_text.specs.Expressions.{Expr, Prefix, Infix, Choice}
-use Rattle.htl_text.specs.Postfix.{nodes_of}
-use Rattle.htl_text.specs.declared.expression.Node.{Node}
+use Rattle.htl_parse.proofs.Words.{UnOp, BinOp, Placed, Expr, Prefix, Infix, Choice, nodes_of, Node, prefix_of, PassesOperator, chosen, unary_by, length-append}
 use Rattle.htl_text.specs.declared.expression.Node.TheVariants as node
-use Rattle.htl_text.specs.Grammar.{prefix_of}
-use Rattle.htl_parse.specs.Cursors.{PassesOperator}
 use Rattle.htl_parse.proofs.Complete.{prefix-done}
 use Rattle.htl_text.specs.declared.token.Sign.TheVariants as sign
 use Rattle.htl_parse.specs.Reading.{Read, Reader, ◌>>=◌, after_sign}
-use Rattle.htl_parse.specs.ReadingExpressions.{chosen, unary_by}
 
 -- what was put is as long as its nodes
 pub put-long : (before after : List Node) (e : Expr) → after ≡ before ++ nodes_of e → length after - length before ≡ length (nodes_of e)

@@ -1,35 +1,14 @@
 -- The tokens of the printed form spell the tree again, but for the numbers of the tokens.
 use Rattle.std.proofs.Common.{◌≡◌, ℕ, ◌+◌, Bool, true, false, Option, None, Some, List, [], ◌∷◌, map, length, refl, sym, subst, ap, ◌∙◌}
-use Rattle.htl_base.specs.declared.Ty.{Ty}
+use Rattle.htl_parse.proofs.Words.{Ty, UnOp, BinOp, Placed, Put, tokens_numbered, Expr, Number, Flag, Variable, Prefix, Infix, Choice, Or, And, Compare, Sum, Product, Atom, Spells, conj, or, cmp, and, sum, compare, prod, add, unary, multiply, atom, prefix, number, true_atom, false_atom, name, brackets, choice, PlainOut, PlainOuts, Concrete, Abstract, PlainTask, PlainSwitch, PlainMode, PlainModule, PlainProgram, SpellsMore, no_more, comma, SpellsList, empty, items, SpellsEach, no_other, another, SpellsClause, absent, present, SpellsType, int, bool, SpellsConst, positive, negative, true_word, false_word, SpellsComm, communicator, sensor, SpellsParam, param, SpellsOut, out, SpellsTask, concrete, abstract_task, SpellsPort, port, SpellsEnd, comm_end, port_end, SpellsInvoke, invoke, SpellsSwitch, switch, SpellsMode, mode, SpellsModule, a_module, SpellsProgram, program, source, Spelling, each, after_commas, in_brackets, prefix_sign, infix_sign, expr_tokens, type_tokens, const_tokens, comm_tokens, param_tokens, out_tokens, task_tokens, port_tokens, end_tokens, clause_tokens, invoke_tokens, switch_tokens, mode_tokens, module_tokens, program_tokens, source_tokens, bare_id, bare_num, bare_expr, bare_const, bare_comm, bare_param, bare_out, bare_outs, bare_task, bare_end, bare_clause, bare_invoke, bare_switch, bare_mode, bare_module, bare_program, AreAlike, printed_bytes, printed-tokens, Spell, IsPrintable, IsParsedAgain, Token, Word, Id, ParamNode, ConstNode, CommNode, EndNode, InvokeNode}
 use Rattle.htl_base.specs.declared.Ty.TheVariants as ty
-use Rattle.htl_base.specs.declared.operator.UnOp.{UnOp}
 use Rattle.htl_base.specs.declared.operator.UnOp.TheVariants as un
-use Rattle.htl_base.specs.declared.operator.BinOp.{BinOp}
 use Rattle.htl_base.specs.declared.operator.BinOp.TheVariants as bin
-use Rattle.htl_text.specs.Placed.{Placed, Put, tokens_numbered}
-use Rattle.htl_text.specs.Expressions.{Expr, Number, Flag, Variable, Prefix, Infix, Choice}
-use Rattle.htl_text.specs.Grammar.{Or, And, Compare, Sum, Product, Atom, Spells, conj, or, cmp, and, sum, compare, prod, add, unary, multiply, atom, prefix, number, true_word as true_atom, false_word as false_atom, name, brackets, choice}
-use Rattle.htl_text.specs.Nodes.{PlainOut, PlainOuts, Concrete, Abstract, PlainTask, PlainSwitch, PlainMode, PlainModule, PlainProgram}
-use Rattle.htl_text.specs.Statements.{SpellsMore, no_more, comma, SpellsList, empty, items, SpellsEach, no_other, another, SpellsClause, absent, present, SpellsType, int, bool, SpellsConst, positive, negative, true_word, false_word, SpellsComm, communicator, sensor, SpellsParam, param, SpellsOut, out, SpellsTask, concrete, abstract_task, SpellsPort, port, SpellsEnd, comm_end, port_end, SpellsInvoke, invoke, SpellsSwitch, switch, SpellsMode, mode, SpellsModule, a_module, SpellsProgram, program, source}
-use Rattle.htl_text.specs.PrintedTokens.{Spelling, each, after_commas, in_brackets, prefix_sign, infix_sign, expr_tokens, type_tokens, const_tokens, comm_tokens, param_tokens, out_tokens, task_tokens, port_tokens, end_tokens, clause_tokens, invoke_tokens, switch_tokens, mode_tokens, module_tokens, program_tokens, source_tokens}
-use Rattle.htl_parse.specs.Bare.{bare_id, bare_num, bare_expr, bare_const, bare_comm, bare_param, bare_out, bare_outs, bare_task, bare_end, bare_clause, bare_invoke, bare_switch, bare_mode, bare_module, bare_program, AreAlike}
-use Rattle.htl_text.specs.PrintedBytes.{printed_bytes}
-use Rattle.htl_text.proofs.Reprinted.{printed-tokens}
-use Rattle.htl_parse.specs.Answers.{Spell}
-use Rattle.htl_parse.specs.Laws.{IsPrintable, IsParsedAgain}
-use Rattle.htl_text.specs.declared.token.Token.{Token}
 use Rattle.htl_text.specs.declared.token.Token.TheVariants as token
 use Rattle.htl_text.specs.declared.token.Sign.TheVariants as sign
-use Rattle.htl_text.specs.declared.token.Word.{Word}
 use Rattle.htl_text.specs.declared.token.Word.TheVariants as word
-use Rattle.htl_text.specs.declared.tree.Id.{Id}
-use Rattle.htl_text.specs.declared.tree.ParamNode.{ParamNode}
-use Rattle.htl_text.specs.declared.tree.ConstNode.{ConstNode}
 use Rattle.htl_text.specs.declared.tree.ConstNode.TheVariants as const
-use Rattle.htl_text.specs.declared.tree.CommNode.{CommNode}
-use Rattle.htl_text.specs.declared.tree.EndNode.{EndNode}
 use Rattle.htl_text.specs.declared.tree.EndNode.TheVariants as end
-use Rattle.htl_text.specs.declared.tree.InvokeNode.{InvokeNode}
 
 -- from n on the tokens spell x with other numbers, and m is the number of the next token
 abbrev pub Again : {X : Type 0} → (List Placed → X → List Placed → Type 0) → Spelling X → (X → X) → ℕ → X → List Token → Type 0

@@ -1,9 +1,7 @@
 -- Repeated items: what is read is spelled so, and the other way round.
 use Rattle.std.proofs.Common.{arith, ◌≡◌, ◌≤◌, ◌<◌, ℕ, zero, suc, Bool, true, false, List, [], ◌∷◌, length, Ok, refl, ap, ◌∙◌}
-use Rattle.htl_text.specs.Placed.{Placed}
-use Rattle.htl_text.specs.Statements.{SpellsEach, no_other, another}
+use Rattle.htl_parse.proofs.Words.{Placed, SpellsEach, no_other, another, again_at, each_at, repeated_at}
 use Rattle.htl_parse.specs.Reading.{Read, Reader, ◌>>=◌}
-use Rattle.htl_parse.specs.ReadingLists.{again_at, each_at, repeated_at}
 use Rattle.htl_parse.proofs.Sound.{Holds, then}
 use Rattle.htl_parse.proofs.Fixed.{bind-same}
 

@@ -1,15 +1,8 @@
 -- Steps of reading repeated items.
 use Rattle.std.proofs.Common.{arith, ◌≡◌, ◌<◌, Bool, true, false, List, [], ◌∷◌, ◌++◌, length, map, Ok, Err, refl, ap, ◌∙◌}
-use Rattle.std.specs.Prelude.{IfOk}
-use Rattle.std.proofs.lemmas.List.{map-append}
-use Rattle.htl_text.specs.Placed.{Placed}
-use Rattle.htl_text.specs.Statements.{SpellsComm, SpellsTask, SpellsPort, SpellsInvoke, SpellsSwitch, SpellsMode, SpellsModule, SpellsProgram}
+use Rattle.htl_parse.proofs.Words.{IfOk, map-append, Placed, SpellsComm, SpellsTask, SpellsPort, SpellsInvoke, SpellsSwitch, SpellsMode, SpellsModule, SpellsProgram, again_at, repeated_at, CanList, CanRepeat, out_of, task_of, switch_of, mode_of, module_of, param_at, out_at, end_at, begins_comm, comm_at, begins_task, task_at, begins_port, port_at, begins_invoke, invoke_at, begins_switch, switch_at, begins_mode, mode_at, begins_module, module_at, program_at}
 use Rattle.htl_parse.specs.Reading.{Read, Reader, ◌>>=◌}
-use Rattle.htl_parse.specs.ReadingLists.{again_at, repeated_at}
-use Rattle.htl_parse.specs.Repeats.{CanList, CanRepeat}
-use Rattle.htl_text.specs.Nodes.{out_of, task_of, switch_of, mode_of, module_of}
 use Rattle.htl_parse.proofs.Sound.{Holds}
-use Rattle.htl_parse.specs.ReadingStatements.{param_at, out_at, end_at, begins_comm, comm_at, begins_task, task_at, begins_port, port_at, begins_invoke, invoke_at, begins_switch, switch_at, begins_mode, mode_at, begins_module, module_at, program_at}
 use Rattle.htl_parse.proofs.Items.{Less, with_front, front-append, less-of, param-less, out-less, end-less}
 use Rattle.htl_parse.proofs.Parts.{comm-sound, comm-part, task-sound, task-part, port-sound, port-part, invoke-sound, invoke-part, switch-sound, switch-part}
 use Rattle.htl_parse.proofs.Repeating.{repeated-is}

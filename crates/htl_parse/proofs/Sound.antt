@@ -1,16 +1,11 @@
 -- What is read is spelled so.
 use Rattle.std.proofs.Common.{◌≡◌, ℕ, zero, suc, Bool, cond, true, false, List, ◌∷◌, length, Option, None, Some, Result, Ok, Err, refl, sym, subst, ap}
-use Rattle.htl_base.specs.declared.operator.BinOp.{BinOp}
+use Rattle.htl_parse.proofs.Words.{BinOp, sign_code, Placed, Put, Expr, Infix, bracketed, chosen, atom_by, unary_by, grown, tail, chain, compared, product_by, sum_by, compare_by, and_by, or_by, expr_at, Sign}
 use Rattle.std.specs.Prelude.{◌==◌}
-use Rattle.htl_parse.specs.Codes.{sign_code}
 use Rattle.htl_parse.proofs.Coding.{sign_code-equal}
-use Rattle.htl_text.specs.Placed.{Placed, Put}
-use Rattle.htl_text.specs.Expressions.{Expr, Infix}
 use Rattle.htl_text.specs.Grammar.{Level, Or, And, Compare, Sum, Product, Unary, Atom, Spells, or_of, and_of, compare_of, sum_of, product_of, conj, or, cmp, and, sum, compare, prod, add, unary, multiply, atom, prefix, number, true_word, false_word, name, brackets, choice}
 use Rattle.htl_parse.specs.Reading.{Read, Reader, ◌>>=◌, after_sign}
-use Rattle.htl_parse.specs.ReadingExpressions.{bracketed, chosen, atom_by, unary_by, grown, tail, chain, compared, product_by, sum_by, compare_by, and_by, or_by, expr_at}
 use Rattle.htl_text.specs.declared.token.Token.TheVariants as token
-use Rattle.htl_text.specs.declared.token.Sign.{Sign}
 use Rattle.htl_text.specs.declared.token.Sign.TheVariants as sign
 use Rattle.htl_text.specs.declared.token.Word.TheVariants as word
 

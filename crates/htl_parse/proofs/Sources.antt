@@ -1,10 +1,6 @@
 -- Modes, modules, programs and sources: what is read is spelled so, and the other way round.
 use Rattle.std.proofs.Common.{arith, ◌≡◌, ◌<◌, Bool, true, false, List, ◌∷◌, length, Ok, refl, sym, subst, ◌∙◌}
-use Rattle.htl_text.specs.Placed.{Placed, Put}
-use Rattle.htl_text.specs.Nodes.{PlainSwitch, PlainMode, PlainModule, PlainProgram}
-use Rattle.htl_text.specs.Statements.{SpellsEach, SpellsClause, SpellsComm, SpellsTask, SpellsPort, SpellsInvoke, SpellsSwitch, SpellsMode, mode, SpellsModule, a_module, SpellsProgram, program, SpellsSource, source}
-use Rattle.htl_parse.specs.Reading.{Reader, after_sign, after_word, name_at, number_at, clause_at}
-use Rattle.htl_parse.specs.ReadingLists.{repeated_at}
+use Rattle.htl_parse.proofs.Words.{Placed, Put, PlainSwitch, PlainMode, PlainModule, PlainProgram, SpellsEach, SpellsClause, SpellsComm, SpellsTask, SpellsPort, SpellsInvoke, SpellsSwitch, SpellsMode, mode, SpellsModule, a_module, SpellsProgram, program, SpellsSource, source, Reader, after_sign, after_word, name_at, number_at, clause_at, repeated_at, InvokeNode}
 use Rattle.htl_parse.specs.ReadingStatements.{begins_comm, comm_at, begins_task, task_at, begins_port, port_at, begins_invoke, invoke_at, begins_switch, switch_at, begins_mode, mode_at, begins_module, module_at, begins_program, program_at, source_at}
 use Rattle.htl_parse.proofs.Basics.{word-sound, name-sound, number-sound, clause-sound, clause-complete}
 use Rattle.htl_parse.proofs.Parts.{comm-sound, comm-part, task-sound, task-part, port-sound, port-part, invoke-sound, invoke-part, switch-sound, switch-part, clause-shorter}
@@ -14,7 +10,6 @@ use Rattle.htl_parse.proofs.Statements.{behind}
 use Rattle.htl_text.specs.declared.token.Token.TheVariants as token
 use Rattle.htl_text.specs.declared.token.Sign.TheVariants as sign
 use Rattle.htl_text.specs.declared.token.Word.TheVariants as word
-use Rattle.htl_text.specs.declared.tree.InvokeNode.{InvokeNode}
 
 repeated-sound : {X : Type 0} (Item : List Placed → X → List Placed → Type 0) (begins : List Placed → Bool) (item : Reader X)
     → ((ts : List Placed) → Holds (λ (x : X × List Placed). Item ts x.0 x.1) (item ts)) → (ts : List Placed)

@@ -1,21 +1,12 @@
 -- A sign or a word that must stand next.
 use Rattle.std.proofs.Common.{arith, ◌≡◌, ◌≤◌, ◌<◌, ◌-◌, ℕ, zero, suc, Bool, true, false, cond, List, [], ◌∷◌, ◌+◌, length, drop, Option, None, Some, Ok, Err, refl, sym, subst, ap, ◌∙◌, length-drop}
-use Rattle.std.specs.Option.{option_map}
+use Rattle.htl_parse.proofs.Words.{option_map, drop_all, kind_of, FirstIs, Kind, next_kind, NextIs, behind, sign_code, word_code, Placed, Put, tokens_numbered, Token, Sign, Word}
 use Rattle.std.specs.Prelude.{◌==◌, slice_get}
-use Rattle.std.proofs.lemmas.List.{drop_all}
 use native.Mathlib.Numerals.{unary_clauses}
-use Rattle.htl_text.specs.Kinds.{kind_of, FirstIs}
-use Rattle.htl_text.specs.declared.token.Kind.{Kind}
 use Rattle.htl_text.specs.declared.token.Kind.TheVariants as kind
-use Rattle.htl_parse.specs.Cursors.{next_kind, NextIs, behind}
-use Rattle.htl_parse.specs.Codes.{sign_code, word_code}
-use Rattle.htl_text.specs.Placed.{Placed, Put, tokens_numbered}
 use Rattle.htl_parse.specs.Reading.{◌>>=◌, after_sign, after_word, place_at, name_at, clause_by, clause_at}
 use Rattle.htl_parse.proofs.Coding.{sign_code-equal, word_code-equal, code-same}
-use Rattle.htl_text.specs.declared.token.Token.{Token}
 use Rattle.htl_text.specs.declared.token.Token.TheVariants as token
-use Rattle.htl_text.specs.declared.token.Sign.{Sign}
-use Rattle.htl_text.specs.declared.token.Word.{Word}
 
 sign-there : (wanted : Sign) (k : ℕ) (new : List Placed) → after_sign wanted (Put k (token.Sign wanted) ∷ new) ≡ Ok new
 sign-there wanted k new = ap (λ (b : Bool). cond b (Ok new) (Err (Put k (token.Sign wanted) ∷ new))) (code-same (sign_code wanted))

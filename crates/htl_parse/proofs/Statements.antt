@@ -1,14 +1,6 @@
 -- Parameters, outputs and ends: what is read is spelled so, and the other way round.
 use Rattle.std.proofs.Common.{arith, ◌≡◌, ◌<◌, ℕ, List, [], ◌∷◌, length, Ok, Err, refl, sym, subst, ap, ◌∙◌}
-use Rattle.htl_base.specs.declared.Ty.{Ty}
-use Rattle.htl_text.specs.Placed.{Placed, Put}
-use Rattle.htl_text.specs.Expressions.{Expr}
-use Rattle.htl_text.specs.Grammar.{Spells, Or}
-use Rattle.htl_text.specs.Nodes.{PlainOut}
-use Rattle.htl_text.specs.Statements.{SpellsType, int, bool, SpellsList, SpellsParam, param, SpellsOut, out, SpellsEnd, comm_end, port_end}
-use Rattle.htl_parse.specs.Reading.{Read, after_sign, place_at, name_at, number_at, type_at}
-use Rattle.htl_parse.specs.ReadingExpressions.{read_expr}
-use Rattle.htl_parse.specs.ReadingLists.{list_at}
+use Rattle.htl_parse.proofs.Words.{Ty, Placed, Put, Expr, Spells, Or, PlainOut, SpellsType, int, bool, SpellsList, SpellsParam, param, SpellsOut, out, SpellsEnd, comm_end, port_end, Read, after_sign, place_at, name_at, number_at, type_at, read_expr, list_at, ParamNode, EndNode}
 use Rattle.htl_parse.specs.ReadingStatements.{param_at, out_at, instance_at, port_end_at, end_at}
 use Rattle.htl_parse.proofs.Basics.{name-sound, number-sound, type-sound, type-complete}
 use Rattle.htl_parse.proofs.Complete.{IsEnd, expr-complete, shorter}
@@ -17,8 +9,6 @@ use Rattle.htl_parse.proofs.Listing.{IsStop, list-sound, list-complete, list-sho
 use Rattle.htl_parse.proofs.Sound.{Holds, then, after_sign-sound}
 use Rattle.htl_text.specs.declared.token.Token.TheVariants as token
 use Rattle.htl_text.specs.declared.token.Sign.TheVariants as sign
-use Rattle.htl_text.specs.declared.tree.ParamNode.{ParamNode}
-use Rattle.htl_text.specs.declared.tree.EndNode.{EndNode}
 use Rattle.htl_text.specs.declared.tree.EndNode.TheVariants as end
 
 -- one more token before

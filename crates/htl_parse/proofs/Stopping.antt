@@ -1,14 +1,7 @@
 -- From the two laws of the reader of sources to the first token that doesn't fit.
 use Rattle.std.proofs.Common.{arith, ◌≡◌, ◌≤◌, ◌+◌, ◌-◌, ℕ, suc, List, [], ◌∷◌, ◌++◌, length, Ok, Err, refl, sym, subst, ap, ◌∙◌, inl, inr, length-append, append_assoc}
 use Rattle.std.specs.Prelude.{◌<◌}
-use Rattle.htl_base.proofs.Firsts.{first-unique}
-use Rattle.htl_text.specs.Placed.{Placed, Put, tokens_numbered}
-use Rattle.htl_text.specs.Nodes.{PlainProgram}
-use Rattle.htl_text.specs.Statements.{SpellsSource}
-use Rattle.htl_text.specs.declared.token.Token.{Token}
-use Rattle.htl_parse.specs.Answers.{Spell, Begins, IsMisfit}
-use Rattle.htl_parse.specs.Reading.{Read, left_of}
-use Rattle.htl_parse.specs.ReadingStatements.{source_at}
+use Rattle.htl_parse.proofs.Words.{first-unique, Placed, Put, tokens_numbered, PlainProgram, SpellsSource, Token, Spell, Begins, IsMisfit, Read, left_of, source_at}
 use Rattle.htl_parse.proofs.Fronts.{onto, Tells}
 use Rattle.htl_parse.proofs.Sources.{source-complete}
 use Rattle.htl_parse.proofs.Standing.{length-numbered}

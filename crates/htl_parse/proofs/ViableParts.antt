@@ -1,20 +1,10 @@
 -- Reading the small parts of statements stops where no token fits.
 use Rattle.std.proofs.Common.{arith, ◌≡◌, ◌<◌, ◌+◌, ℕ, pos, Bool, true, false, List, [], ◌∷◌, ◌++◌, length, refl, sym, subst, ap, ◌∙◌}
 use Rattle.std.specs.Prelude.{◌==◌}
-use Rattle.htl_text.specs.Placed.{Placed, Put}
-use Rattle.htl_text.specs.Expressions.{Expr}
-use Rattle.htl_text.specs.Grammar.{Spells, Or}
-use Rattle.htl_text.specs.Statements.{SpellsType, int, bool, SpellsConst, positive, negative, true_word, false_word, SpellsClause, absent, present, SpellsParam, param, SpellsOut, out, SpellsPort, port, SpellsEnd, comm_end, port_end, SpellsInvoke, invoke, SpellsList, empty}
-use Rattle.htl_text.specs.declared.token.Token.{Token}
+use Rattle.htl_parse.proofs.Words.{Placed, Put, Expr, Spells, Or, SpellsType, int, bool, SpellsConst, positive, negative, true_word, false_word, SpellsClause, absent, present, SpellsParam, param, SpellsOut, out, SpellsPort, port, SpellsEnd, comm_end, port_end, SpellsInvoke, invoke, SpellsList, empty, Token, Word, ParamNode, word_code, place_at, type_at, const_at, clause_by, clause_at, read_expr, list_at}
 use Rattle.htl_text.specs.declared.token.Token.TheVariants as token
 use Rattle.htl_text.specs.declared.token.Sign.TheVariants as sign
-use Rattle.htl_text.specs.declared.token.Word.{Word}
 use Rattle.htl_text.specs.declared.token.Word.TheVariants as word
-use Rattle.htl_text.specs.declared.tree.ParamNode.{ParamNode}
-use Rattle.htl_parse.specs.Codes.{word_code}
-use Rattle.htl_parse.specs.Reading.{place_at, type_at, const_at, clause_by, clause_at}
-use Rattle.htl_parse.specs.ReadingExpressions.{read_expr}
-use Rattle.htl_parse.specs.ReadingLists.{list_at}
 use Rattle.htl_parse.specs.ReadingStatements.{param_at, out_at, port_at, instance_at, port_end_at, end_at, invoke_at}
 use Rattle.htl_parse.proofs.Coding.{word_code-equal}
 use Rattle.htl_parse.proofs.Complete.{shorter}

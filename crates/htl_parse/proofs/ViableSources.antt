@@ -1,13 +1,9 @@
 -- Reading modules, programs and sources stops where no token fits, where reading their parts does.
 use Rattle.std.proofs.Common.{pos, List, [], ◌∷◌}
-use Rattle.htl_text.specs.Placed.{Placed}
-use Rattle.htl_text.specs.Statements.{SpellsEach, no_other, SpellsClause, absent, SpellsComm, SpellsTask, SpellsPort, SpellsInvoke, SpellsSwitch, SpellsMode, mode, SpellsModule, a_module, SpellsProgram, program, SpellsSource, source}
-use Rattle.htl_text.specs.declared.token.Token.{Token}
+use Rattle.htl_parse.proofs.Words.{Placed, SpellsEach, no_other, SpellsClause, absent, SpellsComm, SpellsTask, SpellsPort, SpellsInvoke, SpellsSwitch, SpellsMode, mode, SpellsModule, a_module, SpellsProgram, program, SpellsSource, source, Token, clause_at, repeated_at}
 use Rattle.htl_text.specs.declared.token.Token.TheVariants as token
 use Rattle.htl_text.specs.declared.token.Sign.TheVariants as sign
 use Rattle.htl_text.specs.declared.token.Word.TheVariants as word
-use Rattle.htl_parse.specs.Reading.{clause_at}
-use Rattle.htl_parse.specs.ReadingLists.{repeated_at}
 use Rattle.htl_parse.specs.ReadingStatements.{begins_comm, comm_at, begins_task, task_at, begins_port, port_at, begins_invoke, invoke_at, begins_switch, switch_at, begins_mode, mode_at, begins_module, module_at, begins_program, program_at, source_at}
 use Rattle.htl_parse.proofs.ViableLists.{repeated-tells}
 use Rattle.htl_parse.proofs.ViableParts.{clause-tells, port-tells, invoke-tells}

@@ -1,20 +1,9 @@
 -- Reading communicators, tasks and switches stops where no token fits.
 use Rattle.std.proofs.Common.{arith, ◌≡◌, ◌<◌, ◌+◌, ℕ, ℤ, pos, Bool, true, false, List, [], ◌∷◌, length, refl, sym, subst}
-use Rattle.htl_base.specs.declared.Ty.{Ty}
-use Rattle.htl_text.specs.Placed.{Placed, Put}
-use Rattle.htl_text.specs.Expressions.{Expr}
-use Rattle.htl_text.specs.Grammar.{Spells, Or}
-use Rattle.htl_text.specs.Nodes.{PlainOut, PlainOuts, Concrete, Abstract}
-use Rattle.htl_text.specs.Statements.{SpellsType, int, SpellsConst, true_word, SpellsParam, SpellsOut, SpellsComm, communicator, sensor, SpellsTask, concrete, abstract_task, SpellsSwitch, switch, SpellsList, empty}
-use Rattle.htl_text.specs.declared.token.Token.{Token}
+use Rattle.htl_parse.proofs.Words.{Ty, Placed, Put, Expr, Spells, Or, PlainOut, PlainOuts, Concrete, Abstract, SpellsType, int, SpellsConst, true_word, SpellsParam, SpellsOut, SpellsComm, communicator, sensor, SpellsTask, concrete, abstract_task, SpellsSwitch, switch, SpellsList, empty, Token, ParamNode, ConstNode, place_at, type_at, const_at, read_expr, list_at}
 use Rattle.htl_text.specs.declared.token.Token.TheVariants as token
 use Rattle.htl_text.specs.declared.token.Sign.TheVariants as sign
 use Rattle.htl_text.specs.declared.token.Word.TheVariants as word
-use Rattle.htl_text.specs.declared.tree.ParamNode.{ParamNode}
-use Rattle.htl_text.specs.declared.tree.ConstNode.{ConstNode}
-use Rattle.htl_parse.specs.Reading.{place_at, type_at, const_at}
-use Rattle.htl_parse.specs.ReadingExpressions.{read_expr}
-use Rattle.htl_parse.specs.ReadingLists.{list_at}
 use Rattle.htl_parse.specs.ReadingStatements.{param_at, out_at, kind_at, comm_at, outputs_at, task_by, task_at, switch_at}
 use Rattle.htl_parse.proofs.Complete.{shorter}
 use Rattle.htl_parse.proofs.ViableExpressions.{read_expr-tells, some}

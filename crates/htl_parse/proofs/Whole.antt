@@ -1,19 +1,9 @@
 -- From the reading of whole sources to what they spell.
 use Rattle.std.proofs.Common.{◌≡◌, ◌-◌, ℕ, List, [], length, Result, Ok, Err, refl, subst, ap, inl, inr}
-use Rattle.htl_text.specs.Placed.{Placed, tokens_numbered}
-use Rattle.htl_text.specs.Nodes.{PlainProgram, tree_of}
-use Rattle.htl_text.specs.Statements.{SpellsSource}
-use Rattle.htl_parse.specs.Reading.{Read, left_of}
-use Rattle.htl_parse.specs.ReadingStatements.{source_at}
-use Rattle.htl_parse.specs.Runs.{IsLong}
-use Rattle.htl_parse.specs.Answers.{IsTree, IsParsed, TellsTree, TellsLong, TellsSyntax}
-use Rattle.htl_base.proofs.Firsts.{first-unique}
+use Rattle.htl_parse.proofs.Words.{Placed, tokens_numbered, PlainProgram, tree_of, SpellsSource, Read, left_of, source_at, IsLong, IsTree, IsParsed, TellsTree, TellsLong, TellsSyntax, first-unique, Token, Tree, ParseFault}
 use Rattle.htl_parse.proofs.Sound.{Holds}
 use Rattle.htl_parse.proofs.Sources.{source-sound, source-complete}
 use Rattle.htl_parse.proofs.Stopping.{misfit-left, misfit-unique}
-use Rattle.htl_text.specs.declared.token.Token.{Token}
-use Rattle.htl_text.specs.declared.tree.Tree.{Tree}
-use Rattle.htl_parse.specs.declared.parser.ParseFault.{ParseFault}
 use Rattle.htl_parse.specs.declared.parser.ParseFault.TheVariants as fault
 
 read-same : {Y : Type 0} (r : Read Y) (t u : Y) (vs ws : List Placed) → r ≡ Ok (t, vs) → r ≡ Ok (u, ws) → (t ≡ u) × (vs ≡ ws)

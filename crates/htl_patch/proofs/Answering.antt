@@ -1,20 +1,7 @@
 -- The answers of patching.
 use Rattle.std.proofs.Common.{◌≡◌, ℕ, List, Option, Some, None, Result, Ok, Err, IfOk, IfErr, MatchResult, All, refl, sym, ◌∙◌, ap, subst}
-use Rattle.htl_load.specs.Alike.{AskTheSame}
-use Rattle.htl_model.specs.Broken.{KeepsLimits}
-use Rattle.htl_model.specs.Tables.{Tables}
-use Rattle.htl_object.specs.Accepted.{IsAccepted}
-use Rattle.htl_object.specs.Ranges.{IsInRange, IsFunctionCode}
-use Rattle.htl_object.specs.declared.object.Object.{Object}
-use Rattle.htl_patch.specs.Answering.{IsPatched, IsHandedBackBy, IsPatchStop, IsPatchedAs, PatchIsRefusedFor}
-use Rattle.htl_patch.specs.Joining.{mode_named, graft_by, graft_of, Joins}
-use Rattle.htl_patch.specs.Object.{patched_object, CanPatch}
-use Rattle.htl_patch.specs.Patched.{patched}
-use Rattle.htl_patch.specs.Stops.{IsGraftFault, IsFaultBy, IsPatchFault, IsHandedBack, IsEarlyFault, IsTablesFault, IsTablesStop, IsAcceptedWith}
-use Rattle.htl_patch.specs.United.{Graft, graft}
-use Rattle.htl_patch.specs.declared.fault.PatchFault.{PatchFault}
+use Rattle.htl_patch.proofs.Words.{AskTheSame, KeepsLimits, Tables, IsAccepted, IsInRange, IsFunctionCode, Object, IsPatched, IsHandedBackBy, IsPatchStop, IsPatchedAs, PatchIsRefusedFor, mode_named, graft_by, graft_of, Joins, patched_object, CanPatch, patched, IsGraftFault, IsFaultBy, IsPatchFault, IsHandedBack, IsEarlyFault, IsTablesFault, IsTablesStop, IsAcceptedWith, Graft, graft, PatchFault, PatchStop}
 use Rattle.htl_patch.specs.declared.fault.PatchFault.TheVariants as fault
-use Rattle.htl_patch.specs.declared.fault.PatchStop.{PatchStop}
 use Rattle.htl_patch.specs.declared.fault.PatchStop.TheVariants as stop
 use Rattle.htl_patch.proofs.Accepting.{graft_is, tables_keep_limits, tables_are_code, ask_the_same}
 use Rattle.htl_patch.proofs.OneStop.{one_patch_fault}

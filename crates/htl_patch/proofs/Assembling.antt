@@ -1,17 +1,6 @@
 -- From the parts of the patched tables to the answer.
 use Rattle.std.proofs.Common.{◌≡◌, ℕ, List, Some, None, ◌∙◌, ap}
-use Rattle.htl_model.specs.Tables.{Tables, Fun}
-use Rattle.htl_model.specs.declared.parts.Comm.{Comm}
-use Rattle.htl_model.specs.declared.parts.Inv.{Inv}
-use Rattle.htl_model.specs.declared.parts.Mode.{Mode}
-use Rattle.htl_model.specs.declared.parts.Module.{Module}
-use Rattle.htl_model.specs.declared.parts.Port.{Port}
-use Rattle.htl_model.specs.declared.parts.Switch.{Switch}
-use Rattle.htl_model.specs.declared.parts.Task.{Task}
-use Rattle.htl_patch.specs.Joining.{first_limit, Joins}
-use Rattle.htl_patch.specs.Patched.{patched}
-use Rattle.htl_patch.specs.Stops.{AreMet, IsEarlyFault}
-use Rattle.htl_patch.specs.United.{Graft}
+use Rattle.htl_patch.proofs.Words.{Tables, Fun, Comm, Inv, Mode, Module, Port, Switch, Task, first_limit, Joins, patched, AreMet, IsEarlyFault, Graft}
 use Rattle.htl_patch.specs.declared.fault.PatchFault.TheVariants as fault
 
 abbrev pub made : List Comm → List Mode → List Module → List Port → List Task → List Inv → List Switch → List Fun → Tables

@@ -1,19 +1,8 @@
 -- The owners of the items of two programs side by side.
 use Rattle.std.proofs.Common.{◌≡◌, ◌≤◌, ◌<◌, ℕ, ◌+◌, List, [], ◌∷◌, ◌++◌, length, length-append, map, All, refl, sym, ◌∙◌, ap, subst, arith}
-use Rattle.std.proofs.lemmas.List.{length-map}
-use Rattle.std.specs.List.Sorted.{IsNonDecreasing}
-use Rattle.htl_model.specs.Ranges.{AreInRange, IsModeInRange, IsPortInRange, IsTaskInRange, IsInvInRange, IsSwitchInRange}
-use Rattle.htl_model.specs.declared.parts.Inv.{Inv}
-use Rattle.htl_model.specs.declared.parts.Mode.{Mode}
-use Rattle.htl_model.specs.declared.parts.Port.{Port}
-use Rattle.htl_model.specs.declared.parts.Switch.{Switch}
-use Rattle.htl_model.specs.declared.parts.Task.{Task}
-use Rattle.htl_model.specs.Tables.{Tables}
-use Rattle.htl_patch.specs.Owners.{mode_owners, port_owners, task_owners, inv_owners, switch_owners}
-use Rattle.htl_patch.specs.United.{Graft, united, donor_mode, donor_port, donor_task, donor_inv, donor_switch}
+use Rattle.htl_patch.proofs.Words.{length-map, IsNonDecreasing, AreInRange, IsModeInRange, IsPortInRange, IsTaskInRange, IsInvInRange, IsSwitchInRange, Inv, Mode, Port, Switch, Task, Tables, mode_owners, port_owners, task_owners, inv_owners, switch_owners, Graft, united, donor_mode, donor_port, donor_task, donor_inv, donor_switch, all_at, from_map}
 use Rattle.htl_patch.proofs.Members.{Has, map_append, map_map}
 use Rattle.htl_patch.proofs.OwnerLaws.{rise_both}
-use Rattle.htl_base.proofs.Places.{all_at, from_map}
 
 pub map_same : {A B : Type 0} (f g : A → B) (xs : List A) → ((x : A) → f x ≡ g x) → map f xs ≡ map g xs
 map_same f g [] h = refl

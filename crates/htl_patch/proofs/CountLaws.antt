@@ -1,13 +1,7 @@
 -- Numbers below a bound of which none comes twice are no more than the bound.
 use Rattle.std.proofs.Common.{◌≤◌, ◌<◌, ℕ, eqb, get_or, List, length, Some, All, ◌∙◌, ap, arith}
-use Rattle.std.specs.List.{IsDistinct}
-use Rattle.std.proofs.lemmas.Bool.Decides.{Decides-eqb}
-use Rattle.std.proofs.lemmas.Map.Made.{IsDistinct-from_AllPairs}
-use Rattle.std.proofs.lemmas.Map.Steps.{length-le_from_distinct_below}
-use Rattle.std.proofs.lemmas.Option.{slice_get-get_or}
-use Rattle.htl_model.specs.Lists.{AreApart}
+use Rattle.htl_patch.proofs.Words.{IsDistinct, Decides-eqb, IsDistinct-from_AllPairs, length-le_from_distinct_below, slice_get-get_or, AreApart, all_at}
 use Rattle.htl_patch.proofs.Taking.{any_has}
-use Rattle.htl_base.proofs.Places.{all_at}
 
 distinct : (xs : List ℕ) → AreApart xs → IsDistinct eqb xs
 distinct xs a =

@@ -1,16 +1,7 @@
 -- Lists by their members, counts of functions, and levels.
 use Rattle.std.proofs.Common.{◌≡◌, ◌≤◌, ◌<◌, ◌⊎◌, inl, inr, ℕ, zero, suc, ◌+◌, true, List, [], ◌∷◌, ◌++◌, length, map, take, drop, get_or, slice_get, Option, Some, None, All, refl, sym, ◌∙◌, ap, subst, arith}
-use Rattle.std.specs.List.{flat_map}
-use Rattle.std.specs.List.Sorted.{IsNonDecreasing}
-use Rattle.std.proofs.lemmas.Option.{slice_get_within, slice_get-get_or, same_Some}
-use Rattle.htl_model.specs.Lists.{AreApart}
-use Rattle.htl_model.specs.declared.parts.Task.{Task}
-use Rattle.htl_model.specs.Ranges.{is_within, parent_of}
-use Rattle.htl_model.specs.Tables.{Tables, mode_module, function_count, count_before}
-use Rattle.htl_patch.specs.Joining.{level}
+use Rattle.htl_patch.proofs.Words.{flat_map, IsNonDecreasing, slice_get_within, slice_get-get_or, same_Some, AreApart, Task, is_within, parent_of, Tables, mode_module, function_count, count_before, level, cases_less_more, from_map, get_mapped}
 use Rattle.htl_patch.proofs.Members.{Has, none, of_flat}
-use Rattle.htl_base.proofs.Numbers.{cases_less_more}
-use Rattle.htl_base.proofs.Places.{from_map, get_mapped}
 
 -- ---- lists
 

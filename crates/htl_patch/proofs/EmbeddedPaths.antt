@@ -1,20 +1,7 @@
 -- Tables whose root modules are those of other tables under other numbers ask the processor for the same along each path.
 use Rattle.std.proofs.Common.{◌≡◌, ℕ, zero, suc, ◌+◌, ◌*◌, ◌%◌, Bool, true, false, cond, ◌&&◌, eqb, leb, List, [], ◌∷◌, ◌++◌, length, map, slice_get, Option, Some, None, option_map, refl, sym, ◌∙◌, ap, subst}
 use mathlib.Core.Path.{fun_ext}
-use Rattle.std.specs.List.{flat_map}
-use Rattle.std.proofs.lemmas.List.{length-map}
-use Rattle.htl_model.specs.declared.frame.Place.{Place}
-use Rattle.htl_model.specs.declared.frame.Round.{Round}
-use Rattle.htl_model.specs.declared.parts.Inv.{Inv}
-use Rattle.htl_model.specs.Frames.{multiple_of, hyper, frame_of, root_periods, unit_period, unit_start, starts_below, starts, rounds_of, rounds_at, rounds, choices, paths, mode_in, radices, nodes_of, node_of, places_of, places_in, path_places, known_by}
-use Rattle.htl_model.specs.Functions.{of_bool}
-use Rattle.htl_model.specs.Selections.{root_modules, modes_of, invs_of}
-use Rattle.htl_model.specs.Tables.{Tables, mode_period, task_worst, release, window_end}
-use Rattle.htl_walk.specs.declared.job.Job.{Job}
-use Rattle.htl_walk.specs.Jobs.{absent_job, mask, is_fed_by}
-use Rattle.htl_walk.specs.PathJobs.{job_in, placed_job, placed_jobs, path_jobs, next_of, legs_of, legs}
-use Rattle.htl_walk.specs.Paths.{Leg}
-use Rattle.htl_load.specs.Alike.{unnumbered, AreAlike, AskTheSame}
+use Rattle.htl_patch.proofs.Words.{flat_map, length-map, Place, Round, Inv, multiple_of, hyper, frame_of, root_periods, unit_period, unit_start, starts_below, starts, rounds_of, rounds_at, rounds, choices, paths, mode_in, radices, nodes_of, node_of, places_of, places_in, path_places, known_by, of_bool, root_modules, modes_of, invs_of, Tables, mode_period, task_worst, release, window_end, Job, absent_job, mask, is_fed_by, job_in, placed_job, placed_jobs, path_jobs, next_of, legs_of, legs, Leg, unnumbered, AreAlike, AskTheSame}
 use Rattle.htl_patch.proofs.Embedded.{IsRootMode, IsRootCall, Embeds, AllRoots, roots_later, mode_by, mode_same, root_mode_has}
 use Rattle.htl_patch.proofs.Members.{Has, none, map_append}
 

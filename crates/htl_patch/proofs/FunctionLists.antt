@@ -1,20 +1,8 @@
 -- Functions in memory and in the tables.
 use Rattle.std.proofs.Common.{◌≡◌, ◌≤◌, ◌<◌, ◌+◌, ℕ, zero, suc, false, List, [], ◌∷◌, ◌++◌, length, map, take, drop, get_or, slice_get, Some, All, refl, sym, ◌∙◌, ap, arith, append_assoc, append-nil}
-use Rattle.std.specs.List.{flat_map}
-use Rattle.std.proofs.lemmas.List.{length-map}
-use Rattle.std.proofs.lemmas.Option.{slice_get-get_or}
-use Rattle.htl_model.proofs.Listed.{length-list_to, get_list_to}
-use Rattle.htl_model.specs.Ranges.{AreInRange, IsTaskInRange}
-use Rattle.htl_model.specs.Tables.{Tables, Fun, fun_of, function_count, count_at, count_before}
-use Rattle.htl_model.specs.declared.function.Function.{Function}
-use Rattle.htl_model.specs.declared.parts.Task.{Task}
-use Rattle.htl_object.proofs.FunctionPlaces.{task_there}
-use Rattle.htl_object.specs.Ranges.{IsFunctionCode}
-use Rattle.htl_patch.specs.Firsts.{first_function, firsts_of}
-use Rattle.htl_patch.specs.Renumbered.{functions_of}
+use Rattle.htl_patch.proofs.Words.{flat_map, length-map, slice_get-get_or, length-list_to, get_list_to, AreInRange, IsTaskInRange, Tables, Fun, fun_of, function_count, count_at, count_before, Function, Task, task_there, IsFunctionCode, first_function, firsts_of, functions_of, all_at, get_mapped}
 use Rattle.htl_patch.proofs.Members.{none, map_append}
 use Rattle.htl_patch.proofs.Counting.{count_within}
-use Rattle.htl_base.proofs.Places.{all_at, get_mapped}
 
 -- a function in memory is one of the tables
 pub function_there : (fs : List Fun) (held : List Function) (k : ℕ) (f : Function) → fs ≡ map fun_of held → k < length fs → f ≡ get_or held k f → slice_get fs k ≡ Some (fun_of f)

@@ -1,15 +1,8 @@
 -- The functions of what is taken, by where they stand in their own program.
 use Rattle.std.proofs.Common.{◌≡◌, ◌≤◌, ◌<◌, ◌+◌, ◌-◌, ℕ, zero, suc, List, [], ◌∷◌, ◌++◌, length, length-append, length-drop, append_assoc, map, take, drop, get_or, slice_get, Option, Some, refl, sym, ◌∙◌, ap, arith, take-append-drop, pos}
-use Rattle.std.proofs.lemmas.List.{length-map}
-use Rattle.htl_model.specs.Ranges.{AreInRange}
-use Rattle.htl_model.specs.Functions.{Number}
-use Rattle.htl_model.specs.Tables.{Tables, Fun, Formula, function_count, count_at, count_before, switch_function}
-use Rattle.htl_model.specs.declared.parts.Task.{Task}
-use Rattle.htl_patch.specs.Renumbered.{functions_of, function_of_switch}
-use Rattle.htl_patch.specs.United.{Graft, united, donor_task, output_count, output_functions, switch_functions}
+use Rattle.htl_patch.proofs.Words.{length-map, AreInRange, Number, Tables, Fun, Formula, function_count, count_at, count_before, switch_function, Task, functions_of, function_of_switch, Graft, united, donor_task, output_count, output_functions, switch_functions, get_back, get_front, get_mapped, take_front}
 use Rattle.htl_patch.proofs.Members.{none}
 use Rattle.htl_patch.proofs.Counting.{count_within, take_length}
-use Rattle.htl_base.proofs.Places.{get_back, get_front, get_mapped, take_front}
 
 -- ---- lists
 

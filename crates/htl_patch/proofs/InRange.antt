@@ -1,30 +1,13 @@
 -- Renumbered tables are in range where not too much is taken.
 use Rattle.std.proofs.Common.{◌≡◌, ◌≤◌, ◌<◌, inl, inr, ℕ, suc, ◌+◌, true, eqb, eq-eqb, List, [], ◌∷◌, length, length-append, map, take, drop, slice_get, Option, Some, None, IfSome, All, option_map, refl, sym, ◌∙◌, ap, subst, arith}
-use Rattle.std.specs.List.{flat_map, count_by}
-use Rattle.std.specs.List.Sorted.{IsNonDecreasing}
-use Rattle.std.proofs.lemmas.List.{length-map}
-use Rattle.std.proofs.lemmas.Option.{slice_get_within, slice_get-get_or, get_or_from_slice_get}
-use Rattle.htl_base.specs.declared.limits.TheConstants.{MAX_MODE_INVOCATIONS}
-use Rattle.htl_model.specs.Lists.{AreApart}
-use Rattle.htl_model.specs.declared.parts.End.{End}
+use Rattle.htl_patch.proofs.Words.{flat_map, count_by, IsNonDecreasing, length-map, slice_get_within, slice_get-get_or, get_or_from_slice_get, MAX_MODE_INVOCATIONS, AreApart, End, Inv, Mode, Port, Switch, Task, different_pairs, are_different_pairs, AreInRange, IsInvInRange, IsEndInRange, IsSwitchInRange, IsFunInRange, invs_of, Tables, Fun, mode_module, function_count, count_at, count_before, switch_function, place_among, tasks_of, ports_of, switches_of, task_of_module, port_of_mode, Numbering, numbering, mode_at, port_at, task_at, inv_at, switch_at, new_port, new_task, new_inv, new_switch, new_end, functions_of, function_of_switch, renumbered, from_map, get_mapped}
 use Rattle.htl_model.specs.declared.parts.End.TheVariants as E
-use Rattle.htl_model.specs.declared.parts.Inv.{Inv}
-use Rattle.htl_model.specs.declared.parts.Mode.{Mode}
-use Rattle.htl_model.specs.declared.parts.Port.{Port}
-use Rattle.htl_model.specs.declared.parts.Switch.{Switch}
-use Rattle.htl_model.specs.declared.parts.Task.{Task}
-use Rattle.htl_model.proofs.Apart.{different_pairs}
-use Rattle.htl_model.specs.Ranges.{are_different_pairs, AreInRange, IsInvInRange, IsEndInRange, IsSwitchInRange, IsFunInRange}
-use Rattle.htl_model.specs.Selections.{invs_of}
-use Rattle.htl_model.specs.Tables.{Tables, Fun, mode_module, function_count, count_at, count_before, switch_function}
-use Rattle.htl_patch.specs.Renumbered.{place_among, tasks_of, ports_of, switches_of, task_of_module, port_of_mode, Numbering, numbering, mode_at, port_at, task_at, inv_at, switch_at, new_port, new_task, new_inv, new_switch, new_end, functions_of, function_of_switch, renumbered}
 use Rattle.htl_patch.proofs.Members.{Has, has_either, of_flat, in_flat, in_places_0, place_get, place_one, map_map}
 use Rattle.htl_patch.proofs.Renumbering.{inv_owner, switch_owner, invs_apart, task_new}
 use Rattle.htl_patch.proofs.Widths.{widths}
 use Rattle.htl_patch.proofs.Sound.{inv_key, IsSound, IsOrder}
 use Rattle.htl_patch.proofs.Counting.{all_from, all_map, apart_image, one_key, owners_rise, total, count_total, count_within, take_length, has_take, has_drop}
 use Rattle.htl_patch.proofs.Ranging.{AreParentsTaken, AreFew, mode_of, inv_of, task_of, switch_of, mode_below, inv_below, mode_taken, mode_owner_place, mode_owner_at, modes, modes_rise, modules, module_names, mode_names, ports, mode_place_at, ports_rise, port_names, tasks, tasks_rise, task_names}
-use Rattle.htl_base.proofs.Places.{from_map, get_mapped}
 
 module _ (u : Tables) (units : List ℕ) (sound : IsSound u) (order : IsOrder u units) (parents : AreParentsTaken u (numbering u units))
     (few : AreFew (renumbered u (numbering u units))) where

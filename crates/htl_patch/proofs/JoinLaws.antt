@@ -1,24 +1,6 @@
 -- Tests of what is taken over: by places, and by the invocations that stand for others.
 use Rattle.std.proofs.Common.{◌≡◌, ◌<◌, ◌+◌, ℕ, zero, suc, Bool, true, false, cond, not, ◌&&◌, ◌||◌, eqb, ltb, List, [], ◌∷◌, ◌++◌, length, length-append, map, drop, get_or, slice_get, Option, Some, None, refl, sym, ◌∙◌, ap, subst, arith}
-use Rattle.std.proofs.lemmas.Bool.Decides.{nat_tests}
-use Rattle.std.proofs.lemmas.List.{length-map}
-use Rattle.std.proofs.lemmas.Option.{slice_get-get_or}
-use Rattle.std.specs.List.{list_any}
-use Rattle.htl_model.specs.Lists.{numbered, first_some}
-use Rattle.htl_model.specs.Ranges.{AreInRange, IsModeInRange, IsInvInRange}
-use Rattle.htl_model.specs.Tables.{Tables, mode_module}
-use Rattle.htl_model.specs.declared.parts.Inv.{Inv}
-use Rattle.htl_model.specs.declared.parts.Mode.{Mode}
-use Rattle.htl_model.specs.declared.parts.Module.{Module}
-use Rattle.htl_model.proofs.Listed.{length-list_to, get_list_to}
-use Rattle.htl_patch.specs.Calls.{call_for, calls_for}
-use Rattle.htl_patch.specs.Joining.{first, is_taken, inv_module, is_met, is_stray_parent, module_name, is_kept_name, twice_at}
-use Rattle.htl_patch.specs.Patched.{order}
-use Rattle.htl_patch.specs.Placed.{ArePlacesOf}
-use Rattle.htl_patch.specs.Renumbered.{place_among}
-use Rattle.htl_patch.specs.United.{Graft, calls_named, call_name, belongs_to_mode, donor_parent, united, donor_module}
-use Rattle.htl_base.proofs.Places.{all_at}
-use Rattle.htl_base.proofs.Tests.{eqb_flips, and_none, and_with_true}
+use Rattle.htl_patch.proofs.Words.{nat_tests, length-map, slice_get-get_or, list_any, numbered, first_some, AreInRange, IsModeInRange, IsInvInRange, Tables, mode_module, Inv, Mode, Module, length-list_to, get_list_to, call_for, calls_for, first, is_taken, inv_module, is_met, is_stray_parent, module_name, is_kept_name, twice_at, order, ArePlacesOf, place_among, Graft, calls_named, call_name, belongs_to_mode, donor_parent, united, donor_module, all_at, eqb_flips, and_none, and_with_true}
 
 below_some : (n : ℕ) → ltb 0 (suc n) ≡ true
 below_some n = grind (arith, nat_tests)

@@ -1,9 +1,6 @@
 -- Levels by going up from module to module.
 use Rattle.std.proofs.Common.{◌≡◌, ◌≤◌, ◌<◌, ◌+◌, ◌-◌, ℕ, zero, suc, max, List, [], ◌∷◌, ◌++◌, Option, Some, None, refl, sym, ap, arith}
-use Rattle.htl_model.specs.Lists.{list_to}
-use Rattle.htl_model.specs.Ranges.{parent_of}
-use Rattle.htl_model.specs.Tables.{Tables, mode_module, greatest}
-use Rattle.htl_patch.specs.Joining.{level}
+use Rattle.htl_patch.proofs.Words.{list_to, parent_of, Tables, mode_module, greatest, level}
 
 up : (t : Tables) (n u p : ℕ) → Some p ≡ parent_of t u → level (suc n) t u ≡ suc (level n t (mode_module t p))
 up t n u p e = ap (λ (o : Option ℕ). elim o as (λ _. ℕ) [ Some q ↦ suc (level n t (mode_module t q)) | None ↦ 1 ]) (sym e)

@@ -34,3 +34,4 @@ pub mod Stopping
 pub mod Taking
 pub mod Uniting
 pub mod Widths
+pub mod Words

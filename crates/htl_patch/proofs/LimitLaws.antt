@@ -1,24 +1,11 @@
 -- The limits of the patched tables, by the numbers that are taken.
 use Rattle.std.proofs.Common.{◌≡◌, ◌≤◌, ℕ, zero, suc, Bool, cond, ltb, eqb, List, [], ◌∷◌, ◌++◌, length, Option, Some, None, refl, sym, ◌∙◌, ap, arith}
-use Rattle.std.specs.List.{count_by}
-use Rattle.std.proofs.lemmas.List.{length-map}
-use Rattle.htl_base.specs.declared.limits.TheConstants.{MAX_MODULES, MAX_MODES, MAX_PORTS, MAX_TASKS, MAX_INVOCATIONS, MAX_SWITCHES, MAX_MODE_INVOCATIONS}
-use Rattle.htl_model.specs.Lists.{list_to}
-use Rattle.htl_model.specs.Ranges.{parent_of}
-use Rattle.htl_model.specs.Tables.{Tables, mode_module, greatest}
-use Rattle.htl_model.specs.declared.parts.Mode.{Mode}
-use Rattle.htl_model.specs.declared.parts.Module.{Module}
-use Rattle.htl_patch.specs.Joining.{level, levels, widest, exceeded, first_limit}
-use Rattle.htl_patch.specs.Levels.{upright, sizes_of, AreFewNumbers}
-use Rattle.htl_patch.specs.Patched.{order, new_numbers, patched}
-use Rattle.htl_patch.specs.Renumbered.{mode_at, module_at, port_at, task_at, inv_at, switch_at, new_mode, new_module, new_port, new_task, new_inv, new_switch}
-use Rattle.htl_patch.specs.United.{Graft, united}
+use Rattle.htl_patch.proofs.Words.{count_by, length-map, MAX_MODULES, MAX_MODES, MAX_PORTS, MAX_TASKS, MAX_INVOCATIONS, MAX_SWITCHES, MAX_MODE_INVOCATIONS, list_to, parent_of, Tables, mode_module, greatest, Mode, Module, level, levels, widest, exceeded, first_limit, upright, sizes_of, AreFewNumbers, order, new_numbers, patched, mode_at, module_at, port_at, task_at, inv_at, switch_at, new_mode, new_module, new_port, new_task, new_inv, new_switch, Graft, united, le-ltb}
 use Rattle.htl_patch.proofs.Grafting.{CanGraft, order_apart}
 use Rattle.htl_patch.proofs.Limiting.{greatest_most, of_list_to}
 use Rattle.htl_patch.proofs.NumberLaws.{few_units, few_modes, few_tasks, few_ports, few_invs, few_switches}
 use Rattle.htl_patch.proofs.Uniting.{united_sound}
 use Rattle.htl_patch.proofs.Widths.{widths}
-use Rattle.std.proofs.lemmas.Bool.{le-ltb}
 
 -- levels by the lists of modules and modes alone
 level_upright : (t : Tables) (n u : ℕ) → level n (upright t.modules t.modes) u ≡ level n t u

@@ -1,22 +1,8 @@
 -- The items of both programs with their new numbers, by where they lie in memory.
 use Rattle.std.proofs.Common.{◌≡◌, ◌≤◌, ◌<◌, ◌+◌, ◌-◌, ℕ, Bool, true, false, cond, eqb, List, [], ◌++◌, length, length-append, map, get_or, slice_get, Option, Some, None, IfSome, option_map, sym, ◌∙◌, ap, subst, arith}
-use Rattle.std.proofs.lemmas.List.{length-map}
-use Rattle.std.proofs.lemmas.Option.{slice_get_within, get_or_from_slice_get}
+use Rattle.htl_patch.proofs.Words.{length-map, slice_get_within, get_or_from_slice_get, AreInRange, IsModeInRange, IsPortInRange, IsTaskInRange, IsInvInRange, IsSwitchInRange, IsModeThat, Tables, Inv, Mode, Module, Port, Switch, Task, ArePlaces, HasPlaces, placed_mode, placed_module, placed_port, placed_task, placed_inv, placed_switch, Numbering, mode_at, module_at, port_at, task_at, inv_at, switch_at, new_mode, new_module, new_port, new_task, new_inv, new_switch, Graft, united, donor_mode, donor_module, donor_port, donor_task, donor_inv, donor_switch, refined_mode, donor_parent, NewNumbers, all_at, get_back, get_front, get_mapped}
 use Rattle.htl_base.specs.declared.Ty.TheVariants as ty
-use Rattle.htl_model.specs.Ranges.{AreInRange, IsModeInRange, IsPortInRange, IsTaskInRange, IsInvInRange, IsSwitchInRange, IsModeThat}
-use Rattle.htl_model.specs.Tables.{Tables}
-use Rattle.htl_model.specs.declared.parts.Inv.{Inv}
-use Rattle.htl_model.specs.declared.parts.Mode.{Mode}
-use Rattle.htl_model.specs.declared.parts.Module.{Module}
-use Rattle.htl_model.specs.declared.parts.Port.{Port}
-use Rattle.htl_model.specs.declared.parts.Switch.{Switch}
-use Rattle.htl_model.specs.declared.parts.Task.{Task}
-use Rattle.htl_patch.specs.Placed.{ArePlaces, HasPlaces, placed_mode, placed_module, placed_port, placed_task, placed_inv, placed_switch}
-use Rattle.htl_patch.specs.Renumbered.{Numbering, mode_at, module_at, port_at, task_at, inv_at, switch_at, new_mode, new_module, new_port, new_task, new_inv, new_switch}
-use Rattle.htl_patch.specs.United.{Graft, united, donor_mode, donor_module, donor_port, donor_task, donor_inv, donor_switch, refined_mode, donor_parent}
-use Rattle.htl_patch.specs.declared.numbers.NewNumbers.{NewNumbers}
 use Rattle.htl_patch.proofs.PlacedLaws.{has_item, units_size, modes_size, host_mode, guest_mode, host_task, guest_task, host_module, guest_module, refined_within, host_port, guest_port, host_switch, guest_switch, host_inv, guest_inv, host_has_places, guest_has_places}
-use Rattle.htl_base.proofs.Places.{all_at, get_back, get_front, get_mapped}
 
 -- an item that lies in front
 pub here : {A : Type 0} (xs ys front : List A) (k : ℕ) (x d : A) → front ≡ xs → k < length front → x ≡ get_or front k x → (slice_get xs k ≡ Some x) × (get_or (xs ++ ys) k d ≡ x)

@@ -1,26 +1,12 @@
 -- The old numbers of what is taken, by lists of owners; each is that of an item.
 use Rattle.std.proofs.Common.{◌≡◌, ◌≤◌, ◌<◌, ℕ, zero, suc, List, [], ◌∷◌, ◌++◌, length, map, All, length-append, refl, ◌∙◌, ap, subst, arith}
-use Rattle.std.specs.List.{flat_map}
-use Rattle.std.proofs.lemmas.List.{length-map}
-use Rattle.std.proofs.lemmas.Option.{slice_get_within, same_Some}
-use Rattle.htl_model.specs.declared.parts.Inv.{Inv}
-use Rattle.htl_model.specs.declared.parts.Mode.{Mode}
-use Rattle.htl_model.specs.declared.parts.Port.{Port}
-use Rattle.htl_model.specs.declared.parts.Switch.{Switch}
-use Rattle.htl_model.specs.declared.parts.Task.{Task}
-use Rattle.htl_model.specs.Selections.{root_modules, modes_of, invs_of}
-use Rattle.htl_model.specs.Tables.{Tables}
-use Rattle.htl_patch.specs.Owners.{is_owner, owned_by, mode_owners, port_owners, task_owners, inv_owners, switch_owners}
-use Rattle.htl_patch.specs.Patched.{mode_kids, kids, below, order, new_numbers}
-use Rattle.htl_patch.specs.Renumbered.{ports_of, tasks_of, switches_of}
-use Rattle.htl_patch.specs.United.{Graft, donor_module, united}
+use Rattle.htl_patch.proofs.Words.{flat_map, length-map, slice_get_within, same_Some, Inv, Mode, Port, Switch, Task, root_modules, modes_of, invs_of, Tables, is_owner, owned_by, mode_owners, port_owners, task_owners, inv_owners, switch_owners, mode_kids, kids, below, order, new_numbers, ports_of, tasks_of, switches_of, Graft, donor_module, united, get_front}
 use Rattle.htl_patch.proofs.BothOwners.{modes_few, tasks_few, ports_few, invs_few, switches_few}
 use Rattle.htl_patch.proofs.CountLaws.{few_apart}
 use Rattle.htl_patch.proofs.Grafting.{CanGraft, host_root, kid_there, order_apart}
 use Rattle.htl_patch.proofs.Members.{Has, none, of_flat, places_map}
 use Rattle.htl_patch.proofs.Counting.{all_from}
 use Rattle.htl_patch.proofs.Renumbering.{mode_there, task_there, port_there, inv_there, switch_there, modes_apart, tasks_apart, ports_apart, invs_apart, switches_apart}
-use Rattle.htl_base.proofs.Places.{get_front}
 
 flat_on : {A : Type 0} (f g : ℕ → List A) (xs : List ℕ) → ((x : ℕ) → f x ≡ g x) → flat_map f xs ≡ flat_map g xs
 flat_on f g [] same = refl

@@ -1,15 +1,9 @@
 -- What one owner owns stands in one run of the list, where owners don't fall.
 use Rattle.std.proofs.Common.{◌≡◌, ◌≤◌, ◌<◌, ◌⊎◌, inl, inr, ℕ, zero, suc, ◌+◌, Bool, true, false, cond, eqb, List, [], ◌∷◌, ◌++◌, length, map, drop, get_or, slice_get, Some, refl, sym, ◌∙◌, ap, subst, arith, append-nil}
-use Rattle.std.specs.List.Sorted.{IsNonDecreasing}
-use Rattle.std.proofs.lemmas.Option.{slice_get_within, slice_get-get_or, get_or_from_slice_get}
-use Rattle.htl_model.specs.Lists.{places_from}
-use Rattle.htl_patch.specs.Owners.{is_owner, owned_by}
-use Rattle.htl_patch.specs.Renumbered.{place_among}
+use Rattle.htl_patch.proofs.Words.{IsNonDecreasing, slice_get_within, slice_get-get_or, get_or_from_slice_get, places_from, is_owner, owned_by, place_among, ne_eqb, from_map}
 use Rattle.htl_patch.proofs.Grafting.{get_drop}
 use Rattle.htl_patch.proofs.KidLaws.{places_end}
 use Rattle.htl_patch.proofs.Members.{Has, same_or, place_get, places_nothing}
-use Rattle.std.proofs.lemmas.Bool.{ne_eqb}
-use Rattle.htl_base.proofs.Places.{from_map}
 
 -- nothing stands before the first place
 pub owned_first : (m k : ℕ) (xs : List ℕ) → places_from (is_owner m) k xs ≡ places_from (is_owner m) (k + place_among m xs) (drop (place_among m xs) xs)

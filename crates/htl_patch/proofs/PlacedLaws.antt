@@ -1,23 +1,8 @@
 -- Items with the new numbers that lists of new numbers tell are the renumbered ones.
 use Rattle.std.proofs.Common.{◌≡◌, ◌≤◌, ◌<◌, ◌+◌, ◌-◌, ℕ, zero, cond, Bool, true, false, eqb, List, [], ◌∷◌, ◌++◌, length, length-append, map, get_or, slice_get, Option, Some, None, IfSome, option_map, All, refl, sym, ◌∙◌, ap, arith}
-use Rattle.std.proofs.lemmas.List.{length-map}
-use Rattle.std.proofs.lemmas.Option.{slice_get_within, slice_get-get_or}
-use Rattle.htl_model.specs.Ranges.{AreInRange, IsInvInRange, IsEndInRange}
-use Rattle.htl_model.specs.Tables.{Tables}
-use Rattle.htl_model.specs.declared.parts.End.{End}
+use Rattle.htl_patch.proofs.Words.{length-map, slice_get_within, slice_get-get_or, AreInRange, IsInvInRange, IsEndInRange, Tables, End, Inv, Mode, Module, Port, Switch, Task, ArePlacesOf, ArePlaces, HasPlace, HasPlaces, placed, placed_mode, placed_module, placed_port, placed_task, placed_end, placed_inv, placed_switch, Numbering, place_among, new_mode, new_module, new_port, new_task, new_end, new_inv, new_switch, Graft, united, donor_mode, donor_module, donor_port, donor_task, donor_end, donor_inv, donor_switch, refined_mode, donor_parent, calls_named, call_name, is_call, belongs_to_mode, NewNumbers, all_at}
 use Rattle.htl_model.specs.declared.parts.End.TheVariants as E
-use Rattle.htl_model.specs.declared.parts.Inv.{Inv}
-use Rattle.htl_model.specs.declared.parts.Mode.{Mode}
-use Rattle.htl_model.specs.declared.parts.Module.{Module}
-use Rattle.htl_model.specs.declared.parts.Port.{Port}
-use Rattle.htl_model.specs.declared.parts.Switch.{Switch}
-use Rattle.htl_model.specs.declared.parts.Task.{Task}
-use Rattle.htl_patch.specs.Placed.{ArePlacesOf, ArePlaces, HasPlace, HasPlaces, placed, placed_mode, placed_module, placed_port, placed_task, placed_end, placed_inv, placed_switch}
-use Rattle.htl_patch.specs.Renumbered.{Numbering, place_among, new_mode, new_module, new_port, new_task, new_end, new_inv, new_switch}
-use Rattle.htl_patch.specs.United.{Graft, united, donor_mode, donor_module, donor_port, donor_task, donor_end, donor_inv, donor_switch, refined_mode, donor_parent, calls_named, call_name, is_call, belongs_to_mode}
-use Rattle.htl_patch.specs.declared.numbers.NewNumbers.{NewNumbers}
 use Rattle.htl_patch.proofs.Members.{Has, map_map, map_on, of_places_0}
-use Rattle.htl_base.proofs.Places.{all_at}
 
 -- ---- an item of both programs, by its number
 

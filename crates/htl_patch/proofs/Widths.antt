@@ -1,20 +1,9 @@
 -- No mode of renumbered tables has too many invocations.
 use Rattle.std.proofs.Common.{◌≡◌, ◌≤◌, ℕ, eqb, List, [], length, slice_get, Option, Some, None, refl, sym, ◌∙◌, ap, subst, arith}
-use Rattle.std.specs.List.{count_by}
-use Rattle.std.proofs.lemmas.List.{length-map}
-use Rattle.htl_base.specs.declared.limits.TheConstants.{MAX_MODE_INVOCATIONS}
-use Rattle.htl_model.specs.Lists.{places_from, AreApart}
-use Rattle.htl_model.specs.declared.parts.Inv.{Inv}
-use Rattle.htl_model.specs.Selections.{inv_of_mode, invs_of}
-use Rattle.htl_model.specs.Tables.{Tables}
-use Rattle.htl_patch.specs.Renumbered.{place_among, Numbering, numbering, inv_at, new_inv, renumbered}
+use Rattle.htl_patch.proofs.Words.{count_by, length-map, MAX_MODE_INVOCATIONS, places_from, AreApart, Inv, inv_of_mode, invs_of, Tables, place_among, Numbering, numbering, inv_at, new_inv, renumbered, ne_eqb, get_or_from_slice_get, count_places, from_map}
 use Rattle.htl_patch.proofs.Members.{Has, of_flat, place_get, place_at, places_nothing}
 use Rattle.htl_patch.proofs.Renumbering.{inv_there, modes_apart, invs_new}
 use Rattle.htl_patch.proofs.Sound.{IsSound}
-use Rattle.std.proofs.lemmas.Bool.{ne_eqb}
-use Rattle.std.proofs.lemmas.Option.{get_or_from_slice_get}
-use Rattle.htl_object.proofs.Limits.{count_places}
-use Rattle.htl_base.proofs.Places.{from_map}
 
 module _ (u : Tables) (units : List ℕ) (sound : IsSound u) (apart : AreApart units) where
   abbrev n : Numbering

@@ -1,17 +1,8 @@
 -- The definitions compute: what platform files say of one module's two tasks, and their first faults.
 use Rattle.std.proofs.Common.{◌≡◌, ◌++◌, ℕ, pos, false, List, [], ◌∷◌, Some, None, Ok, Err, refl}
-use Rattle.std.specs.Prelude.{codes, Result}
+use Rattle.htl_platform.proofs.Words.{codes, Result, Task, Tables, mode, module_named, platform_or, platform_of, with_worst, PlatformFault, Platform, Data, Members, string, integer, table, no_members, member, parse_document}
 use Rattle.std.specs.Str.{is_utf8, chars}
-use Rattle.htl_model.specs.declared.parts.Task.{Task}
-use Rattle.htl_model.specs.Tables.{Tables}
-use Rattle.htl_model.proofs.Sources.{mode, module_named}
-use Rattle.htl_platform.specs.Platforms.{platform_or, platform_of}
-use Rattle.htl_platform.specs.Applied.{with_worst}
-use Rattle.htl_platform.specs.declared.fault.PlatformFault.{PlatformFault}
 use Rattle.htl_platform.specs.declared.fault.PlatformFault.TheVariants as fault
-use Rattle.htl_platform.specs.declared.platform.Platform.{Platform}
-use Rattle.toml.specs.Data.{Data, Members, string, integer, table, no_members, member}
-use Rattle.toml.specs.Parse.{parse_document}
 use Rattle.toml.proofs.OnLiterals.{toml_on_literals}
 
 abbrev task_named : List ℕ → ℕ → Task

@@ -1,18 +1,6 @@
 -- A key that is put into an index of keys.
 use Rattle.std.proofs.Common.{◌≡◌, ◌<◌, ◌+◌, ℕ, zero, suc, Bool, true, false, ◌||◌, cond, List, [], ◌∷◌, ◌++◌, length, take, get_or, Vec, Option, Some, refl, sym, ap, ◌∙◌, arith}
-use Rattle.htl_model.specs.declared.parts.Module.{Module}
-use Rattle.htl_model.specs.declared.parts.Task.{Task}
-use Rattle.htl_platform.specs.Entries.{Entry, key_of, entries_of, worst_of, is_declared}
-use Rattle.htl_platform.specs.Faults.{first_failing, bad_key}
-use Rattle.htl_model.specs.Tables.{Tables}
-use Rattle.toml.specs.Data.{Members}
-use Rattle.std.specs.declared.alloc.Global.{Global}
-use Rattle.std.specs.List.{list_any}
-use Rattle.std.specs.Str.{bytes_eq}
-use Rattle.std.proofs.lemmas.List.Folds.{list_any-append}
-use Rattle.std.proofs.lemmas.Slice.Eq.{bytes_eq-Decides}
-use Rattle.indexmap.specs.IndexSet.{insert_key}
-use Rattle.htl_platform.specs.Keys.{has_key, keys_of, Holds}
+use Rattle.htl_platform.proofs.Words.{Module, Task, Entry, key_of, entries_of, worst_of, is_declared, first_failing, bad_key, Tables, Members, Global, list_any, bytes_eq, list_any-append, bytes_eq-Decides, insert_key, has_key, keys_of, Holds}
 
 or_none : (b : Bool) → b ≡ (b || (false || false))
 or_none true = refl

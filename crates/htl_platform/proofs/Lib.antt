@@ -7,3 +7,4 @@ pub mod TableLaws
 pub mod TextLaws
 pub mod WorstLaws
 pub mod WorstRanges
+pub mod Words

@@ -1,14 +1,6 @@
 -- Names, and keys of names, are text.
 use Rattle.std.proofs.Common.{◌≡◌, ◌<◌, ℕ, true, ◌&&◌, not, nat_lt, length, List, ◌∷◌, ◌++◌, get_or, arith}
-use Rattle.std.specs.Prelude.{IsUtf8, slice_index}
-use Rattle.std.specs.List.{list_all}
-use Rattle.std.specs.Str.{IsAscii}
-use Rattle.std.proofs.lemmas.Bool.{and_parts}
-use Rattle.std.proofs.lemmas.Bool.Decides.{nat_tests}
-use Rattle.std.proofs.lemmas.List.Sums.{AllPass-from_list_all}
-use Rattle.std.proofs.lemmas.Str.{IsUtf8-from_ascii, IsAscii-append}
-use Rattle.std.proofs.lemmas.Str.Ascii.{IsAscii-cons, IsAscii-from_all}
-use Rattle.htl_base.specs.Names.{is_name, is_identifier, is_reserved, is_letter, is_word_byte}
+use Rattle.htl_platform.proofs.Words.{IsUtf8, slice_index, list_all, IsAscii, and_parts, nat_tests, AllPass-from_list_all, IsUtf8-from_ascii, IsAscii-append, IsAscii-cons, IsAscii-from_all, is_name, is_identifier, is_reserved, is_letter, is_word_byte}
 
 word_byte : (b : ℕ) → is_word_byte b ≡ true → b < 128
 word_byte b e = grind (arith, nat_tests)

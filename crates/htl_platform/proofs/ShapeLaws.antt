@@ -1,15 +1,6 @@
 -- A table without a fault of shape has a name.
 use Rattle.std.proofs.Common.{◌≡◌, ℕ, suc, length, Bool, true, false, cond, is_none, Ordering, Less, Equal, Greater, List, Option, Some, None, refl, sym, ap, ◌∙◌}
-use Rattle.std.specs.Prelude.{codes}
-use Rattle.std.specs.Cmp.Lexicographic.{slice_cmp}
-use Rattle.std.specs.Ordering.{nat_cmp, is_eq, match_ordering}
-use Rattle.std.proofs.lemmas.Map.Text.{is_eq-slice_cmp}
-use Rattle.std.proofs.lemmas.Option.{none-some, same_Some}
-use Rattle.std.proofs.lemmas.Slice.Eq.{bytes_eq-Decides}
-use Rattle.toml.specs.Data.{Data, Members, no_members, member, get_member}
-use Rattle.htl_platform.specs.Entries.{Entry, entries_of, worst_of, is_top_entry, is_whole_entry, is_platform_name}
-use Rattle.htl_platform.specs.Faults.{first_failing, or_then, missing_name, bad_shape}
-use Rattle.htl_platform.specs.Platforms.{has_name}
+use Rattle.htl_platform.proofs.Words.{codes, slice_cmp, nat_cmp, is_eq, match_ordering, is_eq-slice_cmp, none-some, same_Some, bytes_eq-Decides, Data, Members, no_members, member, get_member, Entry, entries_of, worst_of, is_top_entry, is_whole_entry, is_platform_name, first_failing, or_then, missing_name, bad_shape, has_name}
 
 passes_first : (b : Bool) (later : Option ℕ) (k : ℕ) → cond b later (Some k) ≡ None → (b ≡ true) × (later ≡ None)
 passes_first true later k e = (refl, e)

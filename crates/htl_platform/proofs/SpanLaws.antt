@@ -1,15 +1,6 @@
 -- The worst case of each task is from 1 to 1,000,000.
 use Rattle.std.proofs.Common.{◌≡◌, ℕ, pos, negsuc, ℤ, Bool, true, false, cond, List, map, All, get_or, Option, Some, None, refl, sym, subst, arith}
-use Rattle.std.specs.Prelude.{option_and_then}
-use Rattle.std.proofs.lemmas.Bool.Decides.{nat_tests}
-use Rattle.std.proofs.lemmas.List.Elements.{All-map}
-use Rattle.htl_model.specs.Ranges.{AreInRange, IsSpan, IsTaskInRange}
-use Rattle.htl_model.specs.Tables.{Tables}
-use Rattle.htl_model.specs.declared.parts.Module.{Module}
-use Rattle.htl_model.specs.declared.parts.Task.{Task}
-use Rattle.toml.specs.Data.{Members, get_member, as_integer}
-use Rattle.htl_platform.specs.Entries.{key_of, is_worst, number_or}
-use Rattle.htl_platform.specs.Platforms.{worst_in}
+use Rattle.htl_platform.proofs.Words.{option_and_then, nat_tests, All-map, AreInRange, IsSpan, IsTaskInRange, Tables, Module, Task, Members, get_member, as_integer, key_of, is_worst, number_or, worst_in}
 
 span-number_or : (own : ℕ) (x : ℤ) → IsSpan own → IsSpan (number_or own x)
 span-number_or own (negsuc n) h = h

@@ -1,10 +1,6 @@
 -- A table in memory and its entries.
 use Rattle.std.proofs.Common.{◌≡◌, ℕ, Bool, suc, List, [], ◌∷◌, length, refl, ap, ◌∙◌}
-use Rattle.toml.specs.Data.{Members}
-use Rattle.toml.specs.View.{members_view}
-use Rattle.toml.proofs.Views.{Entry as Held}
-use Rattle.htl_platform.specs.Entries.{Entry, entries_of}
-use Rattle.htl_platform.specs.Faults.{first_failing}
+use Rattle.htl_platform.proofs.Words.{Members, members_view, Held, Entry, entries_of, first_failing}
 
 pub length-entries : (es : List Held) → length es ≡ length (entries_of (members_view es))
 length-entries [] = refl

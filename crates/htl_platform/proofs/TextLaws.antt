@@ -1,11 +1,6 @@
 -- Bytes that are a table, and bytes that are none.
 use Rattle.std.proofs.Common.{◌≡◌, Bool, true, false, List, ℕ, cond, Some, None, ap, ◌∙◌, refl}
-use Rattle.std.specs.Prelude.{IsUtf8}
-use Rattle.std.specs.Str.{is_utf8}
-use Rattle.std.proofs.lemmas.Str.{IsUtf8-from_is_utf8, is_utf8-from_IsUtf8}
-use Rattle.toml.specs.Data.{Members}
-use Rattle.toml.specs.Parse.{parse_document}
-use Rattle.htl_platform.specs.Platforms.{document_in}
+use Rattle.htl_platform.proofs.Words.{IsUtf8, is_utf8, IsUtf8-from_is_utf8, is_utf8-from_IsUtf8, Members, parse_document, document_in}
 
 pub document-found : (bytes : List ℕ) (ms : Members) → IsUtf8 bytes → parse_document bytes ≡ Some ms → document_in bytes ≡ Some ms
 document-found bytes ms text is = ap (λ (b : Bool). cond b (parse_document bytes) None) (is_utf8-from_IsUtf8 bytes text) ∙ is

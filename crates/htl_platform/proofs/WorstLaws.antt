@@ -1,7 +1,6 @@
 -- Tasks with other worst cases are the same tasks in all else, and stay in their ranges.
 use Rattle.std.proofs.Common.{◌≡◌, ℕ, zero, suc, ◌+◌, ◌<◌, List, [], ◌∷◌, length, take, get_or, slice_set, refl, ap, sym, ◌∙◌, arith}
-use Rattle.htl_model.specs.declared.parts.Task.{Task}
-use Rattle.htl_platform.specs.Applied.{tasks_with}
+use Rattle.htl_platform.proofs.Words.{Task, tasks_with}
 
 pub length-tasks_with : (ks : List Task) (ws : List ℕ) → length (tasks_with ks ws) ≡ length ks
 length-tasks_with [] ws = refl

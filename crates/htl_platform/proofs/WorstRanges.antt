@@ -1,14 +1,7 @@
 -- Tables in range stay in range with other worst cases from 1 to 1,000,000.
 use Rattle.std.proofs.Common.{◌≡◌, ◌<◌, ℕ, zero, suc, ◌+◌, List, [], ◌∷◌, length, map, get_or, slice_get, Option, Some, None, All, IfSome, refl, sym, ◌∙◌, ap, arith}
-use Rattle.std.proofs.lemmas.Option.{same_Some}
-use Rattle.htl_model.specs.declared.parts.Inv.{Inv}
-use Rattle.htl_model.specs.declared.parts.Module.{Module}
-use Rattle.htl_model.specs.declared.parts.Task.{Task}
-use Rattle.htl_model.specs.declared.parts.End.{End}
+use Rattle.htl_platform.proofs.Words.{same_Some, Inv, Module, Task, End, AreInRange, IsSpan, IsModeThat, parent_of, is_within, are_different_owned, IsModuleInRange, IsEndInRange, IsTaskInRange, IsInvInRange, Tables, mode_module, count_at, count_before, tasks_with, with_worst}
 use Rattle.htl_model.specs.declared.parts.End.TheVariants as E
-use Rattle.htl_model.specs.Ranges.{AreInRange, IsSpan, IsModeThat, parent_of, is_within, are_different_owned, IsModuleInRange, IsEndInRange, IsTaskInRange, IsInvInRange}
-use Rattle.htl_model.specs.Tables.{Tables, mode_module, count_at, count_before}
-use Rattle.htl_platform.specs.Applied.{tasks_with, with_worst}
 use Rattle.htl_platform.proofs.WorstLaws.{length-tasks_with}
 
 -- ---- lists of tasks

@@ -1,27 +1,9 @@
 -- A path whose modes are those of the selections has their positions.
 use Rattle.std.proofs.Common.{append_assoc, ◌≡◌, ℕ, zero, suc, ◌+◌, ◌*◌, ◌/◌, ◌%◌, ◌≤◌, ◌<◌, Bool, true, false, cond, ◌&&◌, eqb, eqb-true, eq-eqb, ne_eqb, List, [], ◌∷◌, ◌++◌, length, map, take, drop, get_or, Option, Some, None, refl, sym, ◌∙◌, ap, arith, inl, inr}
-use Rattle.std.specs.Prelude.{slice_get}
-use Rattle.std.specs.List.{flat_map}
-use Rattle.std.proofs.Math.Nat.{div-add-mod}
-use Rattle.std.proofs.lemmas.Bool.{lt-leb}
-use Rattle.std.proofs.lemmas.List.{length-map}
-use Rattle.std.proofs.lemmas.Option.{get_or_from_slice_get, none-some}
-use Rattle.htl_model.specs.declared.frame.Place.{Place}
-use Rattle.htl_model.specs.declared.frame.Round.{Round}
-use Rattle.htl_model.specs.Frames.{begins, starts_below, root_periods, frame_of, unit_period, rounds_of, rounds_at, rounds, starts, mode_in, mode_from, path_mode, places_of, places_in, path_places, known_by}
-use Rattle.htl_model.specs.Functions.{of_bool}
-use Rattle.htl_model.specs.Selected.{entry}
-use Rattle.htl_model.specs.Selections.{is_root, root_modules, invs_of}
-use Rattle.htl_model.specs.Tables.{Tables}
-use Rattle.htl_walk.specs.PathJobs.{placed_job, placed_jobs, legs_of, legs}
-use Rattle.htl_walk.specs.Paths.{AreWithin}
-use Rattle.htl_refine.specs.DerivedPaths.{derived_place, derived_jobs, start_places, standing_place, begun_places, begun_jobs, start_modes, IsAlong}
+use Rattle.htl_refine.proofs.Words.{slice_get, flat_map, div-add-mod, lt-leb, length-map, get_or_from_slice_get, none-some, Place, Round, begins, starts_below, root_periods, frame_of, unit_period, rounds_of, rounds_at, rounds, starts, mode_in, mode_from, path_mode, places_of, places_in, path_places, known_by, of_bool, entry, is_root, root_modules, invs_of, Tables, placed_job, placed_jobs, legs_of, legs, AreWithin, derived_place, derived_jobs, start_places, standing_place, begun_places, begun_jobs, start_modes, IsAlong, known_append, map_append, known_few, from_map}
 use Rattle.htl_refine.proofs.BegunTimes.{start_below, started_at}
 use Rattle.htl_refine.proofs.Members.{of_joined, of_flat}
 use Rattle.htl_refine.proofs.RisingPositions.{AreRising, Has, joined_rise, places_rise}
-use Rattle.htl_walk.proofs.Nodes.{known_append, map_append}
-use Rattle.htl_walk.proofs.Starts.{known_few}
-use Rattle.htl_base.proofs.Places.{from_map}
 
 -- ---- lists that rise
 

@@ -1,20 +1,7 @@
 -- What stands at the positions that have begun refines the paths with these modes, and their lists serve it.
 use Rattle.std.proofs.Common.{◌≡◌, ℕ, ◌≤◌, ◌<◌, List, length, take, Option, refl, sym, ◌∙◌, ap, subst}
-use Rattle.std.proofs.lemmas.List.{length-map}
-use Rattle.htl_model.specs.Frames.{paths, starts, path_places}
-use Rattle.htl_model.specs.FrameRules.{KeptApart}
-use Rattle.htl_model.specs.Ranges.{AreInRange}
-use Rattle.htl_model.specs.Tables.{Tables}
-use Rattle.htl_model.proofs.FrameBuild.{frame_some}
-use Rattle.htl_walk.specs.declared.job.Job.{Job}
-use Rattle.htl_walk.specs.declared.schedule.SInstr.{SInstr}
-use Rattle.htl_walk.specs.PathJobs.{placed_job, path_jobs, legs}
+use Rattle.htl_refine.proofs.Words.{length-map, paths, starts, path_places, KeptApart, AreInRange, Tables, frame_some, Job, SInstr, placed_job, path_jobs, legs, IsPathAccepted, AreWithin, HaveLengths, AreWithinWorst, some_root, legs_follow, derived_jobs, begun_places, begun_jobs, start_modes, IsAlong}
 use Rattle.htl_walk.specs.PathLaws.{RefinesFront, IsInherited}
-use Rattle.htl_walk.specs.Paths.{IsPathAccepted, AreWithin}
-use Rattle.htl_walk.specs.Refinement.{HaveLengths, AreWithinWorst}
-use Rattle.htl_walk.proofs.Nodes.{some_root}
-use Rattle.htl_walk.proofs.Starts.{legs_follow}
-use Rattle.htl_refine.specs.DerivedPaths.{derived_jobs, begun_places, begun_jobs, start_modes, IsAlong}
 use Rattle.htl_refine.proofs.AlongPath.{jobs_along, legs_reached}
 use Rattle.htl_refine.proofs.PathDerived.{path_refinement}
 use Rattle.htl_refine.proofs.PathServing.{path_serves}

@@ -1,22 +1,10 @@
 -- Where a round of a root module begins, its round before ends.
 use Rattle.std.proofs.Common.{◌≡◌, ◌<◌, ◌≤◌, ◌⊎◌, ℕ, suc, ◌+◌, ◌*◌, ◌/◌, ◌%◌, Bool, true, false, ◌||◌, eqb, eqb-true, List, [], ◌∷◌, length, map, slice_get, Option, Some, None, refl, sym, ◌∙◌, ap, subst, arith, inl, inr}
-use Rattle.std.proofs.Math.Nat.{div-add-mod, mod-lt}
-use Rattle.std.proofs.lemmas.Option.{slice_get_within}
-use Rattle.htl_model.specs.declared.parts.Mode.{Mode}
-use Rattle.htl_model.specs.declared.parts.Module.{Module}
-use Rattle.htl_model.specs.declared.state.Stay.{Stay}
-use Rattle.htl_model.specs.Frames.{unit_start, unit_period, begins}
-use Rattle.htl_model.specs.Meaning.{state, stay_of}
-use Rattle.htl_model.specs.Selected.{entry, IsEntry, IsModeOf}
-use Rattle.htl_model.specs.Selections.{root_modules}
-use Rattle.htl_model.specs.Tables.{Tables, mode_module, mode_period}
-use Rattle.htl_refine.specs.OwnRounds.{RoundEnds, BeginningsEnd}
-use Rattle.htl_refine.specs.Records.{modes_at}
+use Rattle.htl_refine.proofs.Words.{div-add-mod, mod-lt, slice_get_within, Mode, Module, Stay, unit_start, unit_period, begins, state, stay_of, entry, IsEntry, IsModeOf, root_modules, Tables, mode_module, mode_period, RoundEnds, BeginningsEnd, modes_at, times_grow}
 use Rattle.htl_refine.proofs.OwnPeriods.{same_period, some_time}
 use Rattle.htl_refine.proofs.OwnRounds.{own_starts}
 use Rattle.htl_refine.proofs.PathDerived.{root_units}
 use Rattle.htl_refine.proofs.StateLaws.{mode_in, entry_is, states_are_selections}
-use Rattle.htl_base.proofs.Numbers.{times_grow}
 
 some_begins : (t : Tables) (us : List ℕ) (a : ℕ) → begins (map (unit_period t) us) a ≡ true → (j u : ℕ) × (slice_get us j ≡ Some u) × (a % unit_period t u ≡ 0)
 some_begins t [] a e = absurd (let z : ⊥ = cc in z)

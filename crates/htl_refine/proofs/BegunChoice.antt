@@ -1,16 +1,7 @@
 -- The choice of modes at one start, module by module.
 use Rattle.std.proofs.Common.{◌≡◌, ◌<◌, ◌≤◌, ℕ, zero, suc, ◌+◌, ◌*◌, ◌%◌, Bool, true, false, cond, eqb, List, [], ◌∷◌, length, get_or, drop, drop-cons, add-one, Option, Some, refl, sym, ap, ◌∙◌, arith}
-use Rattle.std.specs.Prelude.{slice_get}
-use Rattle.htl_model.proofs.SelectionLaws.{modes_some}
-use Rattle.htl_model.specs.Frames.{unit_period, choices, rounds_of}
-use Rattle.htl_model.specs.Ranges.{AreInRange}
-use Rattle.htl_model.specs.Selections.{is_root, root_modules, modes_of}
-use Rattle.htl_model.specs.Tables.{Tables}
-use Rattle.htl_refine.specs.BegunJobs.{choice_rest}
-use Rattle.htl_refine.specs.FrameRuns.{path_in}
-use Rattle.htl_refine.specs.Roots.{entry_place}
+use Rattle.htl_refine.proofs.Words.{slice_get, modes_some, unit_period, choices, rounds_of, AreInRange, is_root, root_modules, modes_of, Tables, choice_rest, path_in, entry_place, slice_get_within, none-some}
 use Rattle.htl_refine.proofs.Members.{of_places}
-use Rattle.std.proofs.lemmas.Option.{slice_get_within, none-some}
 
 one_more : (t : Tables) (modes : List (Option ℕ)) (a n m u : ℕ) (us : List ℕ) → m ≡ cond (eqb (a % unit_period t u) 0) (n * length (modes_of t u) + entry_place t modes u) n → choice_rest t modes a m us ≡ choice_rest t modes a n (u ∷ us)
 one_more t modes a n m u us e = by (eqb (a % unit_period t u) 0) e

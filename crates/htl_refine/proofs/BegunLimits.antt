@@ -1,15 +1,6 @@
 -- What begins at one start of a frame keeps within the limits of frames.
 use Rattle.std.proofs.Common.{◌≡◌, ℕ, zero, suc, ◌≤◌, ◌<◌, List, [], ◌∷◌, length, get_or, Option, None, refl, arith}
-use Rattle.std.specs.List.{flat_map}
-use Rattle.std.proofs.lemmas.Option.{slice_get-get_or}
-use Rattle.htl_model.specs.Frames.{frame_limit, frame_of, root_periods, starts, rounds_at, most_positions}
-use Rattle.htl_model.specs.Ranges.{AreInRange}
-use Rattle.htl_model.specs.Selected.{IsSelection}
-use Rattle.htl_model.specs.Selections.{root_modules}
-use Rattle.htl_model.specs.Tables.{Tables}
-use Rattle.htl_model.proofs.FrameLimits.{radix_few, roots_have, limits_kept}
-use Rattle.htl_refine.specs.BegunJobs.{new_jobs, choice_of}
-use Rattle.htl_refine.specs.DerivedPaths.{start_places}
+use Rattle.htl_refine.proofs.Words.{flat_map, slice_get-get_or, frame_limit, frame_of, root_periods, starts, rounds_at, most_positions, AreInRange, IsSelection, root_modules, Tables, radix_few, roots_have, limits_kept, new_jobs, choice_of, start_places}
 use Rattle.htl_refine.proofs.BegunPlaces.{most_append, one_few}
 use Rattle.htl_refine.proofs.BegunTimes.{start_below}
 use Rattle.htl_refine.proofs.NewJobs.{new_many, end_is}

@@ -1,20 +1,7 @@
 -- What stands at the positions that have begun, start by start.
 use Rattle.std.proofs.Common.{append_assoc, ◌≡◌, ℕ, zero, suc, ◌+◌, ◌%◌, ◌≤◌, ◌<◌, Bool, true, false, cond, eqb, List, [], ◌∷◌, ◌++◌, length, map, drop, drop-cons, take, get_or, add-one, Option, Some, None, refl, sym, ◌∙◌, ap, subst, arith}
-use Rattle.std.specs.Prelude.{slice_get}
-use Rattle.std.specs.List.{flat_map, All}
-use Rattle.std.proofs.lemmas.List.{get_or-map, length-append, length-map}
-use Rattle.htl_model.specs.declared.frame.Place.{Place}
-use Rattle.htl_model.specs.declared.frame.Round.{Round}
-use Rattle.htl_model.specs.declared.parts.Module.{Module}
-use Rattle.htl_model.specs.Frames.{unit_period, rounds_of, rounds_at, places_of, most_invs, most_positions}
-use Rattle.htl_model.specs.Selected.{entry, IsSelection, IsEntry, IsModeOf}
-use Rattle.htl_model.specs.Selections.{is_root, root_modules, mode_of_module, modes_of, invs_of}
-use Rattle.htl_model.specs.Tables.{Tables}
-use Rattle.htl_refine.specs.DerivedPaths.{start_places, standing_place, begun_places, modes_of_all}
-use Rattle.htl_refine.specs.declared.selection.Selection.{Selection}
+use Rattle.htl_refine.proofs.Words.{slice_get, flat_map, All, get_or-map, length-append, length-map, Place, Round, Module, unit_period, rounds_of, rounds_at, places_of, most_invs, most_positions, entry, IsSelection, IsEntry, IsModeOf, is_root, root_modules, mode_of_module, modes_of, invs_of, Tables, start_places, standing_place, begun_places, modes_of_all, Selection, eq-eqb, none-some}
 use Rattle.htl_refine.proofs.Members.{of_places, at_place}
-use Rattle.std.proofs.lemmas.Bool.{eq-eqb}
-use Rattle.std.proofs.lemmas.Option.{none-some}
 
 -- ---- one module, and one start, more
 

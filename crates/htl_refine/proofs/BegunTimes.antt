@@ -1,24 +1,7 @@
 -- Instants of what stands at the positions that have begun.
 use Rattle.std.proofs.Common.{◌≡◌, ℕ, zero, suc, ◌≤◌, ◌<◌, Bool, true, false, cond, List, [], ◌∷◌, map, get_or, Option, Some, None, refl, sym, ◌∙◌, ap, subst, arith, inl, inr}
-use Rattle.std.specs.Prelude.{slice_get}
-use Rattle.std.specs.List.{All}
-use Rattle.std.proofs.lemmas.List.Elements.{All-from_get_or}
-use Rattle.std.proofs.lemmas.Option.{slice_get-get_or, none-some}
-use Rattle.htl_model.specs.declared.frame.Place.{Place}
-use Rattle.htl_model.specs.declared.parts.Inv.{Inv}
-use Rattle.htl_model.specs.Frames.{begins, starts_below, starts, root_periods, frame_of, places_of}
-use Rattle.htl_model.specs.FrameRules.{KeptApart}
-use Rattle.htl_model.specs.Ranges.{AreInRange}
-use Rattle.htl_model.specs.Selections.{root_modules, invs_of}
-use Rattle.htl_model.specs.Tables.{Tables}
-use Rattle.htl_walk.specs.Jobs.{absent_job}
-use Rattle.htl_walk.specs.PathJobs.{job_in, placed, placed_job, placed_jobs}
-use Rattle.htl_walk.specs.Placing.{HasTimes}
-use Rattle.htl_walk.proofs.PathReady.{window_small}
-use Rattle.htl_refine.specs.BegunJobs.{nowhere, new_places}
-use Rattle.htl_refine.specs.DerivedPaths.{begun_mode, round_places, start_places, standing_place, begun_places, begun_jobs}
+use Rattle.htl_refine.proofs.Words.{slice_get, All, All-from_get_or, slice_get-get_or, none-some, Place, Inv, begins, starts_below, starts, root_periods, frame_of, places_of, KeptApart, AreInRange, root_modules, invs_of, Tables, absent_job, job_in, placed, placed_job, placed_jobs, HasTimes, window_small, nowhere, new_places, begun_mode, round_places, start_places, standing_place, begun_places, begun_jobs, from_map}
 use Rattle.htl_refine.proofs.Members.{of_joined, of_flat}
-use Rattle.htl_base.proofs.Places.{from_map}
 
 -- a start is before the frame's end
 pub start_below : (ps : List ℕ) (n p a : ℕ) → slice_get (starts_below ps n) p ≡ Some a → a < n

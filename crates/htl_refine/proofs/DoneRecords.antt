@@ -1,10 +1,7 @@
 -- Who is done by the records before an offset finishes before it.
 use Rattle.std.proofs.Common.{◌≡◌, ℕ, zero, suc, ◌<◌, Bool, true, false, cond, ◌&&◌, ltb, is_some, List, [], ◌∷◌, take, Option, Some, None, refl, arith}
-use Rattle.std.proofs.lemmas.Bool.{ltb-true}
-use Rattle.htl_walk.specs.Walk.{Left, is_position, finish}
-use Rattle.htl_refine.specs.RecordCounts.{count_left_before, done_by}
+use Rattle.htl_refine.proofs.Words.{ltb-true, Left, is_position, finish, count_left_before, done_by, same_Some}
 use Rattle.htl_refine.proofs.RecordOrder.{not_some}
-use Rattle.std.proofs.lemmas.Option.{same_Some}
 
 -- who is done finishes then
 pub done_finish : (ls : List Left) (k p f : ℕ) → finish (take k ls) p ≡ Some f → finish ls p ≡ Some f

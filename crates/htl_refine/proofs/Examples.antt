@@ -1,35 +1,14 @@
 -- Worked examples: each rule on refinement just kept and just broken, the jobs of a round, root selections, and the records of a run.
 use Rattle.std.specs.Prelude.{ℕ, true, false, ◌≡◌, List, [], ◌∷◌, Option, Some, None, refl, codes, map, pos}
-use Rattle.htl_base.specs.declared.Ty.TheVariants.{Int as IntTy}
-use Rattle.htl_model.specs.declared.event.Event.{Event}
+use Rattle.htl_refine.proofs.Words.{IntTy, Event, Inv, Mode, Module, Port, Task, FormFault, is_selection, selection_count, positions, Tables, plain, mode, module_named, task, call, switch, int_one, refined, reentered, Job, SInstr, Dispatch, Stop, absent_job, abstract_jobs, Left, concrete_jobs, took, round_records, selection_of, refinement_rules, first_refinement_fault}
 use Rattle.htl_model.specs.declared.event.Event.TheVariants as V
 use Rattle.htl_model.specs.declared.parts.End.{End}
 use Rattle.htl_model.specs.declared.parts.End.TheVariants as E
-use Rattle.htl_model.specs.declared.parts.Inv.{Inv}
-use Rattle.htl_model.specs.declared.parts.Mode.{Mode}
-use Rattle.htl_model.specs.declared.parts.Module.{Module}
-use Rattle.htl_model.specs.declared.parts.Port.{Port}
-use Rattle.htl_model.specs.declared.parts.Task.{Task}
-use Rattle.htl_model.specs.declared.form_fault.FormFault.{FormFault}
-use Rattle.htl_model.specs.Selected.{is_selection}
-use Rattle.htl_model.specs.Selections.{selection_count, positions}
-use Rattle.htl_model.specs.Tables.{Tables}
-use Rattle.htl_model.proofs.Sources.{plain, mode, module_named, task, call, switch, int_one, refined, reentered}
 use Rattle.htl_form.specs.Cycles.{precedes_itself}
 use Rattle.htl_form.specs.Rules as form
 use Rattle.htl_form.specs.Search as form_search
 use Rattle.htl_form.specs.WriterFaults.{stand_together}
-use Rattle.htl_walk.specs.declared.job.Job.{Job}
-use Rattle.htl_walk.specs.declared.schedule.SInstr.{SInstr}
-use Rattle.htl_walk.specs.declared.schedule.SInstr.TheVariants.{Dispatch, End as Stop}
-use Rattle.htl_walk.specs.Jobs.{absent_job, abstract_jobs}
-use Rattle.htl_walk.specs.Walk.{Left}
-use Rattle.htl_refine.specs.ConcreteJobs.{concrete_jobs}
-use Rattle.htl_refine.specs.Records.{took, round_records}
 use Rattle.htl_refine.specs.Refining.{inv_precedes}
-use Rattle.htl_refine.specs.Roots.{selection_of}
-use Rattle.htl_refine.specs.Rules.{refinement_rules}
-use Rattle.htl_refine.specs.Tests.{first_refinement_fault}
 
 -- ---- the rules, one by one
 

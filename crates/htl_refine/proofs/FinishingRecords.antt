@@ -1,19 +1,8 @@
 -- What a record says that finishes a job.
 use Rattle.std.proofs.Common.{◌≡◌, ℕ, zero, suc, ◌+◌, ◌-◌, ◌≤◌, ◌<◌, Bool, true, false, cond, ◌&&◌, ◌||◌, eqb, ltb, is_some, List, [], ◌∷◌, ◌++◌, length, get_or, slice_get, take, Option, Some, None, refl, sym, ap, ◌∙◌, subst, arith, inl, inr}
-use Rattle.std.proofs.lemmas.Bool.{cases_lt, eqb-true, eq-eqb, ltb-true, lt-ltb}
-use Rattle.htl_walk.specs.declared.job.Job.{Job}
-use Rattle.htl_walk.specs.declared.schedule.SInstr.{SInstr}
-use Rattle.htl_walk.specs.declared.schedule.SInstr.TheVariants.{Dispatch, Idle, End}
-use Rattle.htl_walk.specs.Paths.{Leg, list_point, walks_from, end_to_end, AreInForm}
-use Rattle.htl_walk.specs.Walk.{Point, Left, job_at, dispatch_begins, time_after, work_after, slice_between, slice_onto, finishes_by, next_point, left_by, walk_from, last_point, is_position, finish, slices, InForm}
-use Rattle.htl_walk.proofs.Acceptance.{no_finish, left_falls_to}
-use Rattle.htl_walk.proofs.Steps.{left_falls, left_same}
-use Rattle.htl_refine.specs.ListPlans.{no_leg}
-use Rattle.htl_refine.specs.RecordCounts.{Rises, done_by}
+use Rattle.htl_refine.proofs.Words.{cases_lt, eqb-true, eq-eqb, ltb-true, lt-ltb, Job, SInstr, Dispatch, Idle, End, Leg, list_point, walks_from, end_to_end, AreInForm, Point, Left, job_at, dispatch_begins, time_after, work_after, slice_between, slice_onto, finishes_by, next_point, left_by, walk_from, last_point, is_position, finish, slices, InForm, no_finish, left_falls_to, left_falls, left_same, no_leg, Rises, done_by, get_back, within_front, same_Some}
 use Rattle.htl_refine.proofs.RecordOrder.{not_some, walk_rises}
 use Rattle.htl_refine.proofs.SliceOrder.{slice_from}
-use Rattle.htl_base.proofs.Places.{get_back, within_front}
-use Rattle.std.proofs.lemmas.Option.{same_Some}
 
 -- ---- one record more
 

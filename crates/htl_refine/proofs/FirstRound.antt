@@ -1,23 +1,6 @@
 -- The rounds that begin with the frame, one of each root module: their choice, their positions and their jobs.
 use Rattle.std.proofs.Common.{◌≡◌, ℕ, suc, ◌+◌, ◌*◌, ◌%◌, Bool, true, false, cond, ◌&&◌, eqb, eq-eqb, List, [], ◌∷◌, ◌++◌, length, map, slice_get, Option, Some, None, refl, ap, ap₂, ◌∙◌, arith}
-use Rattle.std.specs.List.{flat_map}
-use Rattle.htl_model.specs.declared.frame.Place.{Place}
-use Rattle.htl_model.specs.declared.frame.Round.{Round}
-use Rattle.htl_model.specs.declared.parts.Module.{Module}
-use Rattle.htl_model.specs.Chosen.{chosen}
-use Rattle.htl_model.specs.Frames.{unit_period, rounds_of, choices, places_of}
-use Rattle.htl_model.specs.Lists.{places_from}
-use Rattle.htl_model.specs.Selected.{entry}
-use Rattle.htl_model.specs.Selections.{is_root, root_modules, modes_of, invs_of, choices_from}
-use Rattle.htl_model.specs.Tables.{Tables}
-use Rattle.htl_walk.specs.Jobs.{is_fed_by, job_of, jobs_standing}
-use Rattle.htl_walk.specs.PathJobs.{placed_job, placed_jobs}
-use Rattle.htl_walk.proofs.OnePeriod.{job_at_start, places_join}
-use Rattle.htl_refine.specs.BegunJobs.{new_jobs, choice_of}
-use Rattle.htl_refine.specs.ConcreteJobs.{running_invs, running_positions, standing, concrete_jobs}
-use Rattle.htl_refine.specs.DerivedPaths.{derived_place, derived_jobs, start_places, standing_place}
-use Rattle.htl_refine.specs.FrameRuns.{path_in, running_places}
-use Rattle.htl_refine.specs.Roots.{entry_place, selection_from, selection_of}
+use Rattle.htl_refine.proofs.Words.{flat_map, Place, Round, Module, chosen, unit_period, rounds_of, choices, places_of, places_from, entry, is_root, root_modules, modes_of, invs_of, choices_from, Tables, is_fed_by, job_of, jobs_standing, placed_job, placed_jobs, job_at_start, places_join, new_jobs, choice_of, running_invs, running_positions, standing, concrete_jobs, derived_place, derived_jobs, start_places, standing_place, path_in, running_places, entry_place, selection_from, selection_of}
 
 -- ---- the rounds
 

@@ -1,15 +1,6 @@
 -- Worked examples: the records of runs of two root modules of periods 10 and 20.
 use Rattle.std.specs.Prelude.{◌≡◌, ℕ, List, [], ◌∷◌, Some, None, true, false, refl, map}
-use Rattle.htl_model.specs.declared.event.Event.{Event}
-use Rattle.htl_model.specs.declared.event.Event.TheVariants.{At, Took, End as Ends}
-use Rattle.htl_model.proofs.Sources.{two_periods}
-use Rattle.htl_walk.specs.declared.schedule.SInstr.{SInstr}
-use Rattle.htl_walk.specs.declared.schedule.SInstr.TheVariants.{Dispatch, End}
-use Rattle.htl_walk.specs.Paths.{path_point_at}
-use Rattle.htl_walk.specs.Walk.{Left}
-use Rattle.htl_model.specs.Frames.{hyper}
-use Rattle.htl_refine.specs.FrameRuns.{frame_at}
-use Rattle.htl_refine.specs.FrameRecords.{records, old_records, new_records}
+use Rattle.htl_refine.proofs.Words.{Event, At, Took, Ends, two_periods, SInstr, Dispatch, End, path_point_at, Left, hyper, frame_at, records, old_records, new_records}
 
 abbrev node_lists : List (List SInstr)
 node_lists = (Dispatch 0 3 ∷ Dispatch 1 10 ∷ End ∷ []) ∷ (Dispatch 1 12 ∷ Dispatch 2 15 ∷ End ∷ []) ∷ []

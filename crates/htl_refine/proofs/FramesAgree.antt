@@ -1,33 +1,11 @@
 -- Frames of two runs whose modes agree so far.
 use Rattle.std.proofs.Common.{◌≡◌, ◌<◌, ◌≤◌, ◌⊎◌, ℕ, zero, suc, ◌+◌, ◌*◌, Bool, false, ◌&&◌, eqb, leb, le-leb, List, [], ◌∷◌, ◌++◌, length, get_or, map, slice_get, take, Option, Some, None, refl, sym, ◌∙◌, ap, ap₂, subst, arith, inl, inr}
-use Rattle.std.proofs.lemmas.Bool.{cases_lt, ne_eqb}
-use Rattle.htl_model.specs.declared.event.Event.{Event}
-use Rattle.htl_model.specs.declared.frame.Place.{Place}
-use Rattle.htl_model.specs.declared.frame.Round.{Round}
-use Rattle.htl_model.specs.declared.parts.Inv.{Inv}
-use Rattle.htl_model.specs.Chosen.{followed, chosen}
-use Rattle.htl_model.specs.Frames.{frame_of, starts, rounds, node, places_of, known_by}
-use Rattle.htl_model.specs.Functions.{of_bool}
-use Rattle.htl_model.specs.Lists.{list_to}
-use Rattle.htl_model.specs.Ranges.{AreInRange}
-use Rattle.htl_model.specs.Tables.{Tables}
-use Rattle.htl_walk.specs.declared.job.Job.{Job}
-use Rattle.htl_walk.specs.Jobs.{is_fed_by, mask}
-use Rattle.htl_walk.specs.PathJobs.{job_in, placed, placed_job, placed_jobs, next_of, legs_of}
-use Rattle.htl_walk.specs.Paths.{Leg}
-use Rattle.htl_refine.specs.AgreeingRuns.{FramesAgree}
-use Rattle.htl_refine.specs.ConcreteJobs.{running_invs}
-use Rattle.htl_refine.specs.DerivedPaths.{derived_place}
-use Rattle.htl_refine.specs.FramePlaces.{standing_places}
-use Rattle.htl_refine.specs.FrameRuns.{frame_modes, path_of, running_places, frame_places, frame_jobs}
+use Rattle.htl_refine.proofs.Words.{cases_lt, ne_eqb, Event, Place, Round, Inv, followed, chosen, frame_of, starts, rounds, node, places_of, known_by, of_bool, list_to, AreInRange, Tables, Job, is_fed_by, mask, job_in, placed, placed_job, placed_jobs, next_of, legs_of, Leg, FramesAgree, running_invs, derived_place, standing_places, frame_modes, path_of, running_places, frame_places, frame_jobs, known_append, length-list_to, map_same, take_front}
 use Rattle.htl_refine.proofs.AlongPath.{known_none}
 use Rattle.htl_refine.proofs.Fronts.{front_there, take_map}
 use Rattle.htl_refine.proofs.NodeRead.{nodes_read, nodes_agree}
 use Rattle.htl_refine.proofs.RoundOrder.{Sorted, RoundLess, ByStart, sorted_rounds, least_first, run_of, frame_by_start, standing_by_start, begun_known, known_begun, known_same}
 use Rattle.htl_refine.proofs.StateLaws.{states_are_selections}
-use Rattle.htl_walk.proofs.Nodes.{known_append}
-use Rattle.htl_model.proofs.Listed.{length-list_to}
-use Rattle.htl_base.proofs.Places.{map_same, take_front}
 
 -- ---- the places so far
 

@@ -1,20 +1,9 @@
 -- Frames that agree in their first lists and positions, and in how long these take, plan and leave the same there.
 use Rattle.std.proofs.Common.{◌≡◌, ℕ, zero, suc, ◌≤◌, ◌<◌, List, [], ◌∷◌, length, get_or, take, refl, sym, ap, ap₂, ◌∙◌, arith}
-use Rattle.std.proofs.lemmas.List.{length-take}
-use Rattle.htl_walk.specs.declared.job.Job.{Job}
-use Rattle.htl_walk.specs.declared.schedule.SInstr.{SInstr}
-use Rattle.htl_walk.specs.Paths.{Leg, AgreeOn, AgreeAt, AreInForm, AreWithin, end_to_end, path_point}
-use Rattle.htl_walk.specs.Walk.{Point, job_at, last_point, first_point, work}
-use Rattle.htl_walk.proofs.GoingOn.{same_length}
-use Rattle.htl_refine.specs.AgreeingRuns.{AreSameSoFar}
-use Rattle.htl_refine.specs.FrameRuns.{Frame, walks_of}
-use Rattle.htl_refine.specs.ListPlans.{ListPlan, no_leg, leg_at, front_of, list_start, list_plan}
+use Rattle.htl_refine.proofs.Words.{length-take, Job, SInstr, Leg, AgreeOn, AgreeAt, AreInForm, AreWithin, end_to_end, path_point, Point, job_at, last_point, first_point, work, same_length, AreSameSoFar, Frame, walks_of, ListPlan, no_leg, leg_at, front_of, list_start, list_plan, get_taken, work_length, same_number_lists}
 use Rattle.htl_refine.proofs.Fronts.{job_front, take_work}
 use Rattle.htl_refine.proofs.PointsAgree.{points_agree}
 use Rattle.htl_refine.proofs.WalksAgree.{fronts_alike}
-use Rattle.htl_base.proofs.Places.{get_taken}
-use Rattle.htl_walk.proofs.CodeWalk.{work_length}
-use Rattle.std.proofs.lemmas.Grind.{same_number_lists}
 
 -- ---- lists
 

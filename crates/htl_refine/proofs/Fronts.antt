@@ -1,7 +1,6 @@
 -- The first items of lists.
 use Rattle.std.proofs.Common.{◌≡◌, ℕ, zero, suc, ◌<◌, cond, List, [], ◌∷◌, map, slice_get, take, Some, refl, ◌∙◌, ap, arith}
-use Rattle.htl_walk.specs.declared.job.Job.{Job}
-use Rattle.htl_walk.specs.Walk.{job_at, work}
+use Rattle.htl_refine.proofs.Words.{Job, job_at, work}
 use Rattle.htl_refine.proofs.RecordOrder.{not_some}
 
 pub front_there : {A : Type 0} (m : ℕ) (xs : List A) (p : ℕ) (x : A) → slice_get (take m xs) p ≡ Some x → (slice_get xs p ≡ Some x) × (p < m)

@@ -1,22 +1,9 @@
 -- Other lengths of jobs that aren't released yet change the point at which a list begins by these lengths alone.
 use Rattle.std.proofs.Common.{◌≡◌, ℕ, zero, suc, ◌≤◌, ◌<◌, List, [], ◌∷◌, length, get_or, slice_get, take, Some, cond, refl, sym, ap, ap₂, ◌∙◌, arith, inl, inr}
-use Rattle.std.proofs.lemmas.Bool.{lt-ltb, cases_eq}
-use Rattle.htl_walk.specs.declared.job.Job.{Job}
-use Rattle.htl_walk.specs.declared.schedule.SInstr.{SInstr}
-use Rattle.htl_walk.specs.declared.schedule.SInstr.TheVariants.{Dispatch}
-use Rattle.htl_walk.specs.Laws.{AgreeBefore}
-use Rattle.htl_walk.specs.Paths.{Leg, list_point, walks_from, AreInForm, AreChained, path_point}
-use Rattle.htl_walk.specs.Refinement.{HaveLengths}
-use Rattle.htl_walk.specs.Walk.{Point, Left, job_at, time_after, work_after, next_point, last_point, first_point, walk_from, work, earlier}
-use Rattle.htl_walk.proofs.Joining.{stays}
-use Rattle.htl_walk.proofs.Steps.{left_same, left_other}
-use Rattle.htl_walk.proofs.Unreleased.{Alike, alike_walks}
-use Rattle.htl_refine.specs.FrameRuns.{Frame, walks_of}
-use Rattle.htl_refine.specs.ListPlans.{no_leg, leg_at, list_start}
+use Rattle.htl_refine.proofs.Words.{lt-ltb, cases_eq, Job, SInstr, Dispatch, AgreeBefore, Leg, list_point, walks_from, AreInForm, AreChained, path_point, HaveLengths, Point, Left, job_at, time_after, work_after, next_point, last_point, first_point, walk_from, work, earlier, stays, left_same, left_other, Alike, alike_walks, Frame, walks_of, no_leg, leg_at, list_start, time_rises_to}
 use Rattle.htl_refine.proofs.LengthsLater.{waits, waited, nothing, list_alike, begun_alike, path_alike, first_alike}
 use Rattle.htl_refine.proofs.ListCounts.{chain_to}
 use Rattle.htl_refine.proofs.RecordOrder.{times_within}
-use Rattle.htl_walk.proofs.Waiting.{time_rises_to}
 
 -- ---- who isn't released has the work that it had
 

@@ -1,23 +1,8 @@
 -- Other lengths of jobs that aren't released yet change nothing of what is left of the lists that have begun.
 use Rattle.std.proofs.Common.{◌≡◌, ◌≢◌, ℕ, zero, suc, ◌≤◌, ◌<◌, ◌⊎◌, max, true, List, [], ◌∷◌, length, get_or, refl, sym, ap, ap₂, ◌∙◌, arith, inl, inr}
-use Rattle.htl_walk.specs.declared.job.Job.{Job}
-use Rattle.htl_walk.specs.declared.schedule.SInstr.{SInstr}
-use Rattle.htl_walk.specs.declared.schedule.SInstr.TheVariants.{Dispatch, Idle, End}
-use Rattle.htl_walk.specs.Laws.{AgreeBefore}
-use Rattle.htl_walk.specs.Paths.{Leg, list_point, AreInForm, AreChained, path_point}
-use Rattle.htl_walk.specs.Refinement.{HaveLengths}
-use Rattle.htl_walk.specs.Walk.{Point, job_at, time_after, work_after, next_point, last_point, first_point, work, earlier}
-use Rattle.htl_walk.proofs.Joining.{stays}
-use Rattle.htl_walk.proofs.Steps.{left_same, left_other}
-use Rattle.htl_walk.proofs.Unreleased.{Alike, alike_walks}
-use Rattle.htl_walk.proofs.Work.{job_there, work_present, present_or_idle}
-use Rattle.htl_refine.specs.FrameRuns.{Frame}
-use Rattle.htl_refine.specs.ListLaws.{LengthsLater}
-use Rattle.htl_refine.specs.ListPlans.{no_leg, list_start}
+use Rattle.htl_refine.proofs.Words.{Job, SInstr, Dispatch, Idle, End, AgreeBefore, Leg, list_point, AreInForm, AreChained, path_point, HaveLengths, Point, job_at, time_after, work_after, next_point, last_point, first_point, work, earlier, stays, left_same, left_other, Alike, alike_walks, job_there, work_present, present_or_idle, Frame, LengthsLater, no_leg, list_start, cases_eq, cases_lt, time_rises_to}
 use Rattle.htl_refine.proofs.ListCounts.{chain_to}
 use Rattle.htl_refine.proofs.ListWalks.{list_is}
-use Rattle.std.proofs.lemmas.Bool.{cases_eq, cases_lt}
-use Rattle.htl_walk.proofs.Waiting.{time_rises_to}
 
 -- ---- one dispatch of a job that isn't released
 

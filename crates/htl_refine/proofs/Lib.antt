@@ -59,3 +59,4 @@ pub mod Standing
 pub mod StateLaws
 pub mod WalksAgree
 pub mod WorkDone
+pub mod Words

@@ -1,15 +1,6 @@
 -- The records of a frame, list by list.
 use Rattle.std.proofs.Common.{◌≡◌, ℕ, zero, suc, ◌+◌, ◌≤◌, ◌<◌, ◌⊎◌, Bool, true, false, cond, ◌&&◌, is_some, ltb, List, [], ◌∷◌, ◌++◌, length, get_or, slice_get, take, Option, Some, None, refl, sym, ap, ◌∙◌, arith, inl, inr}
-use Rattle.std.proofs.lemmas.Bool.{lt-ltb, le-ltb}
-use Rattle.std.proofs.lemmas.List.{length-append}
-use Rattle.htl_walk.specs.declared.job.Job.{Job}
-use Rattle.htl_walk.specs.declared.schedule.SInstr.{SInstr}
-use Rattle.htl_walk.specs.Paths.{Leg, list_point, walks_from, end_to_end, AreInForm, AreChained}
-use Rattle.htl_walk.specs.Walk.{Point, Left, walk_from, last_point, first_point, is_position, finish}
-use Rattle.htl_refine.specs.FrameRuns.{walk_of}
-use Rattle.htl_refine.specs.ListLaws.{CountSplit, DoneSplit}
-use Rattle.htl_refine.specs.ListPlans.{no_leg, records_before}
-use Rattle.htl_refine.specs.RecordCounts.{Rises, count_left_before, done_by}
+use Rattle.htl_refine.proofs.Words.{lt-ltb, le-ltb, length-append, Job, SInstr, Leg, list_point, walks_from, end_to_end, AreInForm, AreChained, Point, Left, walk_from, last_point, first_point, is_position, finish, walk_of, CountSplit, DoneSplit, no_leg, records_before, Rises, count_left_before, done_by}
 use Rattle.htl_refine.proofs.DoneRecords.{done_is}
 use Rattle.htl_refine.proofs.FinishingRecords.{finish_record, done_past, finishing}
 use Rattle.htl_refine.proofs.ListWalks.{walk_is}

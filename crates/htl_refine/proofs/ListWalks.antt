@@ -1,16 +1,7 @@
 -- What is told of a list by the positions so far is what the walk of the frame tells.
 use Rattle.std.proofs.Common.{◌≡◌, ℕ, zero, suc, ◌<◌, List, [], ◌∷◌, length, take, get_or, slice_get, Some, refl, sym, ap, ◌∙◌, arith}
-use Rattle.htl_walk.specs.declared.job.Job.{Job}
-use Rattle.htl_walk.specs.declared.schedule.SInstr.{SInstr}
-use Rattle.htl_walk.specs.Paths.{Leg, list_point, walks_from, AreInForm, path_point, AgreeOn, AgreeAt}
-use Rattle.htl_walk.specs.Walk.{Point, walk_from, last_point, first_point, InForm}
-use Rattle.htl_walk.proofs.Locality.{walk_alike}
-use Rattle.htl_refine.specs.FrameRuns.{Frame, walks_of}
-use Rattle.htl_refine.specs.ListLaws.{ListWalks}
-use Rattle.htl_refine.specs.ListPlans.{no_leg, leg_at, front_of, list_start, list_plan, list_walk}
+use Rattle.htl_refine.proofs.Words.{Job, SInstr, Leg, list_point, walks_from, AreInForm, path_point, AgreeOn, AgreeAt, Point, walk_from, last_point, first_point, InForm, walk_alike, Frame, walks_of, ListWalks, no_leg, leg_at, front_of, list_start, list_plan, list_walk, get_taken, same_Some}
 use Rattle.htl_refine.proofs.Fronts.{job_front}
-use Rattle.htl_base.proofs.Places.{get_taken}
-use Rattle.std.proofs.lemmas.Option.{same_Some}
 
 pub front_agrees : (n : ℕ) (js : List Job) → AgreeOn n (take n js) js
 front_agrees n js = λ p h. job_front n js p h

@@ -1,30 +1,11 @@
 -- The lists of a run's frame follow one another.
 use Rattle.std.proofs.Common.{◌≡◌, ◌⊎◌, ℕ, zero, suc, ◌+◌, ◌≤◌, ◌<◌, ◌%◌, true, false, eqb, List, [], ◌∷◌, length, get_or, map, slice_get, Some, refl, sym, ap, ◌∙◌, arith, inl, inr}
-use Rattle.std.proofs.lemmas.Bool.{eq-eqb, or_left, or_right}
-use Rattle.std.proofs.lemmas.List.{length-map}
-use Rattle.htl_model.specs.declared.event.Event.{Event}
-use Rattle.htl_model.specs.declared.frame.Place.{Place}
-use Rattle.htl_model.specs.Frames.{unit_period, frame_of, begins, starts, root_periods, rounds, known_by}
-use Rattle.htl_model.specs.Selections.{root_modules}
-use Rattle.htl_model.specs.Tables.{Tables}
-use Rattle.htl_walk.specs.declared.job.Job.{Job}
-use Rattle.htl_walk.specs.declared.schedule.SInstr.{SInstr}
-use Rattle.htl_walk.specs.PathJobs.{placed_job, legs_of}
-use Rattle.htl_walk.specs.Paths.{Leg, AreInForm}
+use Rattle.htl_refine.proofs.Words.{eq-eqb, or_left, or_right, length-map, Event, Place, unit_period, frame_of, begins, starts, root_periods, rounds, known_by, root_modules, Tables, Job, SInstr, placed_job, legs_of, Leg, AreInForm, derived_place, frame_modes, frame_places, frame_jobs, frame_at, ListsFollow, no_leg, took, known_rises, starts_order, from_map, same_Some, cases_le}
 use Rattle.htl_walk.proofs.Starts.{Rises, starts_rise, known_few}
-use Rattle.htl_refine.specs.DerivedPaths.{derived_place}
-use Rattle.htl_refine.specs.FrameRuns.{frame_modes, frame_places, frame_jobs, frame_at}
-use Rattle.htl_refine.specs.ListLaws.{ListsFollow}
-use Rattle.htl_refine.specs.ListPlans.{no_leg}
-use Rattle.htl_refine.specs.Records.{took}
 use Rattle.htl_refine.proofs.PathDerived.{placed_present}
 use Rattle.htl_refine.proofs.RecordOrder.{not_some}
 use Rattle.htl_refine.proofs.RoundOrder.{round_of, run_of, frame_by_start, begun_known}
 use Rattle.htl_refine.proofs.ServedFrames.{frames_are_served}
-use Rattle.htl_walk.proofs.NodeWalks.{known_rises, starts_order}
-use Rattle.htl_base.proofs.Places.{from_map}
-use Rattle.std.proofs.lemmas.Option.{same_Some}
-use Rattle.htl_base.proofs.Numbers.{cases_le}
 
 pub begins_by : (t : Tables) (us : List ℕ) (j u a : ℕ) → slice_get us j ≡ Some u → a % unit_period t u ≡ 0 → begins (map (unit_period t) us) a ≡ true
 begins_by t [] j u a e g = not_some u e

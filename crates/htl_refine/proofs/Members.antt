@@ -1,10 +1,6 @@
 -- Which items stand in lists that are made of lists.
 use Rattle.std.proofs.Common.{◌≡◌, ◌⊎◌, ℕ, zero, suc, ◌+◌, Bool, true, false, cond, List, [], ◌∷◌, ◌++◌, length, Some, refl, sym, ◌∙◌, ap, subst, arith, inl, inr}
-use Rattle.std.specs.Prelude.{slice_get}
-use Rattle.std.specs.List.{flat_map}
-use Rattle.std.proofs.lemmas.Option.{none-some}
-use Rattle.htl_model.specs.Lists.{places_from}
-use Rattle.htl_base.proofs.Places.{get_front, into_back}
+use Rattle.htl_refine.proofs.Words.{slice_get, flat_map, none-some, places_from, get_front, into_back}
 
 -- ---- joined lists
 

@@ -1,20 +1,7 @@
 -- The jobs at places between others of earlier and later starts: the predecessors of a job are of its own start.
 use Rattle.std.proofs.Common.{append_assoc, ◌≡◌, ℕ, zero, suc, ◌+◌, ◌*◌, ◌<◌, Bool, false, ◌&&◌, eqb, List, [], ◌∷◌, ◌++◌, length, map, drop, take, get_or, replicate, Option, Some, None, refl, sym, ◌∙◌, ap, ap₂, arith, append-nil}
-use Rattle.std.specs.Prelude.{slice_get}
-use Rattle.std.specs.List.{flat_map}
-use Rattle.std.proofs.lemmas.Bool.{ne_eqb}
-use Rattle.std.proofs.lemmas.List.{length-map, length-replicate, map-append}
-use Rattle.std.proofs.Math.Seq.{drop-append_seam}
-use Rattle.htl_model.specs.declared.frame.Place.{Place}
-use Rattle.htl_model.specs.declared.parts.Inv.{Inv}
-use Rattle.htl_model.specs.Functions.{of_bool}
-use Rattle.htl_model.specs.Tables.{Tables}
-use Rattle.htl_walk.specs.declared.job.Job.{Job}
-use Rattle.htl_walk.specs.Jobs.{is_fed_by, mask}
-use Rattle.htl_walk.specs.PathJobs.{job_in, placed, placed_job, placed_jobs}
-use Rattle.htl_refine.specs.BegunJobs.{nowhere}
+use Rattle.htl_refine.proofs.Words.{slice_get, flat_map, ne_eqb, length-map, length-replicate, map-append, drop-append_seam, Place, Inv, of_bool, Tables, Job, is_fed_by, mask, job_in, placed, placed_job, placed_jobs, nowhere, and_none}
 use Rattle.htl_refine.proofs.FramesAgree.{all_false}
-use Rattle.htl_base.proofs.Tests.{and_none}
 
 -- ---- lists
 

@@ -1,8 +1,6 @@
 -- Numbers in mixed radix.
 use Rattle.std.proofs.Common.{◌≡◌, ℕ, suc, ◌+◌, ◌*◌, ◌/◌, ◌%◌, ◌≤◌, ◌<◌, ap, ◌∙◌, arith}
-use Rattle.std.proofs.lemmas.Nat.{div-mul-add}
-use Rattle.std.proofs.Math.Nat.{mod-eq_of_lt, add-mul-mod_self_left}
-use Rattle.htl_base.proofs.Numbers.{grow_times, one_more_time}
+use Rattle.htl_refine.proofs.Words.{div-mul-add, mod-eq_of_lt, add-mul-mod_self_left, grow_times, one_more_time}
 
 pub digits : (p c l r : ℕ) → p < l → r < c → p * c + r < l * c
 digits p c l r a b =

@@ -1,29 +1,11 @@
 -- The jobs of a frame, start by start: those that begin at one are those that new rounds give.
 use Rattle.std.proofs.Common.{append_assoc, ◌≡◌, ℕ, zero, suc, ◌+◌, ◌-◌, ◌%◌, ◌≤◌, ◌<◌, Bool, true, false, cond, eqb, leb, List, [], ◌∷◌, ◌++◌, length, map, drop, take, get_or, replicate, Option, Some, None, refl, sym, ◌∙◌, ap, ap₂, subst, arith, append-nil}
-use Rattle.std.specs.Prelude.{slice_get}
-use Rattle.std.specs.List.{flat_map}
-use Rattle.std.proofs.lemmas.Bool.{le-leb}
-use Rattle.std.proofs.lemmas.List.{length-append, length-map, length-drop, length-replicate, map-append}
-use Rattle.htl_model.specs.declared.frame.Place.{Place}
-use Rattle.htl_model.specs.declared.frame.Round.{Round}
-use Rattle.htl_model.specs.Frames.{root_periods, unit_period, frame_of, starts, rounds_of, rounds_at, places_of, known_by}
-use Rattle.htl_model.specs.Functions.{of_bool}
-use Rattle.htl_model.specs.Selected.{entry}
-use Rattle.htl_model.specs.Selections.{root_modules, invs_of}
-use Rattle.htl_model.specs.Tables.{Tables}
-use Rattle.htl_walk.specs.declared.job.Job.{Job}
-use Rattle.htl_walk.specs.PathJobs.{placed, placed_job, placed_jobs}
-use Rattle.htl_walk.proofs.Starts.{starts_rise}
-use Rattle.htl_refine.specs.BegunJobs.{nowhere, new_places, new_jobs}
-use Rattle.htl_refine.specs.DerivedPaths.{derived_place, begun_mode, round_places, start_places, standing_place}
-use Rattle.htl_refine.specs.FrameRuns.{running_places, frame_places, frame_jobs}
+use Rattle.htl_refine.proofs.Words.{slice_get, flat_map, le-leb, length-append, length-map, length-drop, length-replicate, map-append, Place, Round, root_periods, unit_period, frame_of, starts, rounds_of, rounds_at, places_of, known_by, of_bool, entry, root_modules, invs_of, Tables, Job, placed, placed_job, placed_jobs, starts_rise, nowhere, new_places, new_jobs, derived_place, begun_mode, round_places, start_places, standing_place, running_places, frame_places, frame_jobs, known_append, starts_order}
 use Rattle.htl_refine.proofs.AlongPath.{known_none}
 use Rattle.htl_refine.proofs.ListsFollow.{rises_next}
 use Rattle.htl_refine.proofs.RecordOrder.{not_some}
 use Rattle.htl_refine.proofs.RoundOrder.{known_same}
 use Rattle.htl_refine.proofs.MiddleJobs.{flat_split, flat_next, middle_jobs}
-use Rattle.htl_walk.proofs.Nodes.{known_append}
-use Rattle.htl_walk.proofs.NodeWalks.{starts_order}
 
 -- ---- what stands, start by start
 

@@ -1,19 +1,10 @@
 -- The numbers of a path's nodes, read from the modes that run.
 use Rattle.std.proofs.Common.{◌≡◌, ℕ, zero, suc, ◌+◌, ◌*◌, ◌%◌, ◌<◌, Bool, true, false, cond, eqb, List, [], ◌∷◌, ◌++◌, drop, get_or, map, Option, refl, sym, ap, ap₂, ◌∙◌, arith}
-use Rattle.std.specs.List.{flat_map}
-use Rattle.htl_model.specs.Selected.{IsSelection}
-use Rattle.htl_model.specs.Selections.{root_modules}
-use Rattle.htl_model.specs.Tables.{Tables}
-use Rattle.htl_refine.specs.Roots.{entry_place}
+use Rattle.htl_refine.proofs.Words.{flat_map, IsSelection, root_modules, Tables, entry_place, Round, starts, rounds_of, rounds_at, choices, ways, nodes_of, node_of, unit_period, path_in, path_of, choice_at, nodes_below, node_read, NodesRead, NodeSteps, NodesAgree, choices_append, choices_starts}
 use Rattle.htl_refine.proofs.Members.{of_flat}
-use Rattle.htl_model.specs.declared.frame.Round.{Round}
-use Rattle.htl_model.specs.Frames.{starts, rounds_of, rounds_at, choices, ways, nodes_of, node_of, unit_period}
-use Rattle.htl_refine.specs.FrameRuns.{path_in, path_of, choice_at, nodes_below, node_read}
-use Rattle.htl_refine.specs.FrameLaws.{NodesRead, NodeSteps, NodesAgree}
 use Rattle.htl_refine.proofs.PathDerived.{AreRootRounds, root_units, rounds_root}
 use Rattle.htl_refine.proofs.PathRead.{below}
 use Rattle.htl_refine.proofs.MixedRadix.{digit, regroup}
-use Rattle.htl_model.proofs.FrameLimits.{choices_append, choices_starts}
 
 -- ---- joined lists of rounds
 

@@ -1,16 +1,7 @@
 -- Tables in range have one first fault at most, and keeping the rules up to 16 is keeping all.
 use Rattle.std.proofs.Common.{◌≡◌, ℕ, ◌≤◌, ◌<◌, ◌⊎◌, inl, inr, Option, Some, Result, Ok, Err, OnOk, sym, ◌∙◌, ap, subst, arith}
-use Rattle.std.specs.Prelude.{slice_get}
-use Rattle.htl_model.specs.declared.form_fault.FormFault.{FormFault}
-use Rattle.htl_model.specs.declared.parts.Mode.{Mode}
-use Rattle.htl_model.specs.Tables.{Tables, mode_module}
-use Rattle.htl_model.specs.Ranges.{AreInRange}
-use Rattle.htl_model.specs.FormRules.{FormRule, number_of, Site, ComesBefore}
+use Rattle.htl_refine.proofs.Words.{slice_get, FormFault, Mode, Tables, mode_module, AreInRange, FormRule, number_of, Site, ComesBefore, breach, BreaksAt, Broken, site_of, IsFirstBroken, KeptTo, Formed, SameSite, order, one_at, same_fault, broken_there, one_form_fault, refinement_law_of, refinement_rules, tests}
 use Rattle.htl_model.specs.FormRules as law
-use Rattle.htl_model.specs.Broken.{breach, BreaksAt, Broken, site_of, IsFirstBroken, KeptTo, Formed}
-use Rattle.htl_form.proofs.OneFault.{SameSite, order, one_at, same_fault, broken_there, one_form_fault}
-use Rattle.htl_refine.specs.Rules.{refinement_law_of, refinement_rules}
-use Rattle.htl_refine.specs.Tests.{tests}
 use Rattle.htl_refine.proofs.RuleOrder.{place_of}
 use Rattle.htl_refine.proofs.SearchLaws.{judges}
 

@@ -1,34 +1,10 @@
 -- Where all root modules have one period, a frame is a round.
 use Rattle.std.proofs.Common.{◌≡◌, ℕ, zero, suc, ◌+◌, ◌-◌, ◌*◌, ◌/◌, ◌%◌, ◌≤◌, ◌<◌, Bool, true, false, cond, eqb, List, [], ◌∷◌, length, map, get_or, Some, refl, sym, ap, ◌∙◌, arith, append-nil}
-use Rattle.std.specs.List.{flat_map, filter}
-use Rattle.std.proofs.lemmas.Bool.{eqb-true, eqb-false, eq-eqb, ne_eqb, lt-ltb}
-use Rattle.std.proofs.Math.Nat.{div-add-mod, mul-div-le}
-use Rattle.htl_model.specs.declared.event.Event.{Event}
-use Rattle.htl_model.specs.declared.parts.Module.{Module}
-use Rattle.htl_model.specs.Lists.{joined, list_to, places_from}
-use Rattle.htl_model.specs.Ranges.{AreInRange}
-use Rattle.htl_model.specs.Selections.{is_root, root_modules, selection_count, root_period}
-use Rattle.htl_model.specs.Tables.{Tables}
-use Rattle.htl_walk.specs.declared.job.Job.{Job}
-use Rattle.htl_walk.specs.declared.schedule.SInstr.{SInstr}
-use Rattle.htl_refine.specs.ConcreteJobs.{concrete_jobs}
-use Rattle.htl_refine.specs.Records.{lengths_of, modes_at, rounds_before, round_at, left_at}
+use Rattle.htl_refine.proofs.Words.{flat_map, filter, eqb-true, eqb-false, eq-eqb, ne_eqb, lt-ltb, div-add-mod, mul-div-le, Event, Module, joined, list_to, places_from, AreInRange, is_root, root_modules, selection_count, root_period, Tables, Job, SInstr, concrete_jobs, lengths_of, modes_at, rounds_before, round_at, left_at, selection_of, hyper, frame_of, starts, rounds_at, rounds, node, known_by, Leg, legs_of, HasOnePeriod, derived_jobs, one_period, OneFrameRecords, RunningList, lists_from, lists_at, left_in, begun_before, begins_at, in_frame, old_records_by, new_records_by, frame_modes, path_in, path_of, running_places, frame_places, frame_jobs, Frame, frame_at, walks_of, up_to_same, times_grow}
 use Rattle.htl_refine.specs.Records as by_rounds
-use Rattle.htl_refine.specs.Roots.{selection_of}
 use Rattle.htl_refine.proofs.RootSelection.{below_count}
 use Rattle.htl_refine.proofs.StateLaws.{states_are_selections}
-use Rattle.htl_model.specs.Frames.{hyper, frame_of, starts, rounds_at, rounds, node, known_by}
-use Rattle.htl_walk.specs.Paths.{Leg}
-use Rattle.htl_walk.specs.PathJobs.{legs_of}
-use Rattle.htl_walk.specs.EqualPeriods.{HasOnePeriod}
-use Rattle.htl_refine.specs.DerivedPaths.{derived_jobs}
-use Rattle.htl_walk.proofs.OnePeriod.{one_period}
 use Rattle.htl_refine.proofs.FirstRound.{first_round, rounds_first, path_is, places_are, concrete_are}
-use Rattle.htl_refine.specs.FrameLaws.{OneFrameRecords}
-use Rattle.htl_refine.specs.FrameRecords.{RunningList, lists_from, lists_at, left_in, begun_before, begins_at, in_frame, old_records_by, new_records_by}
-use Rattle.htl_refine.specs.FrameRuns.{frame_modes, path_in, path_of, running_places, frame_places, frame_jobs, Frame, frame_at, walks_of}
-use Rattle.htl_model.proofs.Locality.{up_to_same}
-use Rattle.htl_base.proofs.Numbers.{times_grow}
 
 -- ---- a frame
 

@@ -1,22 +1,9 @@
 -- A selection of running modes has one root selection.
 use Rattle.std.proofs.Common.{◌≡◌, ◌≤◌, ◌<◌, ℕ, zero, suc, ◌+◌, ◌*◌, ◌/◌, ◌%◌, Bool, true, false, cond, eqb, List, [], ◌∷◌, length, get_or, drop, Option, Some, None, refl, sym, ◌∙◌, ap, ap₂, subst, arith, add-one}
-use Rattle.std.specs.Prelude.{slice_get}
-use Rattle.std.proofs.Math.Nat.{div-add-mod, div-lt_iff_lt-mul, mod-lt, mul_comm}
-use Rattle.std.proofs.lemmas.Bool.Decides.{nat_tests}
-use Rattle.htl_model.specs.declared.parts.Module.{Module}
-use Rattle.htl_model.specs.Lists.{places_from}
-use Rattle.htl_model.specs.Ranges.{AreInRange}
-use Rattle.htl_model.specs.Selections.{is_root, mode_of_module, modes_of, choices_from, selection_count}
-use Rattle.htl_model.specs.Tables.{Tables}
-use Rattle.htl_model.proofs.SelectionLaws.{modes_some}
-use Rattle.std.proofs.lemmas.Option.{slice_get_within}
-use Rattle.htl_refine.specs.ConcreteJobs.{IsOfSelection}
-use Rattle.htl_refine.specs.Roots.{place_among, entry_place, selection_from, selection_of}
-use Rattle.htl_model.specs.Selected.{entry}
+use Rattle.htl_refine.proofs.Words.{slice_get, div-add-mod, div-lt_iff_lt-mul, mod-lt, mul_comm, nat_tests, Module, places_from, AreInRange, is_root, mode_of_module, modes_of, choices_from, selection_count, Tables, modes_some, slice_get_within, IsOfSelection, place_among, entry_place, selection_from, selection_of, entry, eq-eqb}
 use Rattle.htl_refine.proofs.MixedRadix.{regroup, digit}
 use Rattle.htl_refine.proofs.Positions.{rootless}
 use Rattle.htl_refine.proofs.RootSelection.{digit_at, roots_some}
-use Rattle.std.proofs.lemmas.Bool.{eq-eqb}
 
 -- a factor of a number above 0 is above 0
 factor : (e c : ℕ) → 0 < e * c → 0 < c

@@ -1,28 +1,10 @@
 -- The rows of all modes say what precedes what, and the parents of writers are noted.
 use Rattle.std.proofs.Common.{◌≡◌, ◌≢◌, ◌≤◌, ◌<◌, ◌⊎◌, ℕ, ◌+◌, ◌-◌, Bool, true, false, cond, ◌||◌, List, length, get_or, drop, drop-cons, add-one, replicate, ◌∷◌, Option, Some, None, refl, sym, ◌∙◌, ap, subst, arith, inl, inr}
-use Rattle.std.specs.Prelude.{slice_get}
-use Rattle.std.specs.List.{list_any}
-use Rattle.std.proofs.lemmas.Option.{slice_get_within}
-use Rattle.htl_model.specs.declared.parts.Inv.{Inv}
+use Rattle.htl_refine.proofs.Words.{slice_get, list_any, slice_get_within, Inv, AreInRange, IsInvInRange, IsEndInRange, Tables, or_else, IsRangeOf, through_all, AreSteps, follows, leads_same, filled_at, cell_below, way_out, way_in, unfold_follows, has_bit, cell, Leads, leads_below, leads_from, leads_within, AreRowsBelow, ArePlaces, IsPut, inv_precedes, writer_parent, same_truth, all_at, cases_below_next}
 use Rattle.htl_model.specs.declared.parts.End.{End}
 use Rattle.htl_model.specs.declared.parts.End.TheVariants as E
-use Rattle.htl_model.specs.Ranges.{AreInRange, IsInvInRange, IsEndInRange}
-use Rattle.htl_model.specs.Tables.{Tables}
-use Rattle.htl_model.specs.First.{or_else}
-use Rattle.htl_form.specs.Rows.{IsRangeOf, through_all, AreSteps, follows}
-use Rattle.htl_form.proofs.CycleLaws.{leads_same}
-use Rattle.htl_form.proofs.Places.{filled_at}
-use Rattle.htl_form.proofs.RowLaws.{cell_below, way_out, way_in, unfold_follows}
-use Rattle.htl_model.specs.Bits.{has_bit, cell}
-use Rattle.htl_model.specs.PortOrder.{Leads, leads_below}
-use Rattle.htl_model.proofs.PortChains.{leads_from, leads_within}
-use Rattle.htl_refine.specs.Orders.{AreRowsBelow, ArePlaces, IsPut}
-use Rattle.htl_refine.specs.Refining.{inv_precedes, writer_parent}
 use Rattle.htl_refine.proofs.PrecedenceLaws.{precedes_is, strangers}
 use Rattle.htl_refine.proofs.RefiningLaws.{parent_writer}
-use Rattle.htl_base.proofs.Tests.{same_truth}
-use Rattle.htl_base.proofs.Places.{all_at}
-use Rattle.htl_base.proofs.Numbers.{cases_below_next}
 
 -- ---- closed rows
 

@@ -1,18 +1,7 @@
 -- Each module has a period of its own, that of its root module.
 use Rattle.std.proofs.Common.{◌≡◌, ◌≢◌, ℕ, zero, suc, ◌+◌, ◌<◌, Bool, true, false, cond, eqb, List, [], ◌∷◌, length, slice_get, Option, Some, None, option_map, refl, sym, ap, ◌∙◌, arith}
-use Rattle.std.proofs.lemmas.Bool.{eqb-true, eq-eqb}
-use Rattle.htl_model.specs.declared.parts.Mode.{Mode}
-use Rattle.htl_model.specs.FormRules.{ModulePeriod, Itself}
-use Rattle.htl_model.specs.FrameRules.{KeptApart}
-use Rattle.htl_model.specs.Lists.{places_from}
-use Rattle.htl_model.specs.PeriodRules.{first_mode, asked_period}
-use Rattle.htl_model.specs.Ranges.{AreInRange, IsModeInRange, parent_of}
-use Rattle.htl_model.specs.Selections.{mode_of_module}
-use Rattle.htl_model.specs.Tables.{Tables, mode_period, mode_module}
+use Rattle.htl_refine.proofs.Words.{eqb-true, eq-eqb, Mode, ModulePeriod, Itself, KeptApart, places_from, first_mode, asked_period, AreInRange, IsModeInRange, parent_of, mode_of_module, Tables, mode_period, mode_module, each_at, item_at, period_at, same_Some}
 use Rattle.htl_refine.proofs.RecordOrder.{not_some}
-use Rattle.htl_base.proofs.Places.{each_at, item_at}
-use Rattle.htl_walk.proofs.PathReady.{period_at}
-use Rattle.std.proofs.lemmas.Option.{same_Some}
 
 -- the places of the items that pass a test
 pub places_first : {A : Type 0} (p : A → Bool) (q d : ℕ) (xs : List A) (x : A) → slice_get xs d ≡ Some x → p x ≡ true

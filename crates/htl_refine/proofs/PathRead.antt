@@ -1,17 +1,9 @@
 -- The modes that run in a frame make one path, whose positions are those of the modes.
 use Rattle.std.proofs.Common.{◌≡◌, ℕ, suc, ◌+◌, ◌*◌, ◌<◌, List, [], ◌∷◌, ◌++◌, length, get_or, Option, Some, None, refl, sym, ap, ap₂, ◌∙◌, arith}
-use Rattle.htl_model.specs.Selected.{IsSelection}
-use Rattle.htl_model.specs.Selections.{modes_of, invs_of}
-use Rattle.htl_model.specs.Tables.{Tables}
-use Rattle.htl_refine.specs.ConcreteJobs.{running_invs}
-use Rattle.htl_refine.specs.Roots.{entry_place}
+use Rattle.htl_refine.proofs.Words.{IsSelection, modes_of, invs_of, Tables, running_invs, entry_place, Round, rounds, choices, mode_in, places_of, places_in, path_in, path_of, running_places, PathsRead}
 use Rattle.htl_refine.proofs.MixedRadix.{digits, regroup, digit}
 use Rattle.htl_refine.proofs.PathDerived.{AreRootRounds, path_rounds}
 use Rattle.htl_refine.proofs.RootSelection.{root_place}
-use Rattle.htl_model.specs.declared.frame.Round.{Round}
-use Rattle.htl_model.specs.Frames.{rounds, choices, mode_in, places_of, places_in}
-use Rattle.htl_refine.specs.FrameRuns.{path_in, path_of, running_places}
-use Rattle.htl_refine.specs.FrameLaws.{PathsRead}
 
 module _ (t : Tables) (modes : ℕ → List (Option ℕ)) (selections : (a : ℕ) → IsSelection t (modes a)) where
   pub below : (rs : List Round) → AreRootRounds t rs → path_in t modes rs < choices t rs

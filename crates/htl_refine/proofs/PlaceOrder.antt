@@ -1,24 +1,6 @@
 -- The positions of a frame are by their rounds' starts, and nobody has two in one round.
 use Rattle.std.proofs.Common.{◌≡◌, ◌<◌, ◌≤◌, ◌⊎◌, ℕ, suc, ◌+◌, true, List, [], ◌∷◌, slice_get, Option, Some, None, refl, sym, ◌∙◌, ap, subst, arith, inl, inr}
-use Rattle.htl_model.specs.declared.event.Event.{Event}
-use Rattle.htl_model.specs.declared.frame.Place.{Place}
-use Rattle.htl_model.specs.declared.frame.Round.{Round}
-use Rattle.htl_model.specs.declared.parts.Inv.{Inv}
-use Rattle.htl_model.specs.declared.parts.Mode.{Mode}
-use Rattle.htl_model.specs.declared.parts.Module.{Module}
-use Rattle.htl_model.specs.Chosen.{StandsFor, itself, below, chosen}
-use Rattle.htl_model.specs.FrameRules.{KeptApart}
-use Rattle.htl_model.specs.Frames.{rounds, places_of, known_by}
-use Rattle.htl_model.specs.Ranges.{AreInRange}
-use Rattle.htl_model.specs.SecondWriters.{parent_mode}
-use Rattle.htl_model.specs.Selected.{entry, IsEntry, IsSelection}
-use Rattle.htl_model.specs.Selections.{is_root, inv_of_mode, invs_of}
-use Rattle.htl_model.specs.Tables.{Tables, mode_module}
-use Rattle.htl_refine.specs.ConcreteJobs.{running_invs}
-use Rattle.htl_refine.specs.DerivedPaths.{derived_place}
-use Rattle.htl_refine.specs.FramePlaces.{place, standing_places, AreOrdered, PlacesOrdered}
-use Rattle.htl_refine.specs.FrameRuns.{frame_modes, running_places, frame_places}
-use Rattle.htl_refine.specs.Records.{modes_at}
+use Rattle.htl_refine.proofs.Words.{Event, Place, Round, Inv, Mode, Module, StandsFor, itself, below, chosen, KeptApart, rounds, places_of, known_by, AreInRange, parent_mode, entry, IsEntry, IsSelection, is_root, inv_of_mode, invs_of, Tables, mode_module, running_invs, derived_place, place, standing_places, AreOrdered, PlacesOrdered, frame_modes, running_places, frame_places, modes_at, from_map, eqb-true, same_Some}
 use Rattle.htl_refine.proofs.Chains.{Under, same, under_more, one_top, no_parent}
 use Rattle.htl_refine.proofs.Exact.{chosen_exact_apart}
 use Rattle.htl_refine.proofs.Members.{of_places}
@@ -26,9 +8,6 @@ use Rattle.htl_refine.proofs.Positions.{rootless}
 use Rattle.htl_refine.proofs.RecordOrder.{not_some}
 use Rattle.htl_refine.proofs.RoundOrder.{Sorted, sorted_at, sorted_join, Less, sorted_places, RoundLess, sorted_rounds, round_of, run_of, ByStart, frame_by_start, standing_by_start, begun_known, known_begun, known_same}
 use Rattle.htl_refine.proofs.StateLaws.{states_are_selections}
-use Rattle.htl_base.proofs.Places.{from_map}
-use Rattle.std.proofs.lemmas.Bool.{eqb-true}
-use Rattle.std.proofs.lemmas.Option.{same_Some}
 
 -- ---- places
 

@@ -1,10 +1,6 @@
 -- Where frames agree in their first lists and positions, so do the points at which these lists begin.
 use Rattle.std.proofs.Common.{◌≡◌, ℕ, zero, suc, List, [], ◌∷◌, take, ap, subst}
-use Rattle.htl_walk.specs.declared.job.Job.{Job}
-use Rattle.htl_walk.specs.declared.schedule.SInstr.{SInstr}
-use Rattle.htl_walk.specs.Paths.{Leg, list_point, AreInForm, AgreeOn, AgreeAt, AreWithin, path_point}
-use Rattle.htl_walk.specs.Walk.{Point, last_point}
-use Rattle.htl_walk.proofs.Locality.{walk_alike}
+use Rattle.htl_refine.proofs.Words.{Job, SInstr, Leg, list_point, AreInForm, AgreeOn, AgreeAt, AreWithin, path_point, Point, last_point, walk_alike}
 
 begun_agree : (n a b : ℕ) (x y : Point) → a ≡ b → AgreeAt n x y → AgreeAt n (list_point a x) (list_point b y)
 begun_agree n a b x y e g = record { time = e; left = g.left }

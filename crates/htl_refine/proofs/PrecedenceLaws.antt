@@ -1,12 +1,6 @@
 -- What precedes what by the ports: the test and the words.
 use Rattle.std.proofs.Common.{◌≡◌, ℕ, Bool, true, false, length, Some, refl, sym, ◌∙◌, ap}
-use Rattle.std.specs.Prelude.{slice_get}
-use Rattle.std.specs.Bool.{Decides}
-use Rattle.htl_model.specs.declared.parts.Inv.{Inv}
-use Rattle.htl_model.specs.Tables.{Tables}
-use Rattle.htl_model.specs.PortOrder.{Leads, direct, through, feeds}
-use Rattle.htl_model.proofs.PortChains.{leads_from, leads_within, feeds_within}
-use Rattle.htl_form.proofs.RowLaws.{same_mode}
+use Rattle.htl_refine.proofs.Words.{slice_get, Decides, Inv, Tables, Leads, direct, through, feeds, leads_from, leads_within, feeds_within, same_mode}
 use Rattle.htl_refine.specs.Refining.{inv_precedes}
 
 -- two invocations of one mode

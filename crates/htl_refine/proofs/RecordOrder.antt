@@ -1,17 +1,6 @@
 -- The records of a frame are in order of time, and none comes after it.
 use Rattle.std.proofs.Common.{◌≡◌, ℕ, zero, suc, ◌+◌, ◌-◌, ◌≤◌, ◌<◌, Bool, true, false, cond, ltb, List, [], ◌∷◌, ◌++◌, length, get_or, slice_get, Option, Some, None, refl, sym, ap, ◌∙◌, arith, inl, inr}
-use Rattle.std.proofs.lemmas.Bool.{cases_lt, ltb-false}
-use Rattle.htl_walk.specs.declared.job.Job.{Job}
-use Rattle.htl_walk.specs.declared.schedule.SInstr.{SInstr}
-use Rattle.htl_walk.specs.declared.schedule.SInstr.TheVariants.{Dispatch, Idle, End}
-use Rattle.htl_walk.specs.Paths.{Leg, list_point, walks_from, end_to_end, AreInForm, AreChained}
-use Rattle.htl_walk.specs.Walk.{Point, Left, job_at, next_point, walk_from, last_point, InForm}
-use Rattle.htl_walk.proofs.Steps.{time_rises}
-use Rattle.htl_refine.specs.RecordCounts.{Rises, count_left_before}
-use Rattle.htl_walk.proofs.Accepted.{past_legs}
-use Rattle.htl_base.proofs.Places.{get_back, within_front}
-use Rattle.std.proofs.lemmas.Option.{same_Some}
-use Rattle.htl_walk.proofs.Joining.{dispatch_stays}
+use Rattle.htl_refine.proofs.Words.{cases_lt, ltb-false, Job, SInstr, Dispatch, Idle, End, Leg, list_point, walks_from, end_to_end, AreInForm, AreChained, Point, Left, job_at, next_point, walk_from, last_point, InForm, time_rises, Rises, count_left_before, past_legs, get_back, within_front, same_Some, dispatch_stays}
 
 -- nothing is not something
 pub not_some : {A : Type 0} {P : Type 0} (a : A) → ◌≡◌ {A = Option A} None (Some a) → P

@@ -1,36 +1,11 @@
 -- The tests of the rules not-true refinement find exactly what the words say.
 use Rattle.std.proofs.Common.{◌≡◌, ◌≢◌, ◌≤◌, ◌<◌, ◌⊎◌, ℕ, Bool, true, false, not, ◌&&◌, ◌||◌, cond, eqb, ltb, length, Option, Some, None, refl, sym, ◌∙◌, ap, subst, arith, inl, inr}
-use Rattle.std.specs.Prelude.{slice_get}
-use Rattle.std.specs.Bool.{Decides}
-use Rattle.std.specs.List.{list_any}
-use Rattle.std.proofs.lemmas.Bool.Decides.{nat_tests}
-use Rattle.htl_model.specs.declared.parts.Inv.{Inv}
+use Rattle.htl_refine.proofs.Words.{slice_get, Decides, list_any, nat_tests, Inv, Tables, mode_module, is_concrete, task_worst, release, window_end, AreInRange, KeptTo, Leads, feeds, is_port, IsRefined, StandsUnrefined, IsAbstractIn, ParentFault, ParentWrong, SharesParent, SecondChild, AsksMore, Exceeds, IsWriterOf, Unordered, parent_mode, or_else, unless, finds_or_else, Finds, finds_nothing, finds_unless, none_at, found_at, to_none, to_found, taken, slice_get_within, none-some, is_at, refines, is_refined, place_fault, is_abstract_at, parent_fault_by, parent_fault, clashes, clash_before, first_clash, told_clash, shared_fault_by, shared_fault, unless_more, unless_less, excess, excess_at, excess_by, excess_fault, writers_parent, writer_parent, inv_precedes, order_fault_by, order_fault, and_parts, eq-eqb, eqb-true, false_from_ne_true, not-true, or_parts, le-ltb, lt-ltb, or_right, goes, true_not_false, eqb_apart, any_passes_from_place, some_place}
 use Rattle.htl_model.specs.declared.parts.End.{End}
 use Rattle.htl_model.specs.declared.parts.End.TheVariants as E
-use Rattle.htl_model.specs.Tables.{Tables, mode_module, is_concrete, task_worst, release, window_end}
-use Rattle.htl_model.specs.Ranges.{AreInRange}
-use Rattle.htl_model.specs.Broken.{KeptTo}
-use Rattle.htl_model.specs.PortOrder.{Leads, feeds}
-use Rattle.htl_model.specs.PortWriters.{is_port}
-use Rattle.htl_model.specs.RefinementRules.{IsRefined, StandsUnrefined, IsAbstractIn, ParentFault, ParentWrong, SharesParent, SecondChild, AsksMore, Exceeds, IsWriterOf, Unordered}
-use Rattle.htl_model.specs.SecondWriters.{parent_mode}
-use Rattle.htl_model.specs.First.{or_else}
-use Rattle.htl_model.specs.Found.{unless}
-use Rattle.htl_form.proofs.EndLaws.{finds_or_else}
-use Rattle.htl_form.proofs.Finding.{Finds, finds_nothing, finds_unless}
-use Rattle.htl_model.proofs.FirstLaws.{none_at, found_at, to_none, to_found}
-use Rattle.htl_form.proofs.PartLaws.{taken}
-use Rattle.std.proofs.lemmas.Option.{slice_get_within, none-some}
-use Rattle.htl_model.specs.Selected.{is_at}
-use Rattle.htl_refine.specs.Refining.{refines, is_refined, place_fault, is_abstract_at, parent_fault_by, parent_fault, clashes, clash_before, first_clash, told_clash, shared_fault_by, shared_fault, unless_more, unless_less, excess, excess_at, excess_by, excess_fault, writers_parent, writer_parent, inv_precedes, order_fault_by, order_fault}
 use Rattle.htl_refine.proofs.Kept.{one_writer}
 use Rattle.htl_refine.proofs.PrecedenceLaws.{precedes_is}
 use Rattle.htl_refine.proofs.SelectedLaws.{at_number, number_at}
-use Rattle.std.proofs.lemmas.Bool.{and_parts, eq-eqb, eqb-true, false_from_ne_true, not-true, or_parts, le-ltb, lt-ltb, or_right}
-use Rattle.htl_form.proofs.AbstractLaws.{goes}
-use Rattle.htl_base.proofs.Tests.{true_not_false, eqb_apart}
-use Rattle.std.proofs.lemmas.Map.Keys.{any_passes_from_place}
-use Rattle.htl_base.proofs.Places.{some_place}
 
 -- ---- 13
 

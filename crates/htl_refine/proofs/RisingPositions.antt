@@ -1,22 +1,8 @@
 -- The positions of a selection of running modes are invocations in rising order.
 use Rattle.std.proofs.Common.{◌≡◌, ◌<◌, ◌≤◌, ℕ, suc, Bool, true, false, cond, List, [], ◌∷◌, ◌++◌, length, get_or, map, Option, Some, None, refl, ◌∙◌, ap, subst, arith, inl, inr}
-use Rattle.std.specs.Prelude.{slice_get}
-use Rattle.std.specs.List.{flat_map}
-use Rattle.std.proofs.lemmas.List.{get_or-map, length-map}
-use Rattle.std.proofs.lemmas.Option.{slice_get_within, get_or_from_slice_get, none-some}
-use Rattle.htl_model.specs.declared.parts.Inv.{Inv}
-use Rattle.htl_model.specs.declared.parts.Mode.{Mode}
-use Rattle.htl_model.specs.declared.parts.Module.{Module}
-use Rattle.htl_model.specs.Lists.{places_from}
-use Rattle.htl_model.specs.Ranges.{AreInRange}
-use Rattle.htl_model.specs.Selected.{entry, IsSelection, IsEntry, IsModeOf}
-use Rattle.htl_model.specs.Selections.{is_root, root_modules, inv_of_mode, invs_of}
-use Rattle.htl_model.specs.Tables.{Tables}
-use Rattle.htl_model.proofs.StartLaws.{modes_rise}
-use Rattle.htl_refine.specs.ConcreteJobs.{running_invs, running_positions}
+use Rattle.htl_refine.proofs.Words.{slice_get, flat_map, get_or-map, length-map, slice_get_within, get_or_from_slice_get, none-some, Inv, Mode, Module, places_from, AreInRange, entry, IsSelection, IsEntry, IsModeOf, is_root, root_modules, inv_of_mode, invs_of, Tables, modes_rise, running_invs, running_positions, eqb-true, cases_lt}
 use Rattle.htl_refine.proofs.Members.{of_joined, of_flat, of_places}
 use Rattle.htl_refine.proofs.Positions.{rootless}
-use Rattle.std.proofs.lemmas.Bool.{eqb-true, cases_lt}
 
 -- ---- lists that rise
 

@@ -1,21 +1,9 @@
 -- Each selection of running modes has a root selection.
 use Rattle.std.proofs.Common.{◌≡◌, ◌≤◌, ◌<◌, ℕ, zero, suc, ◌+◌, ◌*◌, ◌/◌, ◌%◌, Bool, true, false, cond, eqb, List, [], ◌∷◌, length, get_or, drop, Option, Some, None, refl, sym, ◌∙◌, ap, subst, arith, add-one}
-use Rattle.std.specs.Prelude.{slice_get}
-use Rattle.std.specs.List.{flat_map}
-use Rattle.htl_model.specs.declared.parts.Module.{Module}
-use Rattle.htl_model.specs.Ranges.{AreInRange}
-use Rattle.htl_model.proofs.SelectionLaws.{no_modules}
-use Rattle.htl_model.specs.Broken.{KeepsLimits}
-use Rattle.htl_model.specs.Selections.{is_root, root_modules, mode_of_module, modes_of, choices_from, selection_count, positions}
-use Rattle.htl_model.specs.Tables.{Tables}
-use Rattle.htl_refine.specs.ConcreteJobs.{running_invs, running_positions, IsOfSelection}
-use Rattle.htl_refine.specs.Roots.{place_among, entry_place, selection_from, selection_of}
-use Rattle.htl_model.specs.Selected.{entry, IsSelection, IsEntry, IsModeOf}
+use Rattle.htl_refine.proofs.Words.{slice_get, flat_map, Module, AreInRange, no_modules, KeepsLimits, is_root, root_modules, mode_of_module, modes_of, choices_from, selection_count, positions, Tables, running_invs, running_positions, IsOfSelection, place_among, entry_place, selection_from, selection_of, entry, IsSelection, IsEntry, IsModeOf, eq-eqb, eqb-true, none-some}
 use Rattle.htl_refine.proofs.Members.{at_place}
 use Rattle.htl_refine.proofs.MixedRadix.{digits, regroup, digit}
 use Rattle.htl_refine.proofs.Positions.{rootless, root_is, same_positions}
-use Rattle.std.proofs.lemmas.Bool.{eq-eqb, eqb-true}
-use Rattle.std.proofs.lemmas.Option.{none-some}
 
 -- ---- a place in a list
 

@@ -1,38 +1,12 @@
 -- The lengths of a round are within the worst cases, and its schedule meets.
 use Rattle.std.proofs.Common.{◌≡◌, ◌≤◌, ◌<◌, ℕ, ◌+◌, Bool, true, false, ◌&&◌, cond, eqb, leb, List, [], ◌∷◌, length, get_or, map, Option, Some, None, refl, sym, ◌∙◌, ap, subst, arith}
-use Rattle.std.specs.Prelude.{slice_get}
-use Rattle.std.specs.List.{flat_map}
-use Rattle.std.proofs.lemmas.Option.{get_or_from_slice_get, none-some}
-use Rattle.htl_model.specs.declared.event.Event.{Event}
+use Rattle.htl_refine.proofs.Words.{slice_get, flat_map, get_or_from_slice_get, none-some, Event, Inv, Module, Task, chosen, places_from, KeptTo, AreInRange, IsInvInRange, IsTaskInRange, is_root, selection_count, Tables, task_worst, Job, SInstr, abstract_jobs, jobs_standing, placed_job, HaveLengths, AreWithinWorst, ScheduleIsAccepted, Meets, places_of, Place, running_invs, running_positions, concrete_jobs, derived_place, derived_jobs, last_took, inv_worst, took, lengths_of, AreTookWithin, modes_at, round_at, selection_of, all_at, from_map, get_mapped, eqb-true}
 use Rattle.htl_model.specs.declared.event.Event.TheVariants as V
-use Rattle.htl_model.specs.declared.parts.Inv.{Inv}
-use Rattle.htl_model.specs.declared.parts.Module.{Module}
-use Rattle.htl_model.specs.declared.parts.Task.{Task}
-use Rattle.htl_model.specs.Chosen.{chosen}
-use Rattle.htl_model.specs.Lists.{places_from}
-use Rattle.htl_model.specs.Broken.{KeptTo}
-use Rattle.htl_model.specs.Ranges.{AreInRange, IsInvInRange, IsTaskInRange}
-use Rattle.htl_model.specs.Selections.{is_root, selection_count}
-use Rattle.htl_model.specs.Tables.{Tables, task_worst}
-use Rattle.htl_walk.specs.declared.job.Job.{Job}
-use Rattle.htl_walk.specs.declared.schedule.SInstr.{SInstr}
-use Rattle.htl_walk.specs.Jobs.{abstract_jobs, jobs_standing}
-use Rattle.htl_walk.specs.PathJobs.{placed_job}
-use Rattle.htl_walk.specs.Refinement.{HaveLengths, AreWithinWorst}
-use Rattle.htl_walk.specs.Walk.{ScheduleIsAccepted, Meets}
-use Rattle.htl_model.specs.Frames.{places_of}
-use Rattle.htl_model.specs.declared.frame.Place.{Place}
-use Rattle.htl_refine.specs.ConcreteJobs.{running_invs, running_positions, concrete_jobs}
-use Rattle.htl_refine.specs.DerivedPaths.{derived_place, derived_jobs}
-use Rattle.htl_refine.specs.Records.{last_took, inv_worst, took, lengths_of, AreTookWithin, modes_at, round_at}
-use Rattle.htl_refine.specs.Roots.{selection_of}
 use Rattle.htl_refine.proofs.FirstRound.{concrete_are}
 use Rattle.htl_refine.proofs.Inherit.{inheritance}
 use Rattle.htl_refine.proofs.PathDerived.{placed_present}
 use Rattle.htl_refine.proofs.RootSelection.{below_count, is_of_selection}
 use Rattle.htl_refine.proofs.StateLaws.{states_are_selections}
-use Rattle.htl_base.proofs.Places.{all_at, from_map, get_mapped}
-use Rattle.std.proofs.lemmas.Bool.{eqb-true}
 
 pub took_within : (t : Tables) (i u r x : ℕ) (es : List Event) → AreTookWithin t es → 1 ≤ x → x ≤ inv_worst t i → (1 ≤ last_took i u r x es) × (last_took i u r x es ≤ inv_worst t i)
 took_within t i u r x [] h a b = (a, b)

@@ -1,24 +1,10 @@
 -- The starts, rounds and positions of a frame are in order.
 use Rattle.std.proofs.Common.{◌≡◌, ◌<◌, ◌≤◌, ◌⊎◌, ℕ, zero, suc, ◌+◌, ◌%◌, Bool, true, false, cond, eqb, leb, List, [], ◌∷◌, ◌++◌, map, slice_get, Option, Some, refl, sym, ◌∙◌, ap, subst, arith, inl, inr}
-use Rattle.std.specs.List.{flat_map}
-use Rattle.std.proofs.lemmas.Bool.{eqb-true, le-leb, leb-true, leb-false}
-use Rattle.htl_model.specs.declared.frame.Place.{Place}
-use Rattle.htl_model.specs.declared.frame.Round.{Round}
-use Rattle.htl_model.specs.Frames.{unit_period, root_periods, frame_of, begins, starts_below, starts, rounds_of, rounds_at, rounds, places_of, known_by}
-use Rattle.htl_model.specs.Functions.{of_bool}
-use Rattle.htl_model.specs.Lists.{places_from}
-use Rattle.htl_model.specs.Selections.{is_root, root_modules}
-use Rattle.htl_model.specs.Tables.{Tables}
-use Rattle.htl_refine.specs.ConcreteJobs.{running_invs}
-use Rattle.htl_refine.specs.DerivedPaths.{derived_place}
-use Rattle.htl_refine.specs.FramePlaces.{place}
-use Rattle.htl_refine.specs.FrameRuns.{running_places, frame_places}
+use Rattle.htl_refine.proofs.Words.{flat_map, eqb-true, le-leb, leb-true, leb-false, Place, Round, unit_period, root_periods, frame_of, begins, starts_below, starts, rounds_of, rounds_at, rounds, places_of, known_by, of_bool, places_from, is_root, root_modules, Tables, running_invs, derived_place, place, running_places, frame_places, from_map, same_Some}
 use Rattle.htl_refine.proofs.AlongPath.{known_none}
 use Rattle.htl_refine.proofs.BegunTimes.{start_below}
 use Rattle.htl_refine.proofs.Members.{of_joined, of_flat, of_places}
 use Rattle.htl_refine.proofs.RecordOrder.{not_some}
-use Rattle.htl_base.proofs.Places.{from_map}
-use Rattle.std.proofs.lemmas.Option.{same_Some}
 
 -- ---- lists in order
 

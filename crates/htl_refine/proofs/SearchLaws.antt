@@ -1,18 +1,6 @@
 -- The search answers the first broken rule.
 use Rattle.std.proofs.Common.{◌≡◌, ℕ, ◌+◌, ◌≤◌, ◌<◌, ◌⊎◌, Some, None, sym, ◌∙◌, ap, subst, arith, inl, inr}
-use Rattle.std.specs.Prelude.{slice_get}
-use Rattle.htl_model.specs.declared.form_fault.FormFault.{FormFault}
-use Rattle.htl_model.specs.Tables.{Tables}
-use Rattle.htl_model.specs.Ranges.{AreInRange}
-use Rattle.htl_model.specs.FormRules.{FormRule, number_of, Site, ComesBefore}
-use Rattle.htl_model.specs.Broken.{Broken, KeptTo, site_of, IsFirstBroken, breach}
-use Rattle.htl_form.proofs.Finding.{finds_nothing}
-use Rattle.htl_model.proofs.FirstLaws.{none_at, found_at, IsFirstAt}
-use Rattle.htl_form.proofs.Judging.{Judges}
-use Rattle.htl_form.proofs.SiteLaws.{rule_none, rule_first, IsFirstOfRule}
-use Rattle.htl_refine.specs.Rules.{refinement_law_of, refinement_rule_number, refinement_rules}
-use Rattle.htl_refine.specs.Tests.{tests, refinement_fault_of, first_refinement_fault}
-use Rattle.htl_refine.specs.declared.rule.Rule.{Rule}
+use Rattle.htl_refine.proofs.Words.{slice_get, FormFault, Tables, AreInRange, FormRule, number_of, Site, ComesBefore, Broken, KeptTo, site_of, IsFirstBroken, breach, finds_nothing, none_at, found_at, IsFirstAt, Judges, rule_none, rule_first, IsFirstOfRule, refinement_law_of, refinement_rule_number, refinement_rules, tests, refinement_fault_of, first_refinement_fault, Rule}
 use Rattle.htl_refine.specs.declared.rule.Rule.TheVariants as R
 use Rattle.htl_refine.proofs.RefiningLaws.{place_is, parent_is, shared_is, exceeds_is, order_is}
 use Rattle.htl_refine.proofs.RuleOrder.{place_of, number_at}

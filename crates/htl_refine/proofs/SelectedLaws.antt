@@ -1,13 +1,6 @@
 -- The test of a selection is right.
 use Rattle.std.proofs.Common.{◌≡◌, ℕ, zero, suc, ◌+◌, true, false, eqb, List, [], ◌∷◌, length, Option, Some, None, refl, sym, ◌∙◌, ap, subst, arith}
-use Rattle.std.specs.Prelude.{slice_get}
-use Rattle.std.specs.Bool.{Decides}
-use Rattle.std.proofs.lemmas.Bool.Decides.{Decides-and, Decides-not}
-use Rattle.htl_model.specs.declared.parts.Mode.{Mode}
-use Rattle.htl_model.specs.declared.parts.Module.{Module}
-use Rattle.htl_model.specs.Tables.{Tables, mode_module}
-use Rattle.htl_model.specs.Selected.{entry, is_at, Runs, is_running, IsModeOf, is_mode_of, IsActive, is_active, IsEntry, is_entry, are_entries, IsSelection, is_selection}
-use Rattle.std.proofs.lemmas.Bool.{and_parts, eq-eqb, eqb-true}
+use Rattle.htl_refine.proofs.Words.{slice_get, Decides, Decides-and, Decides-not, Mode, Module, Tables, mode_module, entry, is_at, Runs, is_running, IsModeOf, is_mode_of, IsActive, is_active, IsEntry, is_entry, are_entries, IsSelection, is_selection, and_parts, eq-eqb, eqb-true}
 
 pub at_number : (o : Option ℕ) (n : ℕ) → is_at o n ≡ true → o ≡ Some n
 at_number (Some x) n h = ap (λ (y : ℕ). Some y) (eqb-true x n h)

@@ -1,23 +1,6 @@
 -- Lists that are accepted for all paths serve every frame of every run.
 use Rattle.std.proofs.Common.{◌≡◌, ℕ, ◌+◌, ◌*◌, ◌<◌, List, [], ◌∷◌, length, Option, refl, sym, subst, arith}
-use Rattle.htl_model.specs.declared.event.Event.{Event}
-use Rattle.htl_model.specs.declared.frame.Place.{Place}
-use Rattle.htl_model.specs.FrameRules.{KeptApart}
-use Rattle.htl_model.specs.Frames.{frame_of, starts, rounds, choices, paths, path_places}
-use Rattle.htl_model.specs.Ranges.{AreInRange}
-use Rattle.htl_model.specs.Selections.{root_modules}
-use Rattle.htl_model.specs.Tables.{Tables}
-use Rattle.htl_walk.specs.declared.schedule.SInstr.{SInstr}
-use Rattle.htl_walk.specs.Feasible.{lists_of}
-use Rattle.htl_walk.specs.PathJobs.{path_jobs, legs_of, legs}
-use Rattle.htl_walk.specs.Paths.{AreChained, IsPathAccepted}
-use Rattle.htl_walk.specs.Refinement.{Refines}
-use Rattle.htl_walk.proofs.Accepted.{path_dominance}
-use Rattle.htl_walk.proofs.Starts.{legs_follow}
-use Rattle.htl_refine.specs.DerivedPaths.{derived_jobs}
-use Rattle.htl_refine.specs.FrameRuns.{frame_modes, path_of, frame_places, Frame, frame_at}
-use Rattle.htl_refine.specs.Records.{lengths_of, AreTookWithin}
-use Rattle.htl_refine.specs.ServedFrames.{IsServing, FramesAreServed, EveryJobInTime}
+use Rattle.htl_refine.proofs.Words.{Event, Place, KeptApart, frame_of, starts, rounds, choices, paths, path_places, AreInRange, root_modules, Tables, SInstr, lists_of, path_jobs, legs_of, legs, AreChained, IsPathAccepted, Refines, path_dominance, legs_follow, derived_jobs, frame_modes, path_of, frame_places, Frame, frame_at, lengths_of, AreTookWithin, IsServing, FramesAreServed, EveryJobInTime}
 use Rattle.htl_refine.proofs.PathDerived.{path_roots, all_refined}
 use Rattle.htl_refine.proofs.PathRead.{paths_read}
 use Rattle.htl_refine.proofs.PathServing.{path_work}

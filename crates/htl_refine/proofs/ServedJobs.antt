@@ -1,22 +1,11 @@
 -- A frame whose lists meet serves each job once, in its window, in slices that are its own.
 use Rattle.std.proofs.Common.{◌≡◌, ℕ, zero, suc, ◌-◌, ◌*◌, ◌≤◌, ◌<◌, Bool, true, false, cond, ◌&&◌, eqb, is_some, List, [], ◌∷◌, length, take, Option, Some, None, refl, sym, ap, ◌∙◌, arith, inl, inr}
-use Rattle.std.proofs.lemmas.Bool.{eq-eqb, or_right}
-use Rattle.htl_walk.specs.declared.job.Job.{Job}
-use Rattle.htl_walk.specs.declared.schedule.SInstr.{SInstr}
-use Rattle.htl_walk.specs.Paths.{Leg, walks_from, end_to_end, AreInForm}
-use Rattle.htl_walk.specs.Walk.{Point, Left, first_point, is_position, finish}
+use Rattle.htl_refine.proofs.Words.{eq-eqb, or_right, Job, SInstr, Leg, walks_from, end_to_end, AreInForm, Point, Left, first_point, is_position, finish, work_present, Frame, walk_of, done_by, IsServing, FramesServe, spent, Finishes, Serves, cases_less_more, same_Some}
 use Rattle.htl_walk.proofs.Joining.{joined, show_joined}
-use Rattle.htl_walk.proofs.Work.{work_present}
-use Rattle.htl_refine.specs.FrameRuns.{Frame, walk_of}
-use Rattle.htl_refine.specs.RecordCounts.{done_by}
-use Rattle.htl_refine.specs.ServedFrames.{IsServing, FramesServe}
-use Rattle.htl_refine.specs.ServedJobs.{spent, Finishes, Serves}
 use Rattle.htl_refine.proofs.FinishingRecords.{finish_record, finishing, finish_more}
 use Rattle.htl_refine.proofs.RecordOrder.{not_some, path_rises, path_within, counted}
 use Rattle.htl_refine.proofs.SliceOrder.{path_apart}
 use Rattle.htl_refine.proofs.SliceSums.{spent_is}
-use Rattle.htl_base.proofs.Numbers.{cases_less_more}
-use Rattle.std.proofs.lemmas.Option.{same_Some}
 
 -- ---- once
 

@@ -1,13 +1,7 @@
 -- The records of a frame serve the jobs that it has so far.
 use Rattle.std.proofs.Common.{◌≡◌, ℕ, zero, suc, ◌≤◌, true, List, [], ◌∷◌, length, slice_get, take, sym, ap, ◌∙◌, arith}
-use Rattle.std.proofs.lemmas.List.{length-take}
-use Rattle.htl_walk.specs.declared.job.Job.{Job}
-use Rattle.htl_walk.specs.Walk.{Left, job_at, first_point, walk, IsMet}
+use Rattle.htl_refine.proofs.Words.{length-take, Job, Left, job_at, first_point, walk, IsMet, work_some, walk_of, leg_at, FrontServed, ListServed}
 use Rattle.htl_walk.proofs.Joining.{joined, show_joined}
-use Rattle.htl_walk.proofs.Work.{work_some}
-use Rattle.htl_refine.specs.FrameRuns.{walk_of}
-use Rattle.htl_refine.specs.ListPlans.{leg_at}
-use Rattle.htl_refine.specs.ServedSoFar.{FrontServed, ListServed}
 use Rattle.htl_refine.proofs.FinishingRecords.{last_is, finish_record, finishing}
 use Rattle.htl_refine.proofs.Fronts.{front_there, job_front}
 use Rattle.htl_refine.proofs.RecordOrder.{path_rises}

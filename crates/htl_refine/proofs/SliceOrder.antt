@@ -1,16 +1,7 @@
 -- The slices of a frame are in order of time, and don't overlap.
 use Rattle.std.proofs.Common.{◌≡◌, ℕ, zero, suc, ◌+◌, ◌-◌, ◌≤◌, ◌<◌, Bool, true, false, ltb, List, [], ◌∷◌, ◌++◌, length, get_or, slice_get, Option, Some, None, sym, ap, ◌∙◌, arith, inl, inr}
-use Rattle.std.proofs.lemmas.Bool.{cases_lt}
-use Rattle.htl_walk.specs.declared.job.Job.{Job}
-use Rattle.htl_walk.specs.declared.schedule.SInstr.{SInstr}
-use Rattle.htl_walk.specs.declared.schedule.SInstr.TheVariants.{Dispatch}
-use Rattle.htl_walk.specs.Paths.{Leg, list_point, walks_from, end_to_end, AreInForm, AreChained}
-use Rattle.htl_walk.specs.Walk.{Point, Left, job_at, dispatch_begins, slice_between, next_point, walk_from, last_point, slice_of}
-use Rattle.htl_walk.proofs.Steps.{time_rises}
-use Rattle.htl_refine.specs.ServedJobs.{SlicesAreApart}
+use Rattle.htl_refine.proofs.Words.{cases_lt, Job, SInstr, Dispatch, Leg, list_point, walks_from, end_to_end, AreInForm, AreChained, Point, Left, job_at, dispatch_begins, slice_between, next_point, walk_from, last_point, slice_of, time_rises, SlicesAreApart, get_back, within_front, same_Some}
 use Rattle.htl_refine.proofs.RecordOrder.{not_some, times_within}
-use Rattle.htl_base.proofs.Places.{get_back, within_front}
-use Rattle.std.proofs.lemmas.Option.{same_Some}
 
 -- ---- in one list
 

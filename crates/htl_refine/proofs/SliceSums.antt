@@ -1,13 +1,6 @@
 -- The slices of a job that finishes add up to its work.
 use Rattle.std.proofs.Common.{◌≡◌, ◌≢◌, ℕ, zero, suc, ◌+◌, ◌≤◌, ◌<◌, ◌⊎◌, Bool, true, false, cond, eqb, ltb, List, [], ◌∷◌, get_or, Some, None, refl, sym, ap, ◌∙◌, arith, inl, inr}
-use Rattle.std.proofs.lemmas.Bool.{eq-eqb, ne_eqb, ltb-true, ltb-false, cases_eq}
-use Rattle.htl_walk.specs.declared.job.Job.{Job}
-use Rattle.htl_walk.specs.declared.schedule.SInstr.{SInstr}
-use Rattle.htl_walk.specs.declared.schedule.SInstr.TheVariants.{Dispatch, Idle, End}
-use Rattle.htl_walk.specs.Walk.{Point, job_at, dispatch_begins, time_after, work_after, slice_between, slice_onto, next_point, walk_from, last_point, finish, slices}
-use Rattle.htl_walk.proofs.Acceptance.{no_finish}
-use Rattle.htl_walk.proofs.Steps.{left_other, left_same}
-use Rattle.htl_refine.specs.ServedJobs.{spent}
+use Rattle.htl_refine.proofs.Words.{eq-eqb, ne_eqb, ltb-true, ltb-false, cases_eq, Job, SInstr, Dispatch, Idle, End, Point, job_at, dispatch_begins, time_after, work_after, slice_between, slice_onto, next_point, walk_from, last_point, finish, slices, no_finish, left_other, left_same, spent}
 use Rattle.htl_refine.proofs.RecordOrder.{not_some}
 
 -- what one dispatch does of the work

@@ -1,16 +1,6 @@
 -- Where a module is, by where it was: the laws that every instant keeps.
 use Rattle.std.proofs.Common.{◌≡◌, ◌≢◌, ℕ, zero, suc, ◌+◌, ◌≤◌, ◌<◌, Bool, true, false, eqb, List, [], length, slice_get, Option, Some, None, IfSome, ℤ, refl, sym, ap, ◌∙◌, subst, arith, ◌⊎◌, inl, inr}
-use Rattle.std.proofs.lemmas.Bool.{eqb-true, eqb-false, cases_lt}
-use Rattle.std.proofs.lemmas.Option.{slice_get_within, slice_get_past, same_Some}
-use Rattle.htl_model.specs.declared.event.Event.{Event}
-use Rattle.htl_model.specs.declared.parts.Mode.{Mode}
-use Rattle.htl_model.specs.declared.parts.Module.{Module}
-use Rattle.htl_model.specs.declared.state.Stay.{Stay}
-use Rattle.htl_model.specs.Meaning.{state, before, stay_of, stays_at, stays_to, next_stay, go_on_or_begin, runs, target}
-use Rattle.htl_model.specs.Ranges.{AreInRange, IsModeThat, parent_of}
-use Rattle.htl_model.specs.Selected.{IsModeOf}
-use Rattle.htl_model.specs.Tables.{Tables, mode_period, mode_module}
-use Rattle.htl_model.proofs.Stays.{stay_at, length-stays_to}
+use Rattle.htl_refine.proofs.Words.{eqb-true, eqb-false, cases_lt, slice_get_within, slice_get_past, same_Some, Event, Mode, Module, Stay, state, before, stay_of, stays_at, stays_to, next_stay, go_on_or_begin, runs, target, AreInRange, IsModeThat, parent_of, IsModeOf, Tables, mode_period, mode_module, stay_at, length-stays_to}
 use Rattle.htl_refine.proofs.RecordOrder.{not_some}
 use Rattle.htl_refine.proofs.StateLaws.{IsOwn, state_own}
 

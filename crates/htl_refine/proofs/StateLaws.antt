@@ -1,23 +1,7 @@
 -- The modes in which the modules are at an instant are a selection of running modes.
 use Rattle.std.proofs.Common.{◌≡◌, ℕ, zero, suc, ◌+◌, ◌<◌, Bool, true, false, ◌&&◌, cond, eqb, List, [], ◌∷◌, length, map, Option, Some, None, IfSome, ℤ, refl, sym, ◌∙◌, ap, subst, arith}
-use Rattle.std.specs.Prelude.{slice_get, option_map}
-use Rattle.std.proofs.lemmas.List.{length-map}
-use Rattle.std.proofs.lemmas.Option.{slice_get_within, none-some}
-use Rattle.htl_model.specs.declared.event.Event.{Event}
-use Rattle.htl_model.specs.declared.parts.Mode.{Mode}
-use Rattle.htl_model.specs.declared.parts.Module.{Module}
-use Rattle.htl_model.specs.declared.parts.Switch.{Switch}
-use Rattle.htl_model.specs.declared.state.Stay.{Stay}
-use Rattle.htl_model.specs.Meaning.{state, module_stay, stay_of, stays_to, next_stay, go_on_or_begin, runs, target, target_from, switch_holds}
-use Rattle.htl_model.specs.Ranges.{AreInRange, IsModeThat, IsSwitchInRange}
-use Rattle.htl_model.specs.Selected.{entry, is_at, is_running, IsModeOf, is_active, IsEntry, IsSelection}
-use Rattle.htl_model.specs.Tables.{Tables, mode_module, mode_period}
-use Rattle.htl_model.proofs.Stays.{stay_at, length-stays_to}
-use Rattle.htl_refine.specs.Records.{modes_at}
+use Rattle.htl_refine.proofs.Words.{length-map, slice_get_within, none-some, Event, Mode, Module, Switch, Stay, state, module_stay, stay_of, stays_to, next_stay, go_on_or_begin, runs, target, target_from, switch_holds, AreInRange, IsModeThat, IsSwitchInRange, entry, is_at, is_running, IsModeOf, is_active, IsEntry, IsSelection, Tables, mode_module, mode_period, stay_at, length-stays_to, modes_at, all_at, item_at, and_parts, eqb-true, true_not_false, slice_get, option_map}
 use Rattle.htl_refine.proofs.SelectedLaws.{active_is}
-use Rattle.htl_base.proofs.Places.{all_at, item_at}
-use Rattle.std.proofs.lemmas.Bool.{and_parts, eqb-true}
-use Rattle.htl_base.proofs.Tests.{true_not_false}
 
 abbrev pub mode_in : Option Stay → Option ℕ
 mode_in o = option_map (λ (y : Stay). y.mode) o

@@ -1,19 +1,9 @@
 -- Where the modes of two runs agree so far, and the jobs take the same, so do the records of their lists.
 use Rattle.std.proofs.Common.{◌≡◌, ◌+◌, get_or, map, take, refl, sym, ◌∙◌, ap, ap₂, arith}
-use Rattle.std.proofs.lemmas.Option.{get_or_from_slice_get}
-use Rattle.htl_model.specs.Frames.{frame_of, starts, known_by}
-use Rattle.htl_walk.specs.declared.job.Job.{Job}
-use Rattle.htl_walk.specs.Paths.{walks_from}
-use Rattle.htl_walk.specs.Walk.{job_at, first_point, work}
-use Rattle.htl_walk.proofs.Locality.{locality, take_walks, take_forms}
-use Rattle.htl_refine.specs.AgreeingRuns.{FrontsAlike, WalksAgree}
-use Rattle.htl_refine.specs.FrameRuns.{frame_modes, frame_places, frame_jobs, frame_at}
-use Rattle.htl_refine.specs.Records.{took, lengths_of}
+use Rattle.htl_refine.proofs.Words.{get_or_from_slice_get, frame_of, starts, known_by, Job, walks_from, job_at, first_point, work, locality, take_walks, take_forms, FrontsAlike, WalksAgree, frame_modes, frame_places, frame_jobs, frame_at, took, lengths_of, get_taken, map_same, known_rises}
 use Rattle.htl_refine.proofs.AlongPath.{legs_within}
 use Rattle.htl_refine.proofs.FramesAgree.{frames_agree}
 use Rattle.htl_refine.proofs.Fronts.{front_there, take_map, job_front, take_work}
-use Rattle.htl_base.proofs.Places.{get_taken, map_same}
-use Rattle.htl_walk.proofs.NodeWalks.{known_rises}
 
 -- ---- the first lists
 

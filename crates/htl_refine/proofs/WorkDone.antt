@@ -1,20 +1,10 @@
 -- Who has no work left is done by a record so far.
 use Rattle.std.proofs.Common.{◌≡◌, ℕ, zero, suc, ◌+◌, ◌≤◌, ◌<◌, ◌⊎◌, Bool, true, false, cond, ◌&&◌, is_some, List, [], ◌∷◌, ◌++◌, length, get_or, slice_get, take, Option, Some, None, refl, sym, ap, ◌∙◌, arith, inl, inr, append_assoc}
-use Rattle.htl_walk.specs.declared.job.Job.{Job}
-use Rattle.htl_walk.specs.declared.schedule.SInstr.{SInstr}
-use Rattle.htl_walk.specs.Paths.{Leg, list_point, walks_from, end_to_end, AreInForm, path_point}
-use Rattle.htl_walk.specs.Walk.{Point, Left, next_point, left_by, walk_from, last_point, first_point, is_position, finish}
-use Rattle.htl_walk.proofs.Finishes.{ends, finish_now, finish_later}
-use Rattle.htl_refine.specs.FrameRuns.{walks_of}
-use Rattle.htl_refine.specs.ListLaws.{WorkDone}
-use Rattle.htl_refine.specs.ListPlans.{leg_at, list_start, list_plan, list_walk, records_before}
-use Rattle.htl_refine.specs.RecordCounts.{done_by}
+use Rattle.htl_refine.proofs.Words.{Job, SInstr, Leg, list_point, walks_from, end_to_end, AreInForm, path_point, Point, Left, next_point, left_by, walk_from, last_point, first_point, is_position, finish, ends, finish_now, finish_later, walks_of, WorkDone, leg_at, list_start, list_plan, list_walk, records_before, done_by, get_taken, same_Some}
 use Rattle.htl_refine.proofs.FinishingRecords.{done_past}
 use Rattle.htl_refine.proofs.ListCounts.{done_front}
 use Rattle.htl_refine.proofs.ListWalks.{list_walks}
 use Rattle.htl_refine.proofs.RecordOrder.{not_some}
-use Rattle.htl_base.proofs.Places.{get_taken}
-use Rattle.std.proofs.lemmas.Option.{same_Some}
 
 -- ---- one list
 

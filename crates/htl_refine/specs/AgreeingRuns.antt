@@ -1,11 +1,6 @@
 -- Frames of two runs that agree so far.
 use Rattle.std.specs.Prelude.{◌≡◌, ℕ, ◌+◌, ◌≤◌, ◌<◌, List, get_or, slice_get, take, Some}
-use Rattle.htl_model.specs.declared.event.Event.{Event}
-use Rattle.htl_model.specs.Frames.{starts, known_by}
-use Rattle.htl_model.specs.Ranges.{AreInRange}
-use Rattle.htl_model.specs.Tables.{Tables}
-use Rattle.htl_walk.specs.declared.job.Job.{Job}
-use Rattle.htl_walk.specs.declared.schedule.SInstr.{SInstr}
+use Rattle.htl_refine.specs.Common.{Event, starts, known_by, AreInRange, Tables, Job, SInstr}
 use Rattle.htl_walk.specs.Paths.{AreInForm, AgreeOn, AgreeAt, AreWithin}
 use Rattle.htl_walk.specs.Walk.{first_point}
 use Rattle.htl_refine.specs.FrameRuns.{frame_modes, frame_places, Frame, frame_at, walks_of}

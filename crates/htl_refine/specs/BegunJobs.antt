@@ -1,11 +1,7 @@
 -- The jobs of the rounds that begin at one start of a frame, behind the positions before them.
 use Rattle.std.specs.Prelude.{ℕ, ◌+◌, ◌*◌, List, ◌++◌, drop, map, replicate, Option, None}
-use Rattle.htl_model.specs.declared.frame.Place.{Place}
+use Rattle.htl_refine.specs.Common.{Place, root_modules, Tables, Job, placed_jobs}
 use Rattle.htl_model.specs.Frames.{rounds_of, choices}
-use Rattle.htl_model.specs.Selections.{root_modules}
-use Rattle.htl_model.specs.Tables.{Tables}
-use Rattle.htl_walk.specs.declared.job.Job.{Job}
-use Rattle.htl_walk.specs.PathJobs.{placed_jobs}
 use Rattle.htl_refine.specs.DerivedPaths.{start_places, standing_place}
 use Rattle.htl_refine.specs.FrameRuns.{path_in, choice_at}
 

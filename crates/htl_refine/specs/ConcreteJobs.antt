@@ -1,12 +1,7 @@
 -- The jobs of a round where the modules are in these modes.
 use Rattle.std.specs.Prelude.{◌≡◌, ℕ, List, [], map, slice_get, Option, Some, None}
-use Rattle.std.specs.List.{flat_map}
-use Rattle.htl_model.specs.declared.parts.Module.{Module}
-use Rattle.htl_model.specs.Chosen.{chosen}
-use Rattle.htl_model.specs.Selected.{entry}
+use Rattle.htl_refine.specs.Common.{flat_map, Module, chosen, entry, Tables, Job}
 use Rattle.htl_model.specs.Selections.{root_modules, invs_of, root_mode}
-use Rattle.htl_model.specs.Tables.{Tables}
-use Rattle.htl_walk.specs.declared.job.Job.{Job}
 use Rattle.htl_walk.specs.Jobs.{jobs_standing}
 
 -- the invocations in the mode in which a module is

@@ -1,18 +1,9 @@
 -- The jobs of a path where modules run in these modes at each start.
 use Rattle.std.specs.Prelude.{ℕ, ◌≡◌, ◌%◌, cond, eqb, List, [], ◌∷◌, ◌++◌, length, take, map, get_or, slice_get, Option, Some, None}
-use Rattle.std.specs.List.{flat_map}
-use Rattle.htl_model.specs.Tables.{Tables}
-use Rattle.htl_model.specs.FrameRules.{KeptApart}
-use Rattle.htl_model.specs.Ranges.{AreInRange}
+use Rattle.htl_refine.specs.Common.{flat_map, Tables, KeptApart, AreInRange, Job, SInstr, HaveLengths, AreWithinWorst, Place, entry, root_modules, invs_of}
 use Rattle.htl_refine.specs.declared.selection.Selection.{Selection}
-use Rattle.htl_walk.specs.declared.job.Job.{Job}
 use Rattle.htl_model.specs.Chosen.{followed, chosen}
-use Rattle.htl_walk.specs.declared.schedule.SInstr.{SInstr}
-use Rattle.htl_walk.specs.Refinement.{HaveLengths, AreWithinWorst}
-use Rattle.htl_model.specs.declared.frame.Place.{Place}
 use Rattle.htl_model.specs.Frames.{path_places, frame_of, unit_period, places_of, starts, path_mode}
-use Rattle.htl_model.specs.Selected.{entry}
-use Rattle.htl_model.specs.Selections.{root_modules, invs_of}
 use Rattle.htl_walk.specs.Paths.{IsPathAccepted, AreChained, AreWithin}
 use Rattle.htl_walk.specs.PathJobs.{placed_jobs, path_jobs, legs}
 use Rattle.htl_walk.specs.PathLaws.{RefinesFront, IsInherited}

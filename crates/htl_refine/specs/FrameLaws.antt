@@ -1,12 +1,6 @@
 -- The laws of the frames of a run.
 use Rattle.std.specs.Prelude.{◌≡◌, ◌<◌, ◌≤◌, ℕ, suc, ◌+◌, ◌*◌, List, length, drop, get_or, Option, Some}
-use Rattle.htl_model.specs.declared.event.Event.{Event}
-use Rattle.htl_model.specs.Frames.{starts, rounds, choices, node, path_places}
-use Rattle.htl_model.specs.Ranges.{AreInRange}
-use Rattle.htl_model.specs.Selected.{IsSelection}
-use Rattle.htl_model.specs.Selections.{root_period}
-use Rattle.htl_model.specs.Tables.{Tables}
-use Rattle.htl_walk.specs.declared.schedule.SInstr.{SInstr}
+use Rattle.htl_refine.specs.Common.{Event, starts, rounds, choices, node, path_places, AreInRange, IsSelection, root_period, Tables, SInstr}
 use Rattle.htl_walk.specs.EqualPeriods.{HasOnePeriod}
 use Rattle.htl_refine.specs.FrameRecords.{old_records, new_records}
 use Rattle.htl_refine.specs.FrameRuns.{path_of, frame_places, choice_at, nodes_below, node_read}

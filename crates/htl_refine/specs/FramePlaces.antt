@@ -1,11 +1,6 @@
 -- The positions of a frame of a run, with what stands at each.
 use Rattle.std.specs.Prelude.{◌≡◌, ℕ, ◌≤◌, ◌<◌, List, map, slice_get, Some}
-use Rattle.htl_model.specs.declared.event.Event.{Event}
-use Rattle.htl_model.specs.declared.frame.Place.{Place}
-use Rattle.htl_model.specs.FrameRules.{KeptApart}
-use Rattle.htl_model.specs.Frames.{known_by}
-use Rattle.htl_model.specs.Ranges.{AreInRange}
-use Rattle.htl_model.specs.Tables.{Tables}
+use Rattle.htl_refine.specs.Common.{Event, Place, KeptApart, known_by, AreInRange, Tables}
 use Rattle.htl_refine.specs.DerivedPaths.{derived_place}
 use Rattle.htl_refine.specs.FrameRuns.{frame_modes, frame_places}
 

@@ -1,13 +1,8 @@
 -- The records of a run over frames: those that the lists of its frames leave at an instant.
 use Rattle.std.specs.Prelude.{ℕ, suc, ◌+◌, ◌*◌, ◌/◌, Bool, eqb, ltb, List, [], ◌∷◌, ◌++◌, map, Option, Some, None}
-use Rattle.std.specs.List.{filter}
-use Rattle.htl_model.specs.declared.event.Event.{Event}
+use Rattle.htl_refine.specs.Common.{filter, Event, Tables, SInstr, Leg, Left}
 use Rattle.htl_model.specs.Frames.{hyper, node}
 use Rattle.htl_model.specs.Lists.{joined, numbered, up_to}
-use Rattle.htl_model.specs.Tables.{Tables}
-use Rattle.htl_walk.specs.declared.schedule.SInstr.{SInstr}
-use Rattle.htl_walk.specs.Paths.{Leg}
-use Rattle.htl_walk.specs.Walk.{Left}
 use Rattle.htl_refine.specs.FrameRuns.{frame_modes, path_of, frame_at, walks_of}
 use Rattle.htl_refine.specs.Records.{rounds_before, shifted}
 

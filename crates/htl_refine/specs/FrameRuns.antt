@@ -1,16 +1,11 @@
 -- A frame of a run: its path, its jobs with how long each takes, and the lists of its nodes with their legs.
 use Rattle.std.specs.Prelude.{ℕ, zero, suc, ◌+◌, ◌*◌, List, [], ◌∷◌, ◌++◌, map, Option}
-use Rattle.htl_model.specs.declared.event.Event.{Event}
+use Rattle.htl_refine.specs.Common.{Event, Place, Tables, Job, SInstr, Left}
 use Rattle.htl_model.specs.declared.frame.Round.{Round}
-use Rattle.htl_model.specs.declared.frame.Place.{Place}
 use Rattle.htl_model.specs.Frames.{frame_of, starts, rounds_at, rounds, choices, nodes_of, places_of}
-use Rattle.htl_model.specs.Tables.{Tables}
-use Rattle.htl_walk.specs.declared.job.Job.{Job}
-use Rattle.htl_walk.specs.declared.schedule.SInstr.{SInstr}
 use Rattle.htl_walk.specs.Feasible.{lists_of}
 use Rattle.htl_walk.specs.PathJobs.{legs_of}
 use Rattle.htl_walk.specs.Paths.{Leg, walk_path, end_to_end}
-use Rattle.htl_walk.specs.Walk.{Left}
 use Rattle.htl_refine.specs.ConcreteJobs.{running_invs}
 use Rattle.htl_refine.specs.DerivedPaths.{derived_jobs}
 use Rattle.htl_refine.specs.Records.{lengths_of, modes_at}

@@ -1,13 +1,9 @@
 -- The laws of refinement.
 use Rattle.std.specs.Prelude.{◌≡◌, ◌<◌, ℕ, List, [], Option, length, get_or}
-use Rattle.htl_model.specs.declared.event.Event.{Event}
-use Rattle.htl_model.specs.declared.form_fault.FormFault.{FormFault}
+use Rattle.htl_refine.specs.Common.{Event, FormFault, AreInRange, Tables, SInstr, IsSelection}
 use Rattle.htl_model.specs.Broken.{KeptTo, Formed, IsFirstBroken}
 use Rattle.htl_model.specs.Chosen.{IsChosen, chosen}
-use Rattle.htl_model.specs.Ranges.{AreInRange}
 use Rattle.htl_model.specs.Selections.{selection_count}
-use Rattle.htl_model.specs.Tables.{Tables}
-use Rattle.htl_walk.specs.declared.schedule.SInstr.{SInstr}
 use Rattle.htl_walk.specs.Jobs.{abstract_jobs}
 use Rattle.htl_walk.specs.Laws.{IsDominated}
 use Rattle.htl_walk.specs.Refinement.{Refines, HaveLengths, AreWithinWorst}
@@ -15,7 +11,6 @@ use Rattle.htl_walk.specs.Walk.{ScheduleIsAccepted, Meets}
 use Rattle.htl_refine.specs.ConcreteJobs.{concrete_jobs, IsOfSelection}
 use Rattle.htl_refine.specs.Records.{AreTookWithin, round_at, modes_at}
 use Rattle.htl_refine.specs.Roots.{selection_of}
-use Rattle.htl_model.specs.Selected.{IsSelection}
 
 -- keeping the rules up to 16 is keeping all
 abbrev pub AllRules : Type 0

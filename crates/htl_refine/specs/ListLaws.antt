@@ -1,13 +1,7 @@
 -- The laws of the lists of a frame.
 use Rattle.std.specs.Prelude.{◌≡◌, ℕ, suc, ◌+◌, ◌≤◌, ◌<◌, true, List, [], length, take, get_or, slice_get, Some}
-use Rattle.htl_model.specs.declared.event.Event.{Event}
-use Rattle.htl_model.specs.Frames.{starts}
-use Rattle.htl_model.specs.Tables.{Tables}
-use Rattle.htl_walk.specs.declared.job.Job.{Job}
-use Rattle.htl_walk.specs.declared.schedule.SInstr.{SInstr}
+use Rattle.htl_refine.specs.Common.{Event, starts, Tables, Job, SInstr, AreInForm, AreChained, HaveLengths}
 use Rattle.htl_walk.specs.Laws.{AgreeBefore}
-use Rattle.htl_walk.specs.Paths.{AreInForm, AreChained}
-use Rattle.htl_walk.specs.Refinement.{HaveLengths}
 use Rattle.htl_walk.specs.Walk.{last_point, work, earlier}
 use Rattle.htl_refine.specs.FrameRuns.{Frame, frame_at, walks_of, walk_of}
 use Rattle.htl_refine.specs.ListPlans.{leg_at, list_plan, list_walk, records_before}

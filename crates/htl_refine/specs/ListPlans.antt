@@ -1,7 +1,5 @@
 -- One list of a frame: the positions so far, and the point at which the list begins.
-use Rattle.std.specs.Prelude.{ℕ, List, [], length, take, get_or}
-use Rattle.htl_walk.specs.declared.job.Job.{Job}
-use Rattle.htl_walk.specs.declared.schedule.SInstr.{SInstr}
+use Rattle.htl_refine.specs.Common.{ℕ, List, [], length, take, get_or, Job, SInstr}
 use Rattle.htl_walk.specs.Paths.{Leg, end_to_end, path_point_at}
 use Rattle.htl_walk.specs.Walk.{Point, Left, walk_from}
 use Rattle.htl_refine.specs.FrameRuns.{Frame, walks_of}

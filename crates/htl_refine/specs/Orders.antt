@@ -1,7 +1,6 @@
 -- What is noted once before the inputs are judged: what precedes what by ports, and the parents of the ports' writers.
 use Rattle.std.specs.Prelude.{◌≡◌, ◌<◌, ◌≤◌, ℕ, ◌+◌, List, get_or, slice_get, Option, Some, None}
-use Rattle.htl_model.specs.declared.parts.Inv.{Inv}
-use Rattle.htl_model.specs.Tables.{Tables}
+use Rattle.htl_refine.specs.Common.{Inv, Tables}
 use Rattle.htl_model.specs.Bits.{has_bit}
 use Rattle.htl_refine.specs.declared.order.Order.{Order}
 use Rattle.htl_refine.specs.Refining.{inv_precedes, writer_parent}

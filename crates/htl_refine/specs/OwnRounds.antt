@@ -1,11 +1,8 @@
 -- When the rounds of a module begin and how long they stand: each module has the period of its root module.
 use Rattle.std.specs.Prelude.{◌≡◌, ℕ, suc, ◌+◌, ◌*◌, ◌/◌, ◌<◌, true, List, Option, Some}
-use Rattle.htl_model.specs.declared.event.Event.{Event}
-use Rattle.htl_model.specs.declared.state.Stay.{Stay}
-use Rattle.htl_model.specs.FrameRules.{KeptApart}
+use Rattle.htl_refine.specs.Common.{Event, Stay, KeptApart, AreInRange}
 use Rattle.htl_model.specs.Frames.{root_periods, begins}
 use Rattle.htl_model.specs.Meaning.{state, stay_of}
-use Rattle.htl_model.specs.Ranges.{AreInRange}
 use Rattle.htl_model.specs.Tables.{Tables, mode_period}
 
 -- every round that stands began with the last whole period of its module

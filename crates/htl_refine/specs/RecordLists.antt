@@ -1,9 +1,6 @@
 -- The records of an instant are those of the list that ran up to it, and of the list that begins at it.
 use Rattle.std.specs.Prelude.{◌≡◌, ◌≢◌, ℕ, ◌+◌, ◌*◌, ◌/◌, ◌≤◌, ◌<◌, List, [], length, get_or, slice_get, Some}
-use Rattle.htl_model.specs.declared.event.Event.{Event}
-use Rattle.htl_model.specs.Frames.{frame_of, starts, node}
-use Rattle.htl_model.specs.Tables.{Tables}
-use Rattle.htl_walk.specs.declared.schedule.SInstr.{SInstr}
+use Rattle.htl_refine.specs.Common.{Event, frame_of, starts, node, Tables, SInstr}
 use Rattle.htl_refine.specs.FrameRecords.{RunningList, lists_at, left_in, old_records, new_records}
 use Rattle.htl_refine.specs.FrameRuns.{frame_modes, path_of, frame_at}
 use Rattle.htl_refine.specs.ListPlans.{leg_at, list_plan, list_walk}

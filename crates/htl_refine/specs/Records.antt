@@ -1,15 +1,7 @@
 -- What the processor does round by round: the jobs, how long each takes, and the records that the walk leaves.
 use Rattle.std.specs.Prelude.{◌≤◌, ℕ, ◌+◌, ◌-◌, ◌*◌, ◌/◌, ◌%◌, cond, ◌&&◌, eqb, leb, List, [], ◌∷◌, ◌++◌, get_or, slice_get, map, Option, Some, None, option_map}
-use Rattle.std.specs.List.{filter}
-use Rattle.htl_model.specs.declared.event.Event.{Event}
+use Rattle.htl_refine.specs.Common.{filter, Event, Stay, numbered, up_to, state, root_period, Tables, task_worst, Job, SInstr}
 use Rattle.htl_model.specs.declared.event.Event.TheVariants as V
-use Rattle.htl_model.specs.declared.state.Stay.{Stay}
-use Rattle.htl_model.specs.Lists.{numbered, up_to}
-use Rattle.htl_model.specs.Meaning.{state}
-use Rattle.htl_model.specs.Selections.{root_period}
-use Rattle.htl_model.specs.Tables.{Tables, task_worst}
-use Rattle.htl_walk.specs.declared.job.Job.{Job}
-use Rattle.htl_walk.specs.declared.schedule.SInstr.{SInstr}
 use Rattle.htl_walk.specs.Walk.{Left, walk}
 use Rattle.htl_refine.specs.ConcreteJobs.{concrete_jobs}
 use Rattle.htl_refine.specs.Roots.{selection_of}

@@ -1,8 +1,7 @@
 -- What the tests of the rules on refinement find.
 use Rattle.std.specs.Prelude.{ℕ, Bool, false, not, ◌&&◌, ◌||◌, cond, eqb, ltb, length, slice_get, Option, Some, None}
 use Rattle.std.specs.List.{list_any}
-use Rattle.htl_model.specs.declared.parts.Inv.{Inv}
-use Rattle.htl_model.specs.declared.parts.Module.{Module}
+use Rattle.htl_refine.specs.Common.{Inv, Module}
 use Rattle.htl_model.specs.declared.parts.End.{End}
 use Rattle.htl_model.specs.declared.parts.End.TheVariants as E
 use Rattle.htl_model.specs.PortOrder.{leads_below, feeds}

@@ -1,9 +1,7 @@
 -- The root selection to which a selection of running modes belongs.
 use Rattle.std.specs.Prelude.{ℕ, suc, ◌+◌, ◌*◌, cond, eqb, List, [], ◌∷◌, Option, Some, None}
-use Rattle.htl_model.specs.declared.parts.Module.{Module}
+use Rattle.htl_refine.specs.Common.{Module, Tables, entry}
 use Rattle.htl_model.specs.Selections.{is_root, modes_of, choices_from}
-use Rattle.htl_model.specs.Tables.{Tables}
-use Rattle.htl_model.specs.Selected.{entry}
 
 -- the place of a number in a list
 abbrev pub place_among : ℕ → List ℕ → ℕ

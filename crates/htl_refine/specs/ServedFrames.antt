@@ -1,12 +1,6 @@
 -- Lists that are accepted for all paths serve every frame of every run.
 use Rattle.std.specs.Prelude.{ℕ, ◌*◌, ◌<◌, List, length}
-use Rattle.htl_model.specs.declared.event.Event.{Event}
-use Rattle.htl_model.specs.FrameRules.{KeptApart}
-use Rattle.htl_model.specs.Frames.{frame_of}
-use Rattle.htl_model.specs.Ranges.{AreInRange}
-use Rattle.htl_model.specs.Selections.{root_modules}
-use Rattle.htl_model.specs.Tables.{Tables}
-use Rattle.htl_walk.specs.declared.schedule.SInstr.{SInstr}
+use Rattle.htl_refine.specs.Common.{Event, KeptApart, frame_of, AreInRange, root_modules, Tables, SInstr}
 use Rattle.htl_walk.specs.Feasible.{AreFeasible}
 use Rattle.htl_walk.specs.Paths.{AreInForm, AreChained, PathMeets}
 use Rattle.htl_refine.specs.FrameRuns.{Frame, frame_at}

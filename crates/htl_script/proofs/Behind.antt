@@ -1,15 +1,7 @@
 -- A script behind events: what others before its own make of it, and the whole script as what is left behind none.
 use Rattle.std.proofs.Common.{◌≡◌, ◌+◌, ℕ, List, [], ◌∷◌, ◌++◌, Option, Some, None, Result, Ok, Err, refl, sym, ap, ◌∙◌, append-nil, append_assoc}
-use Rattle.htl_model.specs.declared.event.Event.{Event}
-use Rattle.htl_model.specs.Tables.{Tables}
-use Rattle.htl_script.specs.declared.fault.ScriptKind.{ScriptKind}
+use Rattle.htl_script.proofs.Words.{Event, Tables, ScriptKind, Past, ScriptLine, lines_of, size_of, at_first, past_after_all, past_after, past_of, judged, Script, Whole, Bad, events_of, listed, ended, script_of, script_of_lines, behind, past_after_if, rest_at_end, rest_of_lines, Here, rest_of}
 use Rattle.htl_script.specs.declared.fault.ScriptKind.TheVariants as kind
-use Rattle.htl_script.specs.declared.judge.Past.{Past}
-use Rattle.htl_script.specs.Lines.{ScriptLine, lines_of, size_of}
-use Rattle.htl_script.specs.Judging.{at_first, past_after_all, past_after, past_of, judged}
-use Rattle.htl_script.specs.Script.{Script, Whole, Bad, events_of, listed, ended, script_of, script_of_lines}
-use Rattle.htl_script.specs.Reading.{behind, past_after_if, rest_at_end, rest_of_lines}
-use Rattle.htl_script.specs.Readers.{Here, rest_of}
 
 -- ---- events before a script's own
 

@@ -1,8 +1,6 @@
 -- Numbers that stand still at the end of 64 bits.
 use Rattle.std.proofs.Common.{◌≡◌, ◌-◌, ◌^◌, ℕ, min, List, [], ◌∷◌, refl, ap, ◌∙◌, arith}
-use Rattle.std.specs.List.{fold}
-use Rattle.htl_script.specs.Numbers.{with_digit}
-use Rattle.htl_script.specs.Reading.{with_digit_capped}
+use Rattle.htl_script.proofs.Words.{fold, with_digit, with_digit_capped}
 
 capped_step : (n digit : ℕ) → with_digit_capped (min n (2 ^ 64 - 1)) digit ≡ min (with_digit n digit) (2 ^ 64 - 1)
 capped_step n digit = omega arith

@@ -1,13 +1,8 @@
 -- Worked scripts.
 use Rattle.std.proofs.Common.{◌≡◌, ℕ, Bool, true, false, List, [], ◌∷◌, None, pos, negsuc, codes, replicate, refl}
-use Rattle.htl_base.specs.declared.Ty.TheVariants.{Int as IntTy, Bool as BoolTy}
-use Rattle.htl_model.proofs.Sources.{plain, sensor, mode, module_named, call}
+use Rattle.htl_script.proofs.Words.{IntTy, BoolTy, plain, sensor, mode, module_named, call, Task, Tables, is_past_limit, Whole, Bad, script_of}
 use Rattle.htl_model.specs.declared.event.Event.TheVariants as event
-use Rattle.htl_model.specs.declared.parts.Task.{Task}
-use Rattle.htl_model.specs.Tables.{Tables}
 use Rattle.htl_script.specs.declared.fault.ScriptKind.TheVariants as kind
-use Rattle.htl_script.specs.Lines.{is_past_limit}
-use Rattle.htl_script.specs.Script.{Whole, Bad, script_of}
 
 abbrev task_named : List ℕ → Bool → Task
 task_named name is_abstract = record { name = name; «module» = 0; is_abstract = is_abstract; worst = 4; inputs = []; outputs = [] }

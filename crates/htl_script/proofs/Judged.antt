@@ -1,21 +1,10 @@
 -- Lines that are judged by numbers that stand still at the end of 64 bits.
 use Rattle.std.proofs.Common.{◌≡◌, ◌-◌, ◌^◌, ◌≤◌, ℕ, min, Bool, true, false, not, List, [], ◌∷◌, length, Option, Some, None, Ok, Err, refl, sym, ap, ◌∙◌, arith}
 use Rattle.std.specs.Prelude.{is_none, is_some, unwrap_or, if◌then◌else◌}
-use Rattle.std.specs.Option.{option_map}
-use Rattle.std.proofs.lemmas.Bool.{true≢false, leb-true, ltb-true}
-use Rattle.std.proofs.lemmas.Bool.Decides.{nat_tests}
-use Rattle.std.proofs.lemmas.Option.{none-some, same_Some}
-use Rattle.std.proofs.lemmas.List.Splits.{length-slice_split}
-use Rattle.htl_base.specs.declared.Ty.{Ty}
+use Rattle.htl_script.proofs.Words.{option_map, true≢false, leb-true, ltb-true, nat_tests, none-some, same_Some, length-slice_split, Ty, Event, ScriptKind, Tables, Past, Sense, is_space, fields_of, statement_of, statement_of_fields, sensor_of, type_of, is_value, is_unknown, is_out_of_range, fault_of, event_of, event_unless, number_with_sign, judged_statement}
 use Rattle.htl_base.specs.declared.Ty.TheVariants as ty
-use Rattle.htl_model.specs.declared.event.Event.{Event}
 use Rattle.htl_model.specs.declared.event.Event.TheVariants as event
-use Rattle.htl_script.specs.declared.fault.ScriptKind.{ScriptKind}
-use Rattle.htl_model.specs.Tables.{Tables}
 use Rattle.htl_script.specs.declared.fault.ScriptKind.TheVariants as kind
-use Rattle.htl_script.specs.declared.judge.Past.{Past}
-use Rattle.htl_script.specs.Statements.{Sense, is_space, fields_of, statement_of, statement_of_fields}
-use Rattle.htl_script.specs.Judging.{sensor_of, type_of, is_value, is_unknown, is_out_of_range, fault_of, event_of, event_unless, number_with_sign, judged_statement}
 
 -- a value with its sign, capped
 abbrev pub capped : Bool × ℕ → Bool × ℕ

@@ -1,22 +1,6 @@
 -- The first item with a name, found among names in order.
 use Rattle.std.proofs.Common.{inl, inr, ◌≡◌, ◌≢◌, ◌+◌, ◌<◌, ℕ, zero, suc, Bool, true, false, ◌&&◌, not, cond, List, [], ◌∷◌, ◌++◌, length, get_or, Option, Some, None, Ok, Err, refl, ap, ◌∙◌, arith}
-use Rattle.std.specs.Prelude.{slice_get}
-use Rattle.std.specs.List.{position_from}
-use Rattle.std.specs.Str.{bytes_eq}
-use Rattle.std.proofs.lemmas.Bool.{cases_Bool}
-use Rattle.std.proofs.lemmas.Option.{none-some, same_Some, slice_get_within}
-use Rattle.std.proofs.lemmas.Slice.Eq.{bytes_eq-Decides}
-use Rattle.htl_model.specs.declared.parts.Comm.{Comm}
-use Rattle.htl_model.specs.declared.parts.Inv.{Inv}
-use Rattle.htl_model.specs.declared.parts.Mode.{Mode}
-use Rattle.htl_model.specs.declared.parts.Module.{Module}
-use Rattle.htl_model.specs.declared.parts.Task.{Task}
-use Rattle.htl_model.specs.Tables.{Tables}
-use Rattle.htl_script.specs.Judging.{is_sensor, is_invocation}
-use Rattle.htl_script.specs.Naming.{dotted, sensor_name, through, name_of, count_of, number_named}
-use Rattle.htl_script.specs.Orders.{AreOrdered, IsPlace}
-use Rattle.htl_script.specs.declared.naming.Named.{Named}
-use Rattle.htl_script.specs.declared.naming.Named.TheVariants.{Sensor, Invocation}
+use Rattle.htl_script.proofs.Words.{slice_get, position_from, bytes_eq, cases_Bool, none-some, same_Some, slice_get_within, bytes_eq-Decides, Comm, Inv, Mode, Module, Task, Tables, is_sensor, is_invocation, dotted, sensor_name, through, name_of, count_of, number_named, AreOrdered, IsPlace, Named, Sensor, Invocation}
 use Rattle.htl_script.proofs.Orders.{no_earlier, none_named}
 
 -- ---- the first item that passes a test

@@ -1,19 +1,6 @@
 -- Numbers in the order of their names: a search by halves, and a number that is put in its place.
-use Rattle.std.proofs.Math.Seq.{take-append_seam}
-use Rattle.std.proofs.lemmas.List.{length-append, length-take, length-drop}
+use Rattle.htl_script.proofs.Words.{take-append_seam, option_map, Ordering, Less, Equal, Greater, ordering_reverse, nat_cmp, is_eq, slice_cmp, nat_list_cmp_total, tied_itself, is_eq-slice_cmp, bytes_eq-Decides, same_Some, AreRising, AreOrdered, IsPlace, compared, cases_lt, cases_below_next, length-append, length-take, length-drop}
 use Rattle.std.proofs.Common.{inl, inr, ◌≡◌, ◌≢◌, ◌⊎◌, ◌+◌, ◌-◌, ◌<◌, ◌≤◌, ℕ, zero, suc, List, [], ◌∷◌, ◌++◌, length, get_or, set, take, drop, Option, Some, None, IsSome, Ok, Err, refl, sym, ap, ap₂, ◌∙◌, subst, arith, append_assoc}
-use Rattle.std.specs.Option.{option_map}
-use Rattle.std.specs.declared.cmp.Ordering.{Ordering}
-use Rattle.std.specs.declared.cmp.Ordering.TheVariants.{Less, Equal, Greater}
-use Rattle.std.specs.Ordering.{ordering_reverse, nat_cmp, is_eq}
-use Rattle.std.specs.Cmp.Lexicographic.{slice_cmp}
-use Rattle.std.proofs.lemmas.Cmp.{nat_list_cmp_total, tied_itself}
-use Rattle.std.proofs.lemmas.Map.Text.{is_eq-slice_cmp}
-use Rattle.std.proofs.lemmas.Slice.Eq.{bytes_eq-Decides}
-use Rattle.std.proofs.lemmas.Option.{same_Some}
-use Rattle.htl_script.specs.Orders.{AreRising, AreOrdered, IsPlace, compared}
-use Rattle.std.proofs.lemmas.Bool.{cases_lt}
-use Rattle.htl_base.proofs.Numbers.{cases_below_next}
 
 there : (o : Option (List ℕ)) → IsSome o → (a : List ℕ) × (o ≡ Some a)
 there (Some a) h = (a, refl)

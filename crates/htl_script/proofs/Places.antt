@@ -1,14 +1,6 @@
 -- The first item that passes a test, and the fields of a line.
 use Rattle.std.proofs.Common.{inl, inr, ◌≡◌, ◌+◌, ◌-◌, ◌<◌, ◌≤◌, ℕ, suc, Bool, true, false, cond, List, [], ◌∷◌, length, take, drop, Some, None, refl, sym, ap, ◌∙◌, subst, arith}
-use Rattle.std.specs.Prelude.{slice_get, nat_lt}
-use Rattle.std.specs.List.{position_from, position_or_len, All}
-use Rattle.std.proofs.lemmas.Bool.{cases_Bool, ltb-false}
-use Rattle.std.proofs.lemmas.Option.{none-some, same_Some}
-use Rattle.std.proofs.lemmas.List.Quantifiers.{position-Some}
-use Rattle.std.proofs.lemmas.List.Sums.{position_or_len_is, fails_before_first}
-use Rattle.std.proofs.lemmas.List.Splits.{slice_split_none, slice_split_first}
-use Rattle.std.proofs.lemmas.Iterator.Adapters.{position_from-zero}
-use Rattle.htl_script.specs.Statements.{is_space, fields_of}
+use Rattle.htl_script.proofs.Words.{slice_get, nat_lt, position_from, position_or_len, All, cases_Bool, ltb-false, none-some, same_Some, position-Some, position_or_len_is, fails_before_first, slice_split_none, slice_split_first, position_from-zero, is_space, fields_of}
 
 -- the item that a search finds
 pub found_item : {A : Type 0} (p : A → Bool) (xs : List A) (k i : ℕ) → position_from p k xs ≡ Some i

@@ -2,17 +2,8 @@
 use Rattle.std.proofs.Common.{◌≡◌, ℕ, ◌+◌, Bool, List, [], ◌∷◌, ◌++◌, Option, Some, None, Ok, Err, refl, ap, ap₂, ◌∙◌}
 use Rattle.std.specs.Prelude.{is_some, if◌then◌else◌}
 use Rattle.std.specs.declared.result.Result.{Result}
-use Rattle.htl_model.specs.Exchanged.{with_functions}
-use Rattle.htl_model.specs.Tables.{Tables, Fun}
-use Rattle.htl_model.specs.declared.event.Event.{Event}
-use Rattle.htl_script.specs.Laws.{FunctionsDecideNoScript}
-use Rattle.htl_script.specs.Judging.{is_unknown, is_out_of_range, is_out_of_order, overrun_of, fault_of, event_of, event_unless, judged_statement, judged_text, judged, as_some, past_of}
-use Rattle.htl_script.specs.Lines.{ScriptLine, lines_of, size_of, is_past_limit, is_long, is_passed_over}
-use Rattle.htl_script.specs.Script.{Script, Bad, listed, script_of_lines}
-use Rattle.htl_script.specs.Statements.{Statement, At, statement_of}
-use Rattle.htl_script.specs.declared.fault.ScriptKind.{ScriptKind}
+use Rattle.htl_script.proofs.Words.{with_functions, Tables, Fun, Event, FunctionsDecideNoScript, is_unknown, is_out_of_range, is_out_of_order, overrun_of, fault_of, event_of, event_unless, judged_statement, judged_text, judged, as_some, past_of, ScriptLine, lines_of, size_of, is_past_limit, is_long, is_passed_over, Script, Bad, listed, script_of_lines, Statement, At, statement_of, ScriptKind, Past}
 use Rattle.htl_script.specs.declared.fault.ScriptKind.TheVariants as kind
-use Rattle.htl_script.specs.declared.judge.Past.{Past}
 
 module _ (t : Tables) (fs : List Fun) where
   unknown_same : (s : Statement) → is_unknown t s ≡ is_unknown (with_functions t fs) s

@@ -1,19 +1,8 @@
 -- The first line of what is left of a script.
 use Rattle.std.proofs.Common.{inl, inr, ◌≡◌, ◌+◌, ◌≤◌, ◌<◌, ℕ, suc, min, Bool, true, false, cond, List, [], ◌∷◌, ◌++◌, length, Option, Result, Ok, Err, refl, sym, ap, ◌∙◌, arith, eqb, append-nil, length-append}
 use Rattle.std.specs.Prelude.{IfOk, if◌then◌else◌}
-use Rattle.std.specs.List.{slice_split, onto_first, All}
-use Rattle.std.proofs.lemmas.Bool.{cases_Bool, le-leb, lt-ltb, le-ltb, and_from, and_right, ne_eqb, eqb-true}
-use Rattle.std.proofs.lemmas.List.Splits.{slice_split_none, slice_split_at, slice_split-cons_yes, slice_split-cons_no}
-use Rattle.htl_model.specs.declared.event.Event.{Event}
-use Rattle.htl_model.specs.Tables.{Tables}
-use Rattle.htl_script.specs.declared.fault.ScriptKind.{ScriptKind}
+use Rattle.htl_script.proofs.Words.{slice_split, onto_first, All, cases_Bool, le-leb, lt-ltb, le-ltb, and_from, and_right, ne_eqb, eqb-true, slice_split_none, slice_split_at, slice_split-cons_yes, slice_split-cons_no, Event, Tables, ScriptKind, Past, ScriptLine, is_line_feed, lines_of_parts, lines_of, size_of, is_past_limit, is_long, judged_text, judged, Bad, listed, behind, answered, rest_of_lines, past_after_if, Here, IsHere, rest_of, next_line}
 use Rattle.htl_script.specs.declared.fault.ScriptKind.TheVariants as kind
-use Rattle.htl_script.specs.declared.judge.Past.{Past}
-use Rattle.htl_script.specs.Lines.{ScriptLine, is_line_feed, lines_of_parts, lines_of, size_of, is_past_limit, is_long}
-use Rattle.htl_script.specs.Judging.{judged_text, judged}
-use Rattle.htl_script.specs.Script.{Bad, listed}
-use Rattle.htl_script.specs.Reading.{behind, answered, rest_of_lines, past_after_if}
-use Rattle.htl_script.specs.Readers.{Here, IsHere, rest_of, next_line}
 
 -- ---- lines
 

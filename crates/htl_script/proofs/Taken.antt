@@ -1,10 +1,6 @@
 -- How much of its source a reader takes: what it counts, with the bytes that it read ahead.
 use Rattle.std.proofs.Common.{arith, ◌≡◌, ◌≤◌, ◌+◌, ℕ, List, [], ◌∷◌, ◌++◌, length, length-append, Option, Some, Result, Ok, Err, IfOk, ap, ◌∙◌}
-use Rattle.std.specs.Io.KnownBytes.{prepend_known}
-use Rattle.htl_script.specs.Reading.{LosesFront}
-use Rattle.htl_script.specs.Readers.{Here}
-use Rattle.htl_script.specs.Streaming.{Ahead, Pending, GivesByte, LosesPiece, at_start, taken_of}
-use Rattle.htl_base.proofs.Places.{prepend_known-append, prepend_known-nil}
+use Rattle.htl_script.proofs.Words.{prepend_known, LosesFront, Here, Ahead, Pending, GivesByte, LosesPiece, at_start, taken_of, prepend_known-append, prepend_known-nil}
 
 -- nothing
 pub taken_none : {T E : Type 0} (a : Ahead) (known : Option (List ℕ)) (x : T) → LosesPiece {T = T} {E = E} a a known known (Ok x)
@@ -44,9 +40,9 @@ module _ (F S U : Type 0) (first : Ahead) (here : Here) (old new : Pending) (kno
         few = λ few. omega (arith, piece, all, before, small, short);
         counted = tt;
       }
-
   -- the source has no more
   -- the source failed
+
 -- bytes that were read ahead are moved to the line
 pub taken_same : (first a b : Ahead) (known rest : Option (List ℕ)) → taken_of b ≡ taken_of a → LosesPiece {T = Unit {0}} {E = Unit {0}} first a known rest (Ok tt) → LosesPiece {T = Unit {0}} {E = Unit {0}} first b known rest (Ok tt)
 taken_same first a b known rest same h = record { front = h.front; lost = h.lost; few = h.few; counted = same ∙ h.counted }

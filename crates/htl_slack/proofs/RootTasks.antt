@@ -1,21 +1,14 @@
 -- Tasks that are invoked in root modules: how they are found, and that their worst cases are within their modules' periods.
 use Rattle.std.proofs.Common.{◌≡◌, ◌≤◌, ◌<◌, ℕ, zero, suc, Bool, true, false, ◌||◌, ◌&&◌, eqb, eqb-true, eq-eqb, List, [], ◌∷◌, length, slice_get, Option, Some, None, refl, sym, ◌∙◌, ap, subst, arith, inl, inr}
-use Rattle.std.specs.List.{list_any}
-use Rattle.std.proofs.lemmas.Option.{slice_get_cases}
+use Rattle.htl_edf.proofs.Words.{list_any, slice_get_cases, KeptApart, unit_period, AreInRange, IsInvInRange, IsModeInRange, IsTaskInRange, IsSpan, Tables, mode_module, mode_period, task_worst, and_parts, cases_lt}
+use Rattle.htl_walk.proofs.Words.{is_root, each_at}
 use Rattle.htl_model.specs.declared.parts.Inv.{Inv}
 use Rattle.htl_model.specs.declared.parts.Mode.{Mode}
 use Rattle.htl_model.specs.declared.parts.Module.{Module}
 use Rattle.htl_model.specs.declared.parts.Task.{Task}
 use Rattle.htl_model.specs.FormRules.{WorstCases, Itself, Site}
-use Rattle.htl_model.specs.FrameRules.{KeptApart}
-use Rattle.htl_model.specs.Frames.{unit_period}
-use Rattle.htl_model.specs.Ranges.{AreInRange, IsInvInRange, IsModeInRange, IsTaskInRange, IsSpan}
-use Rattle.htl_model.specs.Selections.{is_root}
-use Rattle.htl_model.specs.Tables.{Tables, mode_module, mode_period, task_worst}
 use Rattle.htl_walk.proofs.PathReady.{IsRootAt, as_unit}
 use Rattle.htl_slack.specs.RootTasks.{IsRootTask, task_module, limit_of, is_root_at, calls}
-use Rattle.htl_base.proofs.Places.{each_at}
-use Rattle.std.proofs.lemmas.Bool.{and_parts, cases_lt}
 
 -- ---- the test
 

@@ -1,13 +1,10 @@
 -- The search by halves ends with the greatest worst case.
 use Rattle.std.proofs.Common.{◌≡◌, ◌≤◌, ◌<◌, ◌+◌, ◌-◌, ◌/◌, ℕ, suc, pos, Option, Some, None, sym, subst, ◌∙◌, arith}
 use Rattle.htl_model.specs.declared.frame.Frame.{Frame}
-use Rattle.htl_model.specs.Frames.{nodes}
-use Rattle.htl_model.specs.FrameTables.{IsFrame}
-use Rattle.htl_model.specs.Tables.{Tables, task_worst}
+use Rattle.htl_edf.proofs.Words.{nodes, IsFrame, Tables, task_worst, AreReady, ExplainsNodes}
 use Rattle.htl_edf.specs.Greatest.{with_worst, Fits, IsGreatest}
 use Rattle.htl_edf.proofs.Greatest.{greatest_by_one_more}
 use Rattle.htl_edf.specs.declared.plan.PlanFault.TheVariants.{Overload}
-use Rattle.htl_edf.specs.NodePlans.{AreReady, ExplainsNodes}
 use Rattle.htl_edf.proofs.FrameTasks.{frame_with_worst}
 use Rattle.htl_edf.proofs.ReadyTasks.{own_worst, ready_with_worst}
 use Rattle.htl_slack.specs.declared.report.Above.{Above}

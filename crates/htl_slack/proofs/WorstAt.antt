@@ -1,9 +1,8 @@
 -- Tasks with another worst case at a place are the same tasks in all else.
 use Rattle.std.proofs.Common.{◌≡◌, ℕ, zero, suc, ◌<◌, List, [], ◌∷◌, length, map, get_or, slice_get, slice_set, Some, refl, ap, ◌∙◌, arith}
-use Rattle.std.proofs.lemmas.Option.{same_Some}
+use Rattle.htl_edf.proofs.Words.{same_Some, Tables, worst_in, with_worst}
+use Rattle.htl_model.proofs.Words.{count_at, count_before}
 use Rattle.htl_model.specs.declared.parts.Task.{Task}
-use Rattle.htl_model.specs.Tables.{Tables, count_at, count_before}
-use Rattle.htl_edf.specs.Greatest.{worst_in, with_worst}
 
 pub length-worst_in : (w k : ℕ) (ts : List Task) → length (worst_in w k ts) ≡ length ts
 length-worst_in w k [] = refl

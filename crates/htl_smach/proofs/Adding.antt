@@ -1,14 +1,6 @@
 -- A list that goes on with further positions.
 use Rattle.std.proofs.Common.{◌≡◌, ℕ, ◌+◌, ◌-◌, ◌≤◌, ◌<◌, Bool, true, false, eqb, List, ◌++◌, length, get_or, take, replicate, refl, sym, ap, ap₂, ◌∙◌, arith, inl, inr}
-use Rattle.std.proofs.lemmas.Bool.{cases_lt}
-use Rattle.htl_walk.specs.declared.job.Job.{Job}
-use Rattle.htl_walk.specs.declared.schedule.SInstr.{SInstr}
-use Rattle.htl_walk.specs.Walk.{Point, job_at, last_point, work}
-use Rattle.htl_walk.proofs.Acceptance.{left_falls_to}
-use Rattle.htl_walk.proofs.Work.{job_there, work_some}
-use Rattle.htl_smach.specs.declared.state.PosState.TheVariants.{Pending}
-use Rattle.htl_smach.specs.Rounds.{Round, state_by, state_of, added, Stands}
-use Rattle.htl_smach.specs.Adding.{IsEven, CanBegin, StandsAdded}
+use Rattle.htl_smach.proofs.Words.{cases_lt, Job, SInstr, Point, job_at, last_point, work, left_falls_to, job_there, work_some, Pending, Round, state_by, state_of, added, Stands, IsEven, CanBegin, StandsAdded}
 use Rattle.htl_smach.proofs.Joined.{job_left, job_right, get_left, get_right, both_parts}
 use Rattle.htl_smach.proofs.RoundRecords.{IsPending, pending_is, is_pending}
 

@@ -1,11 +1,6 @@
 -- Bits that are written, and jobs that begin one after another.
 use Rattle.std.proofs.Common.{◌≡◌, ℕ, ◌+◌, ◌<◌, ◌⊎◌, Bool, false, cond, not, List, refl, sym, ap, ◌∙◌, arith, inl, inr}
-use Rattle.htl_model.specs.Bits.{has_bit}
-use Rattle.htl_walk.specs.declared.job.Job.{Job}
-use Rattle.htl_walk.specs.Walk.{job_at}
-use Rattle.htl_smach.specs.States.{IsPut, HaveBegun, AreStates}
-use Rattle.htl_smach.specs.declared.position_states.PositionStates.{PositionStates}
-use Rattle.std.proofs.lemmas.Bool.{eq-eqb, ne_eqb}
+use Rattle.htl_smach.proofs.Words.{has_bit, Job, job_at, IsPut, HaveBegun, AreStates, PositionStates, eq-eqb, ne_eqb}
 
 pub same_bit : (old new p : ℕ) (b : Bool) → IsPut old new p b → (q : ℕ) → q ≡ p → has_bit new q ≡ b
 same_bit old new p b put q e = put q ∙ ap (λ x. cond x b (has_bit old q)) (eq-eqb q p e)

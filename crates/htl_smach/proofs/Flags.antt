@@ -1,13 +1,7 @@
 -- The flags of a set, as a list.
 use Rattle.std.proofs.Common.{◌≡◌, ℕ, zero, suc, ◌+◌, ◌-◌, ◌<◌, Bool, true, false, cond, eqb, List, ◌++◌, length, get_or, set, replicate, refl, sym, ap, ◌∙◌, arith, inl, inr, get_or-set_same, get_or-set_other}
-use Rattle.std.proofs.lemmas.Bool.{cases_lt}
-use Rattle.std.proofs.lemmas.Bool.Decides.{nat_tests}
-use Rattle.std.proofs.lemmas.List.{ext_get_or, length-append, length-replicate}
-use Rattle.std.proofs.Math.ListN.{length-set}
-use Rattle.htl_model.specs.Bits.{has_bit}
-use Rattle.htl_smach.specs.States.{flags_from, flags, IsPut}
+use Rattle.htl_smach.proofs.Words.{cases_lt, nat_tests, ext_get_or, length-append, length-replicate, length-set, has_bit, flags_from, flags, IsPut, none_marked}
 use Rattle.htl_smach.proofs.Joined.{get_left, get_right}
-use Rattle.htl_base.proofs.Places.{none_marked}
 
 length-from : (row k n : ℕ) → length (flags_from row k n) ≡ n
 length-from row k zero = refl

@@ -1,27 +1,9 @@
 -- The fields of a machine and its round.
 use Rattle.std.proofs.Common.{◌≡◌, ℕ, zero, suc, ◌+◌, ◌-◌, ◌≤◌, ◌<◌, Bool, true, false, cond, not, List, [], ◌∷◌, ◌++◌, length, get_or, set, take, replicate, Option, Some, None, IfSome, refl, sym, ap, ap₂, ◌∙◌, arith, inl, inr, ltb, eqb, add-one, get_or-set_same, get_or-set_other}
-use Rattle.std.proofs.lemmas.Bool.{cases_lt, cases_eq}
-use Rattle.std.proofs.lemmas.Bool.Decides.{nat_tests}
-use Rattle.std.proofs.lemmas.List.{length-take, ext_get_or, get_or-take}
-use Rattle.htl_walk.proofs.Work.{job_there, work_present}
-use Rattle.std.proofs.Math.ListN.{length-set}
-use Rattle.std.proofs.Math.Seq.{take-set-lt, take-append_seam}
-use Rattle.htl_model.specs.Bits.{has_bit}
-use Rattle.htl_walk.specs.declared.job.Job.{Job}
-use Rattle.htl_walk.specs.Walk.{job_at, work}
-use Rattle.htl_walk.specs.Refinement.{HaveLengths}
-use Rattle.htl_smach.specs.declared.machine.SMach.TheInside.{Inside}
-use Rattle.htl_smach.specs.declared.step.Step.{Step}
-use Rattle.htl_smach.specs.Fields.{inside_round}
-use Rattle.htl_smach.specs.Rounds.{Round, added_from, state_by, state_of}
-use Rattle.htl_smach.specs.Adding.{IsEven}
-use Rattle.htl_smach.specs.States.{flags, IsPut, state_in, HaveBegun, AreStates}
-use Rattle.htl_smach.specs.declared.position_states.PositionStates.{PositionStates}
-use Rattle.htl_smach.specs.Steps.{put_work, point_of}
+use Rattle.htl_smach.proofs.Words.{cases_lt, cases_eq, nat_tests, length-take, ext_get_or, get_or-take, job_there, work_present, length-set, take-set-lt, take-append_seam, has_bit, Job, job_at, work, HaveLengths, Inside, Step, inside_round, Round, added_from, state_by, state_of, IsEven, flags, IsPut, state_in, HaveBegun, AreStates, PositionStates, put_work, point_of, work_length}
 use Rattle.htl_smach.proofs.Flags.{flag_at, length-flags, flags_put, flags_more}
 use Rattle.htl_smach.proofs.Joined.{job_left, job_right, get_left, get_right, behind, job_taken}
 use Rattle.htl_smach.proofs.RoundRecords.{with_length, with_release, absent_idle}
-use Rattle.htl_walk.proofs.CodeWalk.{work_length}
 use Rattle.htl_smach.proofs.Finishing.{none_left}
 
 pub below_count : {X : Type 0} (n : ℕ) (xs : List X) (p : ℕ) → p < length (take n xs) → p < n

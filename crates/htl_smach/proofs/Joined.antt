@@ -1,12 +1,6 @@
 -- Lists of positions, joined.
 use Rattle.std.proofs.Common.{◌≡◌, ℕ, zero, suc, ◌+◌, ◌-◌, ◌≤◌, ◌<◌, true, List, [], ◌∷◌, ◌++◌, length, get_or, slice_get, take, Some, refl, sym, ap, ◌∙◌, subst, arith, inl, inr, append_assoc}
-use Rattle.std.proofs.lemmas.Bool.{cases_lt}
-use Rattle.std.proofs.lemmas.List.{length-take, length-append}
-use Rattle.std.proofs.Math.Seq.{take-append_seam}
-use Rattle.std.proofs.lemmas.Option.{slice_get-get_or}
-use Rattle.htl_walk.specs.declared.job.Job.{Job}
-use Rattle.htl_walk.specs.Walk.{job_at}
-use Rattle.htl_walk.proofs.Work.{job_is}
+use Rattle.htl_smach.proofs.Words.{cases_lt, length-take, length-append, take-append_seam, slice_get-get_or, Job, job_at, job_is}
 
 pub job_left : (xs ys : List Job) (p : ℕ) → p < length xs → job_at (xs ++ ys) p ≡ job_at xs p
 job_left [] ys p h = absurd (omega arith)

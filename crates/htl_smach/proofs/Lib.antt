@@ -10,3 +10,4 @@ pub mod Lengths
 pub mod PathRuns
 pub mod RoundRecords
 pub mod Timely
+pub mod Words

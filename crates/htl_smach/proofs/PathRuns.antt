@@ -1,27 +1,11 @@
 -- The answers of a machine that goes through the lists of a path are the records of the path's walk.
 use Rattle.std.proofs.Common.{◌≡◌, ℕ, zero, suc, ◌+◌, ◌-◌, ◌≤◌, ◌<◌, Bool, true, false, cond, ◌&&◌, eqb, List, [], ◌∷◌, ◌++◌, length, get_or, take, drop, map, Option, Some, None, is_some, refl, sym, ap, ◌∙◌, subst, arith, inl, inr, append_assoc, append-nil}
-use Rattle.std.proofs.lemmas.Bool.{cases_lt, ltb-false}
-use Rattle.std.proofs.lemmas.List.{length-append, length-drop, length-map, length-take-le, take_all}
-use Rattle.htl_walk.specs.declared.job.Job.{Job}
-use Rattle.htl_walk.specs.declared.schedule.SInstr.{SInstr}
-use Rattle.htl_walk.specs.Paths.{Leg, list_point, walks_from, walk_path, end_to_end, AreInForm, AreChained, path_point, AgreeAt}
+use Rattle.htl_smach.proofs.Words.{cases_lt, ltb-false, length-append, length-drop, length-map, length-take-le, take_all, Job, SInstr, Leg, list_point, walks_from, walk_path, end_to_end, AreInForm, AreChained, path_point, AgreeAt, Point, job_at, walk_from, last_point, first_point, work, finish, is_position, InForm, left_falls_to, untouched, same_length, walk_alike, job_there, work_present, Left, after_all, PathRun, no_leg, leg_at, list_at, untils_at, list_begun, list_answers, answers_before, IsOver, told_path, IsPath, PathRecords, FinishedBefore, Round, told_from, walk_records, next_left, after, front_more, work_length, eqb_some}
 use Rattle.htl_walk.specs.Walk as walks
-use Rattle.htl_walk.specs.Walk.{Point, job_at, walk_from, last_point, first_point, work, finish, is_position, InForm}
-use Rattle.htl_walk.proofs.Acceptance.{left_falls_to}
-use Rattle.htl_walk.proofs.GoingOn.{untouched, same_length}
-use Rattle.htl_walk.proofs.Locality.{walk_alike}
-use Rattle.htl_walk.proofs.Work.{job_there, work_present}
-use Rattle.htl_smach.specs.declared.left.Left.{Left}
-use Rattle.htl_smach.specs.Order.{after_all}
-use Rattle.htl_smach.specs.PathRuns.{PathRun, no_leg, leg_at, list_at, untils_at, list_begun, list_answers, answers_before, IsOver, told_path, IsPath, PathRecords, FinishedBefore}
-use Rattle.htl_smach.specs.Rounds.{Round, told_from, walk_records, next_left, after}
 use Rattle.htl_smach.proofs.Answering.{records_in_order}
 use Rattle.htl_smach.proofs.Finishing.{finished_where_none, never_finished, none_left}
 use Rattle.htl_smach.proofs.Joined.{get_left, get_right, job_taken}
 use Rattle.htl_smach.proofs.RoundRecords.{absent_idle}
-use Rattle.htl_base.proofs.Places.{front_more}
-use Rattle.htl_walk.proofs.CodeWalk.{work_length}
-use Rattle.htl_base.proofs.Tests.{eqb_some}
 
 -- ---- lists
 

@@ -1,22 +1,9 @@
 -- The records of a round, one by one.
 use Rattle.std.proofs.Common.{◌≡◌, ℕ, zero, suc, ◌+◌, ◌≤◌, ◌<◌, ◌⊎◌, Bool, true, false, cond, ◌&&◌, eqb, ltb, List, [], ◌∷◌, ◌++◌, length, get_or, slice_get, set, take, Option, Some, None, is_some, IsSome, ◌↔◌, refl, sym, ap, ap₂, ◌∙◌, subst, arith, inl, inr, get_or-set_same, get_or-set_other}
-use Rattle.std.proofs.lemmas.Bool.Decides.{nat_tests}
-use Rattle.htl_walk.specs.declared.job.Job.{Job}
-use Rattle.htl_walk.specs.declared.schedule.SInstr.{SInstr}
+use Rattle.htl_smach.proofs.Words.{nat_tests, Job, SInstr, Point, job_at, next_point, left_by, walk_from, last_point, first_point, work, finish, HaveLengths, AreWithinWorst, left_falls, point_step, left_falls_to, job_there, job_is, work_present, work_some, Left, Pending, Ready, Done, Round, round_begun, told, told_from, walk_records, given, left_until, next_left, moved, state_by, state_of, finish_so_far, was_finished, IsFinishedSoFar, Stands, IsTold, cases_eq, cases_lt, le-leb, lt-leb, same_Some, eqb_some}
 use Rattle.htl_walk.specs.Walk as walks
-use Rattle.htl_walk.specs.Walk.{Point, job_at, next_point, left_by, walk_from, last_point, first_point, work, finish}
-use Rattle.htl_walk.specs.Refinement.{HaveLengths, AreWithinWorst}
-use Rattle.htl_walk.proofs.Steps.{left_falls}
-use Rattle.htl_walk.proofs.Acceptance.{point_step, left_falls_to}
-use Rattle.htl_walk.proofs.Work.{job_there, job_is, work_present, work_some}
-use Rattle.htl_smach.specs.declared.left.Left.{Left}
-use Rattle.htl_smach.specs.declared.state.PosState.TheVariants.{Pending, Ready, Done}
-use Rattle.htl_smach.specs.Rounds.{Round, round_begun, told, told_from, walk_records, given, left_until, next_left, moved, state_by, state_of, finish_so_far, was_finished, IsFinishedSoFar, Stands, IsTold}
 use Rattle.htl_smach.proofs.Lengths.{with_work, SameWalk, same_walk, some_below}
 use Rattle.htl_smach.proofs.Finishing.{walk-take, finished_where_none, never_finished}
-use Rattle.std.proofs.lemmas.Bool.{cases_eq, cases_lt, le-leb, lt-leb}
-use Rattle.std.proofs.lemmas.Option.{same_Some}
-use Rattle.htl_base.proofs.Tests.{eqb_some}
 
 -- ---- the records as a list
 

@@ -1,16 +1,7 @@
 -- The records given are those left by an instant, where no further one is.
 use Rattle.std.proofs.Common.{◌≡◌, ℕ, zero, suc, ◌+◌, ◌≤◌, ◌<◌, Bool, true, false, cond, leb, List, [], ◌∷◌, length, slice_get, take, Some, None, refl, sym, ap, ◌∙◌, subst, arith, inl, inr}
-use Rattle.std.proofs.lemmas.Option.{slice_get_cases}
-use Rattle.htl_walk.specs.declared.job.Job.{Job}
-use Rattle.htl_walk.specs.declared.schedule.SInstr.{SInstr}
-use Rattle.htl_walk.specs.Walk.{Point, next_point, left_by, walk_from, last_point}
-use Rattle.htl_walk.proofs.Steps.{time_rises}
-use Rattle.htl_walk.proofs.Waiting.{time_rises_to}
-use Rattle.htl_smach.specs.declared.left.Left.{Left}
-use Rattle.htl_smach.specs.Rounds.{told, told_from, walk_records, left_until}
-use Rattle.htl_smach.specs.Order.{left_by_then, RecordsOfLengths, NoneLeftOut}
+use Rattle.htl_smach.proofs.Words.{slice_get_cases, Job, SInstr, Point, next_point, left_by, walk_from, last_point, time_rises, time_rises_to, Left, told, told_from, walk_records, left_until, left_by_then, RecordsOfLengths, NoneLeftOut, le-leb, leb-false, lt-leb}
 use Rattle.htl_smach.proofs.RoundRecords.{next_record_is}
-use Rattle.std.proofs.lemmas.Bool.{le-leb, leb-false, lt-leb}
 
 pub records_of_lengths : RecordsOfLengths
 records_of_lengths r s st first = ap (λ (x : Point). told_from r.start 0 (walk_from r.jobs s x)) first

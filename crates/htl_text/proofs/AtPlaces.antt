@@ -1,22 +1,10 @@
 -- The token at a place, as it is kept, and what begins there.
 use Rattle.std.proofs.Common.{◌+◌, ◌^◌, ◌≡◌, ◌<◌, ℕ, ℤ, pos, zero, suc, Bool, true, false, cond, List, [], ◌∷◌, length, drop, Option, None, Some, refl, ap, sym, subst, ◌∙◌}
-use Rattle.std.specs.Prelude.{slice_get, nat_lt}
-use Rattle.std.specs.Option.{option_map}
-use Rattle.std.specs.Str.Parse.{digits_value}
-use Rattle.std.proofs.lemmas.Option.{slice_get-map, slice_get_within}
+use Rattle.htl_text.proofs.Words.{slice_get, nat_lt, option_map, digits_value, slice_get-map, slice_get_within, is_name, text_in, spelled, token_in, tokens_in, kind_at, IsKept, kind_of, FirstIs, is_numeral, number_of, word_of, sign_of, token_of, or_else, Entry, Kind, ASign, Token, AWord}
 use native.Mathlib.Numerals.{unary_clauses}
-use Rattle.htl_base.specs.Names.{is_name}
-use Rattle.htl_text.specs.Entries.{text_in, spelled, token_in, tokens_in, kind_at, IsKept}
-use Rattle.htl_text.specs.Kinds.{kind_of, FirstIs}
-use Rattle.htl_text.specs.Texts.{is_numeral, number_of, word_of, sign_of, token_of, or_else}
 use Rattle.htl_text.proofs.Spellable.{spellable}
-use Rattle.htl_text.specs.declared.entry.Entry.{Entry}
-use Rattle.htl_text.specs.declared.token.Kind.{Kind}
 use Rattle.htl_text.specs.declared.token.Kind.TheVariants as kind
-use Rattle.htl_text.specs.declared.token.Sign.{Sign as ASign}
-use Rattle.htl_text.specs.declared.token.Token.{Token}
 use Rattle.htl_text.specs.declared.token.Token.TheVariants as token
-use Rattle.htl_text.specs.declared.token.Word.{Word as AWord}
 
 -- what begins where a token stands
 pub drop-at : (ts : List Token) (place : ℕ) (t : Token) → slice_get ts place ≡ Some t → drop place ts ≡ t ∷ drop (place + 1) ts

@@ -1,26 +1,10 @@
 -- The tokens that were found so far, and what is left.
 use Rattle.std.proofs.Common.{arith, ◌+◌, ◌-◌, ◌^◌, ◌≡◌, ◌≢◌, ◌≤◌, ◌<◌, ℕ, pos, zero, suc, Bool, true, false, cond, not, ◌&&◌, ◌||◌, List, [], ◌∷◌, ◌++◌, length, map, take, drop, Option, None, Some, refl, sym, subst, ap, ◌∙◌, inl, inr, append-nil, length-append, length-take-le, length-drop}
 use Rattle.std.specs.Prelude.{◌⊎◌, ◌==◌, nat_lt, is_some, find}
-use Rattle.std.specs.List.{list_any, zip}
-use Rattle.std.specs.Option.{option_map}
-use Rattle.std.specs.Str.{bytes_eq}
-use Rattle.std.specs.Str.Parse.{digits_value}
-use Rattle.std.proofs.lemmas.List.{take-append-drop}
-use Rattle.std.proofs.lemmas.Slice.Eq.{bytes_eq-Decides}
-use Rattle.std.proofs.lemmas.Slice.Zip.{length-zip}
-use Rattle.std.proofs.lemmas.Bool.Decides.{nat_tests}
-use Rattle.htl_base.specs.Names.{is_identifier, is_reserved, is_name}
-use Rattle.htl_text.specs.Texts.{words, look_up, is_token, is_numeral, token_of, word_of, sign_of, or_else, number_of}
-use Rattle.htl_text.specs.Spans.{Gap, IsSpan, Item, Cuts, IsCut, Tokens, IsFault, Faults}
-use Rattle.htl_text.specs.TokenLists.{AreHeld}
-use Rattle.htl_text.specs.Scanning.{skip, token_len}
+use Rattle.htl_text.proofs.Words.{list_any, zip, option_map, bytes_eq, digits_value, take-append-drop, bytes_eq-Decides, length-zip, nat_tests, is_identifier, is_reserved, is_name, words, look_up, is_token, is_numeral, token_of, word_of, sign_of, or_else, number_of, Gap, IsSpan, Item, Cuts, IsCut, Tokens, IsFault, Faults, AreHeld, skip, token_len, Token, Ident, Number, Word, Sign, ASign, LexFault}
 use Rattle.htl_text.proofs.Lengths.{token-most, token_len-fits}
 use Rattle.htl_text.proofs.Skipping.{IsSolid, Skipped, skipped, IsSpan-front, Cuts-push}
 use Rattle.htl_text.proofs.Spellable.{cuts-spellable}
-use Rattle.htl_text.specs.declared.token.Token.{Token}
-use Rattle.htl_text.specs.declared.token.Token.TheVariants.{Ident, Number, Word, Sign}
-use Rattle.htl_text.specs.declared.token.Sign.{Sign as ASign}
-use Rattle.htl_text.specs.declared.lexer.LexFault.{LexFault}
 use Rattle.htl_text.specs.declared.lexer.LexFault.TheVariants as fault
 
 pub look_up-none : {T : Type 0} (es : List (List ℕ × T)) (text : List ℕ) → look_up es text ≡ None → list_any (bytes_eq text) (map (λ (e : List ℕ × T). e.0) es) ≡ false

@@ -1,23 +1,13 @@
 -- The printed form of a program and its size, as the definitions compute them.
 use Rattle.std.proofs.Common.{◌≡◌, ◌+◌, ℕ, pos, true, Some, List, [], ◌∷◌, ◌++◌, refl}
-use Rattle.std.specs.Prelude.{codes}
-use Rattle.std.specs.Fmt.{decimal}
+use Rattle.htl_text.proofs.Words.{codes, decimal, tree_nodes, names_of, tree_size, PlainOut, Concrete, Abstract, PlainTask, PlainMode, PlainProgram, source_tokens, Id, Num, ParamNode, CommNode, EndNode, InvokeNode}
 use Rattle.htl_base.specs.declared.Ty.TheVariants as ty
 use Rattle.htl_base.specs.declared.operator.UnOp.TheVariants as un
 use Rattle.htl_base.specs.declared.operator.BinOp.TheVariants as bin
-use Rattle.htl_text.specs.Bounds.{tree_nodes, names_of, tree_size}
 use Rattle.htl_text.specs.Expressions.{Expr, Number, Flag, Variable, Prefix, Infix, Choice}
-use Rattle.htl_text.specs.Nodes.{PlainOut, Concrete, Abstract, PlainTask, PlainMode, PlainProgram}
-use Rattle.htl_text.specs.PrintedTokens.{source_tokens}
 use Rattle.htl_text.specs.PrintedBytes.{printed_bytes}
-use Rattle.htl_text.specs.declared.tree.Id.{Id}
-use Rattle.htl_text.specs.declared.tree.Num.{Num}
-use Rattle.htl_text.specs.declared.tree.ParamNode.{ParamNode}
-use Rattle.htl_text.specs.declared.tree.CommNode.{CommNode}
 use Rattle.htl_text.specs.declared.tree.ConstNode.TheVariants as const
-use Rattle.htl_text.specs.declared.tree.EndNode.{EndNode}
 use Rattle.htl_text.specs.declared.tree.EndNode.TheVariants as end
-use Rattle.htl_text.specs.declared.tree.InvokeNode.{InvokeNode}
 
 abbrev id : List ℕ → Id
 id name = record { name = name; token = 0 }

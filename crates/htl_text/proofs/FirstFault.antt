@@ -1,26 +1,10 @@
 -- A text has tokens or a first fault, not both, and one first fault at most.
 use Rattle.std.proofs.Common.{arith, ◌+◌, ◌^◌, ◌≡◌, ◌≤◌, ◌<◌, ℕ, zero, suc, pos, Bool, true, false, cond, not, ◌&&◌, List, [], ◌∷◌, ◌++◌, length, take, Option, None, Some, Result, Ok, Err, refl, sym, subst, ap, ◌∙◌, inl, inr, append-nil, length-append}
 use Rattle.std.specs.Prelude.{◌==◌, nat_lt, is_some, slice_index}
-use Rattle.std.specs.Char.{is_ascii_digit}
-use Rattle.std.specs.List.{list_all, zip}
-use Rattle.std.specs.Option.{option_map}
-use Rattle.std.specs.Str.Parse.{digits_value}
-use Rattle.std.proofs.Math.Seq.{take-append_seam}
-use Rattle.std.proofs.lemmas.Bool.Decides.{nat_tests, Decides-eqb}
-use Rattle.htl_base.specs.Names.{is_letter, is_word_byte, is_identifier, is_name, is_reserved}
-use Rattle.htl_text.specs.Answers.{IsLexed, TellsTokens, TellsFault}
-use Rattle.htl_text.specs.Texts.{is_token, is_numeral, token_of, word_of, sign_of, number_of, or_else}
-use Rattle.htl_text.specs.TokenLists.{TokenList}
-use Rattle.htl_text.specs.Spans.{Gap, IsSpan, Item, Cuts, Tokens, IsFault, Faults, is_blank}
-use Rattle.htl_text.specs.Scanning.{skip, token_len}
+use Rattle.htl_text.proofs.Words.{is_ascii_digit, list_all, zip, option_map, digits_value, take-append_seam, nat_tests, Decides-eqb, is_letter, is_word_byte, is_identifier, is_name, is_reserved, IsLexed, TellsTokens, TellsFault, is_token, is_numeral, token_of, word_of, sign_of, number_of, or_else, TokenList, Gap, IsSpan, Item, Cuts, Tokens, IsFault, Faults, is_blank, skip, token_len, Token, Ident, Number, Word, Sign, AWord, ASign, LexFault}
 use Rattle.htl_text.proofs.Lengths.{token-taken, token_len-fits, sign-short, word-short}
 use Rattle.htl_text.proofs.Skipping.{IsSolid}
 use Rattle.htl_text.proofs.OneCut.{gap-skip, skip-solid, span-solid, span-len, Found, found, gap-nothing, span-some, Tokens-unique}
-use Rattle.htl_text.specs.declared.token.Token.{Token}
-use Rattle.htl_text.specs.declared.token.Token.TheVariants.{Ident, Number, Word, Sign}
-use Rattle.htl_text.specs.declared.token.Word.{Word as AWord}
-use Rattle.htl_text.specs.declared.token.Sign.{Sign as ASign}
-use Rattle.htl_text.specs.declared.lexer.LexFault.{LexFault}
 use Rattle.htl_text.specs.declared.lexer.LexFault.TheVariants as fault
 use Rattle.htl_base.proofs.Tests.{and_none}
 

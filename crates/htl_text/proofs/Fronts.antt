@@ -1,26 +1,11 @@
 -- The token with which a text begins, by its first byte.
 use Rattle.std.proofs.Common.{arith, ◌≡◌, ◌≤◌, ◌<◌, ℕ, ℤ, zero, suc, ◌+◌, Bool, true, false, cond, not, ◌&&◌, List, [], ◌∷◌, length, take, Option, None, Some, is_some, refl, sym, subst, ap, ◌∙◌}
-use Rattle.std.specs.Prelude.{slice_index, nat_lt, find}
-use Rattle.std.specs.Char.{is_ascii_digit}
-use Rattle.std.specs.List.{prefix_len, list_all}
-use Rattle.std.specs.Option.{option_map}
-use Rattle.std.specs.Str.{bytes_eq}
-use Rattle.std.proofs.lemmas.List.Folds.{length-prefix_len}
-use Rattle.std.proofs.lemmas.Slice.Eq.{bytes_eq-Decides}
-use Rattle.std.proofs.lemmas.Bool.Decides.{nat_tests}
-use Rattle.htl_base.specs.Names.{is_letter, is_word_byte, is_identifier, is_reserved, is_name}
-use Rattle.htl_text.specs.Kinds.{kind_of}
-use Rattle.htl_text.specs.Texts.{look_up, or_else, words, word_of, signs, sign_of, is_numeral, number_of, token_of}
-use Rattle.htl_text.specs.Scanning.{name_len, number_len, sign_len, token_len, IsFront, IsFrontSign}
+use Rattle.htl_text.proofs.Words.{slice_index, nat_lt, find, is_ascii_digit, prefix_len, list_all, option_map, bytes_eq, length-prefix_len, bytes_eq-Decides, nat_tests, is_letter, is_word_byte, is_identifier, is_reserved, is_name, kind_of, look_up, or_else, words, word_of, signs, sign_of, is_numeral, number_of, token_of, name_len, number_len, sign_len, token_len, IsFront, IsFrontSign, ASign, Token, Ident, Number, Word, Sign, AWord}
 use Rattle.htl_text.proofs.Cutting.{look_up-none}
 use Rattle.htl_text.proofs.Lengths.{name-taken, number-taken}
 use Rattle.htl_text.proofs.Numbers.{number_of-short}
 use Rattle.htl_text.specs.declared.scan.Front.TheVariants as front
 use Rattle.htl_text.specs.declared.token.Kind.TheVariants as kind
-use Rattle.htl_text.specs.declared.token.Sign.{Sign as ASign}
-use Rattle.htl_text.specs.declared.token.Token.{Token}
-use Rattle.htl_text.specs.declared.token.Token.TheVariants.{Ident, Number, Word, Sign}
-use Rattle.htl_text.specs.declared.token.Word.{Word as AWord}
 use Rattle.htl_text.proofs.FirstFault.{letter-digit}
 
 -- a table has no text that passes a test which no spelling passes

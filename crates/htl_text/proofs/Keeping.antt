@@ -1,22 +1,11 @@
 -- The entries that were kept so far, and what is left of the source.
 use Rattle.std.proofs.Common.{arith, ◌-◌, ◌≡◌, ◌≢◌, ◌≤◌, ℕ, zero, suc, false, List, [], ◌∷◌, ◌++◌, length, take, drop, Some, refl, sym, subst, ap, ◌∙◌, append_assoc, length-append}
-use Rattle.std.specs.Prelude.{slice_get}
-use Rattle.std.specs.List.{zip}
-use Rattle.std.specs.Option.{option_map}
-use Rattle.htl_text.specs.Kinds.{kind_of}
-use Rattle.std.proofs.Math.Seq.{drop-append_seam}
-use Rattle.std.proofs.lemmas.List.{map-append, take-append-drop}
-use Rattle.htl_text.specs.Answers.{AreAll}
-use Rattle.htl_text.specs.Entries.{text_in, token_in, tokens_in, offsets_of, IsKept}
-use Rattle.htl_text.specs.Scanning.{skip, token_len, IsFront}
-use Rattle.htl_text.specs.Texts.{token_of}
+use Rattle.htl_text.proofs.Words.{slice_get, zip, option_map, kind_of, drop-append_seam, map-append, take-append-drop, AreAll, text_in, token_in, tokens_in, offsets_of, IsKept, skip, token_len, IsFront, token_of, Entry, Token}
 use Rattle.htl_text.proofs.AtPlaces.{token_of-kind}
 use Rattle.htl_text.proofs.Cutting.{IsCutting, AreFound, AreFound-held, AreFound-end, AreFound-push, cut-more}
 use Rattle.htl_text.proofs.Lengths.{token_len-fits}
 use Rattle.htl_text.proofs.Skipping.{skipped}
-use Rattle.htl_text.specs.declared.entry.Entry.{Entry}
 use Rattle.htl_text.specs.declared.scan.Front.TheVariants as front
-use Rattle.htl_text.specs.declared.token.Token.{Token}
 
 pub record AreKeeping (bytes rest : List ℕ) (entries : List Entry) : Type 0 where
   pub found : AreFound bytes rest (tokens_in bytes entries) (offsets_of entries)

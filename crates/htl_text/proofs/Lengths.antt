@@ -1,18 +1,7 @@
 -- The longest token at a place.
 use Rattle.std.proofs.Common.{arith, ◌+◌, one-add, length-take, length-take-le, ◌≡◌, ◌≤◌, ◌<◌, ℕ, zero, suc, Bool, true, false, cond, ◌&&◌, ◌||◌, List, [], ◌∷◌, length, take, Some, max, refl, sym, subst, ap, ◌∙◌, inl, inr}
 use Rattle.std.specs.Prelude.{◌⊎◌, slice_index, nat_lt, nat_le, is_some, find}
-use Rattle.std.specs.Char.{is_ascii_digit}
-use Rattle.std.specs.List.{prefix_len, list_all}
-use Rattle.std.specs.Str.{bytes_eq}
-use Rattle.std.specs.Option.{option_map}
-use Rattle.std.proofs.lemmas.List.Folds.{length-prefix_len}
-use Rattle.std.proofs.lemmas.List.Sums.{prefix_len-le-length}
-use Rattle.std.proofs.lemmas.Slice.Eq.{bytes_eq-Decides}
-use Rattle.std.proofs.lemmas.Bool.Decides.{nat_tests}
-use Rattle.htl_base.specs.Names.{is_letter, is_word_byte, is_identifier}
-use Rattle.htl_text.specs.Texts.{look_up, words, word_of, signs, sign_of, is_numeral, is_token}
-use Rattle.htl_text.specs.Scanning.{name_len, number_len, sign_len, token_len}
-use Rattle.std.proofs.lemmas.Bool.{and_parts, or_cases}
+use Rattle.htl_text.proofs.Words.{is_ascii_digit, prefix_len, list_all, bytes_eq, option_map, length-prefix_len, prefix_len-le-length, bytes_eq-Decides, nat_tests, is_letter, is_word_byte, is_identifier, look_up, words, word_of, signs, sign_of, is_numeral, is_token, name_len, number_len, sign_len, token_len, and_parts, or_cases}
 
 prefix-most : (p : ℕ → Bool) (k : ℕ) (bs : List ℕ) → k ≤ length bs → list_all p (take k bs) ≡ true → k ≤ prefix_len p bs
 prefix-most p zero bs fits all = omega arith

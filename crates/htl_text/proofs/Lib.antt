@@ -15,3 +15,4 @@ pub mod Skipping
 pub mod Spellable
 pub mod WordBytes
 pub mod Writing
+pub mod Words

@@ -1,20 +1,9 @@
 -- A text has one list of tokens.
 use Rattle.std.proofs.Common.{arith, ◌+◌, ◌≡◌, ◌≤◌, ◌<◌, ℕ, Bool, true, false, cond, ◌&&◌, ◌||◌, List, [], ◌∷◌, ◌++◌, length, map, take, drop, Option, Some, refl, sym, subst, ap, ◌∙◌, inl, inr, length-append, append-nil}
 use Rattle.std.specs.Prelude.{◌⊎◌, ◌==◌, slice_index, is_some, nat_lt}
-use Rattle.std.specs.Char.{is_ascii_digit}
-use Rattle.std.specs.List.{list_all, zip}
-use Rattle.std.proofs.Math.Seq.{take-append_seam, drop-append_seam}
-use Rattle.std.proofs.lemmas.Slice.Zip.{firsts-zip, seconds-zip}
-use Rattle.std.proofs.lemmas.Bool.Decides.{nat_tests, Decides-eqb}
-use Rattle.htl_base.specs.Names.{is_identifier}
-use Rattle.htl_text.specs.Texts.{is_token, is_numeral, sign_of, token_of}
-use Rattle.htl_text.specs.Spans.{Gap, none, blank, begin, inside, feed, is_blank, IsSpan, Item, Cuts, IsCut, Tokens}
-use Rattle.htl_text.specs.TokenLists.{TokenList}
-use Rattle.htl_text.specs.Scanning.{skip, token_len}
+use Rattle.htl_text.proofs.Words.{is_ascii_digit, list_all, zip, take-append_seam, drop-append_seam, firsts-zip, seconds-zip, nat_tests, Decides-eqb, is_identifier, is_token, is_numeral, sign_of, token_of, Gap, none, blank, begin, inside, feed, is_blank, IsSpan, Item, Cuts, IsCut, Tokens, TokenList, skip, token_len, Token, cases_le}
 use Rattle.htl_text.proofs.Lengths.{token-most, token-taken, token_len-fits}
 use Rattle.htl_text.proofs.Skipping.{IsSolid}
-use Rattle.htl_text.specs.declared.token.Token.{Token}
-use Rattle.htl_base.proofs.Numbers.{cases_le}
 use Rattle.htl_base.proofs.Tests.{and_none}
 
 -- a gap is passed whole

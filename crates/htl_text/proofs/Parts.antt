@@ -1,12 +1,7 @@
 -- The last node of an expression, and what stands before it.
 use Rattle.std.proofs.Common.{arith, ◌≡◌, ◌≤◌, ◌-◌, ◌++◌, ℕ, List, [], ◌∷◌, length, take, drop, refl, sym, subst, ap, ap₂, ◌∙◌, append_assoc, append-nil}
-use Rattle.std.proofs.lemmas.List.{length-append}
-use Rattle.std.proofs.Math.Seq.{take-append_seam, drop-append_seam}
+use Rattle.htl_text.proofs.Words.{take-append_seam, drop-append_seam, IsExpr, expr_in, nodes_of, front, back, names_in, expr_in-nodes_of, names_of, Id, Node, length-append}
 use Rattle.htl_text.specs.Expressions.{Expr, Number, Flag, Variable, Prefix, Infix, Choice}
-use Rattle.htl_text.specs.Postfix.{IsExpr, expr_in, nodes_of, front, back, names_in, expr_in-nodes_of}
-use Rattle.htl_text.specs.Bounds.{names_of}
-use Rattle.htl_text.specs.declared.tree.Id.{Id}
-use Rattle.htl_text.specs.declared.expression.Node.{Node}
 use Rattle.htl_text.specs.declared.expression.Node.TheVariants as node
 
 abbrev last_of : Expr → Node

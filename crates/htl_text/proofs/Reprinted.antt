@@ -1,29 +1,12 @@
 -- Printed tokens are found again.
 use Rattle.std.proofs.Common.{arith, ◌+◌, ◌^◌, ◌≡◌, ◌<◌, ℕ, ℤ, pos, zero, suc, Bool, true, false, cond, not, ◌&&◌, ◌||◌, List, [], ◌∷◌, ◌++◌, length, map, take, Option, None, Some, refl, sym, subst, ap, ◌∙◌, append-nil, append_assoc}
 use Rattle.std.specs.Prelude.{◌==◌, nat_lt, is_some, find}
-use Rattle.std.specs.Char.{is_ascii_digit}
-use Rattle.std.specs.Fmt.{decimal}
-use Rattle.std.specs.List.{list_all, list_any, zip}
-use Rattle.std.specs.Option.{option_map}
-use Rattle.std.specs.Str.{bytes_eq}
-use Rattle.std.proofs.lemmas.Fmt.{decimal_is_IsNumeral}
-use Rattle.std.proofs.lemmas.Bool.Decides.{nat_tests}
-use Rattle.std.proofs.lemmas.Slice.Eq.{bytes_eq-Decides}
-use Rattle.htl_base.specs.Names.{is_word_byte, is_identifier, is_name, is_reserved}
-use Rattle.htl_text.specs.Spellable.{IsSpellable, AreSpellable}
-use Rattle.htl_text.specs.PrintedBytes.{word_text, sign_text, token_text, separator, printed_bytes}
-use Rattle.htl_text.specs.Texts.{is_token, is_numeral, token_of, words, word_of, signs, sign_of, number_of, or_else, look_up}
-use Rattle.htl_text.specs.Spans.{Gap, none, blank, IsSpan, Cuts, Tokens, is_blank}
+use Rattle.htl_text.proofs.Words.{is_ascii_digit, decimal, list_all, list_any, zip, option_map, bytes_eq, decimal_is_IsNumeral, nat_tests, bytes_eq-Decides, is_word_byte, is_identifier, is_name, is_reserved, IsSpellable, AreSpellable, word_text, sign_text, token_text, separator, printed_bytes, is_token, is_numeral, token_of, words, word_of, signs, sign_of, number_of, or_else, look_up, Gap, none, blank, IsSpan, Cuts, Tokens, is_blank, Token, Ident, Number, Word, Sign, AWord, ASign, and_parts, not-true}
 use Rattle.htl_text.proofs.FirstFault.{identifier-number}
 use Rattle.htl_text.proofs.Numbers.{own, digits_of_number}
 use Rattle.htl_text.proofs.Writing.{printed_bytes-cons, printed_bytes-nil}
-use Rattle.htl_text.specs.declared.token.Token.{Token}
-use Rattle.htl_text.specs.declared.token.Token.TheVariants.{Ident, Number, Word, Sign}
-use Rattle.htl_text.specs.declared.token.Word.{Word as AWord}
 use Rattle.htl_text.specs.declared.token.Word.TheVariants as word
-use Rattle.htl_text.specs.declared.token.Sign.{Sign as ASign}
 use Rattle.htl_text.specs.declared.token.Sign.TheVariants as sign
-use Rattle.std.proofs.lemmas.Bool.{and_parts, not-true}
 use Rattle.htl_base.proofs.Tests.{and_none}
 
 -- what all spellings of a table have, a text has that is found there

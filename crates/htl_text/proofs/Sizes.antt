@@ -1,11 +1,6 @@
 -- Each kind of item is within the size of its tree.
 use Rattle.std.proofs.Common.{arith, ◌≤◌, ℕ, List, [], ◌∷◌, length}
-use Rattle.std.specs.List.{flat_map, sum_by}
-use Rattle.std.proofs.lemmas.List.Concat.{length-flat_map}
-use Rattle.std.proofs.lemmas.List.Sums.{sum_by-cons, sum_by-append, sum_by-le-sum_by}
-use Rattle.htl_text.specs.Bounds.{tree_nodes, out_params, out_values, modules_of, tasks_of, modes_of, invokes_of, switches_of, task_size, invoke_size, switch_size, mode_size, module_size, program_size, tree_size, HasFewItems}
-use Rattle.htl_text.specs.Nodes.{PlainTask, PlainSwitch, PlainMode, PlainModule, PlainProgram}
-use Rattle.htl_text.specs.declared.tree.InvokeNode.{InvokeNode}
+use Rattle.htl_text.proofs.Words.{flat_map, sum_by, length-flat_map, sum_by-cons, sum_by-append, sum_by-le-sum_by, tree_nodes, out_params, out_values, modules_of, tasks_of, modes_of, invokes_of, switches_of, task_size, invoke_size, switch_size, mode_size, module_size, program_size, tree_size, HasFewItems, PlainTask, PlainSwitch, PlainMode, PlainModule, PlainProgram, InvokeNode}
 
 pub length-within : {X : Type 0} (size : X → ℕ) → ((x : X) → 1 ≤ size x) → (xs : List X) → length xs ≤ sum_by size xs
 length-within size some [] = omega arith

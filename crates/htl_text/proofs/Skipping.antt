@@ -1,13 +1,8 @@
 -- How the code's scan finds the tokens.
 use Rattle.std.proofs.Common.{arith, ◌+◌, ◌≡◌, ◌≤◌, ◌<◌, ℕ, zero, suc, Bool, true, false, cond, ◌&&◌, List, [], ◌∷◌, ◌++◌, length, take, drop, Some, refl, sym, subst, ap, ◌∙◌, inl, inr, append_assoc, length-take-le}
 use Rattle.std.specs.Prelude.{◌⊎◌, ◌==◌, slice_index}
-use Rattle.std.proofs.lemmas.List.{take-append-drop}
-use Rattle.std.proofs.lemmas.Bool.Decides.{nat_tests, Decides-eqb}
-use Rattle.htl_text.specs.Texts.{is_token, token_of}
-use Rattle.htl_text.specs.Spans.{Gap, none, blank, begin, inside, feed, is_blank, IsSpan, Item, Cuts}
-use Rattle.htl_text.specs.Scanning.{skip, token_len}
+use Rattle.htl_text.proofs.Words.{take-append-drop, nat_tests, Decides-eqb, is_token, token_of, Gap, none, blank, begin, inside, feed, is_blank, IsSpan, Item, Cuts, skip, token_len, Token}
 use Rattle.htl_text.proofs.Lengths.{token-most, token-taken, token_len-fits}
-use Rattle.htl_text.specs.declared.token.Token.{Token}
 
 -- neither a blank nor a comment begins here
 abbrev pub IsSolid : List ℕ → Type 0

@@ -1,19 +1,6 @@
 -- The tokens of a text can be spelled.
 use Rattle.std.proofs.Common.{arith, ◌+◌, ◌^◌, ◌≡◌, ℕ, pos, Bool, true, false, cond, List, [], ◌∷◌, length, Option, None, Some, refl, subst}
-use Rattle.std.specs.Prelude.{nat_lt}
-use Rattle.std.specs.List.{zip}
-use Rattle.std.specs.Option.{option_map}
-use Rattle.std.specs.Str.Parse.{digits_value}
-use Rattle.std.proofs.lemmas.Bool.Decides.{nat_tests}
-use Rattle.htl_base.specs.Names.{is_name}
-use Rattle.htl_text.specs.Spellable.{IsSpellable, AreSpellable}
-use Rattle.htl_text.specs.Spans.{Cuts, Tokens}
-use Rattle.htl_text.specs.Texts.{is_numeral, number_of, or_else, token_of, word_of, sign_of}
-use Rattle.htl_text.specs.TokenLists.{TokenList}
-use Rattle.htl_text.specs.declared.token.Token.{Token}
-use Rattle.htl_text.specs.declared.token.Token.TheVariants.{Ident, Number, Word, Sign}
-use Rattle.htl_text.specs.declared.token.Word.{Word as AWord}
-use Rattle.htl_text.specs.declared.token.Sign.{Sign as ASign}
+use Rattle.htl_text.proofs.Words.{nat_lt, zip, option_map, digits_value, nat_tests, is_name, IsSpellable, AreSpellable, Cuts, Tokens, is_numeral, number_of, or_else, token_of, word_of, sign_of, TokenList, Token, Ident, Number, Word, Sign, AWord, ASign}
 
 inside : (t u : Token) → ◌≡◌ {A = Option Token} (Some t) (Some u) → IsSpellable t → IsSpellable u
 inside t u e h = let same : t ≡ u = cc in subst IsSpellable same h

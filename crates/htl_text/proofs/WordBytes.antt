@@ -1,10 +1,6 @@
 -- Which bytes are of words, and how many stand first.
 use Rattle.std.proofs.Common.{arith, ◌≡◌, ◌<◌, ◌≤◌, ◌+◌, ◌-◌, ℕ, Bool, true, false, ◌&&◌, List, length, take, drop, map, get_or, refl, sym, ap, ◌∙◌}
-use Rattle.std.specs.List.{prefix_len, range_with_len}
-use Rattle.std.proofs.lemmas.List.Sums.{prefix_len-drop_yes}
-use Rattle.std.proofs.lemmas.List.{length-drop}
-use Rattle.std.proofs.Math.Seq.{take-length}
-use Rattle.std.proofs.lemmas.List.FromFn.{get_or-map-range_with_len}
+use Rattle.htl_text.proofs.Words.{prefix_len, range_with_len, prefix_len-drop_yes, take-length, get_or-map-range_with_len, length-drop}
 
 -- a table of what passes, over all bytes
 pub in_table : (p : ℕ → Bool) (marks : List Bool) → marks ≡ map p (range_with_len 0 256) → (b : ℕ) → b < 256 → get_or marks b false ≡ p b

@@ -1,11 +1,7 @@
 -- Writing tokens one after another.
 use Rattle.std.proofs.Common.{arith, ◌+◌, ◌≡◌, ◌<◌, ℕ, suc, List, [], ◌∷◌, ◌++◌, length, take, refl, sym, ap, ◌∙◌, append_assoc, append-nil}
-use Rattle.std.specs.Prelude.{get_or, Option, Some, map}
-use Rattle.std.specs.Io.KnownBytes.{append_known}
-use Rattle.std.proofs.Math.Seq.{take-suc}
-use Rattle.htl_text.specs.PrintedTokens.{Spelling, each, after_commas, in_brackets}
+use Rattle.htl_text.proofs.Words.{append_known, take-suc, Spelling, each, after_commas, in_brackets, Token, get_or, Option, Some, map}
 use Rattle.htl_text.specs.PrintedBytes.{Adds, Writes, printed_bytes, token_bytes}
-use Rattle.htl_text.specs.declared.token.Token.{Token}
 use Rattle.htl_text.specs.declared.token.Token.TheVariants as token
 use Rattle.htl_text.specs.declared.token.Sign.TheVariants as sign
 

@@ -1,32 +1,9 @@
 -- From the answer of a command to the clauses of the top call on `audit`.
 use Rattle.std.proofs.Common.{◌≡◌, ◌<◌, ◌⊎◌, ℕ, List, length, Option, None, Some, subst, inl, inr}
-use Rattle.htl_audit.specs.Faults.{IsFirstFault}
-use Rattle.htl_audit.specs.Legal.{IsLegal}
-use Rattle.htl_audit.specs.Logs.{Read as ReadLog, Refused as RefusedLog, log_of}
-use Rattle.htl_audit.specs.declared.slice.LogFault.{LogFault}
-use Rattle.htl_audit.specs.declared.slice.Slice.{Slice}
-use Rattle.htl_console.specs.declared.shown.Shown.TheVariants.{Values}
-use Rattle.htl_edge.specs.Causes.{Rose}
-use Rattle.htl_model.specs.Tables.{Tables}
-use Rattle.htl_model.specs.declared.event.Event.{Event}
-use Rattle.htl_object.specs.declared.object.Object.{Object}
-use Rattle.htl_script.specs.declared.fault.ScriptFault.{ScriptFault}
+use Rattle.htl_top.proofs.Vocabulary.{IsFirstFault, IsLegal, ReadLog, RefusedLog, log_of, LogFault, Slice, Values, Rose, Tables, Event, Object, ScriptFault, Files, Streams, IsUnhad, IsFileOf, IsReadyFile, HasLog, HasSlices, IsAudit, IsAuditOf, IsAuditRun, IsCutAudit, IsLogCause, IsLogRefused, IsWholeAudit, IsCall, IsGiven, IsOrMemory, IsAcceptedFile, IsReadyObject, IsFaultyRun, IsWhole, IsBad, Command, Go, Compile, CompileWith, Bulk, Slack, Audit, Patch, Outcome, Done, Usage, Log, Faulty, Shelf, Read, Write, Memory, TooLong}
 use Rattle.htl_top.proofs.Auditing as auditing
 use Rattle.htl_top.proofs.AuditScripts as scripts
 use Rattle.htl_top.proofs.ObjectAnswering as objects
-use Rattle.htl_top.specs.Answers.{Files, Streams}
-use Rattle.htl_top.specs.Fetching.{IsUnhad}
-use Rattle.htl_top.specs.Files.{IsFileOf, IsReadyFile}
-use Rattle.htl_top.specs.Audited.{HasLog, HasSlices, IsAudit, IsAuditOf, IsAuditRun, IsCutAudit, IsLogCause, IsLogRefused, IsWholeAudit}
-use Rattle.htl_top.specs.Calls.{IsCall}
-use Rattle.htl_top.specs.Causes.{IsGiven, IsOrMemory}
-use Rattle.htl_top.specs.Objects.{IsAcceptedFile, IsReadyObject}
-use Rattle.htl_top.specs.Runs.{IsFaultyRun}
-use Rattle.htl_top.specs.Scripts.{IsWhole, IsBad}
-use Rattle.htl_top.specs.Words.{Command, Go, Compile, CompileWith, Bulk, Slack, Audit, Patch}
-use Rattle.htl_top.specs.declared.outcome.Outcome.{Outcome}
-use Rattle.htl_top.specs.declared.outcome.Outcome.TheVariants.{Done, Usage, Log, Script as Faulty, Shelf, Read, Write, Memory}
-use Rattle.htl_top.specs.declared.outcome.ShelfCause.TheVariants.{TooLong}
 
 log_usage : (f : LogFault) → Log f ≡ Usage → ⊥
 log_usage f e = cc

@@ -1,13 +1,6 @@
 -- The files of an audit, and what is done with them.
 use Rattle.std.proofs.Common.{◌≡◌, ℕ, List, Some, sym, subst, inl}
-use Rattle.htl_audit.specs.declared.slice.Slice.{Slice}
-use Rattle.htl_load.specs.Loading.{HasBytes}
-use Rattle.htl_object.specs.Accepted.{IsAccepted}
-use Rattle.htl_object.specs.declared.object.Object.{Object}
-use Rattle.htl_top.specs.Answers.{Files, Streams}
-use Rattle.htl_top.specs.Audited.{IsAudit, IsAuditOf, IsAuditRun}
-use Rattle.htl_top.specs.Objects.{IsObjectFile}
-use Rattle.htl_top.specs.declared.outcome.Outcome.{Outcome}
+use Rattle.htl_top.proofs.Vocabulary.{Slice, HasBytes, IsAccepted, Object, Files, Streams, IsAudit, IsAuditOf, IsAuditRun, IsObjectFile, Outcome}
 
 module _ (name log : List ℕ) (shelf : Files) (old new : Streams) (object bytes : List ℕ) (file : IsObjectFile (Some name) shelf.holds object) (log_file : IsObjectFile (Some log) shelf.holds bytes) where
   -- the object is accepted, and the bytes of the log were audited

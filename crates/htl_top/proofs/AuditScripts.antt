@@ -1,26 +1,7 @@
 -- What an audit answers of a log and a script that are given.
 use Rattle.std.proofs.Common.{◌≡◌, ◌⊎◌, ℕ, List, Some, refl, sym, ap, ◌∙◌, subst, inl, inr}
-use Rattle.htl_audit.proofs.FaultLaws.{legal_without_fault, one_first_fault}
-use Rattle.htl_audit.specs.Faults.{IsFirstFault}
-use Rattle.htl_audit.specs.Legal.{IsLegal}
-use Rattle.htl_audit.specs.Logs.{Log as LogOf, Read as ReadLog, Refused as RefusedLog, log_of}
-use Rattle.htl_audit.specs.declared.slice.LogFault.{LogFault}
-use Rattle.htl_audit.specs.declared.slice.LogKind.{LogKind}
-use Rattle.htl_audit.specs.declared.slice.Slice.{Slice}
-use Rattle.htl_edge.specs.Causes.{Rose}
-use Rattle.htl_console.specs.declared.shown.Shown.TheVariants.{Values}
-use Rattle.htl_model.specs.Tables.{Tables}
-use Rattle.htl_model.specs.declared.event.Event.{Event}
-use Rattle.htl_object.specs.declared.object.Object.{Object}
-use Rattle.htl_script.specs.Script.{Whole, script_of}
-use Rattle.htl_script.specs.declared.fault.ScriptFault.{ScriptFault}
+use Rattle.htl_top.proofs.Vocabulary.{legal_without_fault, one_first_fault, IsFirstFault, IsLegal, LogOf, ReadLog, RefusedLog, log_of, LogFault, LogKind, Slice, Rose, Values, Tables, Event, Object, Whole, script_of, ScriptFault, Streams, IsAuditOf, IsAuditRun, IsLogRefused, IsOrMemory, IsWhole, IsBad, Outcome, Done, Log, Faulty, Read, Write, Memory}
 use Rattle.htl_top.proofs.Running as running
-use Rattle.htl_top.specs.Answers.{Streams}
-use Rattle.htl_top.specs.Audited.{IsAuditOf, IsAuditRun, IsLogRefused}
-use Rattle.htl_top.specs.Causes.{IsOrMemory}
-use Rattle.htl_top.specs.Scripts.{IsWhole, IsBad}
-use Rattle.htl_top.specs.declared.outcome.Outcome.{Outcome}
-use Rattle.htl_top.specs.declared.outcome.Outcome.TheVariants.{Done, Log, Script as Faulty, Read, Write, Memory}
 
 -- ---- the bytes of a log
 

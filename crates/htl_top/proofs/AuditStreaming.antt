@@ -1,47 +1,16 @@
 -- From event to event of a script that an auditor is told, and the end of its audit.
 use Rattle.std.proofs.Common.{◌≡◌, Bool, true, false, ℕ, suc, List, [], ◌∷◌, ◌++◌, Option, Some, None, Result, Ok, Err, is_some, refl, sym, ap, ◌∙◌, subst, length}
-use Rattle.std.specs.Io.KnownBytes.{append_known}
-use Rattle.std.proofs.lemmas.List.{append-nil}
-use Rattle.htl_audit.proofs.FaultLaws.{first_fault_found, legal_without_fault}
-use Rattle.htl_audit.proofs.Growing.{rounds_same}
+use Rattle.htl_top.proofs.Vocabulary.{append_known, append-nil, first_fault_found, legal_without_fault, rounds_same, BeginningJobs, all_rounds, LogFault, Slice, Shown, Values, append_known-more, AppendsPrefix-more, AppendsPrefix, Puts, sense_end, took_end, text_between, before_of, Tables, Event, IsAccepted, Object, EndWith, at_first, past_after, past_of, behind, Ahead, Gives, still, at_start, IsAnswer, Goes, ScriptFault, Past, Streams, IsAuditBehind, IsAuditPlaying, IsAuditTold, IsConcluded, IsAuditRun, IsCutAudit, audit_text, audited_line, audited_text, verdict_text, HaveNoEnd, IsBehind, IsPlaying, text_more, IsFaultyRun, text_before_fault, Outcome, Done, Log, Write}
 use Rattle.htl_audit.specs.Auditing.{Audit, AuditFollows, IsAudited, IsSameAudit}
-use Rattle.htl_audit.specs.Jobs.{BeginningJobs, all_rounds}
 use Rattle.htl_audit.specs.Legal.{first_fault, first_fault_in, jobs_done}
-use Rattle.htl_audit.specs.declared.slice.LogFault.{LogFault}
-use Rattle.htl_audit.specs.declared.slice.Slice.{Slice}
-use Rattle.htl_console.specs.declared.shown.Shown.{Shown}
-use Rattle.htl_console.specs.declared.shown.Shown.TheVariants.{Values}
-use Rattle.htl_edge.proofs.Puts.{append_known-more, AppendsPrefix-more}
-use Rattle.htl_edge.specs.Content.{AppendsPrefix, Puts}
-use Rattle.htl_machine.proofs.Events.{sense_end, took_end}
-use Rattle.htl_machine.specs.Calls.{text_between}
-use Rattle.htl_machine.specs.Programs.{before_of}
-use Rattle.htl_model.specs.Tables.{Tables}
-use Rattle.htl_model.specs.declared.event.Event.{Event}
 use Rattle.htl_model.specs.declared.event.Event.TheVariants as event
-use Rattle.htl_object.specs.Accepted.{IsAccepted}
-use Rattle.htl_object.specs.declared.object.Object.{Object}
-use Rattle.htl_script.specs.Events.{EndWith}
-use Rattle.htl_script.specs.Judging.{at_first, past_after, past_of}
-use Rattle.htl_script.specs.Reading.{behind}
 use Rattle.htl_script.specs.Script.{Script, Whole, Bad, events_of, script_of}
-use Rattle.htl_script.specs.Streaming.{Ahead, Gives, still, at_start, IsAnswer, Goes}
-use Rattle.htl_script.specs.declared.fault.ScriptFault.{ScriptFault}
 use Rattle.htl_script.specs.declared.fault.ScriptStop.TheVariants as stop
-use Rattle.htl_script.specs.declared.judge.Past.{Past}
 use Rattle.htl_top.proofs.Playing.{past_more}
 use Rattle.htl_top.proofs.Streaming as streaming
 use Rattle.htl_top.proofs.StreamEnd as ending
 use Rattle.htl_top.proofs.StreamEnd.{IsOver, one_end}
 use Rattle.htl_top.proofs.Streaming.{IsHeard, none_ended, rose_since, whole_text}
-use Rattle.htl_top.specs.Answers.{Streams}
-use Rattle.htl_top.specs.AuditPlaying.{IsAuditBehind, IsAuditPlaying, IsAuditTold, IsConcluded}
-use Rattle.htl_top.specs.Audited.{IsAuditRun, IsCutAudit, audit_text, audited_line, audited_text, verdict_text}
-use Rattle.htl_top.specs.Playing.{HaveNoEnd, IsBehind, IsPlaying, text_more}
-use Rattle.htl_top.specs.Runs.{IsFaultyRun}
-use Rattle.htl_top.specs.Texts.{text_before_fault}
-use Rattle.htl_top.specs.declared.outcome.Outcome.{Outcome}
-use Rattle.htl_top.specs.declared.outcome.Outcome.TheVariants.{Done, Log, Write}
 
 -- ---- the end among the events changes nothing of an audit
 

@@ -1,34 +1,11 @@
 -- What `audit` answers, by its files and by what it does with an accepted object.
 use Rattle.std.proofs.Common.{arith, ◌≡◌, ◌≤◌, ◌<◌, ◌⊎◌, ℕ, suc, Bool, true, false, cond, not, ◌&&◌, List, [], ◌∷◌, ◌++◌, length, take, Some, None, refl, subst, inl, inr}
-use Rattle.htl_audit.specs.Faults.{IsFirstFault, IsFirstFaultIn}
-use Rattle.htl_audit.specs.Jobs.{BeginningJobs, all_rounds}
-use Rattle.htl_audit.specs.Legal.{any_job, is_free, slice_is_out_of_order, is_over, lies_in, line_fault}
-use Rattle.htl_audit.specs.declared.slice.LogFault.{LogFault}
-use Rattle.htl_audit.specs.declared.slice.LogKind.{LogKind}
+use Rattle.htl_top.proofs.Vocabulary.{IsFirstFault, IsFirstFaultIn, BeginningJobs, all_rounds, any_job, is_free, slice_is_out_of_order, is_over, lies_in, line_fault, LogFault, LogKind, Slice, CompileFault, HasBytes, RefusesBytes, ObjectFault, Tables, Event, Object, PlatformFault, Files, Streams, IsBeforeRun, IsBeforeScript, IsOfReading, IsUnhad, IsHad, IsReadyFile, IsAudit, IsAuditOf, IsAuditRun, IsLogRefused, IsGiven, IsOrMemory, IsReadyObject, IsRefusedFile, IsStopped, Work, answer_of, Outcome, Done, Usage, Source, IllFormed, Unschedulable, Platform, Task, Log, Refused, Faulty, Shelf, Read, Write, Memory, ShelfCause, Failed, TooLong}
 use Rattle.htl_audit.specs.declared.slice.LogKind.TheVariants as kind
-use Rattle.htl_audit.specs.declared.slice.Slice.{Slice}
-use Rattle.htl_compile.specs.declared.compiling.CompileFault.{CompileFault}
 use Rattle.htl_compile.specs.declared.compiling.CompileFault.TheVariants as compile
-use Rattle.htl_load.specs.Loading.{HasBytes, RefusesBytes}
-use Rattle.htl_load.specs.declared.fault.ObjectFault.{ObjectFault}
-use Rattle.htl_model.specs.Tables.{Tables}
-use Rattle.htl_model.specs.declared.event.Event.{Event}
-use Rattle.htl_object.specs.declared.object.Object.{Object}
-use Rattle.htl_platform.specs.declared.fault.PlatformFault.{PlatformFault}
 use Rattle.htl_top.proofs.GivenFiles as files
 use Rattle.htl_top.proofs.ObjectAnswering as objects
 use Rattle.htl_top.proofs.ObjectAnswering.{IsWork}
-use Rattle.htl_top.specs.Answers.{Files, Streams, IsBeforeRun, IsBeforeScript, IsOfReading}
-use Rattle.htl_top.specs.Fetching.{IsUnhad}
-use Rattle.htl_top.specs.Files.{IsHad, IsReadyFile}
-use Rattle.htl_top.specs.Audited.{IsAudit, IsAuditOf, IsAuditRun, IsLogRefused}
-use Rattle.htl_top.specs.Causes.{IsGiven, IsOrMemory}
-use Rattle.htl_top.specs.Objects.{IsReadyObject, IsRefusedFile, IsStopped, Work}
-use Rattle.htl_top.specs.Sources.{answer_of}
-use Rattle.htl_top.specs.declared.outcome.Outcome.{Outcome}
-use Rattle.htl_top.specs.declared.outcome.Outcome.TheVariants.{Done, Usage, Source, IllFormed, Unschedulable, Platform, Task, Log, Object as Refused, Script as Faulty, Shelf, Read, Write, Memory}
-use Rattle.htl_top.specs.declared.outcome.ShelfCause.{ShelfCause}
-use Rattle.htl_top.specs.declared.outcome.ShelfCause.TheVariants.{Failed, TooLong}
 
 -- ---- the first fault of an audit isn't one of reading
 

@@ -1,43 +1,13 @@
 -- What `bulk` writes and answers.
 use Rattle.std.proofs.Common.{◌≡◌, ◌≤◌, ℕ, zero, suc, ◌*◌, List, [], ◌∷◌, ◌++◌, length, get_or, Option, None, Result, Ok, ℤ, refl, sym, ap, ap₂, ◌∙◌, subst, inl, inr}
-use Rattle.std.specs.Prelude.{pos, slice_get}
+use Rattle.htl_top.proofs.Vocabulary.{pos, slice_get, built_accepted, coded_runs, IsCompiledTo, bulk_bytes, built, CanBuild, coded, CompileFault, Rose, Puts, one_line, HasBytes, IsLoadedAs, sense_end, Seen, IsFinished, IsSensorValue, length-list_to, lines_text, line_text, up_to, History, first_value, history, newest, next_value, past, sense, state, Tables, Event, Line, ValueLine, State, IsAccepted, ObjectOf, flat_map, Streams, IsBeforeRun, IsWritten, IsOrMemory, HasTables, answer_of, Outcome, Done, Write, Memory}
 use mathlib.Core.Path.{fun_ext}
-use Rattle.htl_compile.proofs.BuiltLaws.{built_accepted}
-use Rattle.htl_compile.proofs.CodedLaws.{coded_runs}
-use Rattle.htl_compile.specs.Building.{IsCompiledTo}
-use Rattle.htl_compile.specs.BulkTree.{bulk_bytes}
-use Rattle.htl_compile.specs.Built.{built, CanBuild}
-use Rattle.htl_compile.specs.Coded.{coded}
-use Rattle.htl_compile.specs.declared.compiling.CompileFault.{CompileFault}
 use Rattle.htl_compile.specs.declared.compiling.CompileFault.TheVariants as compile
-use Rattle.htl_edge.specs.Causes.{Rose}
-use Rattle.htl_edge.specs.Content.{Puts}
-use Rattle.htl_machine.proofs.Putting.{one_line}
-use Rattle.htl_load.specs.Loading.{HasBytes, IsLoadedAs}
-use Rattle.htl_machine.proofs.Events.{sense_end}
-use Rattle.htl_machine.specs.Calls.{Seen, IsFinished, IsSensorValue}
-use Rattle.htl_model.proofs.Listed.{length-list_to}
-use Rattle.htl_model.specs.Lines.{lines_text, line_text}
-use Rattle.htl_model.specs.Lists.{up_to}
-use Rattle.htl_model.specs.Meaning.{History, first_value, history, newest, next_value, past, sense, state}
-use Rattle.htl_model.specs.Tables.{Tables}
-use Rattle.htl_model.specs.declared.event.Event.{Event}
 use Rattle.htl_model.specs.declared.event.Event.TheVariants as event
-use Rattle.htl_model.specs.declared.line.Line.{Line}
-use Rattle.htl_model.specs.declared.line.Line.TheVariants.{ValueLine}
-use Rattle.htl_model.specs.declared.state.State.{State}
-use Rattle.htl_object.specs.Accepted.{IsAccepted}
-use Rattle.htl_object.specs.declared.object.Object.{Object as ObjectOf}
-use Rattle.std.specs.List.{flat_map}
 use Rattle.htl_top.proofs.Executing.{finished_totals}
 use Rattle.htl_top.proofs.Generated.{sensor_first}
 use Rattle.htl_top.proofs.Meaning.{line_same}
-use Rattle.htl_top.specs.Answers.{Streams, IsBeforeRun, IsWritten}
 use Rattle.htl_top.specs.Bulk.{bulk_events, readings_of, value_at, values_text, totals_text, object_text, rounds_text, bulk_text, value_seen, seen_text, IsPut, IsBulkPut, IsBulked}
-use Rattle.htl_top.specs.Causes.{IsOrMemory}
-use Rattle.htl_top.specs.Sources.{HasTables, answer_of}
-use Rattle.htl_top.specs.declared.outcome.Outcome.{Outcome}
-use Rattle.htl_top.specs.declared.outcome.Outcome.TheVariants.{Done, Write, Memory}
 
 -- ---- what a finished machine has
 

@@ -1,13 +1,8 @@
 -- From the answer of a command to the clauses of the top call that all commands share.
 use Rattle.std.proofs.Common.{◌≡◌, ◌⊎◌, ℕ, List, Option, None, Some, refl, subst, inl, inr}
 use Rattle.std.specs.Prelude.{◌↔◌}
-use Rattle.htl_base.specs.declared.limits.TheConstants.{MAX_SOURCE, MAX_OBJECT}
-use Rattle.htl_compile.specs.declared.compiling.CompileFault.{CompileFault}
+use Rattle.htl_top.proofs.Vocabulary.{MAX_SOURCE, MAX_OBJECT, CompileFault, Shown, ObjectFault, PlatformFault, ScriptFault, Files, Streams, IsBeforeScript, IsBeforeRun, IsAudit, IsBulked, IsCall, IsFaultOf, IsLongFile, check_text, IsChecked, IsCompiling, IsCompileCause, IsPlatformCause, IsCompilingOn, IsGoing, IsRefusedFile, IsOnObject, IsStopped, Work, IsPatching, IsPlanned, IsRun, show_text, IsShown, IsSlacked, answer_of, Command, Go, Compile, CompileWith, Run, Check, Plan, Show, Bulk, Slack, Audit, Patch, RunsObject, source_of, platform_file, command_object, second_file, Outcome, Done, Usage, Platform, Refused, Script, Shelf, Read, Write, Memory, ShelfCause, Failed, TooLong}
 use Rattle.htl_compile.specs.declared.compiling.CompileFault.TheVariants as compile
-use Rattle.htl_console.specs.declared.shown.Shown.{Shown}
-use Rattle.htl_load.specs.declared.fault.ObjectFault.{ObjectFault}
-use Rattle.htl_platform.specs.declared.fault.PlatformFault.{PlatformFault}
-use Rattle.htl_script.specs.declared.fault.ScriptFault.{ScriptFault}
 use Rattle.htl_top.proofs.Auditing as auditing
 use Rattle.htl_top.proofs.Bulking as bulking
 use Rattle.htl_top.proofs.Compiling as compiling
@@ -19,27 +14,6 @@ use Rattle.htl_top.proofs.Patching as patching
 use Rattle.htl_top.proofs.Planning.{planning}
 use Rattle.htl_top.proofs.Running.{running}
 use Rattle.htl_top.proofs.Slacking.{slacking}
-use Rattle.htl_top.specs.Answers.{Files, Streams, IsBeforeScript, IsBeforeRun}
-use Rattle.htl_top.specs.Audited.{IsAudit}
-use Rattle.htl_top.specs.Bulk.{IsBulked}
-use Rattle.htl_top.specs.Calls.{IsCall}
-use Rattle.htl_top.specs.Causes.{IsFaultOf, IsLongFile}
-use Rattle.htl_top.specs.Checked.{check_text, IsChecked}
-use Rattle.htl_top.specs.Compiling.{IsCompiling}
-use Rattle.htl_top.specs.CompilingOn.{IsCompileCause, IsPlatformCause, IsCompilingOn}
-use Rattle.htl_top.specs.Going.{IsGoing}
-use Rattle.htl_top.specs.Objects.{IsRefusedFile, IsOnObject, IsStopped, Work}
-use Rattle.htl_top.specs.PatchedFiles.{IsPatching}
-use Rattle.htl_top.specs.Planned.{IsPlanned}
-use Rattle.htl_top.specs.Runs.{IsRun}
-use Rattle.htl_top.specs.Shown.{show_text, IsShown}
-use Rattle.htl_top.specs.Slacked.{IsSlacked}
-use Rattle.htl_top.specs.Sources.{answer_of}
-use Rattle.htl_top.specs.Words.{Command, Go, Compile, CompileWith, Run, Check, Plan, Show, Bulk, Slack, Audit, Patch, RunsObject, source_of, platform_file, command_object, second_file}
-use Rattle.htl_top.specs.declared.outcome.Outcome.{Outcome}
-use Rattle.htl_top.specs.declared.outcome.Outcome.TheVariants.{Done, Usage, Platform, Object as Refused, Script, Shelf, Read, Write, Memory}
-use Rattle.htl_top.specs.declared.outcome.ShelfCause.{ShelfCause}
-use Rattle.htl_top.specs.declared.outcome.ShelfCause.TheVariants.{Failed, TooLong}
 
 abbrev pub RunOf : Shown → Work
 RunOf show o = IsRun show o.tables o

@@ -1,7 +1,6 @@
 -- Words of no command, and of as many words as a command has.
 use Rattle.std.proofs.Common.{arith, ◌≡◌, ◌<◌, ◌≤◌, ℕ, List, [], ◌∷◌, length, get_or, Option, None, refl}
-use Rattle.std.specs.Borrow.{Bor}
-use Rattle.htl_top.specs.Words.{Command, command_in, command_of, of_two, of_three, of_four}
+use Rattle.htl_top.proofs.Vocabulary.{Bor, Command, command_in, command_of, of_two, of_three, of_four}
 
 -- more than the longest command has
 pub many_words : (words : List (Bor (List ℕ))) → 4 < length words → command_in words ≡ None

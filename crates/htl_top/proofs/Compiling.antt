@@ -1,26 +1,8 @@
 -- What `compile` answers, by its input.
 use Rattle.std.proofs.Common.{arith, ◌≡◌, ◌≤◌, ◌<◌, ℕ, List, length, Option, Some, refl, sym, ap, subst, inl, inr}
-use Rattle.std.specs.Prelude.{IfSome}
-use Rattle.std.specs.Io.KnownBytes.{append_known}
-use Rattle.htl_compile.proofs.Completeness.{compile_only_memory, one_compile_fault}
-use Rattle.htl_compile.specs.Building.{IsCompiledTo, IsCompileFault}
-use Rattle.htl_compile.specs.Built.{AreSchedulable}
-use Rattle.htl_compile.specs.Coded.{AreTyped}
-use Rattle.htl_compile.specs.Sources.{IsTablesOf}
-use Rattle.htl_compile.specs.declared.compiling.CompileFault.{CompileFault}
+use Rattle.htl_top.proofs.Vocabulary.{IfSome, append_known, compile_only_memory, one_compile_fault, IsCompiledTo, IsCompileFault, AreSchedulable, AreTyped, IsTablesOf, CompileFault, Rose, AppendsPrefix, none_left, Formed, Tables, Streams, IsBeforeRun, IsOrMemory, IsCompiling, IsBytesCompiled, compiled_bytes, IsInput, IsInputProgram, IsFaultyInput, IsLongInput, IsInputFault, IsNotCompiled, answer_of, outcome_of, Outcome, Done, Source, IllFormed, Unschedulable, Platform, Read, Write, Memory, SourceStop}
 use Rattle.htl_compile.specs.declared.compiling.CompileFault.TheVariants as compile
 use Rattle.htl_compile.specs.declared.source_fault.SourceFault.TheVariants as source
-use Rattle.htl_edge.specs.Causes.{Rose}
-use Rattle.htl_edge.specs.Content.{AppendsPrefix, none_left}
-use Rattle.htl_model.specs.Broken.{Formed}
-use Rattle.htl_model.specs.Tables.{Tables}
-use Rattle.htl_top.specs.Answers.{Streams, IsBeforeRun}
-use Rattle.htl_top.specs.Causes.{IsOrMemory}
-use Rattle.htl_top.specs.Compiling.{IsCompiling, IsBytesCompiled, compiled_bytes}
-use Rattle.htl_top.specs.Sources.{IsInput, IsInputProgram, IsFaultyInput, IsLongInput, IsInputFault, IsNotCompiled, answer_of, outcome_of}
-use Rattle.htl_top.specs.declared.outcome.Outcome.{Outcome}
-use Rattle.htl_top.specs.declared.outcome.Outcome.TheVariants.{Done, Source, IllFormed, Unschedulable, Platform, Read, Write, Memory}
-use Rattle.htl_top.specs.declared.source.SourceStop.{SourceStop}
 use Rattle.htl_top.specs.declared.source.SourceStop.TheVariants as stop
 
 -- ---- from the source to the input

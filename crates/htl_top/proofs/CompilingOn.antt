@@ -1,36 +1,9 @@
 -- What `compile with` answers, by its platform file and its input.
 use Rattle.std.proofs.Common.{arith, ◌≡◌, ◌≤◌, ◌<◌, ℕ, List, length, Option, Some, Ok, refl, sym, ◌∙◌, ap, subst, inl, inr}
-use Rattle.std.specs.FinMap.{get}
-use Rattle.std.specs.Prelude.{IfSome}
-use Rattle.std.specs.Io.KnownBytes.{append_known}
-use Rattle.htl_base.specs.declared.limits.TheConstants.{MAX_SOURCE}
-use Rattle.htl_compile.proofs.OnPlatform.{only_memory, one_with_fault}
-use Rattle.htl_compile.specs.Built.{AreSchedulable}
-use Rattle.htl_compile.specs.Coded.{AreTyped}
-use Rattle.htl_compile.specs.OnPlatform.{IsCompiledOn, IsWithFault}
-use Rattle.htl_compile.specs.Sources.{IsTablesOf}
-use Rattle.htl_compile.specs.declared.compiling.CompileFault.{CompileFault}
+use Rattle.htl_top.proofs.Vocabulary.{get, IfSome, append_known, MAX_SOURCE, only_memory, one_with_fault, AreSchedulable, AreTyped, IsCompiledOn, IsWithFault, IsTablesOf, CompileFault, WithFault, Rose, AppendsPrefix, none_left, Holdings, HoldsUnder, Formed, Tables, with_worst, platform_of, PlatformOf, Files, Streams, IsBeforeRun, IsFaultOf, IsLongFile, IsSource, IsGiven, IsOrMemory, IsCompilingOn, IsBytesCompiledOn, compiled_on, IsInput, answer_of, outcome_of, IsProgramOn, IsFaultyOn, IsInputFaultOn, IsNotCompiledOn, answer_on, Outcome, Done, Source, IllFormed, Unschedulable, Platform, Shelf, Read, Write, Memory, Failed, TooLong, SourceStop}
 use Rattle.htl_compile.specs.declared.compiling.CompileFault.TheVariants as compile
-use Rattle.htl_compile.specs.declared.compiling_on.WithFault.{WithFault}
 use Rattle.htl_compile.specs.declared.compiling_on.WithFault.TheVariants as on
 use Rattle.htl_compile.specs.declared.source_fault.SourceFault.TheVariants as source
-use Rattle.htl_edge.specs.Causes.{Rose}
-use Rattle.htl_edge.specs.Content.{AppendsPrefix, none_left}
-use Rattle.htl_edge.specs.Holdings.{Holdings, HoldsUnder}
-use Rattle.htl_model.specs.Broken.{Formed}
-use Rattle.htl_model.specs.Tables.{Tables}
-use Rattle.htl_platform.specs.Applied.{with_worst}
-use Rattle.htl_platform.specs.Platforms.{platform_of}
-use Rattle.htl_platform.specs.declared.platform.Platform.{Platform as PlatformOf}
-use Rattle.htl_top.specs.Answers.{Files, Streams, IsBeforeRun}
-use Rattle.htl_top.specs.Causes.{IsFaultOf, IsLongFile, IsSource, IsGiven, IsOrMemory}
-use Rattle.htl_top.specs.CompilingOn.{IsCompilingOn, IsBytesCompiledOn, compiled_on}
-use Rattle.htl_top.specs.Sources.{IsInput, answer_of, outcome_of}
-use Rattle.htl_top.specs.SourcesOn.{IsProgramOn, IsFaultyOn, IsInputFaultOn, IsNotCompiledOn, answer_on}
-use Rattle.htl_top.specs.declared.outcome.Outcome.{Outcome}
-use Rattle.htl_top.specs.declared.outcome.Outcome.TheVariants.{Done, Source, IllFormed, Unschedulable, Platform, Shelf, Read, Write, Memory}
-use Rattle.htl_top.specs.declared.outcome.ShelfCause.TheVariants.{Failed, TooLong}
-use Rattle.htl_top.specs.declared.source.SourceStop.{SourceStop}
 use Rattle.htl_top.specs.declared.source.SourceStop.TheVariants as stop
 
 -- ---- from source and platform file to the words and the input

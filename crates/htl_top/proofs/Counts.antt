@@ -1,9 +1,6 @@
 -- The counts of faults, by the answer.
 use Rattle.std.proofs.Common.{◌≡◌, ℕ, List, sym, ◌∙◌}
-use Rattle.htl_top.specs.Answers.{Files, Streams, AreCountsKept, KeepsCounts}
-use Rattle.htl_top.specs.declared.outcome.Outcome.{Outcome}
-use Rattle.htl_top.specs.declared.outcome.Outcome.TheVariants.{Done, Shelf, Read, Write}
-use Rattle.htl_top.specs.declared.outcome.ShelfCause.TheVariants.{Failed}
+use Rattle.htl_top.proofs.Vocabulary.{Files, Streams, AreCountsKept, KeepsCounts, Outcome, Done, Shelf, Read, Write, Failed}
 
 module _ (shelf : Files) (old new : Streams) (outcome : Outcome) where
   abbrev ShelfKept : Type 0

@@ -1,16 +1,7 @@
 -- What is read later changes nothing before it.
 use Rattle.std.proofs.Common.{arith, ◌≡◌, ◌≤◌, ◌<◌, ◌⊎◌, inl, inr, ◌&&◌, ℕ, zero, suc, Bool, true, false, cond, eqb, leb, ℤ, List, [], ◌∷◌, refl, sym, ap, ◌∙◌}
-use Rattle.std.specs.Prelude.{get_or, pos, nat_le, nat_lt}
-use Rattle.std.proofs.lemmas.Bool.{true≢false}
-use Rattle.std.proofs.lemmas.Bool.Decides.{nat_tests}
-use Rattle.htl_model.proofs.Locality.{Agree, history_local, not_yet, run_lines_same}
-use Rattle.htl_model.specs.Lines.{lines_text}
-use Rattle.htl_model.specs.Meaning.{History, initial, last_sense, newest, sense}
-use Rattle.htl_model.specs.declared.event.Event.{Event}
+use Rattle.htl_top.proofs.Vocabulary.{true≢false, nat_tests, Agree, history_local, not_yet, run_lines_same, lines_text, History, initial, last_sense, newest, sense, Event, Line, Tables, read_where, EarlierReadingsDecideValues, EarlierReadingsDecideTexts, get_or, pos, nat_le, nat_lt}
 use Rattle.htl_model.specs.declared.event.Event.TheVariants as event
-use Rattle.htl_model.specs.declared.line.Line.{Line}
-use Rattle.htl_model.specs.Tables.{Tables}
-use Rattle.htl_top.specs.Laws.{read_where, EarlierReadingsDecideValues, EarlierReadingsDecideTexts}
 
 kept_or_dropped : (P : List Event → Type 0) (b : Bool) (with_it without : List Event) → (b ≡ true → P with_it) → (b ≡ false → P without) → P (cond b with_it without)
 kept_or_dropped P true with_it without kept dropped = kept refl

@@ -1,32 +1,9 @@
 -- The line that tells of an answer has names of the tables that it speaks of.
 use Rattle.std.proofs.Common.{◌≡◌, List, ℕ, Option, Some, refl, ap, ◌∙◌, subst}
-use Rattle.htl_compile.specs.Coded.{coded}
-use Rattle.htl_console.specs.declared.shown.Shown.{Shown}
-use Rattle.htl_edge.specs.Holdings.{Holdings}
-use Rattle.htl_load.specs.declared.fault.ObjectFault.{ObjectFault}
+use Rattle.htl_top.proofs.Vocabulary.{coded, Shown, Holdings, ObjectFault, Tables, FormFault, ObjectOf, patched, PatchFault, with_worst, Streams, IsBulked, HasSource, HasObject, IsSource, HasObjectTables, IsObjectFile, IsObjectTables, SpeaksOfObject, HasPatchedTables, IsDonorTold, IsPatchedTables, SpeaksOfPatch, IsRun, HasTypedTables, IsInput, IsNotCompiled, IsTypedInput, IsTypedProgram, outcome_of, tables_of_stop, HasTypedOn, IsTypedOn, IsNotCompiledOn, fault_line, SpeaksOf, IsFaultTold, IsPatchFaultTold, IsLineTold, Command, Go, Compile, CompileWith, Run, Check, Plan, Show, Slack, Audit, Patch, Outcome, SourceStop}
 use Rattle.htl_load.specs.declared.fault.ObjectFault.TheVariants as fault
-use Rattle.htl_model.specs.Tables.{Tables}
-use Rattle.htl_model.specs.declared.form_fault.FormFault.{FormFault}
-use Rattle.htl_object.specs.declared.object.Object.{Object as ObjectOf}
-use Rattle.htl_patch.specs.Patched.{patched}
-use Rattle.htl_patch.specs.declared.fault.PatchFault.{PatchFault}
 use Rattle.htl_patch.specs.declared.fault.PatchFault.TheVariants as patch
-use Rattle.htl_platform.specs.Applied.{with_worst}
-use Rattle.htl_top.specs.Answers.{Streams}
-use Rattle.htl_top.specs.Bulk.{IsBulked}
-use Rattle.htl_top.specs.Calls.{HasSource, HasObject}
-use Rattle.htl_top.specs.Causes.{IsSource}
-use Rattle.htl_top.specs.Objects.{HasObjectTables, IsObjectFile, IsObjectTables, SpeaksOfObject}
-use Rattle.htl_top.specs.PatchedFiles.{HasPatchedTables, IsDonorTold, IsPatchedTables, SpeaksOfPatch}
-use Rattle.htl_top.specs.Runs.{IsRun}
-use Rattle.htl_top.specs.Sources.{HasTypedTables, IsInput, IsNotCompiled, IsTypedInput, IsTypedProgram, outcome_of, tables_of_stop}
-use Rattle.htl_top.specs.SourcesOn.{HasTypedOn, IsTypedOn, IsNotCompiledOn}
-use Rattle.htl_top.specs.Status.{fault_line}
-use Rattle.htl_top.specs.ErrorLines.{SpeaksOf, IsFaultTold, IsPatchFaultTold, IsLineTold}
-use Rattle.htl_top.specs.Words.{Command, Go, Compile, CompileWith, Run, Check, Plan, Show, Slack, Audit, Patch}
-use Rattle.htl_top.specs.declared.outcome.Outcome.{Outcome}
 use Rattle.htl_top.specs.declared.outcome.Outcome.TheVariants.{IllFormed, Patch as Unpatched, Object}
-use Rattle.htl_top.specs.declared.source.SourceStop.{SourceStop}
 use Rattle.htl_top.specs.declared.source.SourceStop.TheVariants as stop
 
 -- a run breaks no form rule

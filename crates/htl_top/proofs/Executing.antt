@@ -1,22 +1,10 @@
 -- The text of a whole run, with its totals.
 use Rattle.std.proofs.Common.{◌≡◌, ℕ, suc, List, [], ◌∷◌, ◌++◌, Option, Result, Ok, sym, ap, ◌∙◌, subst}
-use Rattle.std.specs.Io.KnownBytes.{append_known}
-use Rattle.htl_console.specs.declared.shown.Shown.{Shown}
-use Rattle.htl_edge.proofs.Puts.{Puts-second}
-use Rattle.htl_edge.specs.Content.{Puts}
+use Rattle.htl_top.proofs.Vocabulary.{append_known, Shown, Puts-second, Puts, Seen, IsFinished, e_done, jobs_done, s_done, before_of, schedules_of, text_of, totals_line, Event, Object, totals_text, EndsAt, text_before_fault}
 use Rattle.htl_edge.specs.declared.Failed.{Failed}
-use Rattle.htl_machine.specs.Calls.{Seen, IsFinished}
-use Rattle.htl_machine.specs.Lines.{e_done, jobs_done, s_done}
-use Rattle.htl_machine.specs.Programs.{before_of, schedules_of, text_of}
-use Rattle.htl_model.specs.Lines.{totals_line}
-use Rattle.htl_model.specs.declared.event.Event.{Event}
 use Rattle.htl_model.specs.declared.event.Event.TheVariants as event
-use Rattle.htl_object.specs.declared.object.Object.{Object}
 use Rattle.htl_top.proofs.Playing.{text_ended}
 use Rattle.htl_top.proofs.Totals.{totals_end}
-use Rattle.htl_top.specs.Bulk.{totals_text}
-use Rattle.htl_top.specs.Scripts.{EndsAt}
-use Rattle.htl_top.specs.Texts.{text_before_fault}
 
 -- a whole script makes all instants up to its end
 told_whole : (o : Object) (show : Shown) (events : List Event) (end : ℕ) → EndsAt events end → text_before_fault o show events ≡ before_of o events show (suc end)

@@ -1,12 +1,5 @@
 -- Answers while files are fetched speak of no tables, and tell why no object was had.
-use Rattle.std.proofs.Common.{Option, List, ℕ}
-use Rattle.htl_model.specs.Tables.{Tables}
-use Rattle.htl_top.specs.Answers.{Files}
-use Rattle.htl_top.specs.Fetching.{IsOfFetch, IsUnfetched}
-use Rattle.htl_top.specs.Objects.{IsStopped}
-use Rattle.htl_top.specs.ErrorLines.{SpeaksOf}
-use Rattle.htl_top.specs.declared.outcome.Outcome.{Outcome}
-use Rattle.htl_top.specs.declared.outcome.Outcome.TheVariants.{Shelf, Memory}
+use Rattle.htl_top.proofs.Vocabulary.{Option, List, ℕ, Tables, Files, IsOfFetch, IsUnfetched, IsStopped, SpeaksOf, Outcome, Shelf, Memory}
 
 pub fetching_speaks : (Sources Objects : (Tables → Type 0) → Type 0) (outcome : Outcome) (tables : Option Tables) → IsOfFetch outcome → SpeaksOf Sources Objects outcome tables
 fetching_speaks Sources Objects (Shelf cause) tables is = tt

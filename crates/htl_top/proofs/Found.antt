@@ -1,8 +1,6 @@
 -- What a list has at a place, as code reads it.
 use Rattle.std.proofs.Common.{arith, ◌≡◌, ◌≤◌, ◌<◌, ℕ, List, length, get_or, true, ltb, Some, None, ap, sym, ◌∙◌}
-use Rattle.std.specs.Prelude.{slice_get}
-use Rattle.std.proofs.lemmas.Bool.Decides.{nat_tests}
-use Rattle.std.proofs.lemmas.Option.{slice_get-get_or, slice_get_past}
+use Rattle.htl_top.proofs.Vocabulary.{slice_get, nat_tests, slice_get-get_or, slice_get_past}
 
 below : (k n : ℕ) → true ≡ ltb k n → k < n
 below k n is = grind (arith, nat_tests)

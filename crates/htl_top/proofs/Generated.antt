@@ -1,42 +1,9 @@
 -- The generated program, read again from its printed form: its first communicator is its sensor.
 use Rattle.std.proofs.Common.{arith, ◌≡◌, ◌<◌, ◌≤◌, ◌+◌, ◌/◌, ◌%◌, ◌^◌, ◌&&◌, cond, ltb, length, ℕ, zero, suc, ℤ, Bool, true, false, List, [], ◌∷◌, ◌++◌, map, refl, sym, ap, ap₂, ◌∙◌, subst, inl, inr}
-use Rattle.std.proofs.lemmas.Bool.Decides.{nat_tests}
-use Rattle.std.proofs.lemmas.List.{map-append}
-use Rattle.std.proofs.lemmas.List.Concat.{flat_map-cons}
-use Rattle.htl_compile.proofs.BulkNames.{one_digit, two_digits}
-use Rattle.htl_text.specs.Placed.{tokens_numbered}
-use Rattle.std.specs.Prelude.{pos, slice_get, Some}
-use Rattle.std.specs.Fmt.{decimal}
-use Rattle.std.specs.List.{flat_map}
-use Rattle.htl_base.specs.Names.{is_name}
-use Rattle.htl_model.specs.Lists.{list_to}
-use Rattle.htl_model.specs.declared.parts.Comm.{Comm}
-use Rattle.htl_names.specs.Flat.{comm_item, comm_items, size_of, value_of}
-use Rattle.htl_parse.proofs.Reparsing.{source-again}
-use Rattle.htl_parse.proofs.Whole.{one_tree-law}
-use Rattle.htl_parse.specs.Answers.{Spell}
-use Rattle.htl_parse.specs.Bare.{bare_comm, bare_const, bare_program, AreAlike}
-use Rattle.htl_text.proofs.OneCut.{Tokens-unique}
-use Rattle.htl_text.proofs.Reprinted.{printed-tokens}
-use Rattle.htl_text.specs.Bounds.{IsLiteral}
-use Rattle.htl_text.specs.Nodes.{PlainProgram}
-use Rattle.htl_text.specs.PrintedTokens.{Spelling, each, source_tokens, comm_tokens, module_tokens, task_tokens, mode_tokens, invoke_tokens}
-use Rattle.htl_text.specs.Spans.{Tokens}
-use Rattle.htl_text.specs.Spellable.{AreSpellable}
-use Rattle.htl_text.specs.TokenLists.{TokenList}
-use Rattle.htl_text.specs.declared.token.Token.{Token}
+use Rattle.htl_top.proofs.Vocabulary.{nat_tests, map-append, flat_map-cons, one_digit, two_digits, tokens_numbered, decimal, flat_map, is_name, list_to, Comm, source-again, one_tree-law, Spell, bare_comm, bare_const, bare_program, AreAlike, Tokens-unique, printed-tokens, IsLiteral, PlainProgram, Spelling, each, source_tokens, comm_tokens, module_tokens, task_tokens, mode_tokens, invoke_tokens, Tokens, AreSpellable, TokenList, Token, CommNode, ConstNode, coded, IsTablesOf, IsSensorValue, Tables, bulk_tree, bulk_bytes, bulk_sensor, bulk_comm, bulk_module, bulk_mode, scaling_task, copying_task, scaling_invoke, copying_invoke, one_before, and_parts, cases_below, pos, slice_get, Some, comm_item, comm_items, size_of, value_of}
 use Rattle.htl_text.specs.declared.token.Token.TheVariants as token
 use Rattle.htl_text.specs.declared.token.Sign.TheVariants as sign
-use Rattle.htl_text.specs.declared.tree.CommNode.{CommNode}
-use Rattle.htl_text.specs.declared.tree.ConstNode.{ConstNode}
 use Rattle.htl_text.specs.declared.tree.ConstNode.TheVariants as const
-use Rattle.htl_compile.specs.Coded.{coded}
-use Rattle.htl_compile.specs.Sources.{IsTablesOf}
-use Rattle.htl_machine.specs.Calls.{IsSensorValue}
-use Rattle.htl_model.specs.Tables.{Tables}
-use Rattle.htl_compile.specs.BulkTree.{bulk_tree, bulk_bytes, bulk_sensor, bulk_comm, bulk_module, bulk_mode, scaling_task, copying_task, scaling_invoke, copying_invoke, one_before}
-use Rattle.std.proofs.lemmas.Bool.{and_parts}
-use Rattle.htl_base.proofs.Numbers.{cases_below}
 
 -- ---- the names
 

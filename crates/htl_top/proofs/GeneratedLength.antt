@@ -1,23 +1,10 @@
 -- The printed form of the generated program is no longer than a source may be.
 use Rattle.std.proofs.Common.{arith, ◌≡◌, ◌≤◌, ◌+◌, ◌*◌, ◌∷◌, ◌&&◌, Bool, true, false, ℕ, zero, suc, List, [], length, refl, sym, ap, subst, length-append}
-use Rattle.std.specs.Prelude.{nat_lt, not}
-use Rattle.std.specs.Fmt.{decimal}
-use Rattle.std.proofs.lemmas.Bool.Decides.{nat_tests}
-use Rattle.std.proofs.lemmas.Fmt.{length-decimal-le}
-use Rattle.htl_base.specs.Names.{is_identifier, is_reserved}
-use Rattle.htl_model.specs.Lists.{list_to}
-use Rattle.htl_text.proofs.Writing.{printed_bytes-cons, printed_bytes-nil}
-use Rattle.htl_text.specs.PrintedBytes.{printed_bytes, token_bytes, token_text, word_text, sign_text, separator}
-use Rattle.htl_text.specs.PrintedTokens.{Spelling, each, source_tokens, comm_tokens, module_tokens}
-use Rattle.htl_text.specs.Spellable.{AreSpellable, IsSpellable}
-use Rattle.htl_text.specs.declared.token.Sign.{Sign}
+use Rattle.htl_top.proofs.Vocabulary.{decimal, nat_tests, length-decimal-le, is_identifier, is_reserved, list_to, printed_bytes-cons, printed_bytes-nil, printed_bytes, token_bytes, token_text, word_text, sign_text, separator, Spelling, each, source_tokens, comm_tokens, module_tokens, AreSpellable, IsSpellable, Sign, Token, Word, bulk_tree, bulk_bytes, bulk_comm, bulk_module, nat_lt, not}
 use Rattle.htl_text.specs.declared.token.Sign.TheVariants as sign
-use Rattle.htl_text.specs.declared.token.Token.{Token}
 use Rattle.htl_text.specs.declared.token.Token.TheVariants as token
-use Rattle.htl_text.specs.declared.token.Word.{Word}
 use Rattle.htl_text.specs.declared.token.Word.TheVariants as word
 use Rattle.htl_top.proofs.Generated.{each-append, tree_spelled}
-use Rattle.htl_compile.specs.BulkTree.{bulk_tree, bulk_bytes, bulk_comm, bulk_module}
 
 -- ---- the bytes of a token
 

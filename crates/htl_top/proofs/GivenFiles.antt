@@ -1,11 +1,6 @@
 -- A file that is given is the one that was had.
 use Rattle.std.proofs.Common.{arith, ◌≡◌, ◌≤◌, ◌<◌, ℕ, List, length, Option, Some, ap, ◌∙◌, subst}
-use Rattle.std.specs.FinMap.{get}
-use Rattle.htl_base.specs.declared.limits.TheConstants.{MAX_OBJECT}
-use Rattle.htl_edge.specs.Holdings.{Holdings, HoldsUnder}
-use Rattle.htl_top.specs.Answers.{Files}
-use Rattle.htl_top.specs.Causes.{IsFaultOf, IsLongFile, IsGiven}
-use Rattle.htl_top.specs.Objects.{IsObjectFile}
+use Rattle.htl_top.proofs.Vocabulary.{get, MAX_OBJECT, Holdings, HoldsUnder, Files, IsFaultOf, IsLongFile, IsGiven, IsObjectFile}
 
 module _ (name : Option (List ℕ)) (shelf : Files) (bytes : List ℕ) (given : IsGiven name shelf.holds shelf.before shelf.after bytes) where
   pub same_bytes : (others : List ℕ) → IsObjectFile name shelf.holds others → others ≡ bytes

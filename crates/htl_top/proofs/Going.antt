@@ -1,36 +1,10 @@
 -- What `go` answers, by its source.
 use Rattle.std.proofs.Common.{arith, ◌≡◌, ◌≤◌, ◌<◌, ◌⊎◌, ℕ, List, length, Option, None, Some, Ok, Err, refl, sym, ap, ◌∙◌, subst, inl, inr}
-use Rattle.std.specs.FinMap.{get}
-use Rattle.htl_base.specs.declared.limits.TheConstants.{MAX_SOURCE}
-use Rattle.htl_compile.proofs.BuiltLaws.{built_accepted}
-use Rattle.htl_compile.proofs.Completeness.{compile_only_memory, one_compile_fault}
-use Rattle.htl_compile.proofs.SourceLaws.{tables_unique}
-use Rattle.htl_compile.specs.Building.{IsCompileFault, IsCompiledTo}
-use Rattle.htl_compile.specs.Built.{built}
-use Rattle.htl_compile.specs.Sources.{IsTablesOf}
-use Rattle.htl_compile.specs.declared.compiling.CompileFault.{CompileFault}
+use Rattle.htl_top.proofs.Vocabulary.{get, MAX_SOURCE, built_accepted, compile_only_memory, one_compile_fault, tables_unique, IsCompileFault, IsCompiledTo, built, IsTablesOf, CompileFault, Jobs, Holdings, HoldsUnder, HasBytes, IsLoadedAs, LoadFault, ObjectFault, Tables, IsAccepted, ObjectOf, PlatformFault, Files, Streams, IsBeforeScript, IsBeforeRun, IsFaultOf, IsLongFile, IsSource, IsGiven, IsOrMemory, IsUncompiled, IsGoing, IsBytesGoing, IsReadySource, IsRun, HasTables, IsProgram, IsFaultyProgram, IsNotCompiled, answer_of, outcome_of, Outcome, Usage, Source, IllFormed, Unschedulable, Platform, Refused, Shelf, Memory, Failed, TooLong, SourceStop}
 use Rattle.htl_compile.specs.declared.compiling.CompileFault.TheVariants as compile
-use Rattle.htl_console.specs.declared.shown.Shown.TheVariants.{Jobs}
-use Rattle.htl_edge.specs.Holdings.{Holdings, HoldsUnder}
-use Rattle.htl_load.specs.Loading.{HasBytes, IsLoadedAs}
-use Rattle.htl_load.specs.declared.fault.LoadFault.{LoadFault}
 use Rattle.htl_load.specs.declared.fault.LoadFault.TheVariants as load
-use Rattle.htl_load.specs.declared.fault.ObjectFault.{ObjectFault}
-use Rattle.htl_model.specs.Tables.{Tables}
-use Rattle.htl_object.specs.Accepted.{IsAccepted}
-use Rattle.htl_object.specs.declared.object.Object.{Object as ObjectOf}
 use Rattle.htl_top.proofs.ObjectAnswering.{IsOfWork, early_work}
 use Rattle.htl_top.proofs.Running.{IsRun-source, run_only, run_unwritten}
-use Rattle.htl_platform.specs.declared.fault.PlatformFault.{PlatformFault}
-use Rattle.htl_top.specs.Answers.{Files, Streams, IsBeforeScript, IsBeforeRun}
-use Rattle.htl_top.specs.Causes.{IsFaultOf, IsLongFile, IsSource, IsGiven, IsOrMemory}
-use Rattle.htl_top.specs.Going.{IsUncompiled, IsGoing, IsBytesGoing, IsReadySource}
-use Rattle.htl_top.specs.Runs.{IsRun}
-use Rattle.htl_top.specs.Sources.{HasTables, IsProgram, IsFaultyProgram, IsNotCompiled, answer_of, outcome_of}
-use Rattle.htl_top.specs.declared.outcome.Outcome.{Outcome}
-use Rattle.htl_top.specs.declared.outcome.Outcome.TheVariants.{Usage, Source, IllFormed, Unschedulable, Platform, Object as Refused, Shelf, Memory}
-use Rattle.htl_top.specs.declared.outcome.ShelfCause.TheVariants.{Failed, TooLong}
-use Rattle.htl_top.specs.declared.source.SourceStop.{SourceStop}
 use Rattle.htl_top.specs.declared.source.SourceStop.TheVariants as stop
 
 -- ---- from the source to the file

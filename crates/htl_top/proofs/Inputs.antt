@@ -1,7 +1,6 @@
 -- The input, read piece by piece.
 use Rattle.std.proofs.Common.{arith, ◌≡◌, ◌≤◌, ◌+◌, ℕ, List, [], ◌++◌, length, Option, None, Some, refl, sym, ap, ◌∙◌, length-append, append_assoc}
-use Rattle.std.specs.Io.KnownBytes.{prepend_known}
-use Rattle.htl_script.specs.Reading.{LosesFront}
+use Rattle.htl_top.proofs.Vocabulary.{prepend_known, LosesFront}
 
 -- these bytes were read
 abbrev pub AreRead : List ℕ → Option (List ℕ) → Option (List ℕ) → Type 0

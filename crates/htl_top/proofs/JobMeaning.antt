@@ -1,23 +1,9 @@
 -- What `go` shows of the jobs of a source, down to the lines.
 use Rattle.std.proofs.Common.{ℕ, List, ◌++◌, None, refl, sym, ap, ◌∙◌}
-use Rattle.htl_compile.proofs.BuiltLaws.{built_accepted}
-use Rattle.htl_compile.specs.Built.{built}
-use Rattle.htl_compile.specs.Coded.{coded, codes}
-use Rattle.htl_console.specs.declared.shown.Shown.TheVariants.{Jobs}
-use Rattle.htl_machine.proofs.Accepted.{accepted_is_loaded}
-use Rattle.htl_machine.proofs.JobLines.{run_shows, old_alone, jobs_are_found}
-use Rattle.htl_machine.proofs.JobTimes.{told_in_time}
-use Rattle.htl_machine.specs.JobLines.{job_lines_to}
-use Rattle.htl_machine.specs.Programs.{schedules_of, text_of}
-use Rattle.htl_model.specs.Lines.{lines_text}
-use Rattle.htl_model.specs.Meaning.{value_lines}
-use Rattle.htl_model.specs.Frames.{hyper}
-use Rattle.htl_script.proofs.Fitting.{whole-script}
-use Rattle.htl_script.proofs.SameScript.{script_same}
+use Rattle.htl_top.proofs.Vocabulary.{built_accepted, built, coded, codes, Jobs, accepted_is_loaded, run_shows, old_alone, jobs_are_found, told_in_time, job_lines_to, schedules_of, text_of, lines_text, value_lines, hyper, whole-script, script_same, GoShowsJobLines, GoTellsJobsInTime, GoJobLinesAreFound}
 use Rattle.htl_top.proofs.Meaning.{go_shows}
 use Rattle.htl_top.proofs.Playing.{took_within}
 use Rattle.htl_top.proofs.SourceNames.{source_named, coded_named}
-use Rattle.htl_top.specs.JobLaws.{GoShowsJobLines, GoTellsJobsInTime, GoJobLinesAreFound}
 
 pub go_job_lines : GoShowsJobLines
 go_job_lines t es now can =

@@ -54,3 +54,4 @@ pub mod GivenFiles
 pub mod PatchedObjects
 pub mod Patching
 pub mod PatchCalling
+pub mod Vocabulary

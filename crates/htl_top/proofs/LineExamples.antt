@@ -3,20 +3,10 @@ use Rattle.std.proofs.Common.{◌≡◌, List, [], ◌∷◌, ◌++◌, Option, 
 use Rattle.std.specs.Fmt.{digits}
 use Rattle.std.specs.Prelude.{decimal}
 use Rattle.htl_compile.specs.declared.source_fault.SourceFault.TheVariants as fault
-use Rattle.htl_ecode.specs.Layout.{layout}
-use Rattle.htl_console.specs.declared.shown.Shown.TheVariants.{Values, Jobs}
-use Rattle.htl_model.proofs.Sources.{doubling, empty_mode}
-use Rattle.htl_model.specs.declared.event.Event.{Event}
+use Rattle.htl_top.proofs.Vocabulary.{layout, Values, Jobs, doubling, empty_mode, Event, Tables, Object, sample, fault_line, place_of_fault, text_before_fault, text_of_script, Source, IllFormed, Unschedulable, Script, Dispatch, End}
 use Rattle.htl_model.specs.declared.event.Event.TheVariants as event
-use Rattle.htl_model.specs.Tables.{Tables}
-use Rattle.htl_object.specs.declared.object.Object.{Object}
-use Rattle.htl_script.proofs.Examples.{sample}
 use Rattle.htl_script.specs.Script.{script_of, Whole, Bad}
 use Rattle.htl_script.specs.declared.fault.ScriptKind.TheVariants as kind
-use Rattle.htl_top.specs.Status.{fault_line, place_of_fault}
-use Rattle.htl_top.specs.Texts.{text_before_fault, text_of_script}
-use Rattle.htl_top.specs.declared.outcome.Outcome.TheVariants.{Source, IllFormed, Unschedulable, Script}
-use Rattle.htl_walk.specs.declared.schedule.SInstr.TheVariants.{Dispatch, End}
 
 -- ---- the text of a script
 

@@ -1,32 +1,7 @@
 -- The lists of a path, walked one after another.
 use Rattle.std.proofs.Common.{◌≡◌, ◌≤◌, ◌<◌, ℕ, zero, suc, List, [], ◌∷◌, ◌++◌, length, drop, get_or, refl, sym, ap, ap₂, ◌∙◌, subst, arith}
-use Rattle.std.specs.List.{All}
-use Rattle.std.proofs.Math.Seq.{drop-cons}
-use Rattle.std.proofs.lemmas.List.{drop_all}
-use Rattle.std.proofs.lemmas.Option.{slice_get-get_or}
-use Rattle.htl_model.proofs.Listed.{get_list_to, length-list_to}
-use Rattle.htl_model.specs.Frames.{frame_of, node, path_places, paths, starts}
-use Rattle.htl_model.specs.Tables.{Tables}
+use Rattle.htl_top.proofs.Vocabulary.{All, drop-cons, drop_all, slice_get-get_or, get_list_to, length-list_to, frame_of, node, path_places, paths, starts, Tables, IsAccepted, Object, leg_from, legs_many, form_at, no_leg, list_read, known_at, nodes_within, known_few, lists_of, IsKnown, instrs_of, list_at, legs, legs_of, Leg, end_to_end, walks_from, InForm, Left, Point, last_point, walk_from, Job, SInstr, Schedule, known_more}
 use Rattle.htl_model.specs.declared.frame.Place.{Place}
-use Rattle.htl_object.specs.Accepted.{IsAccepted}
-use Rattle.htl_object.specs.declared.object.Object.{Object}
-use Rattle.htl_refine.proofs.ListsFollow.{leg_from, legs_many}
-use Rattle.htl_refine.proofs.ListWalks.{form_at}
-use Rattle.htl_refine.specs.ListPlans.{no_leg}
-use Rattle.htl_walk.proofs.CodeWalk.{list_read}
-use Rattle.htl_walk.proofs.Following.{known_at}
-use Rattle.htl_walk.proofs.Nodes.{nodes_within}
-use Rattle.htl_walk.proofs.Starts.{known_few}
-use Rattle.htl_walk.specs.Feasible.{lists_of}
-use Rattle.htl_walk.specs.Following.{IsKnown}
-use Rattle.htl_walk.specs.NodeWalks.{instrs_of, list_at}
-use Rattle.htl_walk.specs.PathJobs.{legs, legs_of}
-use Rattle.htl_walk.specs.Paths.{Leg, end_to_end, walks_from}
-use Rattle.htl_walk.specs.Walk.{InForm, Left, Point, last_point, walk_from}
-use Rattle.htl_walk.specs.declared.job.Job.{Job}
-use Rattle.htl_walk.specs.declared.schedule.SInstr.{SInstr}
-use Rattle.htl_walk.specs.declared.schedule.Schedule.{Schedule}
-use Rattle.htl_walk.proofs.Walked.{known_more}
 
 -- ---- one list more
 

@@ -1,29 +1,8 @@
 -- What `go` shows of a source is what its own tables mean.
 use Rattle.std.proofs.Common.{◌≡◌, ℕ, List, [], ◌++◌, Option, None, Some, refl, sym, ap, ap₂, ◌∙◌}
-use Rattle.std.proofs.lemmas.List.{append-nil}
-use Rattle.std.specs.List.{flat_map}
+use Rattle.htl_top.proofs.Vocabulary.{append-nil, flat_map, built_accepted, coded_runs, built, CanBuild, coded, codes, Jobs, accepted_is_loaded, run_of, new_lines, old_lines, schedules_of, hyper, line_text, lines_text, value_lines, Tables, Event, Line, ValueLine, ModeLine, every_job_in_time, whole-script, script_same, GoShowsTheMeaning, GoKeepsDeadlines}
 use mathlib.Core.Path.{fun_ext}
-use Rattle.htl_compile.proofs.BuiltLaws.{built_accepted}
-use Rattle.htl_compile.proofs.CodedLaws.{coded_runs}
-use Rattle.htl_compile.specs.Built.{built, CanBuild}
-use Rattle.htl_compile.specs.Coded.{coded, codes}
-use Rattle.htl_console.specs.declared.shown.Shown.TheVariants.{Jobs}
-use Rattle.htl_machine.proofs.Accepted.{accepted_is_loaded}
-use Rattle.htl_machine.proofs.LoadedLists.{run_of}
-use Rattle.htl_machine.specs.Lines.{new_lines, old_lines}
-use Rattle.htl_machine.specs.Programs.{schedules_of}
-use Rattle.htl_model.specs.Frames.{hyper}
-use Rattle.htl_model.specs.Lines.{line_text, lines_text}
-use Rattle.htl_model.specs.Meaning.{value_lines}
-use Rattle.htl_model.specs.Tables.{Tables}
-use Rattle.htl_model.specs.declared.event.Event.{Event}
-use Rattle.htl_model.specs.declared.line.Line.{Line}
-use Rattle.htl_model.specs.declared.line.Line.TheVariants.{ValueLine, ModeLine}
-use Rattle.htl_refine.proofs.ServedFrames.{every_job_in_time}
-use Rattle.htl_script.proofs.Fitting.{whole-script}
-use Rattle.htl_script.proofs.SameScript.{script_same}
 use Rattle.htl_top.proofs.Playing.{took_within}
-use Rattle.htl_top.specs.Laws.{GoShowsTheMeaning, GoKeepsDeadlines}
 
 -- the names in a line are those of the tables, whatever their functions are
 pub line_same : (t : Tables) (x : Line) → line_text (coded t) x ≡ line_text t x

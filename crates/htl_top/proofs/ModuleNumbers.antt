@@ -1,7 +1,6 @@
 -- The number of modules that a word asks for: it is the first whose decimal digits the word is.
 use Rattle.std.proofs.Common.{arith, ◌≡◌, ◌<◌, ◌≤◌, ◌⊎◌, ℕ, zero, suc, Bool, true, cond, List, Option, None, Some, sym, ap, ◌∙◌, subst, inl, inr}
-use Rattle.std.specs.Fmt.{decimal}
-use Rattle.std.specs.Str.{bytes_eq}
+use Rattle.htl_top.proofs.Vocabulary.{decimal, bytes_eq}
 use Rattle.htl_top.specs.Words.{decimal_to, modules_in}
 
 module _ (word : List ℕ) where

@@ -1,12 +1,5 @@
 -- An accepted object has no overloaded path, and keeps what is asked of its tables before a worst case is raised.
-use Rattle.htl_edf.proofs.NodeLists.{nodes_refused}
-use Rattle.htl_edf.proofs.PathOrder.{ready}
-use Rattle.htl_model.specs.FrameRules.{KeptApart}
-use Rattle.htl_object.specs.Accepted.{IsAccepted}
-use Rattle.htl_object.specs.declared.object.Object.{Object}
-use Rattle.htl_slack.specs.Slack.{NoneOverloaded}
-use Rattle.htl_walk.specs.NodeWalks.{instrs_of}
-use Rattle.std.specs.Prelude.{ℕ}
+use Rattle.htl_top.proofs.Vocabulary.{nodes_refused, ready, KeptApart, IsAccepted, Object, NoneOverloaded, instrs_of, ℕ}
 
 -- it breaks no form rule
 pub keeps_apart : (o : Object) (last : ℕ) → IsAccepted o → KeptApart o.tables last

@@ -1,27 +1,8 @@
 -- What a command on an object answers, by what it does with an accepted one.
 use Rattle.std.proofs.Common.{arith, ◌≡◌, ◌≤◌, ◌<◌, ◌⊎◌, ℕ, List, length, Option, Some, Ok, Err, refl, sym, ap, ◌∙◌, subst, inl, inr}
-use Rattle.htl_base.specs.declared.limits.TheConstants.{MAX_OBJECT}
-use Rattle.htl_edge.specs.Causes.{Rose}
-use Rattle.htl_edge.specs.Holdings.{Holdings}
-use Rattle.htl_load.proofs.OneAnswer.{accepted_bytes, fault_told, bad_field_told}
-use Rattle.htl_load.specs.Loading.{HasBytes, RefusesBytes, RefusesObject}
-use Rattle.htl_load.specs.declared.fault.ObjectFault.{ObjectFault}
+use Rattle.htl_top.proofs.Vocabulary.{MAX_OBJECT, Rose, Holdings, accepted_bytes, fault_told, bad_field_told, HasBytes, RefusesBytes, RefusesObject, ObjectFault, one_object, says_itself, IsAccepted, fault_of, first_bad, whole_at, object_in, object_or, ReadOf, Lists, Malformed, Object, Files, Streams, IsWritten, IsBeforeScript, IsBeforeRun, IsFaultOf, IsLongFile, IsGiven, IsOrMemory, IsRefusedFile, IsAcceptedFile, IsStopped, IsOnObject, IsTextAnswer, IsTextOnObject, IsReadyObject, Work, Outcome, Done, Usage, IllFormed, Task, Refused, Script, Shelf, Read, Write, Memory, Failed, TooLong}
 use Rattle.htl_load.specs.declared.fault.ObjectFault.TheVariants as fault
-use Rattle.htl_object.proofs.ObjectLaws.{one_object, says_itself}
-use Rattle.htl_object.specs.Accepted.{IsAccepted}
-use Rattle.htl_object.specs.Files.{fault_of, first_bad, whole_at}
-use Rattle.htl_object.specs.Objects.{object_in, object_or}
-use Rattle.htl_object.specs.Reading.{Read as ReadOf}
-use Rattle.htl_object.specs.declared.lists.Lists.{Lists}
-use Rattle.htl_object.specs.declared.malformed.Malformed.{Malformed}
-use Rattle.htl_object.specs.declared.object.Object.{Object}
 use Rattle.htl_top.proofs.GivenFiles as files
-use Rattle.htl_top.specs.Answers.{Files, Streams, IsWritten, IsBeforeScript, IsBeforeRun}
-use Rattle.htl_top.specs.Causes.{IsFaultOf, IsLongFile, IsGiven, IsOrMemory}
-use Rattle.htl_top.specs.Objects.{IsRefusedFile, IsAcceptedFile, IsStopped, IsOnObject, IsTextAnswer, IsTextOnObject, IsReadyObject, Work}
-use Rattle.htl_top.specs.declared.outcome.Outcome.{Outcome}
-use Rattle.htl_top.specs.declared.outcome.Outcome.TheVariants.{Done, Usage, IllFormed, Task, Object as Refused, Script, Shelf, Read, Write, Memory}
-use Rattle.htl_top.specs.declared.outcome.ShelfCause.TheVariants.{Failed, TooLong}
 
 -- ---- bytes have one object, or one fault
 

@@ -1,15 +1,6 @@
 -- From the answer of a command to the clauses of the top call on objects: `run`, `jobs`, `code`, `check`, `show`, `plan`; and on `bulk`.
 use Rattle.std.proofs.Common.{◌≡◌, ◌≤◌, ◌<◌, ℕ, List, length, Option, None, Some, refl, subst, inl, inr}
-use Rattle.std.specs.Io.KnownBytes.{append_known}
-use Rattle.htl_compile.specs.BulkTree.{bulk_bytes}
-use Rattle.htl_console.specs.declared.shown.Shown.{Shown}
-use Rattle.htl_edge.specs.Causes.{Rose}
-use Rattle.htl_edge.specs.Content.{AppendsPrefix}
-use Rattle.htl_load.specs.Loading.{RefusesBytes}
-use Rattle.htl_load.specs.declared.fault.ObjectFault.{ObjectFault}
-use Rattle.htl_model.specs.declared.event.Event.{Event}
-use Rattle.htl_object.specs.declared.object.Object.{Object}
-use Rattle.htl_script.specs.declared.fault.ScriptFault.{ScriptFault}
+use Rattle.htl_top.proofs.Vocabulary.{append_known, bulk_bytes, Shown, Rose, AppendsPrefix, RefusesBytes, ObjectFault, Event, Object, ScriptFault, Files, Streams, bulk_text, IsBulked, IsCall, IsGiven, IsOrMemory, check_text, IsChecked, IsReadyFile, IsAcceptedFile, IsOnObject, IsReadyObject, IsTextAnswer, Work, IsPlanned, IsWholePlan, IsCutPlan, IsBadSelection, IsRun, IsWholeRun, IsFaultyRun, IsCutRun, IsWhole, IsBad, show_text, IsShown, IsSlacked, HasTables, Command, Run, Check, Plan, Show, Bulk, Slack, Audit, Patch, command_object, second_file, Outcome, Done, Refused, Script, Shelf, Read, Write, Memory, TooLong}
 use Rattle.htl_top.proofs.Auditing as auditing
 use Rattle.htl_top.proofs.Bulking as bulking
 use Rattle.htl_top.proofs.Calling.{RunOf, checking, showing, some_not_none, done_memory, write_memory, read_memory, script_memory}
@@ -19,24 +10,7 @@ use Rattle.htl_top.proofs.Patching as patching
 use Rattle.htl_top.proofs.Planning.{planning, bad_input, whole_input}
 use Rattle.htl_top.proofs.Running.{running, bad_run, whole_run}
 use Rattle.htl_top.proofs.Slacking.{slacking}
-use Rattle.htl_top.specs.Answers.{Files, Streams}
-use Rattle.htl_top.specs.Bulk.{bulk_text, IsBulked}
-use Rattle.htl_top.specs.Calls.{IsCall}
-use Rattle.htl_top.specs.Causes.{IsGiven, IsOrMemory}
-use Rattle.htl_top.specs.Checked.{check_text, IsChecked}
-use Rattle.htl_top.specs.Files.{IsReadyFile}
-use Rattle.htl_top.specs.Objects.{IsAcceptedFile, IsOnObject, IsReadyObject, IsTextAnswer, Work}
-use Rattle.htl_top.specs.Planned.{IsPlanned, IsWholePlan, IsCutPlan, IsBadSelection}
-use Rattle.htl_top.specs.Runs.{IsRun, IsWholeRun, IsFaultyRun, IsCutRun}
-use Rattle.htl_top.specs.Scripts.{IsWhole, IsBad}
 use Rattle.htl_top.specs.SelectionInput.{Whole, Bad, input_of}
-use Rattle.htl_top.specs.Shown.{show_text, IsShown}
-use Rattle.htl_top.specs.Slacked.{IsSlacked}
-use Rattle.htl_top.specs.Sources.{HasTables}
-use Rattle.htl_top.specs.Words.{Command, Run, Check, Plan, Show, Bulk, Slack, Audit, Patch, command_object, second_file}
-use Rattle.htl_top.specs.declared.outcome.Outcome.{Outcome}
-use Rattle.htl_top.specs.declared.outcome.Outcome.TheVariants.{Done, Object as Refused, Script, Shelf, Read, Write, Memory}
-use Rattle.htl_top.specs.declared.outcome.ShelfCause.TheVariants.{TooLong}
 
 module _ (shelf : Files) (old new : Streams) where
   -- ---- of an object that is named

@@ -1,25 +1,7 @@
 -- From the answer of a command to the clauses of the top call on `patch`.
 use Rattle.std.proofs.Common.{◌≡◌, ◌≤◌, ◌<◌, ℕ, List, length, Option, None, Some, subst, inl, inr}
-use Rattle.std.specs.Io.KnownBytes.{append_known}
-use Rattle.htl_edge.specs.Causes.{Rose}
-use Rattle.htl_edge.specs.Content.{AppendsPrefix}
-use Rattle.htl_load.specs.Loading.{HasBytes}
-use Rattle.htl_object.specs.Objects.{object_bytes}
-use Rattle.htl_object.specs.declared.object.Object.{Object}
-use Rattle.htl_patch.specs.Object.{CanPatch}
-use Rattle.htl_patch.specs.United.{Graft}
-use Rattle.htl_patch.specs.declared.fault.PatchFault.{PatchFault}
+use Rattle.htl_top.proofs.Vocabulary.{append_known, Rose, AppendsPrefix, HasBytes, object_bytes, Object, CanPatch, Graft, PatchFault, Files, Streams, IsCall, IsGiven, IsOrMemory, IsReadyFile, IsReadyObject, AreFilesOf, HasPatch, IsDonorFault, IsDonorTold, IsPatchCause, IsPatching, Command, Go, Compile, CompileWith, Bulk, Slack, Audit, Patch, Outcome, Done, Usage, Unpatched, Shelf, Write, TooLong}
 use Rattle.htl_top.proofs.Patching as patching
-use Rattle.htl_top.specs.Answers.{Files, Streams}
-use Rattle.htl_top.specs.Calls.{IsCall}
-use Rattle.htl_top.specs.Causes.{IsGiven, IsOrMemory}
-use Rattle.htl_top.specs.Files.{IsReadyFile}
-use Rattle.htl_top.specs.Objects.{IsReadyObject}
-use Rattle.htl_top.specs.PatchedFiles.{AreFilesOf, HasPatch, IsDonorFault, IsDonorTold, IsPatchCause, IsPatching}
-use Rattle.htl_top.specs.Words.{Command, Go, Compile, CompileWith, Bulk, Slack, Audit, Patch}
-use Rattle.htl_top.specs.declared.outcome.Outcome.{Outcome}
-use Rattle.htl_top.specs.declared.outcome.Outcome.TheVariants.{Done, Usage, Patch as Unpatched, Shelf, Write}
-use Rattle.htl_top.specs.declared.outcome.ShelfCause.TheVariants.{TooLong}
 
 unpatched_usage : (f : PatchFault) → Unpatched f ≡ Usage → ⊥
 unpatched_usage f e = cc

@@ -1,35 +1,10 @@
 -- What a donor's bytes come to: the new object, or the first fault.
 use Rattle.std.proofs.Common.{◌≡◌, ◌⊎◌, ℕ, List, Option, Some, None, refl, sym, ap, ◌∙◌, subst, inl, inr}
-use Rattle.htl_edge.specs.Causes.{Rose}
-use Rattle.htl_edge.specs.Holdings.{Holdings}
-use Rattle.htl_load.specs.Loading.{HasBytes}
-use Rattle.htl_model.specs.Tables.{Tables}
-use Rattle.htl_object.specs.Accepted.{IsAccepted}
-use Rattle.htl_object.specs.Files.{first_bad}
-use Rattle.htl_object.specs.Objects.{IsObject, object_bytes}
-use Rattle.htl_object.specs.declared.malformed.Malformed.{Malformed}
-use Rattle.htl_object.specs.declared.object.Object.{Object}
-use Rattle.htl_patch.proofs.OneStop.{one_patch_fault}
-use Rattle.htl_patch.proofs.Stopping.{patch_not_refused}
-use Rattle.htl_patch.specs.Answering.{IsHandedBackBy, IsPatchStop}
-use Rattle.htl_patch.specs.Joining.{graft_of}
-use Rattle.htl_patch.specs.Object.{patched_object, CanPatch}
-use Rattle.htl_patch.specs.Stops.{IsFaultBy, IsPatchFault}
-use Rattle.htl_patch.specs.United.{Graft}
-use Rattle.htl_patch.specs.declared.fault.PatchFault.{PatchFault}
+use Rattle.htl_top.proofs.Vocabulary.{Rose, Holdings, HasBytes, Tables, IsAccepted, first_bad, IsObject, object_bytes, Malformed, Object, one_patch_fault, patch_not_refused, IsHandedBackBy, IsPatchStop, graft_of, patched_object, CanPatch, IsFaultBy, IsPatchFault, Graft, PatchFault, PatchStop, IsBeforeRun, IsWritten, IsOrMemory, IsObjectFile, HasPatchedTables, IsBadDonor, IsDonorFault, IsDonorTold, IsObjectPut, IsPatchedTables, RefusesDonor, SpeaksOfPatch, new_tables, unpatched_as, SpeaksOf, Outcome, one_bad_field}
 use Rattle.htl_patch.specs.declared.fault.PatchFault.TheVariants as fault
-use Rattle.htl_patch.specs.declared.fault.PatchStop.{PatchStop}
 use Rattle.htl_patch.specs.declared.fault.PatchStop.TheVariants as stop
 use Rattle.htl_top.proofs.ObjectAnswering.{one_of_bytes, object_or_bad}
-use Rattle.htl_top.specs.Answers.{IsBeforeRun, IsWritten}
-use Rattle.htl_top.specs.Causes.{IsOrMemory}
-use Rattle.htl_top.specs.Objects.{IsObjectFile}
-use Rattle.htl_top.specs.PatchedFiles.{HasPatchedTables, IsBadDonor, IsDonorFault, IsDonorTold, IsObjectPut, IsPatchedTables, RefusesDonor, SpeaksOfPatch}
-use Rattle.htl_top.specs.PatchStops.{new_tables, unpatched_as}
-use Rattle.htl_top.specs.ErrorLines.{SpeaksOf}
-use Rattle.htl_top.specs.declared.outcome.Outcome.{Outcome}
 use Rattle.htl_top.specs.declared.outcome.Outcome.TheVariants.{Done, IllFormed, Patch, Object as Refused, Write, Memory}
-use Rattle.htl_load.proofs.OneAnswer.{one_bad_field}
 
 -- the bytes of an accepted object were written
 pub IsObjectPut-written : (o same : Object) (bytes slice : List ℕ) (old new : Option (List ℕ)) (before now : ℕ) (outcome : Outcome) → same ≡ o → IsAccepted same → IsObject same

@@ -1,37 +1,13 @@
 -- What `patch` answers of the two files that it names.
 use Rattle.std.proofs.Common.{arith, ◌≡◌, ◌≤◌, ◌<◌, ◌⊎◌, ℕ, List, length, Option, Some, Err, refl, sym, ap, subst, inl, inr}
-use Rattle.htl_base.specs.declared.limits.TheConstants.{MAX_OBJECT}
-use Rattle.htl_compile.specs.declared.compiling.CompileFault.{CompileFault}
+use Rattle.htl_top.proofs.Vocabulary.{MAX_OBJECT, CompileFault, Rose, Holdings, HasBytes, RefusesBytes, ObjectFault, Tables, IsAccepted, Object, CanPatch, Graft, PatchFault, PlatformFault, Files, Streams, IsBeforeRun, IsFaultOf, IsLongFile, IsGiven, IsOrMemory, IsObjectFile, IsObjectRead, IsObjectTables, IsRefusedFile, IsReadyObject, IsUnhad, IsFileOf, IsHad, AreFilesOf, IsDonorFault, IsDonorTold, IsPatchOfFiles, IsPatching, object_tables, unloaded_as, answer_of, SpeaksOf, ObjectStop, Outcome, Failed, TooLong}
 use Rattle.htl_compile.specs.declared.compiling.CompileFault.TheVariants as compile
-use Rattle.htl_edge.specs.Causes.{Rose}
-use Rattle.htl_edge.specs.Holdings.{Holdings}
-use Rattle.htl_load.specs.Loading.{HasBytes, RefusesBytes}
-use Rattle.htl_load.specs.declared.fault.ObjectFault.{ObjectFault}
-use Rattle.htl_model.specs.Tables.{Tables}
-use Rattle.htl_object.specs.Accepted.{IsAccepted}
-use Rattle.htl_object.specs.declared.object.Object.{Object}
-use Rattle.htl_patch.specs.Object.{CanPatch}
-use Rattle.htl_patch.specs.United.{Graft}
-use Rattle.htl_patch.specs.declared.fault.PatchFault.{PatchFault}
-use Rattle.htl_platform.specs.declared.fault.PlatformFault.{PlatformFault}
 use Rattle.htl_top.proofs.GivenFiles as files
 use Rattle.htl_top.proofs.ErrorLineNames.{SpeaksOfObject-file}
 use Rattle.htl_top.proofs.ObjectAnswering.{IsAcceptedFile-map, one_of_bytes, one_refusal, accepted_or_refused}
 use Rattle.htl_top.proofs.PatchedObjects as objects
-use Rattle.htl_top.specs.Answers.{Files, Streams, IsBeforeRun}
-use Rattle.htl_top.specs.Causes.{IsFaultOf, IsLongFile, IsGiven, IsOrMemory}
-use Rattle.htl_top.specs.Objects.{IsObjectFile, IsObjectRead, IsObjectTables, IsRefusedFile, IsReadyObject}
-use Rattle.htl_top.specs.Fetching.{IsUnhad}
-use Rattle.htl_top.specs.Files.{IsFileOf, IsHad}
-use Rattle.htl_top.specs.PatchedFiles.{AreFilesOf, IsDonorFault, IsDonorTold, IsPatchOfFiles, IsPatching}
-use Rattle.htl_top.specs.PatchStops.{object_tables, unloaded_as}
-use Rattle.htl_top.specs.Sources.{answer_of}
-use Rattle.htl_top.specs.ErrorLines.{SpeaksOf}
-use Rattle.htl_top.specs.declared.object.ObjectStop.{ObjectStop}
 use Rattle.htl_top.specs.declared.object.ObjectStop.TheVariants as load
-use Rattle.htl_top.specs.declared.outcome.Outcome.{Outcome}
 use Rattle.htl_top.specs.declared.outcome.Outcome.TheVariants.{Done, Usage, Unschedulable, Platform, Task, Patch, Object as Refused, Shelf, Memory}
-use Rattle.htl_top.specs.declared.outcome.ShelfCause.TheVariants.{Failed, TooLong}
 
 pub AreFilesOf-map : (name donor : Option (List ℕ)) (shelf : Files) (Fact Other : Object → List ℕ → Type 0) → ((o : Object) (bytes : List ℕ) → Fact o bytes → Other o bytes)
     → AreFilesOf name donor shelf.holds Fact → AreFilesOf name donor shelf.holds Other

@@ -1,20 +1,8 @@
 -- The greatest number of positions of a path is that of the path which takes in each round a mode with the most invocations.
 use Rattle.std.proofs.Common.{◌≡◌, ℕ, zero, suc, ◌+◌, ◌*◌, ◌/◌, ◌%◌, ◌≤◌, ◌<◌, List, [], ◌∷◌, ◌++◌, length, get_or, map, Option, Some, None, refl, sym, ap, ◌∙◌, arith, inl, inr}
-use Rattle.std.specs.List.{flat_map}
-use Rattle.std.proofs.lemmas.Bool.{cases_lt}
-use Rattle.std.proofs.lemmas.List.{length-append, length-map}
-use Rattle.std.proofs.lemmas.Nat.{div-mul-add}
-use Rattle.std.proofs.Math.Nat.{add-mul-mod_self_left, mod-eq_of_lt, mul-add-div_right}
-use Rattle.htl_model.proofs.FrameLimits.{HaveModes, choices_some, rounds_have}
-use Rattle.htl_model.specs.Frames.{multiple_of, unit_period, starts_below, rounds, rounds_at, choices, paths, mode_in, places_of, places_in, path_places, most_invs}
+use Rattle.htl_top.proofs.Vocabulary.{flat_map, cases_lt, div-mul-add, add-mul-mod_self_left, mod-eq_of_lt, mul-add-div_right, HaveModes, choices_some, rounds_have, multiple_of, unit_period, starts_below, rounds, rounds_at, choices, paths, mode_in, places_of, places_in, path_places, most_invs, AreInRange, root_modules, modes_of, invs_of, Tables, Round, most_positions_below, grow_times, length-append, length-map}
 use Rattle.htl_model.specs.Frames as frames
-use Rattle.htl_model.specs.Ranges.{AreInRange}
-use Rattle.htl_model.specs.Selections.{root_modules, modes_of, invs_of}
-use Rattle.htl_model.specs.Tables.{Tables}
 use Rattle.htl_model.specs.declared.frame.Place.{Place}
-use Rattle.htl_model.specs.declared.frame.Round.{Round}
-use Rattle.htl_top.specs.Checked.{most_positions_below}
-use Rattle.htl_base.proofs.Numbers.{grow_times}
 
 -- ---- paths through some rounds
 

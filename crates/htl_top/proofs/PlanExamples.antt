@@ -1,14 +1,9 @@
 -- The plans of a refinement and of two root modules of different periods, what `check` tells of these, and inputs, worked.
 use Rattle.std.specs.Prelude.{◌≡◌, List, [], ◌∷◌, Some, None, refl, codes}
 use Rattle.std.specs.Fmt.{digits}
-use Rattle.htl_model.proofs.Sources.{refined, mode, call, two_periods}
-use Rattle.htl_model.specs.Tables.{Tables}
+use Rattle.htl_top.proofs.Vocabulary.{refined, mode, call, two_periods, Tables, Dispatch, End, Schedule, check_text, plan_text}
 use Rattle.htl_model.specs.declared.parts.End.TheVariants as E
 use Rattle.htl_script.specs.declared.fault.ScriptKind.TheVariants as kind
-use Rattle.htl_walk.specs.declared.schedule.SInstr.TheVariants.{Dispatch, End}
-use Rattle.htl_walk.specs.declared.schedule.Schedule.{Schedule}
-use Rattle.htl_top.specs.Checked.{check_text}
-use Rattle.htl_top.specs.Planned.{plan_text}
 use Rattle.htl_top.specs.SelectionInput.{Whole, Bad, input_of}
 
 schedules : List Schedule

@@ -1,22 +1,8 @@
 -- The plan of a selection is the frame of the path on which every module stays in its mode.
 use Rattle.std.proofs.Common.{◌≡◌, ℕ, ◌<◌, List, [], ◌∷◌, length, map, Option, Some, None, refl, sym, ap, ap₂, ◌∙◌, arith}
-use Rattle.htl_console.specs.Lines.{plan_line}
-use Rattle.htl_model.specs.Frames.{choices, frame_of, hyper, multiple_of, path_places, paths, rounds, starts, unit_period}
-use Rattle.htl_model.specs.Selected.{IsSelection}
-use Rattle.htl_model.specs.Selections.{root_modules}
-use Rattle.htl_model.specs.Tables.{Tables}
+use Rattle.htl_top.proofs.Vocabulary.{plan_line, choices, frame_of, hyper, multiple_of, path_places, paths, rounds, starts, unit_period, IsSelection, root_modules, Tables, paths_read, frame_jobs, frame_places, path_of, walk_of, Job, Schedule, lists_of, instrs_of, legs, legs_of, Leg, end_to_end, walk_path, worst_cases, frame_text, plan_text, staying_frame}
 use Rattle.htl_model.specs.declared.frame.Place.{Place}
-use Rattle.htl_refine.proofs.PathRead.{paths_read}
-use Rattle.htl_refine.specs.FrameRuns.{frame_jobs, frame_places, path_of, walk_of}
-use Rattle.htl_walk.specs.declared.job.Job.{Job}
-use Rattle.htl_walk.specs.declared.schedule.Schedule.{Schedule}
-use Rattle.htl_walk.specs.Feasible.{lists_of}
-use Rattle.htl_walk.specs.NodeWalks.{instrs_of}
-use Rattle.htl_walk.specs.PathJobs.{legs, legs_of}
-use Rattle.htl_walk.specs.Paths.{Leg, end_to_end, walk_path}
-use Rattle.htl_walk.specs.Walk.{worst_cases}
 use Rattle.htl_top.proofs.StayingJobs.{job_count}
-use Rattle.htl_top.specs.Planned.{frame_text, plan_text, staying_frame}
 
 -- where there is a frame, there are its paths
 frame_paths : (t : Tables) (end : ℕ) → hyper t ≡ Some end → paths t ≡ choices t (rounds t)

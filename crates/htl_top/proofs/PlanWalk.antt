@@ -1,17 +1,6 @@
 -- A list that is written instruction by instruction.
 use Rattle.std.proofs.Common.{◌≡◌, ◌<◌, ◌+◌, ℕ, suc, Bool, cond, List, [], ◌∷◌, ◌++◌, length, drop, get_or, map, Option, Some, slice_get, Ok, Err, refl, sym, ap, ◌∙◌, subst, arith, append-nil, get_or-set_same}
-use Rattle.std.specs.Io.KnownBytes.{append_known}
-use Rattle.std.proofs.Math.Seq.{drop-cons}
-use Rattle.std.proofs.lemmas.List.Concat.{flat_map-cons}
-use Rattle.std.proofs.lemmas.Option.{slice_get_within, get_or_from_slice_get}
-use Rattle.std.proofs.lemmas.List.{ext_get_or, length-map, drop_all}
-use Rattle.htl_edge.specs.Content.{AppendsPrefix, Puts}
-use Rattle.htl_model.specs.Tables.{Tables}
-use Rattle.htl_walk.specs.declared.job.Job.{Job}
-use Rattle.htl_walk.specs.declared.schedule.SInstr.{SInstr}
-use Rattle.htl_walk.specs.declared.schedule.SInstr.TheVariants.{Dispatch}
-use Rattle.htl_walk.specs.Walk.{Point, Left, walk_from, last_point, work, worst_cases, next_point, finished_by, left_by, dispatched, dispatch_begins, slice_between, slice_of, finishes_by, work_after, job_at}
-use Rattle.htl_top.specs.Planned.{slice_text, done_text, left_text, walk_text, finishes, work_of}
+use Rattle.htl_top.proofs.Vocabulary.{append_known, drop-cons, flat_map-cons, slice_get_within, get_or_from_slice_get, ext_get_or, length-map, drop_all, AppendsPrefix, Puts, Tables, Job, SInstr, Dispatch, Point, Left, walk_from, last_point, work, worst_cases, next_point, finished_by, left_by, dispatched, dispatch_begins, slice_between, slice_of, finishes_by, work_after, job_at, slice_text, done_text, left_text, walk_text, finishes, work_of}
 
 -- ---- the work at first
 

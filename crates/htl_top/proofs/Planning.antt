@@ -1,18 +1,8 @@
 -- What a plan answers, by its input.
 use Rattle.std.proofs.Common.{◌≡◌, ℕ, List, Option, Some, refl, sym, ap, ◌∙◌, subst, inl, inr}
-use Rattle.std.specs.Prelude.{IfSome}
-use Rattle.htl_edge.specs.Causes.{Rose}
-use Rattle.htl_object.specs.declared.object.Object.{Object}
-use Rattle.htl_script.specs.Reading.{OfScript}
-use Rattle.htl_script.specs.declared.fault.ScriptFault.{ScriptFault}
-use Rattle.htl_script.specs.declared.fault.ScriptKind.{ScriptKind}
+use Rattle.htl_top.proofs.Vocabulary.{IfSome, Rose, Object, OfScript, ScriptFault, ScriptKind, Streams, IsBeforeRun, IsOrMemory, IsPlanned, Outcome, Done, Script, Read, Write, Memory}
 use Rattle.htl_top.proofs.ObjectAnswering.{IsWork, IsOfWork}
-use Rattle.htl_top.specs.Answers.{Streams, IsBeforeRun}
-use Rattle.htl_top.specs.Causes.{IsOrMemory}
-use Rattle.htl_top.specs.Planned.{IsPlanned}
 use Rattle.htl_top.specs.SelectionInput.{Input, Whole, Bad, input_of}
-use Rattle.htl_top.specs.declared.outcome.Outcome.{Outcome}
-use Rattle.htl_top.specs.declared.outcome.Outcome.TheVariants.{Done, Script, Read, Write, Memory}
 
 plan_only : (o : Object) (old new : Streams) (outcome : Outcome) → IsPlanned o old new outcome → IsOfWork outcome
 plan_only o old new Done answer = tt

@@ -1,28 +1,7 @@
 -- The events of a script, told one by one: what comes next, and what is written.
 use Rattle.std.proofs.Common.{arith, ◌≡◌, ◌≤◌, ◌<◌, ◌+◌, ◌-◌, ℕ, zero, suc, List, [], ◌∷◌, ◌++◌, Option, None, Some, refl, sym, ap, ◌∙◌, subst}
-use Rattle.std.specs.Prelude.{IfSome}
-use Rattle.std.proofs.lemmas.List.{append-nil}
-use Rattle.htl_console.specs.declared.shown.Shown.{Shown}
-use Rattle.htl_machine.proofs.Accepted.{accepted_is_loaded}
-use Rattle.htl_machine.proofs.Events.{reading_more}
-use Rattle.htl_machine.proofs.TextSoFar.{later_leave}
-use Rattle.htl_machine.specs.Calls.{text_between}
-use Rattle.htl_machine.specs.Follows.{reading_of}
-use Rattle.htl_machine.specs.Laws.{AreReadFrom}
-use Rattle.htl_machine.specs.Programs.{before_of, lines_of, schedules_of}
-use Rattle.htl_model.specs.Tables.{Tables, task_worst}
-use Rattle.htl_model.specs.declared.event.Event.{Event}
+use Rattle.htl_top.proofs.Vocabulary.{IfSome, append-nil, Shown, accepted_is_loaded, reading_more, later_leave, text_between, reading_of, AreReadFrom, before_of, lines_of, schedules_of, Tables, task_worst, Event, Inv, IsAccepted, Object, AreTookWithin, AreEvents, past_after, past_after_all, past_of, Past, HaveNoEnd, IsNext, text_more, text_to, text_before_fault, up_to_more}
 use Rattle.htl_model.specs.declared.event.Event.TheVariants as event
-use Rattle.htl_model.specs.declared.parts.Inv.{Inv}
-use Rattle.htl_object.specs.Accepted.{IsAccepted}
-use Rattle.htl_object.specs.declared.object.Object.{Object}
-use Rattle.htl_refine.specs.Records.{AreTookWithin}
-use Rattle.htl_script.specs.Events.{AreEvents}
-use Rattle.htl_script.specs.Judging.{past_after, past_after_all, past_of}
-use Rattle.htl_script.specs.declared.judge.Past.{Past}
-use Rattle.htl_top.specs.Playing.{HaveNoEnd, IsNext, text_more}
-use Rattle.htl_top.specs.Texts.{text_to, text_before_fault}
-use Rattle.htl_machine.proofs.Passing.{up_to_more}
 
 -- ---- what comes next
 

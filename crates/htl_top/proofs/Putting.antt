@@ -1,8 +1,6 @@
 -- Texts that are written one after another.
 use Rattle.std.proofs.Common.{◌≡◌, ℕ, List, Option, Result, Ok, Err, ap, ◌∙◌, subst, inl, inr}
-use Rattle.std.specs.Io.KnownBytes.{append_known}
-use Rattle.htl_edge.specs.Content.{AppendsPrefix, Puts}
-use Rattle.htl_top.specs.Answers.{Tells}
+use Rattle.htl_top.proofs.Vocabulary.{append_known, AppendsPrefix, Puts, Tells}
 
 -- what was put is told
 pub Tells-put : {T E : Type 0} (old new : Option (List ℕ)) (before now : ℕ) (text line : List ℕ) (result : Result T E) → text ≡ line → Puts old new before now text result

@@ -1,31 +1,7 @@
 -- A machine on the readings of rounds: what it follows, and that nothing is shown.
 use Rattle.std.proofs.Common.{arith, ◌≡◌, ◌≤◌, ℕ, zero, suc, ◌*◌, ◌-◌, ◌+◌, List, [], ◌∷◌, ◌++◌, Option, None, Some, Result, Ok, refl, sym, ap, ap₂, ◌∙◌, subst}
-use Rattle.std.specs.Prelude.{pos}
-use Rattle.std.specs.List.{filter}
-use Rattle.std.proofs.lemmas.List.{append_assoc}
-use Rattle.htl_console.specs.declared.shown.Shown.{Shown}
-use Rattle.htl_console.specs.declared.shown.Shown.TheVariants.{Nothing}
-use Rattle.htl_ecode.specs.declared.ecode.ECode.{ECode}
-use Rattle.htl_edge.proofs.Puts.{append_known-start}
-use Rattle.htl_edge.specs.Content.{Puts}
-use Rattle.htl_machine.specs.Calls.{Seen, Follows, IsSameRun, text_between}
-use Rattle.htl_machine.specs.Follows.{reading_of}
-use Rattle.htl_machine.specs.Lines.{record_lines, list_lines, old_lines, new_lines, lines}
-use Rattle.htl_machine.specs.Programs.{lines_of, schedules_of}
-use Rattle.htl_model.specs.Frames.{hyper}
-use Rattle.htl_model.specs.Lists.{joined}
-use Rattle.htl_model.specs.Tables.{Tables}
-use Rattle.htl_model.specs.declared.event.Event.{Event}
+use Rattle.htl_top.proofs.Vocabulary.{pos, filter, Shown, Nothing, ECode, append_known-start, Puts, Seen, Follows, IsSameRun, text_between, reading_of, record_lines, list_lines, old_lines, new_lines, lines, lines_of, schedules_of, hyper, joined, Tables, Event, Object, RunningList, begun_before, left_in, lists_at, frame_at, rounds_before, Left, Job, SInstr, readings_of, round_readings, up_to_none, append_assoc}
 use Rattle.htl_model.specs.declared.event.Event.TheVariants as event
-use Rattle.htl_object.specs.declared.object.Object.{Object}
-use Rattle.htl_refine.specs.FrameRecords.{RunningList, begun_before, left_in, lists_at}
-use Rattle.htl_refine.specs.FrameRuns.{frame_at}
-use Rattle.htl_refine.specs.Records.{rounds_before}
-use Rattle.htl_walk.specs.Walk.{Left}
-use Rattle.htl_walk.specs.declared.job.Job.{Job}
-use Rattle.htl_walk.specs.declared.schedule.SInstr.{SInstr}
-use Rattle.htl_top.specs.Bulk.{readings_of, round_readings}
-use Rattle.htl_refine.proofs.RecordLists.{up_to_none}
 
 -- ---- nothing is shown
 

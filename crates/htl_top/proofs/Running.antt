@@ -1,24 +1,8 @@
 -- What a run answers, by its script.
 use Rattle.std.proofs.Common.{◌≡◌, ℕ, List, Option, Some, refl, sym, ap, ◌∙◌, subst, inl, inr}
-use Rattle.std.specs.Prelude.{IfSome}
-use Rattle.htl_compile.specs.Coded.{coded, codes}
-use Rattle.htl_console.specs.declared.shown.Shown.{Shown}
-use Rattle.htl_edge.specs.Causes.{Rose}
-use Rattle.htl_model.specs.Tables.{Tables}
-use Rattle.htl_model.specs.declared.event.Event.{Event}
-use Rattle.htl_object.specs.declared.object.Object.{Object}
-use Rattle.htl_script.proofs.SameScript.{script_same}
-use Rattle.htl_script.specs.Reading.{OfScript}
+use Rattle.htl_top.proofs.Vocabulary.{IfSome, coded, codes, Shown, Rose, Tables, Event, Object, script_same, OfScript, ScriptFault, ScriptKind, Streams, IsBeforeRun, IsOrMemory, IsRun, IsCutRun, IsWhole, IsBad, Outcome, Done, Faulty, Read, Write, Memory}
 use Rattle.htl_script.specs.Script.{Script, Whole, Bad, script_of}
-use Rattle.htl_script.specs.declared.fault.ScriptFault.{ScriptFault}
-use Rattle.htl_script.specs.declared.fault.ScriptKind.{ScriptKind}
 use Rattle.htl_top.proofs.ObjectAnswering.{IsOfWork, IsWork}
-use Rattle.htl_top.specs.Answers.{Streams, IsBeforeRun}
-use Rattle.htl_top.specs.Causes.{IsOrMemory}
-use Rattle.htl_top.specs.Runs.{IsRun, IsCutRun}
-use Rattle.htl_top.specs.Scripts.{IsWhole, IsBad}
-use Rattle.htl_top.specs.declared.outcome.Outcome.{Outcome}
-use Rattle.htl_top.specs.declared.outcome.Outcome.TheVariants.{Done, Script as Faulty, Read, Write, Memory}
 
 -- ---- the machine and its object
 

@@ -1,23 +1,9 @@
 -- A whole input gives a selection of running modes.
 use Rattle.std.proofs.Common.{◌≡◌, ◌≤◌, ◌<◌, ◌⊎◌, ℕ, suc, ◌+◌, Bool, true, false, not, cond, eqb, List, [], ◌∷◌, ◌++◌, length, get_or, Option, Some, None, Result, Ok, Err, IfSome, refl, sym, ◌∙◌, ap, subst, arith, inl, inr, length-append, append-nil, codes}
-use Rattle.std.specs.Prelude.{slice_get, option_map}
-use Rattle.std.specs.List.{position_from}
-use Rattle.std.specs.Str.{bytes_eq}
-use Rattle.std.proofs.Math.ListN.{get_or-append}
-use Rattle.std.proofs.lemmas.Bool.Decides.{nat_tests}
-use Rattle.std.proofs.lemmas.Option.{slice_get_within, none-some}
-use Rattle.htl_model.specs.declared.parts.Mode.{Mode}
-use Rattle.htl_model.specs.declared.parts.Module.{Module}
-use Rattle.htl_model.specs.Ranges.{AreInRange, IsModeThat, parent_of}
-use Rattle.htl_model.specs.Tables.{Tables, mode_module}
-use Rattle.htl_model.specs.Selected.{entry, IsActive, is_active, IsModeOf, IsEntry, IsSelection}
-use Rattle.htl_refine.proofs.SelectedLaws.{active_is}
-use Rattle.htl_script.specs.declared.fault.ScriptKind.{ScriptKind}
+use Rattle.htl_top.proofs.Vocabulary.{position_from, bytes_eq, get_or-append, nat_tests, slice_get_within, none-some, Mode, Module, AreInRange, IsModeThat, parent_of, Tables, mode_module, entry, IsActive, is_active, IsModeOf, IsEntry, IsSelection, active_is, ScriptKind, fields_of, and_parts, eqb-true, slice_get, option_map}
 use Rattle.htl_script.specs.Lines.{ScriptLine, lines_of, size_of, is_past_limit, is_long, is_passed_over}
-use Rattle.htl_script.specs.Statements.{fields_of}
 use Rattle.htl_script.specs.declared.fault.ScriptKind.TheVariants as kind
 use Rattle.htl_top.specs.SelectionInput.{Whole, Bad, named_by, unit_of, is_mode, mode_of, some_mode, mode_told, is_next, entered_as, entered_in, entered, judged_text, judged, listed, ended, input_of_lines, input_of}
-use Rattle.std.proofs.lemmas.Bool.{and_parts, eqb-true}
 
 -- the entries of the modules so far are right, and no more than there are modules
 record AreEntries (t : Tables) (modes : List (Option ℕ)) : Type 0 where

@@ -1,8 +1,6 @@
 -- Lines by their fields.
 use Rattle.std.proofs.Common.{◌≡◌, ◌≤◌, ℕ, List, [], ◌∷◌, length, None, refl, ap, ◌∙◌, arith}
-use Rattle.std.proofs.lemmas.List.Splits.{length-slice_split}
-use Rattle.htl_script.specs.Statements.{is_space, fields_of}
-use Rattle.htl_top.specs.SelectionInput.{named_by}
+use Rattle.htl_top.proofs.Vocabulary.{length-slice_split, is_space, fields_of, named_by}
 
 -- four fields or more
 pub named_by-many : (text rest last word unit mode more : List ℕ) → fields_of text ≡ word ∷ fields_of rest → fields_of rest ≡ unit ∷ fields_of last

@@ -1,14 +1,9 @@
 -- The first line of what is left of a plan's input.
 use Rattle.std.proofs.Common.{inl, inr, ◌≡◌, ◌+◌, ◌≤◌, ◌<◌, ℕ, min, Bool, true, false, cond, List, [], ◌∷◌, ◌++◌, length, take, Option, Result, Ok, Err, sym, ap, ◌∙◌, arith, append-nil}
 use Rattle.std.specs.Prelude.{IfOk, if◌then◌else◌}
-use Rattle.std.proofs.lemmas.Bool.{cases_Bool, le-leb, lt-ltb, le-ltb, and_from, eqb-true}
-use Rattle.htl_model.specs.Tables.{Tables}
-use Rattle.htl_script.specs.declared.fault.ScriptKind.{ScriptKind}
+use Rattle.htl_top.proofs.Vocabulary.{cases_Bool, le-leb, lt-ltb, le-ltb, and_from, eqb-true, Tables, ScriptKind, lines_of-fed, lines_of-last, lines_of-begun, size_at_least, within_limit, Bad, judged_text, judged, listed, input_of_lines, Place, IsPlace, rest_of, next_line, selection_answered}
 use Rattle.htl_script.specs.declared.fault.ScriptKind.TheVariants as kind
 use Rattle.htl_script.specs.Lines.{ScriptLine, is_line_feed, lines_of, size_of, is_past_limit, is_long}
-use Rattle.htl_script.proofs.Splitting.{lines_of-fed, lines_of-last, lines_of-begun, size_at_least, within_limit}
-use Rattle.htl_top.specs.SelectionInput.{Bad, judged_text, judged, listed, input_of_lines}
-use Rattle.htl_top.specs.SelectionReaders.{Place, IsPlace, rest_of, next_line, selection_answered}
 
 -- ---- how a line is judged by its size
 

@@ -1,18 +1,11 @@
 -- A reader that takes a plan's input in pieces, as its source gives them.
 use Rattle.std.proofs.Common.{◌≡◌, ◌≤◌, ◌+◌, ℕ, List, [], ◌++◌, length, Option, Some, None, Result, Ok, Err, refl, sym, ap, ◌∙◌, subst, arith, append_assoc, length-append}
-use Rattle.std.specs.Prelude.{IfSome, OnOk, unwrap_or}
-use Rattle.std.specs.Io.KnownBytes.{prepend_known, IsAtEnd}
-use Rattle.htl_model.specs.Ranges.{AreInRange}
-use Rattle.htl_model.specs.Tables.{Tables}
-use Rattle.htl_model.specs.Selected.{IsSelection}
-use Rattle.htl_script.specs.declared.fault.ScriptFault.{ScriptFault}
-use Rattle.htl_script.specs.Reading.{OfScript, LosesFront}
+use Rattle.htl_top.proofs.Vocabulary.{IfSome, OnOk, unwrap_or, prepend_known, IsAtEnd, AreInRange, Tables, IsSelection, ScriptFault, OfScript, LosesFront, prepend_known-append, prepend_known-nil}
 use Rattle.htl_top.specs.declared.selection.ScriptStop.{ScriptStop}
 use Rattle.htl_top.specs.declared.selection.ScriptStop.TheVariants as stop
 use Rattle.htl_top.specs.SelectionInput.{Input, Whole, Bad, input_of}
 use Rattle.htl_top.specs.SelectionReaders.{Place, rest_of, first_place, Takes, Finishes, IsAnswer}
 use Rattle.htl_top.proofs.SelectionEntries.{whole_right}
-use Rattle.htl_base.proofs.Places.{prepend_known-append, prepend_known-nil}
 
 -- ---- bytes
 

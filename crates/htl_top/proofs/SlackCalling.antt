@@ -1,21 +1,10 @@
 -- From the answer of a command to the clauses of the top call on `slack`.
 use Rattle.std.proofs.Common.{◌≡◌, ℕ, List, Option, None, Some, subst, inl, inr}
-use Rattle.std.specs.Io.KnownBytes.{append_known}
-use Rattle.htl_edge.specs.Causes.{Rose}
-use Rattle.htl_edge.specs.Content.{AppendsPrefix}
-use Rattle.htl_object.specs.declared.object.Object.{Object}
+use Rattle.htl_top.proofs.Vocabulary.{append_known, Rose, AppendsPrefix, Object, Files, Streams, IsCall, IsOrMemory, IsAcceptedFile, IsOnObject, IsReadyObject, HasSlack, IsRootNamed, NamesNoTask, IsSlacked, IsTaskCause, Command, Go, Compile, CompileWith, Bulk, Slack, Audit, Patch, Outcome, Done, Usage, Task, Write, Memory}
 use Rattle.htl_top.proofs.Auditing as auditing
 use Rattle.htl_top.proofs.ObjectAnswering as objects
 use Rattle.htl_top.proofs.Patching as patching
 use Rattle.htl_top.proofs.Slacking as slacking
-use Rattle.htl_top.specs.Answers.{Files, Streams}
-use Rattle.htl_top.specs.Calls.{IsCall}
-use Rattle.htl_top.specs.Causes.{IsOrMemory}
-use Rattle.htl_top.specs.Objects.{IsAcceptedFile, IsOnObject, IsReadyObject}
-use Rattle.htl_top.specs.Slacked.{HasSlack, IsRootNamed, NamesNoTask, IsSlacked, IsTaskCause}
-use Rattle.htl_top.specs.Words.{Command, Go, Compile, CompileWith, Bulk, Slack, Audit, Patch}
-use Rattle.htl_top.specs.declared.outcome.Outcome.{Outcome}
-use Rattle.htl_top.specs.declared.outcome.Outcome.TheVariants.{Done, Usage, Task, Write, Memory}
 use Rattle.htl_top.proofs.Calling.{done_memory, write_memory}
 
 task_usage : Task ≡ Usage → ⊥

@@ -1,46 +1,15 @@
 -- From the answer of a command to the clauses of the top call on `go` and both forms of `compile`.
 use Rattle.std.proofs.Common.{◌≡◌, ◌≤◌, ◌<◌, ◌⊎◌, ℕ, List, length, Option, None, Some, Ok, refl, subst, inl, inr}
-use Rattle.std.specs.Io.KnownBytes.{append_known}
-use Rattle.htl_compile.specs.Building.{IsCompileFault}
-use Rattle.htl_compile.specs.OnPlatform.{IsWithFault}
-use Rattle.htl_compile.specs.Built.{built, AreSchedulable}
-use Rattle.htl_compile.specs.Coded.{AreTyped}
-use Rattle.htl_compile.specs.Sources.{IsTablesOf}
-use Rattle.htl_compile.specs.declared.compiling.CompileFault.{CompileFault}
+use Rattle.htl_top.proofs.Vocabulary.{append_known, IsCompileFault, IsWithFault, built, AreSchedulable, AreTyped, IsTablesOf, CompileFault, WithFault, Jobs, Rose, AppendsPrefix, none_left, Formed, Tables, Event, with_worst, platform_of, PlatformOf, ScriptFault, Files, Streams, IsCall, IsGiven, IsOrMemory, IsCompiling, compiled_bytes, IsCompilingOn, compiled_on, IsGoing, IsReadySource, IsRun, IsWholeRun, IsFaultyRun, IsCutRun, IsWhole, IsBad, IsProgram, IsInputProgram, answer_of, IsProgramOn, answer_on, Command, Go, Compile, CompileWith, source_of, platform_file, Outcome, Done, Source, Script, Shelf, Read, Write, Memory, TooLong}
 use Rattle.htl_compile.specs.declared.compiling.CompileFault.TheVariants as compile
-use Rattle.htl_compile.specs.declared.compiling_on.WithFault.{WithFault}
 use Rattle.htl_compile.specs.declared.compiling_on.WithFault.TheVariants as on
 use Rattle.htl_compile.specs.declared.source_fault.SourceFault.TheVariants as source
-use Rattle.htl_console.specs.declared.shown.Shown.TheVariants.{Jobs}
-use Rattle.htl_edge.specs.Causes.{Rose}
-use Rattle.htl_edge.specs.Content.{AppendsPrefix, none_left}
-use Rattle.htl_model.specs.Broken.{Formed}
-use Rattle.htl_model.specs.Tables.{Tables}
-use Rattle.htl_model.specs.declared.event.Event.{Event}
-use Rattle.htl_platform.specs.Applied.{with_worst}
-use Rattle.htl_platform.specs.Platforms.{platform_of}
-use Rattle.htl_platform.specs.declared.platform.Platform.{Platform as PlatformOf}
-use Rattle.htl_script.specs.declared.fault.ScriptFault.{ScriptFault}
 use Rattle.htl_top.proofs.Calling.{some_not_none, done_memory, write_memory, read_memory, script_memory}
 use Rattle.htl_top.proofs.Compiling as compiling
 use Rattle.htl_top.proofs.CompilingOn as platforms
 use Rattle.htl_top.proofs.Going as going
 use Rattle.htl_top.proofs.ObjectAnswering as objects
 use Rattle.htl_top.proofs.Running.{bad_run, whole_run}
-use Rattle.htl_top.specs.Answers.{Files, Streams}
-use Rattle.htl_top.specs.Calls.{IsCall}
-use Rattle.htl_top.specs.Causes.{IsGiven, IsOrMemory}
-use Rattle.htl_top.specs.Compiling.{IsCompiling, compiled_bytes}
-use Rattle.htl_top.specs.CompilingOn.{IsCompilingOn, compiled_on}
-use Rattle.htl_top.specs.Going.{IsGoing, IsReadySource}
-use Rattle.htl_top.specs.Runs.{IsRun, IsWholeRun, IsFaultyRun, IsCutRun}
-use Rattle.htl_top.specs.Scripts.{IsWhole, IsBad}
-use Rattle.htl_top.specs.Sources.{IsProgram, IsInputProgram, answer_of}
-use Rattle.htl_top.specs.SourcesOn.{IsProgramOn, answer_on}
-use Rattle.htl_top.specs.Words.{Command, Go, Compile, CompileWith, source_of, platform_file}
-use Rattle.htl_top.specs.declared.outcome.Outcome.{Outcome}
-use Rattle.htl_top.specs.declared.outcome.Outcome.TheVariants.{Done, Source, Script, Shelf, Read, Write, Memory}
-use Rattle.htl_top.specs.declared.outcome.ShelfCause.TheVariants.{TooLong}
 
 module _ (shelf : Files) (old new : Streams) where
   -- ---- of a source that is named

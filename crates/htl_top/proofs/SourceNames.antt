@@ -1,30 +1,8 @@
 -- The names in the tables of a source are names: each stands in its text as one.
 use Rattle.std.proofs.Common.{◌≡◌, ℕ, ◌+◌, true, List, [], ◌∷◌, map, Option, Some, None, slice_get, refl, subst, sym}
-use Rattle.htl_base.specs.Names.{is_name}
-use Rattle.htl_base.specs.declared.Ty.{Ty}
-use Rattle.htl_compile.specs.Coded.{coded}
-use Rattle.htl_compile.specs.Sources.{IsTablesOf}
-use Rattle.htl_machine.specs.JobLines.{HasNames}
-use Rattle.htl_model.specs.Tables.{Tables}
-use Rattle.htl_names.proofs.Members.{Each, each_at, each_all, each_flat_map, each_flat_map_at, each_weaker}
+use Rattle.htl_top.proofs.Vocabulary.{is_name, Ty, coded, IsTablesOf, HasNames, Tables, Each, each_at, each_all, each_flat_map, each_flat_map_at, each_weaker, modules_at, module_at, ModuleAt, tokens-spellable, Expr, Level, Spells, conj, or, cmp, and, sum, compare, prod, add, unary, multiply, atom, prefix, name, brackets, choice, PlainOut, PlainTask, PlainSwitch, PlainMode, PlainModule, PlainProgram, Placed, Put, tokens_numbered, IsSpellable, AreSpellable, Token, Word, CommNode, ConstNode, EndNode, Id, InvokeNode, ParamNode}
 use Rattle.htl_names.specs.Flat.{Layout, layout, comm_item, comm_items, mode_item, module_mode_items, mode_items, module_item, module_items_at, module_items, task_item, module_task_items, task_items, tables_of_tree}
-use Rattle.htl_names.specs.Order.{modules_at, module_at}
-use Rattle.htl_names.specs.declared.place.ModuleAt.{ModuleAt}
-use Rattle.htl_text.proofs.Spellable.{tokens-spellable}
-use Rattle.htl_text.specs.Expressions.{Expr}
-use Rattle.htl_text.specs.Grammar.{Level, Spells, conj, or, cmp, and, sum, compare, prod, add, unary, multiply, atom, prefix, name, brackets, choice}
-use Rattle.htl_text.specs.Nodes.{PlainOut, PlainTask, PlainSwitch, PlainMode, PlainModule, PlainProgram}
-use Rattle.htl_text.specs.Placed.{Placed, Put, tokens_numbered}
-use Rattle.htl_text.specs.Spellable.{IsSpellable, AreSpellable}
 use Rattle.htl_text.specs.Statements.{SpellsMore, no_more, comma, SpellsList, empty, items, SpellsEach, no_other, another, SpellsClause, absent, present, SpellsType, int, bool, SpellsConst, positive, negative, SpellsComm, communicator, sensor, SpellsParam, param, SpellsOut, out, SpellsTask, concrete, abstract_task, SpellsPort, port, SpellsEnd, comm_end, port_end, SpellsInvoke, invoke, SpellsSwitch, switch, SpellsMode, mode, SpellsModule, a_module, SpellsProgram, program, SpellsSource, source}
-use Rattle.htl_text.specs.declared.token.Token.{Token}
-use Rattle.htl_text.specs.declared.token.Word.{Word}
-use Rattle.htl_text.specs.declared.tree.CommNode.{CommNode}
-use Rattle.htl_text.specs.declared.tree.ConstNode.{ConstNode}
-use Rattle.htl_text.specs.declared.tree.EndNode.{EndNode}
-use Rattle.htl_text.specs.declared.tree.Id.{Id}
-use Rattle.htl_text.specs.declared.tree.InvokeNode.{InvokeNode}
-use Rattle.htl_text.specs.declared.tree.ParamNode.{ParamNode}
 
 -- ---- a tree whose items have names
 

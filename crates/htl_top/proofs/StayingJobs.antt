@@ -1,29 +1,8 @@
 -- The jobs of the frame in which every module stays in its mode, start by start.
 use Rattle.std.proofs.Common.{◌≡◌, ℕ, zero, suc, ◌+◌, ◌≤◌, ◌<◌, List, [], ◌∷◌, ◌++◌, length, take, drop, get_or, map, Option, Some, None, refl, sym, ap, ap₂, ◌∙◌, arith}
-use Rattle.std.specs.Prelude.{slice_get}
-use Rattle.std.specs.List.{flat_map}
-use Rattle.std.proofs.lemmas.Option.{slice_get_within, get_or_from_slice_get}
-use Rattle.std.proofs.lemmas.List.{length-append, length-map, length-take}
+use Rattle.htl_top.proofs.Vocabulary.{slice_get, flat_map, slice_get_within, get_or_from_slice_get, frame_limit, frame_of, known_by, root_periods, rounds, rounds_at, starts, root_modules, AreInRange, IsSelection, Tables, limits_kept, new_jobs, derived_place, frame_jobs, frame_places, path_of, running_places, rises_next, of_flat, first_jobs, next_jobs, paths_read, Job, placed_job, known_few, starts_rise, front_more, take_all, known_rises, starts_order, length-append, length-map, length-take}
 use Rattle.htl_model.specs.declared.frame.Place.{Place}
-use Rattle.htl_model.specs.Frames.{frame_limit, frame_of, known_by, root_periods, rounds, rounds_at, starts}
-use Rattle.htl_model.specs.Selections.{root_modules}
-use Rattle.htl_model.specs.Ranges.{AreInRange}
-use Rattle.htl_model.specs.Selected.{IsSelection}
-use Rattle.htl_model.specs.Tables.{Tables}
-use Rattle.htl_model.proofs.FrameLimits.{limits_kept}
-use Rattle.htl_refine.specs.BegunJobs.{new_jobs}
-use Rattle.htl_refine.specs.DerivedPaths.{derived_place}
-use Rattle.htl_refine.specs.FrameRuns.{frame_jobs, frame_places, path_of, running_places}
-use Rattle.htl_refine.proofs.ListsFollow.{rises_next}
-use Rattle.htl_refine.proofs.Members.{of_flat}
-use Rattle.htl_refine.proofs.NewJobs.{first_jobs, next_jobs}
-use Rattle.htl_refine.proofs.PathRead.{paths_read}
 use Rattle.htl_refine.proofs.RoundOrder.{of_rounds, run_of}
-use Rattle.htl_walk.specs.declared.job.Job.{Job}
-use Rattle.htl_walk.specs.PathJobs.{placed_job}
-use Rattle.htl_walk.proofs.Starts.{known_few, starts_rise}
-use Rattle.htl_base.proofs.Places.{front_more, take_all}
-use Rattle.htl_walk.proofs.NodeWalks.{known_rises, starts_order}
 
 all_begun : (a : ℕ) (xs : List Place) → ((p : ℕ) (x : Place) → slice_get xs p ≡ Some x → x.at ≤ a) → known_by a xs ≡ length xs
 all_begun a [] h = refl

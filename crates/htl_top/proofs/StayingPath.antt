@@ -1,22 +1,6 @@
 -- The number of the path on which every module stays in its mode, start by start.
 use Rattle.std.proofs.Common.{◌≡◌, ℕ, zero, suc, ◌+◌, ◌*◌, ◌≤◌, ◌<◌, List, ◌++◌, length, take, drop, drop-cons, get_or, Option, None, sym, ap, ap₂, ◌∙◌, subst, arith, take-append-drop}
-use Rattle.std.specs.List.{flat_map}
-use Rattle.std.proofs.lemmas.Grind.{flat_map-append}
-use Rattle.std.proofs.lemmas.List.{drop_all, get_or-map}
-use Rattle.htl_model.specs.declared.frame.Frame.{Frame}
-use Rattle.htl_model.specs.declared.frame.Round.{Round}
-use Rattle.htl_model.specs.Frames.{choices, frame_limit, rounds, rounds_at, starts}
-use Rattle.htl_model.specs.FrameTables.{IsFrame}
-use Rattle.htl_model.specs.Ranges.{AreInRange}
-use Rattle.htl_model.specs.Selected.{IsSelection}
-use Rattle.htl_model.specs.Tables.{Tables}
-use Rattle.htl_model.proofs.FrameLimits.{choices_append, choices_some, limits_kept, rounds_have}
-use Rattle.htl_refine.specs.BegunJobs.{choice_of}
-use Rattle.htl_refine.specs.FrameRuns.{path_in, path_of}
-use Rattle.htl_refine.proofs.PathRead.{paths_read}
-use Rattle.htl_refine.proofs.NodeRead.{path_join}
-use Rattle.htl_base.proofs.Numbers.{product_parts}
-use Rattle.htl_base.proofs.Places.{get_taken}
+use Rattle.htl_top.proofs.Vocabulary.{flat_map, flat_map-append, drop_all, get_or-map, Frame, Round, choices, frame_limit, rounds, rounds_at, starts, IsFrame, AreInRange, IsSelection, Tables, choices_append, choices_some, limits_kept, rounds_have, choice_of, path_in, path_of, paths_read, path_join, product_parts, get_taken}
 
 module _ (t : Tables) (modes : List (Option ℕ)) where
   abbrev always : ℕ → List (Option ℕ)

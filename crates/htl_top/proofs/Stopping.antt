@@ -1,17 +1,7 @@
 -- A fault of tables with code is one of their source.
 use Rattle.std.proofs.Common.{◌≡◌, ◌≤◌, ℕ, List, length, Option, sym, subst}
-use Rattle.htl_compile.proofs.FromSource.{back_of_source}
-use Rattle.htl_compile.proofs.OnPlatform.{placed, says, by_back, can_code_on}
-use Rattle.htl_compile.specs.Building.{IsBackFault}
-use Rattle.htl_compile.specs.OnPlatform.{IsOn}
-use Rattle.htl_compile.specs.Sources.{IsFront}
-use Rattle.htl_compile.specs.declared.building.BackFault.{BackFault}
+use Rattle.htl_top.proofs.Vocabulary.{back_of_source, placed, says, by_back, can_code_on, IsBackFault, IsOn, IsFront, BackFault, Tables, IsNotCompiled, IsUnread, IsUnbuiltSource, outcome_of, stop_of, tables_of_stop, IsNotCompiledOn, Outcome, SourceStop}
 use Rattle.htl_compile.specs.declared.building.BackFault.TheVariants as back
-use Rattle.htl_model.specs.Tables.{Tables}
-use Rattle.htl_top.specs.Sources.{IsNotCompiled, IsUnread, IsUnbuiltSource, outcome_of, stop_of, tables_of_stop}
-use Rattle.htl_top.specs.SourcesOn.{IsNotCompiledOn}
-use Rattle.htl_top.specs.declared.outcome.Outcome.{Outcome}
-use Rattle.htl_top.specs.declared.source.SourceStop.{SourceStop}
 use Rattle.htl_top.specs.declared.source.SourceStop.TheVariants as stop
 
 -- ---- for no platform

@@ -1,25 +1,8 @@
 -- The end of a script that is read as the run goes: what was told, and what the totals write.
 use Rattle.std.proofs.Common.{arith, ◌≡◌, true, false, ℕ, List, [], ◌∷◌, ◌++◌, Option, Some, None, Result, Ok, Err, is_some, refl, sym, ap, ◌∙◌, subst}
-use Rattle.std.specs.Io.KnownBytes.{append_known}
-use Rattle.std.proofs.lemmas.List.{append-nil}
-use Rattle.htl_edge.specs.Content.{Puts, none_left}
+use Rattle.htl_top.proofs.Vocabulary.{append_known, append-nil, Puts, none_left, Seen, IsFinished, IsSameRun, totals_line, Tables, Event, past_of, OfScript, behind, Whole, script_of, Ahead, Gives, still, IsAnswer, Goes, Past, whole-script, gives_more, given_script, given_all, told_of, IsPlaying, IsTold, IsCutRun, IsWholeRun, EndsAt, text_before_fault, text_of_script}
 use Rattle.htl_edge.specs.declared.Failed.{Failed}
-use Rattle.htl_machine.specs.Calls.{Seen, IsFinished, IsSameRun}
-use Rattle.htl_model.specs.Lines.{totals_line}
-use Rattle.htl_model.specs.Tables.{Tables}
-use Rattle.htl_model.specs.declared.event.Event.{Event}
 use Rattle.htl_model.specs.declared.event.Event.TheVariants as event
-use Rattle.htl_script.specs.Judging.{past_of}
-use Rattle.htl_script.specs.Reading.{OfScript, behind}
-use Rattle.htl_script.specs.Script.{Whole, script_of}
-use Rattle.htl_script.specs.Streaming.{Ahead, Gives, still, IsAnswer, Goes}
-use Rattle.htl_script.specs.declared.judge.Past.{Past}
-use Rattle.htl_script.proofs.Fitting.{whole-script}
-use Rattle.htl_script.proofs.Streaming.{gives_more, given_script, given_all, told_of}
-use Rattle.htl_top.specs.Playing.{IsPlaying, IsTold}
-use Rattle.htl_top.specs.Runs.{IsCutRun, IsWholeRun}
-use Rattle.htl_top.specs.Scripts.{EndsAt}
-use Rattle.htl_top.specs.Texts.{text_before_fault, text_of_script}
 use Rattle.htl_top.proofs.Executing.{run_put}
 use Rattle.htl_top.proofs.Playing.{end_after, last_same}
 

@@ -1,36 +1,10 @@
 -- From event to event of a script that is read as the run goes: what the machine follows, what is written, and what is still to come.
 use Rattle.std.proofs.Common.{◌≡◌, Bool, false, ℕ, suc, List, [], ◌∷◌, ◌++◌, Option, Some, None, Result, Ok, Err, refl, sym, ap, ◌∙◌, subst}
-use Rattle.std.specs.Io.KnownBytes.{append_known}
-use Rattle.std.proofs.lemmas.List.{append_assoc, append-nil}
-use Rattle.htl_console.specs.declared.shown.Shown.{Shown}
-use Rattle.htl_edge.specs.Causes.{Rose}
-use Rattle.htl_edge.specs.Content.{AppendsPrefix, Puts}
-use Rattle.htl_edge.proofs.Puts.{append_known-start, append_known-more, AppendsPrefix-more}
-use Rattle.htl_machine.specs.Calls.{Seen, Follows, IsSameRun, text_between}
-use Rattle.htl_machine.specs.Follows.{reading_of}
-use Rattle.htl_machine.specs.Programs.{before_of}
-use Rattle.htl_model.specs.Tables.{Tables}
-use Rattle.htl_model.specs.declared.event.Event.{Event}
+use Rattle.htl_top.proofs.Vocabulary.{append_known, Shown, Rose, AppendsPrefix, Puts, append_known-start, append_known-more, AppendsPrefix-more, Seen, Follows, IsSameRun, text_between, reading_of, before_of, Tables, Event, IsAccepted, Object, AreEvents, EndWith, at_first, past_after, past_after_all, past_of, OfScript, behind, Ahead, Gives, still, at_start, IsAnswer, Goes, ScriptFault, Past, behind-nil, behind-append, events_of-behind, script_of-rest, script-events, whole-script, AreEvents-front, gives_more, given_script, told_of, totals_text, HaveNoEnd, IsBehind, IsNext, IsPlaying, IsTold, text_more, IsCutRun, IsFaultyRun, text_before_fault, text_of_script, prepend_known-nil, append_assoc, append-nil}
 use Rattle.htl_model.specs.declared.event.Event.TheVariants as event
-use Rattle.htl_object.specs.Accepted.{IsAccepted}
-use Rattle.htl_object.specs.declared.object.Object.{Object}
-use Rattle.htl_script.specs.Events.{AreEvents, EndWith}
-use Rattle.htl_script.specs.Judging.{at_first, past_after, past_after_all, past_of}
-use Rattle.htl_script.specs.Reading.{OfScript, behind}
 use Rattle.htl_script.specs.Script.{Script, Whole, Bad, events_of, script_of}
-use Rattle.htl_script.specs.Streaming.{Ahead, Gives, still, at_start, IsAnswer, Goes}
-use Rattle.htl_script.specs.declared.fault.ScriptFault.{ScriptFault}
 use Rattle.htl_script.specs.declared.fault.ScriptStop.TheVariants as stop
-use Rattle.htl_script.specs.declared.judge.Past.{Past}
-use Rattle.htl_script.proofs.Behind.{behind-nil, behind-append, events_of-behind, script_of-rest}
-use Rattle.htl_script.proofs.Fitting.{script-events, whole-script, AreEvents-front}
-use Rattle.htl_script.proofs.Streaming.{gives_more, given_script, told_of}
-use Rattle.htl_top.specs.Bulk.{totals_text}
-use Rattle.htl_top.specs.Playing.{HaveNoEnd, IsBehind, IsNext, IsPlaying, IsTold, text_more}
-use Rattle.htl_top.specs.Runs.{IsCutRun, IsFaultyRun}
-use Rattle.htl_top.specs.Texts.{text_before_fault, text_of_script}
 use Rattle.htl_top.proofs.Playing.{end_after, next, past_more, text_end, text_ended, text_next, text_open, took_within}
-use Rattle.htl_base.proofs.Places.{prepend_known-nil}
 
 -- ---- events behind others
 

@@ -1,15 +1,7 @@
 -- The records of a walk, told one part after another.
 use Rattle.std.proofs.Common.{◌≡◌, ◌≤◌, ◌+◌, ℕ, Bool, true, false, cond, List, [], ◌∷◌, ◌++◌, length, Option, Result, Ok, Err, refl, sym, ap, ap₂, ◌∙◌, subst, arith, append_assoc, append-nil}
-use Rattle.std.specs.Io.KnownBytes.{append_known}
-use Rattle.std.proofs.lemmas.List.{length-append}
+use Rattle.htl_top.proofs.Vocabulary.{append_known, Puts, append_known-start, append_known-more, Puts-failed, Puts-second, plan_line, Tables, Job, Left, left_text, walk_text, finishes, frame_text, length-append}
 use Rattle.std.proofs.lemmas.List.Concat.{flat_map-append}
-use Rattle.htl_edge.specs.Content.{Puts}
-use Rattle.htl_edge.proofs.Puts.{append_known-start, append_known-more, Puts-failed, Puts-second}
-use Rattle.htl_console.specs.Lines.{plan_line}
-use Rattle.htl_model.specs.Tables.{Tables}
-use Rattle.htl_walk.specs.declared.job.Job.{Job}
-use Rattle.htl_walk.specs.Walk.{Left}
-use Rattle.htl_top.specs.Planned.{left_text, walk_text, finishes, frame_text}
 
 finishes_both : (ls ms : List Left) → finishes (ls ++ ms) ≡ finishes ls + finishes ms
 finishes_both [] ms = omega arith

@@ -1,11 +1,7 @@
 -- Files and streams before and after a call, and what answers leave as it was.
 use Rattle.std.specs.Prelude.{ℕ, ◌≡◌, ◌⊎◌, Option, List}
-use Rattle.std.specs.Io.KnownBytes.{append_known}
-use Rattle.htl_audit.specs.declared.slice.LogKind.{LogKind}
+use Rattle.htl_top.specs.Common.{append_known, LogKind, Rose, AppendsPrefix, Holdings}
 use Rattle.htl_audit.specs.declared.slice.LogKind.TheVariants as kind
-use Rattle.htl_edge.specs.Causes.{Rose}
-use Rattle.htl_edge.specs.Content.{AppendsPrefix}
-use Rattle.htl_edge.specs.Holdings.{Holdings}
 use Rattle.htl_top.specs.declared.outcome.Outcome.{Outcome}
 use Rattle.htl_top.specs.declared.outcome.ShelfCause.TheVariants.{Failed}
 use Rattle.htl_top.specs.declared.outcome.Outcome.TheVariants.{Done, Log, Script, Shelf, Read, Write, Memory}

@@ -1,16 +1,8 @@
 -- The events of a script, as an auditor is told them one by one, and the end of an audit.
 use Rattle.std.specs.Prelude.{◌≡◌, ℕ, List, [], ◌∷◌, ◌++◌, Option, None, Some}
-use Rattle.std.specs.Io.KnownBytes.{append_known}
+use Rattle.htl_top.specs.Common.{append_known, first_fault, Slice, Rose, AppendsPrefix, Tables, Event, past_of, Ahead}
 use Rattle.htl_audit.specs.Auditing.{Audit, AuditFollows, IsAudited}
-use Rattle.htl_audit.specs.Legal.{first_fault}
-use Rattle.htl_audit.specs.declared.slice.Slice.{Slice}
-use Rattle.htl_edge.specs.Causes.{Rose}
-use Rattle.htl_edge.specs.Content.{AppendsPrefix}
-use Rattle.htl_model.specs.Tables.{Tables}
-use Rattle.htl_model.specs.declared.event.Event.{Event}
 use Rattle.htl_model.specs.declared.event.Event.TheVariants as event
-use Rattle.htl_script.specs.Judging.{past_of}
-use Rattle.htl_script.specs.Streaming.{Ahead}
 use Rattle.htl_top.specs.Audited.{audited_text}
 use Rattle.htl_top.specs.Playing.{IsPlaying}
 use Rattle.htl_top.specs.declared.outcome.Outcome.{Outcome}

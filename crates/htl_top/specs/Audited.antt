@@ -1,22 +1,10 @@
 -- What `audit` answers: of the files, of the log, and of the run that it is audited for.
 use Rattle.std.specs.Prelude.{◌≡◌, ◌⊎◌, ℕ, suc, List, [], ◌++◌, length, Option, Some, None, codes, decimal}
-use Rattle.std.specs.Io.KnownBytes.{append_known}
+use Rattle.htl_top.specs.Common.{append_known, LogFault, Slice, Values, Rose, AppendsPrefix, none_left, Holdings, before_of, Tables, Event, Object, OfScript, Script, Whole, Bad, script_of}
 use Rattle.htl_audit.specs.Faults.{IsFirstFault}
 use Rattle.htl_audit.specs.Jobs.{all_rounds}
 use Rattle.htl_audit.specs.Legal.{IsLegal, first_fault, jobs_done}
 use Rattle.htl_audit.specs.Logs.{log_of, Read as ReadLog, Refused as RefusedLog}
-use Rattle.htl_audit.specs.declared.slice.LogFault.{LogFault}
-use Rattle.htl_audit.specs.declared.slice.Slice.{Slice}
-use Rattle.htl_console.specs.declared.shown.Shown.TheVariants.{Values}
-use Rattle.htl_edge.specs.Causes.{Rose}
-use Rattle.htl_edge.specs.Content.{AppendsPrefix, none_left}
-use Rattle.htl_edge.specs.Holdings.{Holdings}
-use Rattle.htl_machine.specs.Programs.{before_of}
-use Rattle.htl_model.specs.Tables.{Tables}
-use Rattle.htl_model.specs.declared.event.Event.{Event}
-use Rattle.htl_object.specs.declared.object.Object.{Object}
-use Rattle.htl_script.specs.Reading.{OfScript}
-use Rattle.htl_script.specs.Script.{Script, Whole, Bad, script_of}
 use Rattle.htl_top.specs.Answers.{Files, Streams, IsUntouched}
 use Rattle.htl_top.specs.Fetching.{IsUnhad}
 use Rattle.htl_top.specs.Files.{IsFileOf}

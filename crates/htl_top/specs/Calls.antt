@@ -1,7 +1,6 @@
 -- What the top call answers, command by command.
 use Rattle.std.specs.Prelude.{◌≡◌, Option, None, Some, List, ℕ}
-use Rattle.htl_edge.specs.Holdings.{Holdings}
-use Rattle.htl_model.specs.Tables.{Tables}
+use Rattle.htl_top.specs.Common.{Holdings, Tables}
 use Rattle.htl_top.specs.Answers.{Files, Streams, IsUntouched}
 use Rattle.htl_top.specs.Audited.{IsAudit}
 use Rattle.htl_top.specs.Bulk.{IsBulked}

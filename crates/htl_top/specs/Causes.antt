@@ -1,8 +1,7 @@
 -- Causes of answers: the files that words name.
 use Rattle.std.specs.Prelude.{ℕ, ◌≡◌, ◌≤◌, ◌⊎◌, Option, None, Some, List, length}
 use Rattle.std.specs.FinMap.{get}
-use Rattle.htl_base.specs.declared.limits.TheConstants.{MAX_SOURCE}
-use Rattle.htl_edge.specs.Causes.{Rose}
+use Rattle.htl_top.specs.Common.{MAX_SOURCE, Rose}
 use Rattle.htl_edge.specs.Holdings.{Holdings, HoldsUnder, IsTooLong}
 use Rattle.htl_edge.specs.declared.shelf.ShelfFault.TheVariants.{TooLong as LongFile}
 use Rattle.htl_top.specs.declared.outcome.Outcome.{Outcome}

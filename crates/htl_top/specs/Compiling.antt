@@ -1,13 +1,8 @@
 -- What `compile` answers: the source that the input is, as the bytes of its object.
 use Rattle.std.specs.Prelude.{◌≡◌, ◌⊎◌, ℕ, List, Option}
-use Rattle.std.specs.Io.KnownBytes.{append_known}
+use Rattle.htl_top.specs.Common.{append_known, built, Rose, AppendsPrefix, none_left, Tables, object_bytes}
 use Rattle.htl_compile.specs.Building.{IsCompiledTo}
-use Rattle.htl_compile.specs.Built.{built}
 use Rattle.htl_compile.specs.declared.compiling.CompileFault.TheVariants as compile
-use Rattle.htl_edge.specs.Causes.{Rose}
-use Rattle.htl_edge.specs.Content.{AppendsPrefix, none_left}
-use Rattle.htl_model.specs.Tables.{Tables}
-use Rattle.htl_object.specs.Objects.{object_bytes}
 use Rattle.htl_top.specs.Answers.{Streams, IsWritten}
 use Rattle.htl_top.specs.Sources.{IsInputProgram, IsInputFault, IsNotCompiled, outcome_of}
 use Rattle.htl_top.specs.declared.source.SourceStop.{SourceStop}

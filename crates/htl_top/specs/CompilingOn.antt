@@ -1,18 +1,9 @@
 -- What `compile with` answers: the source that the input is, as the bytes of its object on the platform that a file says.
 use Rattle.std.specs.Prelude.{◌≡◌, ◌⊎◌, ℕ, List, Option, Some}
-use Rattle.std.specs.Io.KnownBytes.{append_known}
-use Rattle.htl_base.specs.declared.limits.TheConstants.{MAX_SOURCE}
+use Rattle.htl_top.specs.Common.{append_known, MAX_SOURCE, CompileFault, Rose, AppendsPrefix, none_left, Holdings, Tables, object_bytes, PlatformFault, PlatformOf}
 use Rattle.htl_compile.specs.OnPlatform.{built_on, IsCompiledOn}
-use Rattle.htl_compile.specs.declared.compiling.CompileFault.{CompileFault}
 use Rattle.htl_compile.specs.declared.compiling.CompileFault.TheVariants as compile
 use Rattle.htl_compile.specs.declared.compiling_on.WithFault.TheVariants as on
-use Rattle.htl_edge.specs.Causes.{Rose}
-use Rattle.htl_edge.specs.Content.{AppendsPrefix, none_left}
-use Rattle.htl_edge.specs.Holdings.{Holdings}
-use Rattle.htl_model.specs.Tables.{Tables}
-use Rattle.htl_object.specs.Objects.{object_bytes}
-use Rattle.htl_platform.specs.declared.fault.PlatformFault.{PlatformFault}
-use Rattle.htl_platform.specs.declared.platform.Platform.{Platform as PlatformOf}
 use Rattle.htl_top.specs.Answers.{Files, Streams, IsUntouched, IsWritten}
 use Rattle.htl_top.specs.Causes.{IsFaultOf, IsLongFile}
 use Rattle.htl_top.specs.Sources.{IsInputFault, IsFaultyProgram, outcome_of}

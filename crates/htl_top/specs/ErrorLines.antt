@@ -1,10 +1,7 @@
 -- The line that tells of an answer, and the tables whose names it has.
 use Rattle.std.specs.Prelude.{ℕ, ◌≡◌, Option, Some, None, List}
-use Rattle.htl_compile.specs.Coded.{coded}
-use Rattle.htl_load.specs.declared.fault.ObjectFault.{ObjectFault}
+use Rattle.htl_top.specs.Common.{coded, ObjectFault, Tables, PatchFault}
 use Rattle.htl_load.specs.declared.fault.ObjectFault.TheVariants as fault
-use Rattle.htl_model.specs.Tables.{Tables}
-use Rattle.htl_patch.specs.declared.fault.PatchFault.{PatchFault}
 use Rattle.htl_patch.specs.declared.fault.PatchFault.TheVariants as patch
 use Rattle.htl_top.specs.Objects.{SpeaksOfObject}
 use Rattle.htl_top.specs.PatchedFiles.{SpeaksOfPatch}

@@ -1,7 +1,6 @@
 -- Files of at most 16,777,216 bytes that the words name: objects and logs.
 use Rattle.std.specs.Prelude.{◌≤◌, ℕ, List, length, Option}
-use Rattle.htl_base.specs.declared.limits.TheConstants.{MAX_OBJECT}
-use Rattle.htl_edge.specs.Holdings.{Holdings}
+use Rattle.htl_top.specs.Common.{MAX_OBJECT, Holdings}
 use Rattle.htl_top.specs.Causes.{IsGiven}
 use Rattle.htl_top.specs.Objects.{IsObjectFile}
 

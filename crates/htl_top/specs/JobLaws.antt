@@ -1,18 +1,10 @@
 -- What `go` shows of the jobs of a source, down to the lines.
 use Rattle.std.specs.Prelude.{◌≡◌, ℕ, List, ◌++◌, map}
 use Rattle.std.specs.List.{filter}
-use Rattle.htl_compile.specs.Built.{built, CanBuild}
-use Rattle.htl_compile.specs.Sources.{IsTablesOf}
-use Rattle.htl_console.specs.declared.shown.Shown.TheVariants.{Jobs}
+use Rattle.htl_top.specs.Common.{built, CanBuild, IsTablesOf, Jobs, lines_of, text_of, schedules_of, Event, hyper, lines_text, value_lines, Tables}
 use Rattle.htl_machine.specs.JobLines.{printed, job_lines_at, job_lines_to, ShowsJobs, begins_as_job, text_lines}
 use Rattle.htl_machine.specs.JobTimes.{AllToldInTime}
-use Rattle.htl_machine.specs.Programs.{lines_of, text_of, schedules_of}
-use Rattle.htl_model.specs.declared.event.Event.{Event}
-use Rattle.htl_model.specs.Frames.{hyper}
-use Rattle.htl_model.specs.Lines.{lines_text}
 use Rattle.htl_model.specs.Lists.{joined}
-use Rattle.htl_model.specs.Meaning.{value_lines}
-use Rattle.htl_model.specs.Tables.{Tables}
 use Rattle.htl_top.specs.Scripts.{IsWhole}
 
 -- at each instant the j and d lines of the records, and then the lines of values and modes, and nothing else

@@ -1,16 +1,11 @@
 -- What the values and lines of a run depend on, and what `go` shows.
 use Rattle.std.specs.Prelude.{◌≡◌, ◌≤◌, ◌<◌, ℕ, Bool, cond, nat_le, nat_lt, List, [], ◌∷◌, ◌++◌, length}
-use Rattle.htl_compile.specs.Built.{built, CanBuild}
-use Rattle.htl_console.specs.declared.shown.Shown.TheVariants.{Jobs}
+use Rattle.htl_top.specs.Common.{built, CanBuild, Jobs, lines_of, schedules_of, Event, frame_of, hyper, Tables}
 use Rattle.htl_machine.specs.Lines.{old_lines}
-use Rattle.htl_machine.specs.Programs.{lines_of, schedules_of}
-use Rattle.htl_model.specs.declared.event.Event.{Event}
 use Rattle.htl_model.specs.declared.event.Event.TheVariants as event
-use Rattle.htl_model.specs.Frames.{frame_of, hyper}
 use Rattle.htl_model.specs.Lines.{lines_before_text, lines_text}
 use Rattle.htl_model.specs.Meaning.{run_lines, sense, val, value_lines}
 use Rattle.htl_model.specs.Selections.{root_modules}
-use Rattle.htl_model.specs.Tables.{Tables}
 use Rattle.htl_refine.specs.FrameRuns.{frame_at}
 use Rattle.htl_refine.specs.ServedJobs.{AllServed}
 use Rattle.htl_top.specs.Scripts.{IsWhole}

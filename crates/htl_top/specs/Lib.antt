@@ -29,3 +29,4 @@ pub mod Status
 pub mod ErrorLines
 pub mod Texts
 pub mod Words
+mod Common

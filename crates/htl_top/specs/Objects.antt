@@ -1,17 +1,8 @@
 -- What a command on an object answers.
 use Rattle.std.specs.Prelude.{ℕ, ◌≡◌, ◌≤◌, ◌⊎◌, Option, Some, List, length, Ok, Err}
-use Rattle.std.specs.declared.result.Result.{Result}
-use Rattle.std.specs.Io.KnownBytes.{append_known}
-use Rattle.htl_base.specs.declared.limits.TheConstants.{MAX_OBJECT}
-use Rattle.htl_edge.specs.Causes.{Rose}
-use Rattle.htl_edge.specs.Content.{AppendsPrefix}
-use Rattle.htl_edge.specs.Holdings.{Holdings, HoldsUnder}
+use Rattle.htl_top.specs.Common.{Result, append_known, MAX_OBJECT, Rose, AppendsPrefix, Holdings, HoldsUnder, ObjectFault, Tables, IsAccepted, Object}
 use Rattle.htl_load.specs.Loading.{HasBytes, RefusesBytes}
-use Rattle.htl_load.specs.declared.fault.ObjectFault.{ObjectFault}
 use Rattle.htl_load.specs.declared.fault.ObjectFault.TheVariants as fault
-use Rattle.htl_model.specs.Tables.{Tables}
-use Rattle.htl_object.specs.Accepted.{IsAccepted}
-use Rattle.htl_object.specs.declared.object.Object.{Object}
 use Rattle.htl_top.specs.Answers.{Files, Streams, IsUntouched, IsWritten}
 use Rattle.htl_top.specs.Causes.{IsFaultOf, IsLongFile, IsGiven}
 use Rattle.htl_top.specs.declared.object.ObjectStop.{ObjectStop}

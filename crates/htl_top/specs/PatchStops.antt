@@ -1,6 +1,5 @@
 -- Why nothing is patched, as an answer, and the tables that its line speaks of.
-use Rattle.std.specs.Prelude.{Option, None}
-use Rattle.htl_model.specs.Tables.{Tables}
+use Rattle.htl_top.specs.Common.{Option, None, Tables}
 use Rattle.htl_patch.specs.declared.fault.PatchStop.{PatchStop}
 use Rattle.htl_patch.specs.declared.fault.PatchStop.TheVariants as stop
 use Rattle.htl_top.specs.declared.object.ObjectStop.{ObjectStop}

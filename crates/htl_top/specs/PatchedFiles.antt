@@ -1,22 +1,14 @@
 -- What `patch` answers of two files: an object of which a mode gets another refinement, and the donor that has it.
 use Rattle.std.specs.Prelude.{◌≡◌, ◌⊎◌, ℕ, List, Option, Some}
-use Rattle.std.specs.Io.KnownBytes.{append_known}
-use Rattle.htl_edge.specs.Causes.{Rose}
-use Rattle.htl_edge.specs.Content.{AppendsPrefix}
-use Rattle.htl_edge.specs.Holdings.{Holdings}
-use Rattle.htl_load.specs.Loading.{HasBytes}
-use Rattle.htl_model.specs.Tables.{Tables}
-use Rattle.htl_object.specs.Accepted.{IsAccepted}
+use Rattle.htl_top.specs.Common.{append_known, Rose, AppendsPrefix, Holdings, HasBytes, Tables, IsAccepted, Object, PatchFault}
 use Rattle.htl_object.specs.Files.{first_bad}
 use Rattle.htl_object.specs.Objects.{IsObject, object_bytes}
 use Rattle.htl_object.specs.declared.malformed.Malformed.{Malformed}
-use Rattle.htl_object.specs.declared.object.Object.{Object}
 use Rattle.htl_patch.specs.Joining.{graft_of}
 use Rattle.htl_patch.specs.Object.{patched_object, CanPatch}
 use Rattle.htl_patch.specs.Patched.{patched}
 use Rattle.htl_patch.specs.Stops.{IsPatchFault}
 use Rattle.htl_patch.specs.United.{Graft}
-use Rattle.htl_patch.specs.declared.fault.PatchFault.{PatchFault}
 use Rattle.htl_patch.specs.declared.fault.PatchFault.TheVariants as fault
 use Rattle.htl_top.specs.Answers.{Files, Streams, IsWritten}
 use Rattle.htl_top.specs.Fetching.{IsUnhad}

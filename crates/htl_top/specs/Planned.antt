@@ -1,22 +1,14 @@
 -- What `plan` answers of an accepted object.
 use Rattle.std.specs.Prelude.{ℕ, ◌≡◌, ◌+◌, Bool, true, false, cond, List, [], ◌∷◌, ◌++◌, length, Option, Some, None}
-use Rattle.std.specs.Io.KnownBytes.{append_known}
+use Rattle.htl_top.specs.Common.{append_known, Rose, AppendsPrefix, none_left, Tables, Object, OfScript, ScriptFault, Schedule, instrs_of}
 use Rattle.std.specs.List.{flat_map}
 use Rattle.htl_console.specs.Lines.{slice_line, done_line, plan_line}
-use Rattle.htl_edge.specs.Causes.{Rose}
-use Rattle.htl_edge.specs.Content.{AppendsPrefix, none_left}
 use Rattle.htl_model.specs.Frames.{hyper, frame_of, starts}
 use Rattle.htl_model.specs.Selected.{IsSelection}
-use Rattle.htl_model.specs.Tables.{Tables}
-use Rattle.htl_object.specs.declared.object.Object.{Object}
 use Rattle.htl_refine.specs.FrameRuns.{Frame, frame_jobs, frame_places, path_of, walk_of}
-use Rattle.htl_script.specs.Reading.{OfScript}
-use Rattle.htl_script.specs.declared.fault.ScriptFault.{ScriptFault}
 use Rattle.htl_walk.specs.declared.job.Job.{Job}
 use Rattle.htl_walk.specs.declared.schedule.SInstr.{SInstr}
-use Rattle.htl_walk.specs.declared.schedule.Schedule.{Schedule}
 use Rattle.htl_walk.specs.Feasible.{lists_of}
-use Rattle.htl_walk.specs.NodeWalks.{instrs_of}
 use Rattle.htl_walk.specs.PathJobs.{legs_of}
 use Rattle.htl_walk.specs.Walk.{Left, job_at, worst_cases}
 use Rattle.htl_top.specs.Answers.{IsUntouched}

@@ -1,18 +1,11 @@
 -- The events of a script, as a machine is told them one by one.
 use Rattle.std.specs.Prelude.{ℕ, suc, ◌≡◌, ◌≤◌, false, List, [], ◌∷◌, ◌++◌, Option, None, Some}
-use Rattle.std.specs.Io.KnownBytes.{append_known}
-use Rattle.htl_base.specs.declared.limits.TheConstants.{MAX_INSTANT}
-use Rattle.htl_console.specs.declared.shown.Shown.{Shown}
+use Rattle.htl_top.specs.Common.{append_known, MAX_INSTANT, Shown, Tables, Event, Object, past_of, script_of}
 use Rattle.htl_machine.specs.Calls.{Seen, Follows, IsFinished, IsSensorValue, IsLength, IsSameRun, text_between}
 use Rattle.htl_machine.specs.Follows.{reading_of}
-use Rattle.htl_model.specs.Tables.{Tables}
-use Rattle.htl_model.specs.declared.event.Event.{Event}
 use Rattle.htl_model.specs.declared.event.Event.TheVariants as event
-use Rattle.htl_object.specs.declared.object.Object.{Object}
 use Rattle.htl_script.specs.Events.{AreEvents}
-use Rattle.htl_script.specs.Judging.{past_of}
 use Rattle.htl_script.specs.Reading.{behind}
-use Rattle.htl_script.specs.Script.{script_of}
 use Rattle.htl_script.specs.Streaming.{Ahead, Gives, still}
 use Rattle.htl_top.specs.Texts.{text_before_fault}
 

@@ -1,15 +1,9 @@
 -- The input of a plan: one line for each module, in order, which says the mode in which it is.
 use Rattle.std.specs.Prelude.{ℕ, ◌+◌, Bool, not, ◌&&◌, List, [], ◌∷◌, ◌++◌, length, Option, Some, None, is_some, ◌==◌, codes, if◌then◌else◌, Ok, Err}
-use Rattle.std.specs.declared.result.Result.{Result}
-use Rattle.std.specs.List.{position_from}
-use Rattle.std.specs.Option.{option_map}
-use Rattle.std.specs.Str.{bytes_eq}
+use Rattle.htl_top.specs.Common.{Result, position_from, option_map, bytes_eq, Module, Tables, ScriptKind}
 use Rattle.htl_model.specs.declared.parts.Mode.{Mode}
-use Rattle.htl_model.specs.declared.parts.Module.{Module}
 use Rattle.htl_model.specs.Ranges.{parent_of}
-use Rattle.htl_model.specs.Tables.{Tables}
 use Rattle.htl_model.specs.Selected.{is_active}
-use Rattle.htl_script.specs.declared.fault.ScriptKind.{ScriptKind}
 use Rattle.htl_script.specs.declared.fault.ScriptKind.TheVariants as kind
 use Rattle.htl_script.specs.Lines.{ScriptLine, lines_of, size_of, is_past_limit, is_long, is_passed_over}
 use Rattle.htl_script.specs.Statements.{fields_of}

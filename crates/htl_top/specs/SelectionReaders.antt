@@ -1,9 +1,6 @@
 -- Where a reader of a plan's input is.
 use Rattle.std.specs.Prelude.{◌≡◌, ◌≤◌, ℕ, ◌+◌, false, List, [], ◌++◌, length, take, All, Option, Ok, Err}
-use Rattle.std.specs.declared.result.Result.{Result}
-use Rattle.htl_edge.specs.Causes.{Rose}
-use Rattle.htl_model.specs.Tables.{Tables}
-use Rattle.htl_script.specs.declared.fault.ScriptKind.{ScriptKind}
+use Rattle.htl_top.specs.Common.{Result, Rose, Tables, ScriptKind}
 use Rattle.htl_script.specs.Lines.{is_line_feed, lines_of}
 use Rattle.htl_top.specs.declared.selection.ScriptStop.{ScriptStop}
 use Rattle.htl_top.specs.declared.selection.ScriptStop.TheVariants as stop

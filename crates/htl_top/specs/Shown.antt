@@ -1,7 +1,6 @@
 -- What `show` answers of an accepted object.
-use Rattle.std.specs.Prelude.{ℕ, List}
+use Rattle.htl_top.specs.Common.{ℕ, List, Object}
 use Rattle.htl_console.specs.Listing.{listing}
-use Rattle.htl_object.specs.declared.object.Object.{Object}
 use Rattle.htl_top.specs.Objects.{Work, IsTextAnswer}
 
 -- the listing of an object

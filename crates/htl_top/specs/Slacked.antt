@@ -1,14 +1,9 @@
 -- What `slack` answers of an accepted object.
 use Rattle.std.specs.Prelude.{◌≡◌, ℕ, Bool, false, ◌&&◌, List, ◌++◌, ◌⊎◌, length, slice_get, Option, Some, None, codes, decimal}
-use Rattle.std.specs.Io.KnownBytes.{append_known}
-use Rattle.std.specs.Str.{bytes_eq}
+use Rattle.htl_top.specs.Common.{append_known, bytes_eq, Rose, AppendsPrefix, Holdings, Module, instrs_of, Schedule}
 use Rattle.htl_console.specs.Listing.{all_lines, schedule_lines}
 use Rattle.htl_edf.specs.Greatest.{with_worst, IsGreatest}
 use Rattle.htl_edf.specs.NodePlans.{AreNodeLists}
-use Rattle.htl_edge.specs.Causes.{Rose}
-use Rattle.htl_edge.specs.Content.{AppendsPrefix}
-use Rattle.htl_edge.specs.Holdings.{Holdings}
-use Rattle.htl_model.specs.declared.parts.Module.{Module}
 use Rattle.htl_model.specs.declared.parts.Task.{Task as TaskOf}
 use Rattle.htl_model.specs.Frames.{nodes}
 use Rattle.htl_model.specs.Tables.{Tables, task_worst}
@@ -16,8 +11,6 @@ use Rattle.htl_slack.specs.RootTasks.{IsRootTask, limit_of}
 use Rattle.htl_slack.specs.Slack.{StandsAbove}
 use Rattle.htl_slack.specs.declared.report.Above.{Above}
 use Rattle.htl_walk.specs.Feasible.{AreFeasible}
-use Rattle.htl_walk.specs.NodeWalks.{instrs_of}
-use Rattle.htl_walk.specs.declared.schedule.Schedule.{Schedule}
 use Rattle.htl_top.specs.Answers.{Files}
 use Rattle.htl_top.specs.Objects.{Work, IsAcceptedFile, IsStopped}
 use Rattle.htl_top.specs.Words.{Command, Slack}

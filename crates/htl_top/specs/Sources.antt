@@ -1,17 +1,12 @@
 -- The source that a command compiles: where its tables are had, and why no object is built of it.
 use Rattle.std.specs.Prelude.{ℕ, ◌≡◌, ◌≤◌, ◌<◌, ◌+◌, ◌⊎◌, Option, Some, None, IfSome, List, length}
-use Rattle.htl_base.specs.declared.limits.TheConstants.{MAX_SOURCE}
+use Rattle.htl_top.specs.Common.{MAX_SOURCE, CanBuild, CanCode, coded, CompileFault, Holdings, Tables}
 use Rattle.htl_compile.specs.Building.{IsBackFault, IsCompileFault}
-use Rattle.htl_compile.specs.Built.{CanBuild}
-use Rattle.htl_compile.specs.Coded.{CanCode, coded}
 use Rattle.htl_compile.specs.Sources.{IsTablesOf, IsSourceFault}
 use Rattle.htl_compile.specs.declared.building.BackFault.{BackFault}
 use Rattle.htl_compile.specs.declared.building.BackFault.TheVariants as back
-use Rattle.htl_compile.specs.declared.compiling.CompileFault.{CompileFault}
 use Rattle.htl_compile.specs.declared.compiling.CompileFault.TheVariants as compile
 use Rattle.htl_compile.specs.declared.source_fault.SourceFault.TheVariants as source
-use Rattle.htl_edge.specs.Holdings.{Holdings}
-use Rattle.htl_model.specs.Tables.{Tables}
 use Rattle.htl_top.specs.Causes.{IsSource}
 use Rattle.htl_top.specs.declared.outcome.Outcome.{Outcome}
 use Rattle.htl_top.specs.declared.outcome.Outcome.TheVariants.{Source, IllFormed, Unschedulable, Platform, Memory}

@@ -1,18 +1,12 @@
 -- The source that a command compiles for a platform: where its tables are had, and why no object is built of it.
 use Rattle.std.specs.Prelude.{ℕ, ◌≡◌, ◌⊎◌, Option, List, Ok}
-use Rattle.htl_compile.specs.Built.{CanBuild}
-use Rattle.htl_compile.specs.Coded.{AreTyped, CanCode, coded}
+use Rattle.htl_top.specs.Common.{CanBuild, AreTyped, CanCode, coded, IsTablesOf, CompileFault, Holdings, Tables, PlatformOf}
 use Rattle.htl_compile.specs.OnPlatform.{IsWithFault}
-use Rattle.htl_compile.specs.Sources.{IsTablesOf}
-use Rattle.htl_compile.specs.declared.compiling.CompileFault.{CompileFault}
 use Rattle.htl_compile.specs.declared.compiling.CompileFault.TheVariants as compile
 use Rattle.htl_compile.specs.declared.compiling_on.WithFault.{WithFault}
 use Rattle.htl_compile.specs.declared.compiling_on.WithFault.TheVariants as on
-use Rattle.htl_edge.specs.Holdings.{Holdings}
-use Rattle.htl_model.specs.Tables.{Tables}
 use Rattle.htl_platform.specs.Applied.{with_worst}
 use Rattle.htl_platform.specs.Platforms.{platform_of}
-use Rattle.htl_platform.specs.declared.platform.Platform.{Platform as PlatformOf}
 use Rattle.htl_top.specs.Causes.{IsSource}
 use Rattle.htl_top.specs.Sources.{IsInput, IsLongInput, answer_of}
 use Rattle.htl_top.specs.declared.outcome.Outcome.{Outcome}

@@ -1,23 +1,16 @@
 -- The status of each answer, and the line that tells of it.
 use Rattle.std.specs.Prelude.{ℕ, List, [], ◌++◌, Option, None, Some, slice_get, codes, decimal}
-use Rattle.htl_audit.specs.declared.slice.LogFault.{LogFault}
-use Rattle.htl_audit.specs.declared.slice.LogKind.{LogKind}
+use Rattle.htl_top.specs.Common.{LogFault, LogKind, ObjectFault, Tables, ScriptFault, ScriptKind, PatchFault, PlatformFault}
 use Rattle.htl_audit.specs.declared.slice.LogKind.TheVariants as log
 use Rattle.htl_ecode.specs.declared.fault.EKind.{EKind}
 use Rattle.htl_ecode.specs.declared.fault.EKind.TheVariants as departure
-use Rattle.htl_load.specs.declared.fault.ObjectFault.{ObjectFault}
 use Rattle.htl_load.specs.declared.fault.ObjectFault.TheVariants as object
 use Rattle.htl_model.specs.Lines.{module_name, mode_name}
-use Rattle.htl_model.specs.Tables.{Tables}
 use Rattle.htl_model.specs.declared.form_fault.FormFault.{FormFault}
-use Rattle.htl_script.specs.declared.fault.ScriptFault.{ScriptFault}
-use Rattle.htl_script.specs.declared.fault.ScriptKind.{ScriptKind}
 use Rattle.htl_script.specs.declared.fault.ScriptKind.TheVariants as kind
 use Rattle.htl_object.specs.declared.malformed.MalKind.{MalKind}
 use Rattle.htl_object.specs.declared.malformed.MalKind.TheVariants as field
-use Rattle.htl_patch.specs.declared.fault.PatchFault.{PatchFault}
 use Rattle.htl_patch.specs.declared.fault.PatchFault.TheVariants as patch
-use Rattle.htl_platform.specs.declared.fault.PlatformFault.{PlatformFault}
 use Rattle.htl_platform.specs.declared.fault.PlatformFault.TheVariants as platform
 use Rattle.htl_walk.specs.declared.miss.Miss.{Miss}
 use Rattle.htl_walk.specs.declared.miss.Miss.TheVariants as miss

@@ -2,12 +2,9 @@
 use Rattle.std.specs.Prelude.{ℕ, zero, suc, ◌+◌, ◌≤◌, ◌==◌, Bool, cond, ◌&&◌, Option, None, Some, List, [], ◌∷◌, codes, map, take, drop, if◌then◌else◌}
 use Rattle.std.specs.Borrow.{Bor}
 use Rattle.std.specs.Fmt.{decimal}
-use Rattle.std.specs.List.{position_from}
-use Rattle.std.specs.Option.{option_map}
-use Rattle.std.specs.Str.{bytes_eq}
+use Rattle.htl_top.specs.Common.{position_from, option_map, bytes_eq, Shown}
 use Rattle.htl_base.specs.Names.{is_name}
 use Rattle.htl_base.specs.declared.limits.TheConstants.{MAX_MODULES, MAX_SOURCE, MAX_SCRIPT}
-use Rattle.htl_console.specs.declared.shown.Shown.{Shown}
 use Rattle.htl_console.specs.declared.shown.Shown.TheVariants.{Values, Jobs, Code}
 use Rattle.htl_top.specs.declared.words.Asked.{Asked}
 use Rattle.htl_top.specs.declared.words.Asked.TheVariants as ask

@@ -1,23 +1,11 @@
 -- What the first miss has to do with being accepted.
 use Rattle.std.proofs.Common.{◌≡◌, ℕ, zero, suc, ◌-◌, ◌≤◌, ◌<◌, true, List, [], ◌∷◌, length, get_or, slice_get, take, Option, Some, None, refl, sym, ap, ◌∙◌, subst, arith, ◌⊎◌, inl, inr, add-one}
-use Rattle.std.specs.List.{All}
-use Rattle.std.proofs.lemmas.Option.{slice_get_within, slice_get_past, same_Some}
-use Rattle.std.proofs.lemmas.List.{take_all}
-use Rattle.htl_walk.specs.declared.job.Job.{Job}
-use Rattle.htl_walk.specs.declared.miss.Miss.{Miss}
+use Rattle.htl_walk.proofs.Words.{All, slice_get_within, slice_get_past, same_Some, take_all, Job, Miss, SInstr, Dispatch, Idle, End, precedes, Point, job_at, next_point, last_point, walk_from, walk, work, first_point, finish, DoneBy, InOrder, AreDone, InForm, ScheduleIsAccepted, worst_cases, DepartsBy, DepartsAt, IsFirstDeparture, worst_point, IsCleanBefore, IsFirstMiss, HasWork, each_at, cases_lt}
 use Rattle.htl_walk.specs.declared.miss.Miss.TheVariants as miss
-use Rattle.htl_walk.specs.declared.schedule.SInstr.{SInstr}
-use Rattle.htl_walk.specs.declared.schedule.SInstr.TheVariants.{Dispatch, Idle, End}
-use Rattle.htl_walk.specs.Jobs.{precedes}
-use Rattle.htl_walk.specs.Walk.{Point, job_at, next_point, last_point, walk_from, walk, work, first_point, finish, DoneBy, InOrder, AreDone, InForm, ScheduleIsAccepted, worst_cases}
-use Rattle.htl_walk.specs.Misses.{DepartsBy, DepartsAt, IsFirstDeparture, worst_point, IsCleanBefore, IsFirstMiss}
-use Rattle.htl_walk.specs.Refinement.{HasWork}
 use Rattle.htl_walk.proofs.Steps.{left_falls}
 use Rattle.htl_walk.proofs.Finishes.{finish_now, finish_later}
 use Rattle.htl_walk.proofs.Work.{job_there, work_present, work_some, worst_at}
 use Rattle.htl_walk.proofs.Predecessors.{meets_by_finishes}
-use Rattle.htl_base.proofs.Places.{each_at}
-use Rattle.std.proofs.lemmas.Bool.{cases_lt}
 
 -- ---- the form
 

@@ -1,11 +1,7 @@
 -- A walk that is ahead of another: earlier, and with no more work left.
 use Rattle.std.proofs.Common.{ℕ, ◌≤◌, ◌<◌, List, [], ◌∷◌, get_or, subst, arith, inl, inr}
-use Rattle.htl_walk.specs.declared.job.Job.{Job}
-use Rattle.htl_walk.specs.declared.schedule.SInstr.{SInstr}
-use Rattle.htl_walk.specs.declared.schedule.SInstr.TheVariants.{Dispatch, Idle, End}
-use Rattle.htl_walk.specs.Walk.{Point, job_at, work_after, next_point, last_point}
+use Rattle.htl_walk.proofs.Words.{Job, SInstr, Dispatch, Idle, End, Point, job_at, work_after, next_point, last_point, cases_eq}
 use Rattle.htl_walk.proofs.Steps.{work_below_running, time_below, left_same, left_other, left_falls}
-use Rattle.std.proofs.lemmas.Bool.{cases_eq}
 
 pub record Ahead (js ks : List Job) (x y : Point) : Type 0 where
   pub time : x.time ≤ y.time

@@ -1,29 +1,9 @@
 -- The walk of all paths in the terms of the code.
 use Rattle.std.proofs.Common.{◌≡◌, ℕ, zero, suc, ◌+◌, ◌-◌, ◌≤◌, ◌<◌, List, [], ◌∷◌, ◌++◌, length, take, drop, set, get_or, add-one, refl, sym, ap, ◌∙◌, subst, arith, inl, inr}
-use Rattle.std.proofs.lemmas.Bool.{cases_lt}
-use Rattle.std.proofs.lemmas.List.{get_or-map, length-map}
-use Rattle.htl_model.specs.declared.frame.Frame.{Frame}
-use Rattle.htl_model.specs.declared.frame.Place.{Place}
-use Rattle.htl_model.specs.FrameTables.{IsFrame}
-use Rattle.htl_model.specs.Frames.{frame_of, starts, paths, node, path_places, known_by}
-use Rattle.htl_model.specs.Tables.{Tables}
-use Rattle.htl_walk.specs.declared.job.Job.{Job}
-use Rattle.htl_walk.specs.declared.miss.Miss.{Miss}
-use Rattle.htl_walk.specs.declared.schedule.SInstr.{SInstr}
-use Rattle.htl_walk.specs.declared.schedule.Schedule.{Schedule}
-use Rattle.htl_walk.specs.Jobs.{absent_job}
-use Rattle.htl_walk.specs.Walk.{Point, last_point, worst_cases, work}
-use Rattle.htl_walk.specs.Paths.{list_point}
-use Rattle.htl_walk.specs.PathJobs.{path_jobs, placed_job, next_of}
+use Rattle.htl_walk.proofs.Words.{cases_lt, get_or-map, length-map, Frame, Place, IsFrame, frame_of, starts, paths, node, path_places, known_by, Tables, Job, Miss, SInstr, Schedule, absent_job, Point, last_point, worst_cases, work, list_point, path_jobs, placed_job, next_of, IsListClean, IsListMiss, list_at, reached, IsCleanAt, IsNodeMissAt, AreCleanTo, AreSaved, AreResumed, ShareNodes, AreWalkable, MissesAt, IsFirstFailing, instrs_of, start_at, AreFeasible, same_number_lists, get_taken}
 use Rattle.htl_walk.proofs.Starts.{known_few}
-use Rattle.htl_walk.specs.PathMisses.{IsListClean, IsListMiss}
-use Rattle.htl_walk.specs.NodeWalks.{list_at, reached, IsCleanAt, IsNodeMissAt, AreCleanTo, AreSaved, AreResumed, ShareNodes, AreWalkable, MissesAt, IsFirstFailing, instrs_of}
-use Rattle.htl_walk.specs.FrameLaws.{start_at}
-use Rattle.htl_walk.specs.Feasible.{AreFeasible}
 use Rattle.htl_walk.proofs.GoingOn.{same_length}
 use Rattle.htl_walk.proofs.NodeWalks.{unwalked, shared_clean, shared_saved, first_failing}
-use Rattle.std.proofs.lemmas.Grind.{same_number_lists}
-use Rattle.htl_base.proofs.Places.{get_taken}
 
 -- ---- reading the starts
 

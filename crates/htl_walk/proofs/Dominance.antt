@@ -1,22 +1,12 @@
 -- Dominance: an accepted schedule serves all jobs that refine those for which it was accepted.
 use Rattle.std.proofs.Common.{◌≡◌, ℕ, ◌≤◌, ◌<◌, true, false, List, [], ◌∷◌, get_or, slice_get, take, Some, sym, ap, ◌∙◌, subst, arith, inl, inr}
-use Rattle.std.specs.List.{All}
-use Rattle.htl_walk.specs.declared.job.Job.{Job}
-use Rattle.htl_walk.specs.declared.schedule.SInstr.{SInstr}
-use Rattle.htl_walk.specs.declared.schedule.SInstr.TheVariants.{Dispatch, Idle, End}
-use Rattle.htl_walk.specs.Jobs.{precedes}
-use Rattle.htl_walk.specs.Walk.{Point, job_at, next_point, point_at, walk_from, walk, work, work_after, first_point, slices, DoneBy, InOrder, AreDone, IsMet, Meets, ScheduleIsAccepted, worst_cases}
-use Rattle.htl_model.specs.PortOrder.{direct, through}
-use Rattle.htl_walk.specs.Refinement.{LeadsTo, RefinesJob, Refines, HasWork, HaveLengths, AreWithinWorst}
-use Rattle.htl_walk.specs.Laws.{Dominance}
+use Rattle.htl_walk.proofs.Words.{All, Job, SInstr, Dispatch, Idle, End, precedes, Point, job_at, next_point, point_at, walk_from, walk, work, work_after, first_point, slices, DoneBy, InOrder, AreDone, IsMet, Meets, ScheduleIsAccepted, worst_cases, direct, through, LeadsTo, RefinesJob, Refines, HasWork, HaveLengths, AreWithinWorst, Dominance, each_at, cases_eq, cases_lt}
 use Rattle.htl_walk.proofs.Steps.{left_falls, left_other}
 use Rattle.htl_walk.proofs.Ahead.{Ahead, ahead_next, ahead_last}
 use Rattle.htl_walk.proofs.Finishes.{finish_ahead}
 use Rattle.htl_walk.proofs.Slices.{slices_start, slices_other, slices_within}
 use Rattle.htl_walk.proofs.Work.{job_there, job_is, job_cases, absent_precedes, worst_at, work_present, work_some}
 use Rattle.htl_walk.proofs.Predecessors.{Settled, settled_back}
-use Rattle.htl_base.proofs.Places.{each_at}
-use Rattle.std.proofs.lemmas.Bool.{cases_eq, cases_lt}
 
 -- where some work of a position is done, its predecessors are done
 abbrev pub IsOrderly : List Job → Point → Type 0

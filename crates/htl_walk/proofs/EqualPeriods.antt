@@ -1,18 +1,7 @@
 -- Where all root modules have one period it is that of a round.
 use Rattle.std.proofs.Common.{◌≡◌, ◌<◌, ◌≤◌, ◌↔◌, ℕ, zero, suc, Bool, true, false, ◌&&◌, eqb, eqb-true, List, [], ◌∷◌, length, get_or, slice_get, Option, Some, None, refl, sym, ap, ◌∙◌, subst, arith}
-use Rattle.std.specs.List.{list_all}
-use Rattle.std.proofs.lemmas.Bool.{eq-eqb}
-use Rattle.std.proofs.lemmas.Option.{slice_get-get_or, get_or_from_slice_get}
-use Rattle.htl_model.specs.FrameRules.{KeptApart}
-use Rattle.htl_model.specs.Frames.{unit_period}
-use Rattle.htl_model.specs.Ranges.{AreInRange, IsModeInRange}
-use Rattle.htl_model.specs.Selections.{is_root, root_modules, modes_of, root_period, round_length}
-use Rattle.htl_model.specs.Tables.{Tables, mode_period}
-use Rattle.htl_model.proofs.FrameRules.{first_own}
-use Rattle.htl_model.proofs.SelectionLaws.{root_period_is, place_passes_0}
-use Rattle.htl_walk.specs.EqualPeriods.{AllHave, RootsHaveOnePeriod, HasOnePeriod}
+use Rattle.htl_walk.proofs.Words.{list_all, eq-eqb, slice_get-get_or, get_or_from_slice_get, KeptApart, unit_period, AreInRange, IsModeInRange, is_root, root_modules, modes_of, root_period, round_length, Tables, mode_period, first_own, root_period_is, place_passes_0, AllHave, RootsHaveOnePeriod, HasOnePeriod, each_at}
 use Rattle.htl_walk.proofs.PathReady.{IsRootAt, module_below, period_at, as_unit}
-use Rattle.htl_base.proofs.Places.{each_at}
 
 -- ---- a list of modules of one period
 

@@ -1,13 +1,8 @@
 -- When a position finishes.
 use Rattle.std.proofs.Common.{◌≡◌, ℕ, zero, suc, ◌≤◌, ◌<◌, true, false, cond, ◌&&◌, eqb, List, [], ◌∷◌, get_or, Some, refl, sym, ap, ◌∙◌, subst, arith, ◌⊎◌, inl, inr}
-use Rattle.std.proofs.lemmas.Bool.{eq-eqb, ne_eqb, and_from, and_left, and_right, cases_eq}
-use Rattle.htl_walk.specs.declared.job.Job.{Job}
-use Rattle.htl_walk.specs.declared.schedule.SInstr.{SInstr}
-use Rattle.htl_walk.specs.declared.schedule.SInstr.TheVariants.{Dispatch}
-use Rattle.htl_walk.specs.Walk.{Point, job_at, finishes_by, work_after, next_point, walk_from, finish, DoneBy}
+use Rattle.htl_walk.proofs.Words.{eq-eqb, ne_eqb, and_from, and_left, and_right, cases_eq, Job, SInstr, Dispatch, Point, job_at, finishes_by, work_after, next_point, walk_from, finish, DoneBy, same_Some}
 use Rattle.htl_walk.proofs.Steps.{left_other, time_rises}
 use Rattle.htl_walk.proofs.Ahead.{Ahead, ahead_next}
-use Rattle.std.proofs.lemmas.Option.{same_Some}
 
 finishes_yes : (a b : ℕ) → 0 < a → b ≡ 0 → finishes_by a b ≡ true
 finishes_yes zero b h e = absurd (omega arith)

@@ -1,16 +1,8 @@
 -- A schedule has one first miss at most.
 use Rattle.std.proofs.Common.{◌≡◌, ℕ, ◌+◌, ◌<◌, List, length, get_or, slice_get, sym, ap, ◌∙◌, subst, arith}
-use Rattle.std.proofs.lemmas.Option.{slice_get_within}
-use Rattle.htl_walk.specs.declared.job.Job.{Job}
-use Rattle.htl_walk.specs.declared.miss.Miss.{Miss}
+use Rattle.htl_walk.proofs.Words.{slice_get_within, Job, Miss, SInstr, Dispatch, job_at, InForm, worst_point, DispatchesAt, IsTooEarly, IsFirstDeparture, IsFirstBefore, IsFirstLate, IsFirstUnfinished, IsFirstMiss, OneFirstMiss, same_from_neither}
 use Rattle.htl_walk.specs.declared.miss.Miss.TheVariants as miss
-use Rattle.htl_walk.specs.declared.schedule.SInstr.{SInstr}
-use Rattle.htl_walk.specs.declared.schedule.SInstr.TheVariants.{Dispatch}
-use Rattle.htl_walk.specs.Walk.{job_at, InForm}
-use Rattle.htl_walk.specs.Misses.{worst_point, DispatchesAt, IsTooEarly, IsFirstDeparture, IsFirstBefore, IsFirstLate, IsFirstUnfinished, IsFirstMiss}
-use Rattle.htl_walk.specs.Laws.{OneFirstMiss}
 use Rattle.htl_walk.proofs.Acceptance.{departs_nowhere}
-use Rattle.htl_base.proofs.Numbers.{same_from_neither}
 
 module _ (jobs : List Job) (s : List SInstr) where
   same_position : (k l p q : ℕ) → k ≡ l → DispatchesAt s k p → DispatchesAt s l q → p ≡ q

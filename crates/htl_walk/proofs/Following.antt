@@ -1,25 +1,13 @@
 -- The worst-case walk, followed instruction by instruction.
 use Rattle.std.proofs.Common.{◌≡◌, ℕ, zero, suc, ◌≤◌, ◌<◌, List, [], ◌∷◌, length, get_or, slice_get, Some, refl, sym, ap, ◌∙◌, subst, arith, inl, inr}
-use Rattle.std.specs.List.{All}
-use Rattle.std.proofs.lemmas.Option.{slice_get-get_or, same_Some}
-use Rattle.std.proofs.lemmas.List.{ext_get_or}
-use Rattle.htl_walk.specs.declared.job.Job.{Job}
-use Rattle.htl_walk.specs.declared.miss.Miss.{Miss}
+use Rattle.htl_walk.proofs.Words.{All, slice_get-get_or, same_Some, ext_get_or, Job, Miss, SInstr, Dispatch, Idle, End, Point, job_at, next_point, walk, work, work_after, first_point, finish, InForm, ScheduleIsAccepted, worst_cases, worst_point, IsCleanBefore, IsFirstMiss, IsKnown, IsInTime, IsFollowed, IsMissAt, HasWork, each_at, cases_eq, cases_lt}
 use Rattle.htl_walk.specs.declared.miss.Miss.TheVariants as miss
-use Rattle.htl_walk.specs.declared.schedule.SInstr.{SInstr}
-use Rattle.htl_walk.specs.declared.schedule.SInstr.TheVariants.{Dispatch, Idle, End}
-use Rattle.htl_walk.specs.Walk.{Point, job_at, next_point, walk, work, work_after, first_point, finish, InForm, ScheduleIsAccepted, worst_cases}
-use Rattle.htl_walk.specs.Misses.{worst_point, IsCleanBefore, IsFirstMiss}
-use Rattle.htl_walk.specs.Following.{IsKnown, IsInTime, IsFollowed, IsMissAt}
-use Rattle.htl_walk.specs.Refinement.{HasWork}
 use Rattle.htl_walk.proofs.Steps.{left_other}
 use Rattle.htl_walk.proofs.Work.{work_present, worst_at}
 use Rattle.htl_walk.proofs.Acceptance.{point_step, finish_at, accepted}
 use Rattle.htl_walk.proofs.ListMiss.{clean_to, clean_of, before_to, late_miss_to}
 use Rattle.htl_walk.proofs.Walked as walked
 use Rattle.htl_walk.proofs.Walked.{IsWalked, walked_more}
-use Rattle.htl_base.proofs.Places.{each_at}
-use Rattle.std.proofs.lemmas.Bool.{cases_eq, cases_lt}
 use Rattle.htl_walk.proofs.CodeWalk.{work_length}
 
 -- the walk was followed up to instruction k, to this point and these finish offsets

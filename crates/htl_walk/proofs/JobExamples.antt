@@ -1,7 +1,6 @@
 -- The jobs of two tables: one with two windows, one with a port.
 use Rattle.std.specs.Prelude.{◌≡◌, [], ◌∷◌, true, refl}
-use Rattle.htl_model.proofs.Sources.{preempted, ports}
-use Rattle.htl_walk.specs.Jobs.{abstract_jobs}
+use Rattle.htl_walk.proofs.Words.{preempted, ports, abstract_jobs}
 
 two_windows : abstract_jobs preempted 0
     ≡ record { present = true; inv = 0; release = 0; end = 10; worst = 7; preds = 0 }

@@ -1,19 +1,7 @@
 -- The jobs of a selection are present and have some work.
 use Rattle.std.proofs.Common.{◌≡◌, ℕ, ◌≤◌, ◌<◌, true, List, length, map, get_or, slice_get, Option, Some, None, refl, ◌∙◌, ap, arith, inl, inr}
-use Rattle.std.specs.List.{All}
-use Rattle.std.proofs.lemmas.List.Elements.{All-map, All-from_get_or}
-use Rattle.std.proofs.lemmas.Option.{slice_get_cases}
-use Rattle.htl_model.specs.declared.parts.Inv.{Inv}
-use Rattle.htl_model.specs.declared.parts.Task.{Task}
-use Rattle.htl_model.specs.Tables.{Tables, task_worst, release, window_end}
-use Rattle.htl_model.specs.Ranges.{AreInRange, IsInvInRange, IsTaskInRange}
-use Rattle.htl_model.specs.Selections.{positions}
-use Rattle.htl_model.proofs.SelectionLaws.{position_below}
-use Rattle.htl_walk.specs.declared.job.Job.{Job}
-use Rattle.htl_walk.specs.Jobs.{absent_job, job_of, abstract_jobs, mask, precedes, is_fed_by}
-use Rattle.htl_walk.specs.Refinement.{HasWork}
+use Rattle.htl_walk.proofs.Words.{All, All-map, All-from_get_or, slice_get_cases, Inv, Task, Tables, task_worst, release, window_end, AreInRange, IsInvInRange, IsTaskInRange, positions, position_below, Job, absent_job, job_of, abstract_jobs, mask, precedes, is_fed_by, HasWork, each_at}
 use Rattle.htl_walk.proofs.Masks.{mask_bit, get_mapped}
-use Rattle.htl_base.proofs.Places.{each_at}
 
 pub worst_some : (t : Tables) (i : Inv) (k : ℕ) → AreInRange t → slice_get t.invs k ≡ Some i → 1 ≤ task_worst t i.task
 worst_some t i k r at =

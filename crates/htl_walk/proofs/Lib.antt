@@ -36,3 +36,4 @@ pub mod Waiting
 pub mod Walked
 pub mod Work
 pub mod WidestPath
+pub mod Words

@@ -1,26 +1,6 @@
 -- Predecessors as numbers by their bits.
 use Rattle.std.proofs.Common.{◌≡◌, ℕ, zero, suc, ◌+◌, ◌*◌, ◌/◌, ◌%◌, ◌<◌, ◌≤◌, Bool, true, false, ◌&&◌, eqb, ltb, List, [], ◌∷◌, ◌++◌, length, map, take, set, get_or, add-one, Option, Some, None, refl, sym, ap, ◌∙◌, arith, inl, inr}
-use Rattle.std.specs.Prelude.{slice_get}
-use Rattle.std.specs.Int.{bit_at}
-use Rattle.std.specs.List.{list_any}
-use Rattle.std.proofs.lemmas.Bool.Decides.{nat_tests}
-use Rattle.std.proofs.Math.Seq.{take-suc}
-use Rattle.std.proofs.lemmas.List.{get_or_past, map-append, take_more_set}
-use Rattle.std.proofs.lemmas.Nat.Bits.{bit_at-suc, bit_at_lowest}
-use Rattle.htl_model.specs.declared.parts.Inv.{Inv}
-use Rattle.htl_model.specs.Bits.{has_bit, cell}
-use Rattle.htl_model.specs.Functions.{of_bool}
-use Rattle.htl_model.specs.PortOrder.{feeds_at}
-use Rattle.htl_model.specs.PortTable.{writes_to, is_from}
-use Rattle.htl_model.specs.Ranges.{AreInRange}
-use Rattle.htl_model.specs.Tables.{Tables, task_worst, release, window_end}
-use Rattle.htl_model.proofs.BitLaws.{same_row, has_no_bit}
-use Rattle.htl_model.proofs.PortTableLaws.{row_of_reads, row_of_none}
-use Rattle.htl_walk.specs.declared.job.Job.{Job}
-use Rattle.htl_walk.specs.Jobs.{is_fed_by, mask, absent_job, job_of}
-use Rattle.htl_walk.specs.Writers.{inv_of, reads_of, AreWriters, job_with}
-use Rattle.std.proofs.lemmas.Bool.{cases_lt}
-use Rattle.htl_base.proofs.Tests.{and_none}
+use Rattle.htl_walk.proofs.Words.{bit_at, list_any, nat_tests, take-suc, get_or_past, map-append, take_more_set, bit_at-suc, bit_at_lowest, Inv, has_bit, cell, of_bool, feeds_at, writes_to, is_from, AreInRange, Tables, task_worst, release, window_end, same_row, has_no_bit, row_of_reads, row_of_none, Job, is_fed_by, mask, absent_job, job_of, inv_of, reads_of, AreWriters, job_with, cases_lt, and_none, slice_get}
 
 -- ---- the bits of a mask
 

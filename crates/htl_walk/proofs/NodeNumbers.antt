@@ -1,17 +1,8 @@
 -- The numbers of nodes: one for each node, and one node for each number.
 use Rattle.std.proofs.Common.{◌≡◌, ℕ, zero, suc, ◌+◌, ◌*◌, ◌/◌, ◌%◌, ◌≤◌, ◌<◌, Bool, true, false, cond, ◌&&◌, eqb, List, [], ◌∷◌, ◌++◌, length, drop, get_or, refl, sym, ap, ◌∙◌, arith, inl, inr}
-use Rattle.std.proofs.Math.Nat.{div-add-mod, mul_assoc, mul_comm, mul-le-mul_right, mul-add-div_right, add-mul-mod_self_right, mod-eq_of_lt}
-use Rattle.std.proofs.lemmas.Bool.{cases_lt, ne_eqb}
-use Rattle.std.proofs.lemmas.List.{length-map}
-use Rattle.std.proofs.lemmas.Nat.{div-mul-add, mul-add-lt}
-use Rattle.htl_model.specs.Frames.{frame_of, root_periods, unit_period, rounds_at, choices, starts, rounds, paths, mode_in, mode_from, path_mode, node, node_of, nodes_of, radices, ways}
-use Rattle.htl_model.specs.Tables.{Tables}
-use Rattle.htl_model.specs.declared.frame.Round.{Round}
-use Rattle.htl_walk.specs.FrameLaws.{start_at, start_end_at, NodesDiffer, NodesReached, ModesStay}
+use Rattle.htl_walk.proofs.Words.{div-add-mod, mul_assoc, mul_comm, mul-le-mul_right, mul-add-div_right, add-mul-mod_self_right, mod-eq_of_lt, cases_lt, ne_eqb, length-map, div-mul-add, mul-add-lt, frame_of, root_periods, unit_period, rounds_at, choices, starts, rounds, paths, mode_in, mode_from, path_mode, node, node_of, nodes_of, radices, ways, Tables, Round, start_at, start_end_at, NodesDiffer, NodesReached, ModesStay, paths_ways, product_parts}
 use Rattle.htl_walk.proofs.Nodes.{places_same, node_below, leg_at, rises_drop, mode_append, rounds_to, rounds_behind, cut_rounds, choices_behind, same_choices}
 use Rattle.htl_walk.proofs.Starts.{Rises, starts_rise, LaterRounds, rounds_later}
-use Rattle.htl_model.proofs.FrameBuild.{paths_ways}
-use Rattle.htl_base.proofs.Numbers.{product_parts}
 
 -- ---- nodes of different starts
 

@@ -1,26 +1,6 @@
 -- The walk of all paths: what its first nodes tell of further paths, and what the lists of a path tell of it.
 use Rattle.std.proofs.Common.{◌≡◌, ℕ, zero, suc, ◌+◌, ◌≤◌, ◌<◌, ◌⊎◌, true, false, leb, leb-true, le-leb, eqb, ◌&&◌, List, [], ◌∷◌, ◌++◌, length, drop, map, get_or, refl, sym, ap, ◌∙◌, subst, arith, inl, inr}
-use Rattle.std.proofs.lemmas.Bool.{cases_lt, cases_Bool}
-use Rattle.std.proofs.lemmas.List.{get_or_past, length-map}
-use Rattle.htl_model.specs.Lists.{list_to}
-use Rattle.htl_model.specs.Functions.{of_bool}
-use Rattle.htl_model.specs.Tables.{Tables}
-use Rattle.htl_model.specs.declared.frame.Place.{Place}
-use Rattle.htl_model.specs.Frames.{starts, paths, node, path_places, known_by, frame_of, root_periods}
-use Rattle.htl_walk.specs.declared.job.Job.{Job}
-use Rattle.htl_walk.specs.declared.miss.Miss.{Miss}
-use Rattle.htl_walk.specs.declared.schedule.SInstr.{SInstr}
-use Rattle.htl_walk.specs.Jobs.{absent_job, precedes, is_fed_by}
-use Rattle.htl_walk.specs.Walk.{Point, job_at, last_point, first_point, worst_cases}
-use Rattle.htl_walk.specs.WellFormed.{AreWellFormed}
-use Rattle.htl_walk.specs.Paths.{list_point, IsPathAccepted, AreChained, AgreeOn, AgreeAt}
-use Rattle.htl_walk.specs.PathMisses.{IsListClean, IsListMiss, AreClean, IsPathMiss, counted}
-use Rattle.htl_walk.specs.PathLaws.{WaitWithin}
-use Rattle.htl_walk.specs.PathJobs.{path_jobs, placed_jobs, placed_job, legs_of, legs, next_of}
-use Rattle.htl_walk.specs.FrameLaws.{start_at, start_end_at}
-use Rattle.htl_walk.specs.Feasible.{lists_of, AreFeasible}
-use Rattle.htl_walk.specs.Fronts.{ShareFront, IsRoundFront}
-use Rattle.htl_walk.specs.NodeWalks.{reach, ListIsClean, IsMissIn, count_to, list_at, reached, IsCleanAt, IsNodeMissAt, AreCleanTo, AreSaved, ShareNodes, AreWalkable, IsFirstFailing}
+use Rattle.htl_walk.proofs.Words.{cases_lt, cases_Bool, get_or_past, length-map, list_to, of_bool, Tables, Place, starts, paths, node, path_places, known_by, frame_of, root_periods, Job, Miss, SInstr, absent_job, precedes, is_fed_by, Point, job_at, last_point, first_point, worst_cases, AreWellFormed, list_point, IsPathAccepted, AreChained, AgreeOn, AgreeAt, IsListClean, IsListMiss, AreClean, IsPathMiss, counted, WaitWithin, path_jobs, placed_jobs, placed_job, legs_of, legs, next_of, start_at, start_end_at, lists_of, AreFeasible, ShareFront, IsRoundFront, reach, ListIsClean, IsMissIn, count_to, list_at, reached, IsCleanAt, IsNodeMissAt, AreCleanTo, AreSaved, ShareNodes, AreWalkable, IsFirstFailing, marked_within}
 use Rattle.htl_walk.proofs.Fine.{job_at_is, first_left}
 use Rattle.htl_walk.proofs.Clean.{accepting}
 use Rattle.htl_walk.proofs.Work.{absent_precedes}
@@ -29,7 +9,6 @@ use Rattle.htl_walk.proofs.GoingOn.{untouched}
 use Rattle.htl_walk.proofs.OneMiss.{path_refused}
 use Rattle.htl_walk.proofs.Starts.{Rises, starts_rise, LaterPlaces, Stands, no_place, path_later, later_stands, job_is, placed_is, mask_bit, legs_follow}
 use Rattle.htl_walk.proofs.Nodes.{nodes_share, some_root}
-use Rattle.htl_base.proofs.Places.{marked_within}
 
 -- ---- lists by place
 

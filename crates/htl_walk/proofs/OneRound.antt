@@ -1,31 +1,10 @@
 -- Where all root modules have one period no limit of frames is exceeded, and a path is accepted exactly where its root selection is.
 use Rattle.std.proofs.Common.{◌≡◌, ℕ, ◌+◌, ◌*◌, ◌≤◌, ◌<◌, ◌⊎◌, min, Bool, false, cond, ltb, List, [], ◌∷◌, length, map, get_or, slice_get, Option, Some, None, option_map, refl, sym, ap, ◌∙◌, subst, arith, inl, inr}
-use Rattle.std.proofs.lemmas.Bool.Decides.{nat_tests}
-use Rattle.std.proofs.lemmas.List.{length-map}
-use Rattle.std.proofs.lemmas.Option.{slice_get-get_or}
-use Rattle.htl_model.proofs.FrameLimits.{one_divides, rounds_have}
-use Rattle.htl_model.proofs.FrameRules.{kept_apart}
-use Rattle.htl_model.proofs.LimitCode.{over_no, rest_is, limit_none, limit_rest}
-use Rattle.htl_model.specs.Broken.{KeptTo, KeepsLimits}
-use Rattle.htl_model.specs.Frames.{common_multiple, multiple_of, unit_period, starts_below, starts, rounds, rounds_at, choices, paths, nodes, node, nodes_of, path_places, most_positions, too_long, frame_limit, other_limit}
-use Rattle.htl_model.specs.Lists.{list_to}
-use Rattle.htl_model.specs.Ranges.{AreInRange}
-use Rattle.htl_model.specs.Selections.{root_modules, choices_from, selection_count, positions, round_length}
-use Rattle.htl_model.specs.Tables.{Tables}
-use Rattle.htl_model.specs.declared.frame.Place.{Place}
+use Rattle.htl_walk.proofs.Words.{nat_tests, length-map, slice_get-get_or, one_divides, rounds_have, kept_apart, over_no, rest_is, limit_none, limit_rest, KeptTo, KeepsLimits, common_multiple, multiple_of, unit_period, starts_below, starts, rounds, rounds_at, choices, paths, nodes, node, nodes_of, path_places, most_positions, too_long, frame_limit, other_limit, list_to, AreInRange, root_modules, choices_from, selection_count, positions, round_length, Tables, Place, AllHave, RootsHaveOnePeriod, HasOnePeriod, AreRounds, AreFeasible, lists_of, abstract_jobs, path_jobs, legs, whole, Leg, IsPathAccepted, ScheduleIsAccepted, Job, SInstr}
 use Rattle.htl_walk.proofs.Accepted.{one_list_accepted}
 use Rattle.htl_walk.proofs.EqualPeriods.{first_round, one_round as round_period}
 use Rattle.htl_walk.proofs.OnePeriod.{same_multiple, one_period}
 use Rattle.htl_walk.proofs.WidestPath.{widest_path}
-use Rattle.htl_walk.specs.EqualPeriods.{AllHave, RootsHaveOnePeriod, HasOnePeriod, AreRounds}
-use Rattle.htl_walk.specs.Feasible.{AreFeasible, lists_of}
-use Rattle.htl_walk.specs.Jobs.{abstract_jobs}
-use Rattle.htl_walk.specs.PathJobs.{path_jobs, legs}
-use Rattle.htl_walk.specs.PathLaws.{whole}
-use Rattle.htl_walk.specs.Paths.{Leg, IsPathAccepted}
-use Rattle.htl_walk.specs.Walk.{ScheduleIsAccepted}
-use Rattle.htl_walk.specs.declared.job.Job.{Job}
-use Rattle.htl_walk.specs.declared.schedule.SInstr.{SInstr}
 
 -- ---- without modules
 

@@ -1,37 +1,10 @@
 -- The jobs of all paths are as their walk and the scheduler ask, where the form rules and the limits of frames are kept.
 use Rattle.std.proofs.Common.{◌≡◌, ℕ, zero, suc, ◌+◌, ◌*◌, ◌%◌, ◌/◌, ◌≤◌, ◌<◌, min, Bool, true, false, cond, eqb, eqb-true, List, [], ◌∷◌, ◌++◌, length, get_or, slice_get, Option, Some, None, option_map, refl, sym, ap, ◌∙◌, subst, arith, inl, inr}
-use Rattle.std.specs.List.{flat_map}
-use Rattle.std.proofs.Math.Nat.{mul-le-mul_right, div-add-mod}
-use Rattle.std.proofs.lemmas.Bool.{cases_lt, cases_eq}
-use Rattle.std.proofs.lemmas.List.{length-map}
-use Rattle.std.proofs.lemmas.Option.{slice_get_cases, slice_get-get_or}
-use Rattle.htl_model.specs.declared.frame.Place.{Place}
-use Rattle.htl_model.specs.declared.frame.Round.{Round}
-use Rattle.htl_model.specs.declared.parts.Mode.{Mode}
-use Rattle.htl_model.specs.declared.parts.Module.{Module}
-use Rattle.htl_model.specs.declared.parts.Inv.{Inv}
-use Rattle.htl_model.specs.declared.parts.Task.{Task}
+use Rattle.htl_walk.proofs.Words.{flat_map, mul-le-mul_right, div-add-mod, cases_lt, cases_eq, length-map, slice_get_cases, slice_get-get_or, Place, Round, Mode, Module, Inv, Task, ModulePeriod, Windows, Offsets, Itself, Output, Site, Part, KeptApart, unit_start, unit_period, frame_of, root_periods, starts, rounds_of, rounds_at, rounds, choices, mode_in, places_of, places_in, path_places, frame_limit, first_mode, asked_period, AreInRange, IsInvInRange, IsModeInRange, IsTaskInRange, IsSpan, parent_of, is_root, root_modules, modes_of, mode_of_module, inv_of_mode, invs_of, Tables, mode_period, comm_period, task_worst, release, window_end, offsets, least_or, frame_some, limits_kept, frame_divided, modes_some, place_passes_0, Job, placed_job, path_jobs, IsWellFormed, AreWalkable, each_at, mode_there}
 use Rattle.htl_model.specs.declared.parts.End.{End}
 use Rattle.htl_model.specs.declared.parts.End.TheVariants as E
-use Rattle.htl_model.specs.FormRules.{ModulePeriod, Windows, Offsets, Itself, Output, Site, Part}
-use Rattle.htl_model.specs.FrameRules.{KeptApart}
-use Rattle.htl_model.specs.Frames.{unit_start, unit_period, frame_of, root_periods, starts, rounds_of, rounds_at, rounds, choices, mode_in, places_of, places_in, path_places, frame_limit}
-use Rattle.htl_model.specs.PeriodRules.{first_mode, asked_period}
-use Rattle.htl_model.specs.Ranges.{AreInRange, IsInvInRange, IsModeInRange, IsTaskInRange, IsSpan, parent_of}
-use Rattle.htl_model.specs.Selections.{is_root, root_modules, modes_of, mode_of_module, inv_of_mode, invs_of}
-use Rattle.htl_model.specs.Tables.{Tables, mode_period, comm_period, task_worst, release, window_end, offsets, least_or}
-use Rattle.htl_model.proofs.FrameBuild.{frame_some}
-use Rattle.htl_model.proofs.FrameLimits.{limits_kept}
-use Rattle.htl_model.proofs.FrameRules.{frame_divided}
-use Rattle.htl_model.proofs.SelectionLaws.{modes_some, place_passes_0}
-use Rattle.htl_walk.specs.declared.job.Job.{Job}
-use Rattle.htl_walk.specs.PathJobs.{placed_job, path_jobs}
-use Rattle.htl_walk.specs.WellFormed.{IsWellFormed}
-use Rattle.htl_walk.specs.NodeWalks.{AreWalkable}
 use Rattle.htl_walk.proofs.Nodes.{some_root}
 use Rattle.htl_walk.proofs.Starts.{Rises, starts_rise, no_place, Stands, placed_is, get_map}
-use Rattle.htl_base.proofs.Places.{each_at}
-use Rattle.htl_model.proofs.PortChains.{mode_there}
 
 -- ---- windows
 

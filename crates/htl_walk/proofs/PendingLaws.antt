@@ -1,18 +1,6 @@
 -- The row of the positions with work left.
 use Rattle.std.proofs.Common.{◌≡◌, ◌≢◌, ℕ, ◌*◌, ◌%◌, ◌^◌, ◌<◌, Bool, true, false, cond, ◌&&◌, eqb, ltb, List, length, get_or, min, refl, sym, ap, ◌∙◌, arith, inl, inr}
-use Rattle.std.specs.Int.{bit_at, bit_not, w128}
-use Rattle.std.specs.Int.Bits.{bit_and}
-use Rattle.std.specs.List.{All}
-use Rattle.std.proofs.lemmas.Bool.{lt-ltb, le-ltb, cases_lt}
-use Rattle.std.proofs.lemmas.Bool.Decides.{nat_tests}
-use Rattle.std.proofs.lemmas.List.{get_or_past}
-use Rattle.std.proofs.lemmas.Nat.{and_le_r}
-use Rattle.std.proofs.lemmas.Nat.Bits.{bit_at_and, bit_at_above, bit_at_clear_same, bit_at_clear_other}
-use Rattle.htl_model.specs.Bits.{has_bit}
-use Rattle.htl_walk.specs.declared.job.Job.{Job}
-use Rattle.htl_walk.specs.Following.{ArePending}
-use Rattle.htl_walk.specs.Refinement.{HasWork}
-use Rattle.htl_walk.specs.Walk.{work, worst_cases}
+use Rattle.htl_walk.proofs.Words.{bit_at, bit_not, w128, bit_and, All, lt-ltb, le-ltb, cases_lt, nat_tests, get_or_past, and_le_r, bit_at_and, bit_at_above, bit_at_clear_same, bit_at_clear_other, has_bit, Job, ArePending, HasWork, work, worst_cases}
 use Rattle.htl_walk.proofs.Following.{work_at}
 use Rattle.htl_walk.proofs.Placing.{has_bit_and}
 

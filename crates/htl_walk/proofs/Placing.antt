@@ -1,23 +1,6 @@
 -- The jobs of a path from those of its positions.
 use Rattle.std.proofs.Common.{◌≡◌, ℕ, zero, suc, ◌+◌, ◌≤◌, ◌<◌, ◌^◌, Bool, true, false, cond, ◌&&◌, eqb, min, List, [], ◌∷◌, ◌++◌, length, map, take, set, get_or, add-one, Option, Some, None, refl, sym, ap, ◌∙◌, arith}
-use Rattle.std.specs.Prelude.{slice_get}
-use Rattle.std.specs.List.{All}
-use Rattle.std.specs.Int.{bit_at}
-use Rattle.std.specs.Int.Bits.{bit_and}
-use Rattle.std.proofs.Math.Seq.{take-suc}
-use Rattle.std.proofs.lemmas.Nat.Bits.{bit_at_and}
-use Rattle.std.proofs.lemmas.List.Elements.{All-from_get_or}
-use Rattle.std.proofs.lemmas.List.{take_more_set, map-append, get_or-map, length-map}
-use Rattle.htl_model.specs.declared.frame.Place.{Place}
-use Rattle.htl_model.specs.declared.parts.Inv.{Inv}
-use Rattle.htl_model.specs.Bits.{has_bit}
-use Rattle.htl_model.specs.Tables.{Tables, task_worst, release, window_end}
-use Rattle.htl_model.proofs.BitLaws.{same_row, has_no_bit}
-use Rattle.htl_walk.specs.declared.job.Job.{Job}
-use Rattle.htl_walk.specs.Jobs.{absent_job, mask, is_fed_by, job_of, jobs_standing}
-use Rattle.htl_walk.specs.PathJobs.{job_in, placed, placed_job, placed_jobs}
-use Rattle.htl_walk.specs.Placing.{standing_of, begins_with, moved, HasTimes}
-use Rattle.htl_walk.specs.WellFormed.{AreWellFormed}
+use Rattle.htl_walk.proofs.Words.{All, bit_at, bit_and, take-suc, bit_at_and, All-from_get_or, take_more_set, map-append, get_or-map, length-map, Place, Inv, has_bit, Tables, task_worst, release, window_end, same_row, has_no_bit, Job, absent_job, mask, is_fed_by, job_of, jobs_standing, job_in, placed, placed_job, placed_jobs, standing_of, begins_with, moved, HasTimes, AreWellFormed, slice_get}
 use Rattle.htl_walk.proofs.Masks.{mask_bit}
 use Rattle.htl_walk.proofs.Starts.{no_place, get_map}
 

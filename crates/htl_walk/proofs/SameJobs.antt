@@ -1,15 +1,7 @@
 -- Tables have the same jobs, whatever functions they have.
 use Rattle.std.proofs.Common.{◌≡◌, ℕ, Bool, true, List, map, slice_get, Option, Some, None, refl, ◌∙◌, ap}
 use mathlib.Core.Path.{fun_ext}
-use Rattle.htl_model.specs.Exchanged.{with_functions}
-use Rattle.htl_model.specs.Selections.{positions}
-use Rattle.htl_model.specs.Tables.{Tables, Fun, task_worst, release, window_end}
-use Rattle.htl_model.specs.declared.parts.Inv.{Inv}
-use Rattle.htl_model.proofs.SameRanges.{positions_same}
-use Rattle.htl_model.proofs.SameRules.{release_same, window_end_same}
-use Rattle.htl_walk.specs.declared.job.Job.{Job}
-use Rattle.htl_walk.specs.Jobs.{absent_job, job_of, jobs_standing, abstract_jobs, mask, is_fed_by}
-use Rattle.htl_walk.specs.Laws.{FunctionsDecideNoJob}
+use Rattle.htl_walk.proofs.Words.{with_functions, positions, Tables, Fun, task_worst, release, window_end, Inv, positions_same, release_same, window_end_same, Job, absent_job, job_of, jobs_standing, abstract_jobs, mask, is_fed_by, FunctionsDecideNoJob}
 
 module _ (t : Tables) (fs : List Fun) where
   fed_same : (k : ℕ) (o : Option ℕ) → is_fed_by t k o ≡ is_fed_by (with_functions t fs) k o

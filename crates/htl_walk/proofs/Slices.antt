@@ -1,13 +1,8 @@
 -- The slices in which a position runs.
 use Rattle.std.proofs.Common.{◌≡◌, ◌≢◌, ℕ, zero, suc, ◌≤◌, ◌<◌, max, Bool, true, false, cond, ltb, List, [], ◌∷◌, get_or, slice_get, Some, None, refl, sym, ap, ◌∙◌, subst, arith, inl, inr}
-use Rattle.std.proofs.lemmas.Bool.{eq-eqb, ne_eqb, ltb-true, cases_eq}
-use Rattle.htl_walk.specs.declared.job.Job.{Job}
-use Rattle.htl_walk.specs.declared.schedule.SInstr.{SInstr}
-use Rattle.htl_walk.specs.declared.schedule.SInstr.TheVariants.{Dispatch, Idle, End}
-use Rattle.htl_walk.specs.Walk.{Point, job_at, dispatch_begins, slice_between, slice_onto, AllWithin, next_point, walk_from, finish, slices, DoneBy}
+use Rattle.htl_walk.proofs.Words.{eq-eqb, ne_eqb, ltb-true, cases_eq, Job, SInstr, Dispatch, Idle, End, Point, job_at, dispatch_begins, slice_between, slice_onto, AllWithin, next_point, walk_from, finish, slices, DoneBy, same_Some}
 use Rattle.htl_walk.proofs.Steps.{left_falls, time_rises}
 use Rattle.htl_walk.proofs.Finishes.{ends, finish_now, finish_later, finish_after}
-use Rattle.std.proofs.lemmas.Option.{same_Some}
 
 slice_fits : (from until w to r t : ℕ) (ss : List (ℕ × ℕ)) → (from < until → r ≤ from) → to ≤ t → AllWithin r t ss → AllWithin r t (slice_onto (slice_between from until w to) ss)
 slice_fits from until zero to r t ss a b h = h

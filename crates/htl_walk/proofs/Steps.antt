@@ -1,12 +1,6 @@
 -- One instruction: how the time and the work left go.
 use Rattle.std.proofs.Common.{◌≡◌, ◌≢◌, ℕ, zero, suc, ◌+◌, ◌-◌, ◌≤◌, ◌<◌, min, List, length, get_or, set, sym, ap, ◌∙◌, subst, arith, inl, inr, get_or-set_other, get_or-set_same}
-use Rattle.std.proofs.lemmas.List.{get_or_past}
-use Rattle.std.proofs.Math.ListN.{length-set}
-use Rattle.htl_walk.specs.declared.job.Job.{Job}
-use Rattle.htl_walk.specs.declared.schedule.SInstr.{SInstr}
-use Rattle.htl_walk.specs.declared.schedule.SInstr.TheVariants.{Dispatch}
-use Rattle.htl_walk.specs.Walk.{Point, job_at, dispatch_begins, time_after, work_after, next_point}
-use Rattle.std.proofs.lemmas.Bool.{cases_eq, cases_lt}
+use Rattle.htl_walk.proofs.Words.{get_or_past, length-set, Job, SInstr, Dispatch, Point, job_at, dispatch_begins, time_after, work_after, next_point, cases_eq, cases_lt}
 
 work_below : (a b w v r s h : ℕ) → a ≤ b → w ≤ v → r ≤ s → work_after a w r h ≤ work_after b v s h
 work_below a b w v r s h p q l = omega arith

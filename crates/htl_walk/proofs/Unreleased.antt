@@ -1,12 +1,6 @@
 -- Records before t do not depend on the lengths of jobs that are released at t or later.
 use Rattle.std.proofs.Common.{◌≡◌, ◌≢◌, ℕ, zero, suc, ◌≤◌, ◌<◌, max, true, false, cond, ltb, List, [], ◌∷◌, get_or, None, refl, sym, ap, ap₂, ◌∙◌, subst, arith, ◌⊎◌, inl, inr}
-use Rattle.std.proofs.lemmas.Bool.{le-ltb, cases_eq, cases_lt}
-use Rattle.htl_walk.specs.declared.job.Job.{Job}
-use Rattle.htl_walk.specs.declared.schedule.SInstr.{SInstr}
-use Rattle.htl_walk.specs.declared.schedule.SInstr.TheVariants.{Dispatch, Idle, End}
-use Rattle.htl_walk.specs.Walk.{Point, job_at, dispatch_begins, time_after, work_after, next_point, left_by, walk_from, work, first_point, earlier}
-use Rattle.htl_walk.specs.Refinement.{HaveLengths}
-use Rattle.htl_walk.specs.Laws.{AgreeBefore, UnreleasedLengths}
+use Rattle.htl_walk.proofs.Words.{le-ltb, cases_eq, cases_lt, Job, SInstr, Dispatch, Idle, End, Point, job_at, dispatch_begins, time_after, work_after, next_point, left_by, walk_from, work, first_point, earlier, HaveLengths, AgreeBefore, UnreleasedLengths}
 use Rattle.htl_walk.proofs.Work.{job_there, work_present, present_or_idle}
 use Rattle.htl_walk.proofs.Steps.{left_same, left_other, left_falls, time_rises}
 use Rattle.htl_walk.proofs.Waiting.{told_same, waited, told_waits, time_waits, work_waits}

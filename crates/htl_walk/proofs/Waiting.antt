@@ -1,9 +1,6 @@
 -- A dispatch that waits until it is over, and how the time goes on.
 use Rattle.std.proofs.Common.{◌≡◌, ℕ, zero, suc, ◌+◌, ◌-◌, ◌≤◌, ◌<◌, min, Bool, true, false, ltb, List, [], ◌∷◌, Some, None, ap, ◌∙◌, arith, inr}
-use Rattle.std.proofs.lemmas.Bool.{le-ltb}
-use Rattle.htl_walk.specs.declared.job.Job.{Job}
-use Rattle.htl_walk.specs.declared.schedule.SInstr.{SInstr}
-use Rattle.htl_walk.specs.Walk.{Point, Left, dispatch_begins, finishes_by, slice_between, time_after, work_after, next_point, last_point}
+use Rattle.htl_walk.proofs.Words.{le-ltb, Job, SInstr, Point, Left, dispatch_begins, finishes_by, slice_between, time_after, work_after, next_point, last_point}
 use Rattle.htl_walk.proofs.Steps.{time_rises}
 use Rattle.htl_walk.proofs.Finishes.{finishes_no}
 

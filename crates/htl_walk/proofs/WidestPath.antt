@@ -1,14 +1,6 @@
 -- Some path has as many positions as any choice of modes for the rounds of a frame gives.
 use Rattle.std.proofs.Common.{◌≡◌, ◌≤◌, ◌<◌, ◌⊎◌, ◌+◌, ◌*◌, ◌/◌, ◌%◌, ℕ, suc, max, List, [], ◌∷◌, length, get_or, Some, refl, ◌∙◌, ap, arith, inl, inr}
-use Rattle.std.proofs.Math.Nat.{mul_comm, mul_assoc}
-use Rattle.std.proofs.lemmas.List.{length-append, length-map}
-use Rattle.std.proofs.lemmas.Nat.{div-mul-add, mod-mul-add, mul-add-lt}
-use Rattle.htl_model.proofs.FrameLimits.{HaveModes}
-use Rattle.htl_model.specs.Frames.{choices, mode_in, places_of, places_in, most_invs, most_positions}
-use Rattle.htl_model.specs.Selections.{modes_of, invs_of}
-use Rattle.htl_model.specs.Tables.{Tables}
-use Rattle.htl_model.specs.declared.frame.Place.{Place}
-use Rattle.htl_model.specs.declared.frame.Round.{Round}
+use Rattle.htl_walk.proofs.Words.{mul_comm, mul_assoc, length-append, length-map, div-mul-add, mod-mul-add, mul-add-lt, HaveModes, choices, mode_in, places_of, places_in, most_invs, most_positions, modes_of, invs_of, Tables, Place, Round}
 
 module _ (t : Tables) where
   -- a place among modes at which there are the most invocations

@@ -1,11 +1,6 @@
 -- The job and the work at a position.
-use Rattle.std.proofs.lemmas.Option.{same_Some}
-use Rattle.htl_model.proofs.BitLaws.{has_no_bit}
-use Rattle.htl_walk.specs.Jobs.{absent_job, precedes}
+use Rattle.htl_walk.proofs.Words.{same_Some, has_no_bit, absent_job, precedes, Job, job_at, worst_cases, work, cases_lt}
 use Rattle.std.proofs.Common.{◌≡◌, ℕ, zero, suc, ◌<◌, Bool, true, false, cond, List, [], ◌∷◌, get_or, slice_get, Some, refl, ap, ◌∙◌, arith, ◌⊎◌, inl, inr}
-use Rattle.htl_walk.specs.declared.job.Job.{Job}
-use Rattle.htl_walk.specs.Walk.{job_at, worst_cases, work}
-use Rattle.std.proofs.lemmas.Bool.{cases_lt}
 
 pub job_there : (ks : List Job) (p : ℕ) → (job_at ks p).present ≡ true → slice_get ks p ≡ Some (job_at ks p)
 job_there [] p e = cc

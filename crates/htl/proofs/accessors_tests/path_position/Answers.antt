@@ -1,7 +1,6 @@
-use Rattle.std.proofs.Common.{get_or, arith}
-use Rattle.htl_model.specs.Frames.{starts, path_places}
+use Rattle.htl_top.proofs.Vocabulary.{get_or, starts, path_places, known_few}
+use Rattle.htl_compile.proofs.Words.{arith}
 use Rattle.htl.proofs.accessors_tests.path_position.Goals as goal
-use Rattle.htl_walk.proofs.Starts.{known_few}
 
 pub path_position-requires-clause-position : goal.path_position-requires-clause-position
 path_position-requires-clause-position c =

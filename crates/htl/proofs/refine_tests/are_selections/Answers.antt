@@ -1,10 +1,7 @@
 use Rattle.std.proofs.Common.{◌≡◌, ◌∙◌, ℕ, ◌<◌, ◌+◌, List, length, get_or, Some, sym, ap, subst, arith, inl, inr}
-use Rattle.std.proofs.lemmas.Option.{get_or_from_slice_get, slice_get-get_or}
-use Rattle.htl_model.specs.Selected.{IsSelection}
-use Rattle.htl_model.specs.Tables.{Tables}
+use Rattle.htl_top.proofs.Vocabulary.{get_or_from_slice_get, slice_get-get_or, IsSelection, Tables, cases_below}
 use Rattle.htl_refine.specs.declared.selection.Selection.{Selection}
 use Rattle.htl.proofs.refine_tests.are_selections.Goals as goal
-use Rattle.htl_base.proofs.Numbers.{cases_below}
 
 -- selections up to a place, and one more
 one_more : (t : Tables) (sels : List Selection) (k : ℕ) (x : Selection) → k < length sels → x ≡ get_or sels k x → IsSelection t x.modes

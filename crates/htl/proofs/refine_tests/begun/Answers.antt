@@ -1,9 +1,7 @@
 use Rattle.std.proofs.Common.{◌<◌, ◌≤◌, ◌+◌, length, get_or, subst, sym, arith}
-use Rattle.htl_model.specs.Frames.{starts}
-use Rattle.htl_walk.proofs.CodeWalk.{start_read}
-use Rattle.htl_refine.specs.BegunJobs.{new_jobs, choice_of}
+use Rattle.htl_top.proofs.Vocabulary.{starts, start_read, new_jobs, choice_of}
+use Rattle.htl_compile.proofs.Words.{kept_apart}
 use Rattle.htl_refine.proofs.BegunLimits.{start_early, choice_few, new_few}
-use Rattle.htl_model.proofs.FrameRules.{kept_apart}
 use Rattle.htl.proofs.refine_tests.begun.Goals as goal
 
 pub begun_choice-requires : goal.begun_choice-requires

@@ -1,11 +1,9 @@
 use Rattle.std.proofs.Common.{◌≡◌, ℕ, zero, suc, ◌+◌, false, List, [], ◌∷◌, length, slice_get, Option, Some, None, IfSome, refl, sym, ap, ◌∙◌, arith}
-use Rattle.std.proofs.lemmas.Bool.{le-ltb}
+use Rattle.htl_top.proofs.Vocabulary.{le-ltb, walk_from}
+use Rattle.htl_machine.proofs.Words.{Round, told, told_from, next_left, after, answer_is}
 use Rattle.htl_walk.specs.declared.schedule.SInstr.{SInstr}
 use Rattle.htl_walk.specs.Walk as walks
-use Rattle.htl_walk.specs.Walk.{walk_from}
 use Rattle.htl_smach.specs.declared.left.Left.{Left}
-use Rattle.htl_smach.specs.Rounds.{Round, told, told_from, next_left, after}
-use Rattle.htl_smach.proofs.Answering.{answer_is}
 use Rattle.htl.proofs.smach_tests.ask.Goals as goal
 
 -- a record tells its place

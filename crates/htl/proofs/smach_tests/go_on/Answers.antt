@@ -1,12 +1,8 @@
 use Rattle.std.proofs.Common.{◌≡◌, ℕ, ◌-◌, true, leb, leb-true, List, length, sym, ◌∙◌, arith}
-use Rattle.std.specs.List.{list_all}
-use Rattle.std.proofs.lemmas.List.Sums.{AllPass-from_list_all}
+use Rattle.htl_machine.proofs.Words.{list_all, HaveLengths, AreWithinWorst, Round, IsTold, CanBegin, each_at}
+use Rattle.htl_platform.proofs.Words.{AllPass-from_list_all}
 use Rattle.htl_walk.specs.declared.job.Job.{Job}
-use Rattle.htl_walk.specs.Refinement.{HaveLengths, AreWithinWorst}
-use Rattle.htl_smach.specs.Rounds.{Round, IsTold}
-use Rattle.htl_smach.specs.Adding.{CanBegin}
 use Rattle.htl.proofs.smach_tests.go_on.Goals as goal
-use Rattle.htl_base.proofs.Places.{each_at}
 
 -- no release before the instant is untold, and no further position is released before it
 can_begin : (r : Round) (at : ℕ) (jobs : List Job) (lengths : List ℕ) → r.start ≡ 100 → IsTold r at → list_all (λ (j : Job). leb (at - 100) j.release) jobs ≡ true → length lengths ≡ length jobs → HaveLengths jobs lengths → AreWithinWorst jobs lengths → CanBegin r (at - r.start) jobs lengths

@@ -1,12 +1,9 @@
 use Rattle.std.proofs.Common.{ℕ, ◌≤◌, ◌<◌, length, get_or, sym, ap, subst, arith, inl, inr}
-use Rattle.std.proofs.lemmas.Option.{slice_get_within}
+use Rattle.htl_top.proofs.Vocabulary.{slice_get_within, absent_job, job_at}
+use Rattle.htl_machine.proofs.Words.{job_is, cases_eq}
 use Rattle.htl_walk.specs.declared.job.Job.{Job}
-use Rattle.htl_walk.specs.Jobs.{absent_job}
-use Rattle.htl_walk.specs.Walk.{job_at}
-use Rattle.htl_walk.proofs.Work.{job_is}
 use Rattle.htl_smach.proofs.Joined.{job_at_is}
 use Rattle.htl.proofs.smach_tests.in_range.Goals as goal
-use Rattle.std.proofs.lemmas.Bool.{cases_eq}
 
 pub loop-p-preserved : goal.loop-p-preserved
 loop-p-preserved c = λ q h.

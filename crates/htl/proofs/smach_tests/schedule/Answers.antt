@@ -1,5 +1,4 @@
-use Rattle.std.proofs.Common.{ℕ, sym, subst}
-use Rattle.htl_walk.specs.Walk.{InForm}
+use Rattle.htl_top.proofs.Vocabulary.{ℕ, sym, subst, InForm}
 use Rattle.htl.proofs.smach_tests.schedule.Goals as goal
 
 pub returns-in-Ok-clause-form : goal.returns-in-Ok-clause-form

@@ -1,5 +1,4 @@
-use Rattle.htl_text.specs.Nodes.{tree_of}
-use Rattle.htl_names.proofs.TreeBounds.{bounded_tree}
+use Rattle.htl_compile.proofs.Words.{tree_of, bounded_tree}
 use Rattle.htl.proofs.texts.tables_of_tree.Goals as goal
 
 pub resolve-requires : goal.resolve-requires

@@ -1,7 +1,6 @@
 use Rattle.std.proofs.Common.{◌≡◌, ◌+◌, ◌≤◌, ◌<◌, length, All}
-use Rattle.htl_audit.specs.declared.slice.Slice.{Slice}
+use Rattle.htl_audit.proofs.Words.{Slice, log_of, log_of_lines, slices_in_front}
 use Rattle.htl_script.specs.Lines.{lines_of}
-use Rattle.htl_audit.specs.Logs.{log_of, log_of_lines, slices_in_front}
 use Rattle.htl_audit.proofs.log.read_log.Given as goal
 
 abbrev pub invariant-loop-names : goal.invariant-loop-names

@@ -1,7 +1,4 @@
-use Rattle.std.proofs.Common.{map, subst, arith}
-use Rattle.std.proofs.lemmas.List.{take_all}
-use Rattle.htl_model.specs.Frames.{unit_period}
-use Rattle.htl_audit.specs.Auditing.{IsNextIn}
+use Rattle.htl_audit.proofs.Words.{map, subst, arith, take_all, unit_period, IsNextIn}
 use Rattle.htl_audit.proofs.starts.next_of.Goals as goal
 
 pub returns : goal.returns

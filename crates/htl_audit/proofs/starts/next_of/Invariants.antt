@@ -1,6 +1,4 @@
-use Rattle.std.proofs.Common.{map, take}
-use Rattle.htl_model.specs.Frames.{unit_period}
-use Rattle.htl_audit.specs.Auditing.{IsNextIn}
+use Rattle.htl_audit.proofs.Words.{map, take, unit_period, IsNextIn}
 use Rattle.htl_audit.proofs.starts.next_of.Given as goal
 
 abbrev pub invariant-loop-k : goal.invariant-loop-k

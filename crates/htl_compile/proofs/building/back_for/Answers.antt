@@ -2,13 +2,7 @@ use Rattle.std.proofs.Common.{List, refl, ◌∙◌, ap₂, sym, subst}
 use Rattle.htl_compile.proofs.BuiltLaws.{no_limit, object_accepted}
 use Rattle.htl_compile.proofs.CodedLaws.{fitting_are_code}
 use Rattle.htl_compile.proofs.PlanLaws.{planned_is, unplanned_is}
-use Rattle.htl_ecode.specs.declared.ecode.ECode.{ECode}
-use Rattle.htl_form.proofs.SearchLaws.{kept_12}
-use Rattle.htl_model.proofs.FrameRules.{kept_apart}
-use Rattle.htl_model.specs.FormRules.{Offsets}
-use Rattle.htl_object.specs.Accepted.{IsAccepted}
-use Rattle.htl_object.specs.declared.object.Object.{Object}
-use Rattle.htl_walk.specs.declared.schedule.Schedule.{Schedule}
+use Rattle.htl_compile.proofs.Words.{ECode, kept_12, kept_apart, Offsets, IsAccepted, Object, Schedule}
 use Rattle.htl_compile.proofs.building.back_for.Goals as goal
 
 pub edf_nodes-requires-clause-limits : goal.edf_nodes-requires-clause-limits

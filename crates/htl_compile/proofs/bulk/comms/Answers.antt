@@ -1,11 +1,7 @@
 use Rattle.std.proofs.Common.{◌≡◌, ◌∷◌, ◌++◌, ◌∙◌, [], false, ap, sym, arith, rules, to_z, of_z, w64}
-use Rattle.std.specs.Prelude.{ℤ, pos}
+use Rattle.htl_compile.proofs.Words.{ℤ, pos, list_to, CommNode, Id, number, comm_named, bulk_sensor, bulk_comm}
 use Rattle.htl_base.specs.declared.Ty.TheVariants as ty
-use Rattle.htl_model.specs.Lists.{list_to}
-use Rattle.htl_text.specs.declared.tree.CommNode.{CommNode}
 use Rattle.htl_text.specs.declared.tree.ConstNode.TheVariants as const
-use Rattle.htl_text.specs.declared.tree.Id.{Id}
-use Rattle.htl_compile.specs.BulkTree.{number, comm_named, bulk_sensor, bulk_comm}
 use Rattle.htl_compile.proofs.BulkNames.{list_further}
 use Rattle.htl_compile.proofs.bulk.comms.Goals as goal
 

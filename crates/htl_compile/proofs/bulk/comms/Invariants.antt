@@ -1,6 +1,5 @@
 use Rattle.std.proofs.Common.{◌≡◌, ◌∷◌}
-use Rattle.htl_compile.specs.BulkTree.{bulk_sensor, bulk_comm}
-use Rattle.htl_model.specs.Lists.{list_to}
+use Rattle.htl_compile.proofs.Words.{bulk_sensor, bulk_comm, list_to}
 use Rattle.htl_compile.proofs.bulk.comms.Given as goal
 
 abbrev pub invariant-loop-k : goal.invariant-loop-k

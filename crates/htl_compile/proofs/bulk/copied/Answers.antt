@@ -1,7 +1,6 @@
 use Rattle.std.proofs.Common.{◌∷◌, ◌∙◌, [], ap}
-use Rattle.htl_text.proofs.Parts.{is_expr, in_expr}
+use Rattle.htl_compile.proofs.Words.{is_expr, in_expr, copied}
 use Rattle.htl_text.specs.declared.expression.Node.TheVariants as node
-use Rattle.htl_compile.specs.BulkTree.{copied}
 use Rattle.htl_compile.proofs.bulk.copied.Goals as goal
 
 pub new-requires : goal.new-requires

@@ -1,7 +1,5 @@
 use Rattle.std.proofs.Common.{◌≡◌, ◌∙◌, map, ap, arith}
-use Rattle.htl_model.specs.Lists.{list_to}
-use Rattle.htl_text.specs.Nodes.{module_of}
-use Rattle.htl_compile.specs.BulkTree.{bulk_module}
+use Rattle.htl_compile.proofs.Words.{list_to, module_of, bulk_module}
 use Rattle.htl_compile.proofs.BulkNames.{map_further}
 use Rattle.htl_compile.proofs.bulk.modules.Goals as goal
 

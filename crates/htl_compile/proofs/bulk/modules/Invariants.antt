@@ -1,7 +1,5 @@
 use Rattle.std.proofs.Common.{◌≡◌, map}
-use Rattle.htl_compile.specs.BulkTree.{bulk_module}
-use Rattle.htl_model.specs.Lists.{list_to}
-use Rattle.htl_text.specs.Nodes.{module_of}
+use Rattle.htl_compile.proofs.Words.{bulk_module, list_to, module_of}
 use Rattle.htl_compile.proofs.bulk.modules.Given as goal
 
 abbrev pub invariant-loop-k : goal.invariant-loop-k

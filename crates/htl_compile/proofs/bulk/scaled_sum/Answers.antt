@@ -1,7 +1,5 @@
 use Rattle.std.proofs.Common.{◌≡◌, ◌+◌, ◌∙◌, suc, ap, arith, rules, to_z, of_z, w64}
-use Rattle.std.specs.Prelude.{pos}
-use Rattle.htl_text.proofs.Parts.{is_expr, in_expr}
-use Rattle.htl_compile.specs.BulkTree.{scaled_sum}
+use Rattle.htl_compile.proofs.Words.{pos, is_expr, in_expr, scaled_sum}
 use Rattle.htl_compile.proofs.BulkNames.{scaled_nodes}
 use Rattle.htl_compile.proofs.bulk.scaled_sum.Goals as goal
 

@@ -1,6 +1,5 @@
-use Rattle.std.proofs.Common.{sym, subst}
+use Rattle.htl_compile.proofs.Words.{sym, subst, HasPlatformFault}
 use Rattle.htl_compile.proofs.OnPlatform.{unbuilt_on, compiled_on, no_platform_on, unread_on}
-use Rattle.htl_compile.specs.OnPlatform.{HasPlatformFault}
 use Rattle.htl_compile.proofs.compiling_on.compile_on.Goals as goal
 
 pub returns-in-Err-clause-fault : goal.returns-in-Err-clause-fault

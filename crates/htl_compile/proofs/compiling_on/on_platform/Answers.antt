@@ -1,8 +1,6 @@
-use Rattle.std.proofs.Common.{refl, sym, subst}
+use Rattle.htl_compile.proofs.Words.{refl, sym, subst, KeepsLimits, FitPlaces}
 use Rattle.htl_compile.proofs.OnPlatform.{refused_on}
 use Rattle.htl_compile.proofs.PlatformTables.{fit_with, limits_with}
-use Rattle.htl_model.specs.Broken.{KeepsLimits}
-use Rattle.htl_model.specs.FunctionTypes.{FitPlaces}
 use Rattle.htl_compile.proofs.compiling_on.on_platform.Goals as goal
 
 pub returns-in-Ok-clause-on : goal.returns-in-Ok-clause-on

@@ -1,11 +1,6 @@
 use Rattle.std.proofs.Common.{◌≡◌, List, get_or, slice_get, Some, ◌∙◌, ap, subst}
-use Rattle.htl_model.specs.FunctionTypes.{output_type}
+use Rattle.htl_compile.proofs.Words.{output_type, IsSmallFunction, function_at, term_of, Tables, Formula, fun_of, Function}
 use Rattle.htl_compile.proofs.FunctionLaws.{small_at, code_here, typed_here, fault_here}
-use Rattle.htl_model.specs.Small.{IsSmallFunction}
-use Rattle.htl_object.proofs.FunctionPlaces.{function_at}
-use Rattle.htl_model.specs.Functions.{term_of}
-use Rattle.htl_model.specs.Tables.{Tables, Formula, fun_of}
-use Rattle.htl_model.specs.declared.function.Function.{Function}
 use Rattle.htl_compile.proofs.functions.compile_at.Goals as goal
 
 pub compile_fn-requires-clause-nodes : goal.compile_fn-requires-clause-nodes

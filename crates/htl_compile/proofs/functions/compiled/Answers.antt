@@ -1,9 +1,7 @@
 use Rattle.std.proofs.Common.{map, ap, sym, ◌∙◌, subst}
-use Rattle.htl_model.specs.FunctionTypes.{FitPlaces}
+use Rattle.htl_compile.proofs.Words.{FitPlaces, AreInRange, Tables, fun_of}
 use Rattle.htl_compile.proofs.CodedLaws.{coded_fit, coded_in_range}
 use Rattle.htl_compile.proofs.FunctionLaws.{rebuilt}
-use Rattle.htl_model.specs.Ranges.{AreInRange}
-use Rattle.htl_model.specs.Tables.{Tables, fun_of}
 use Rattle.htl_compile.proofs.functions.compiled.Goals as goal
 
 pub new-requires-2 : goal.new-requires-2

@@ -1,7 +1,6 @@
 use Rattle.std.proofs.Common.{◌≡◌, ◌++◌, ◌∷◌, [], Bool, true, cond, map, is_ok, ◌∙◌, ap, rules}
-use Rattle.htl_compile.specs.Coded.{code_at}
+use Rattle.htl_compile.proofs.Words.{code_at, fun_of}
 use Rattle.htl_compile.proofs.BulkNames.{map_further}
-use Rattle.htl_model.specs.Tables.{fun_of}
 use Rattle.htl_compile.proofs.functions.push_code.Goals as goal
 
 pub returns-clause-codes : goal.returns-clause-codes

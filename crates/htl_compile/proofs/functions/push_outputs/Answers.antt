@@ -1,10 +1,7 @@
 use Rattle.std.proofs.Common.{◌≡◌, ◌+◌, length, get_or, slice_get, List, Some, sym, ◌∙◌, ap, arith}
 use Rattle.htl_base.specs.declared.Ty.TheVariants as ty
-use Rattle.htl_base.specs.declared.Ty.{Ty}
+use Rattle.htl_compile.proofs.Words.{Ty, output_type, count_at, tasks_of, output_at, outputs_count, concrete_count}
 use Rattle.htl_compile.proofs.FunctionLaws.{abstract_count, codes_to, typed_further, typed_none, typed_to}
-use Rattle.htl_model.specs.FunctionTypes.{output_type}
-use Rattle.htl_model.specs.Tables.{count_at}
-use Rattle.htl_object.proofs.FunctionPlaces.{tasks_of, output_at, outputs_count, concrete_count}
 use Rattle.htl_compile.proofs.functions.push_outputs.Goals as goal
 
 pub overflow_add-first : goal.overflow_add-first

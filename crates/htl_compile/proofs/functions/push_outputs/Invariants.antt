@@ -1,7 +1,5 @@
 use Rattle.std.proofs.Common.{◌≡◌, ◌+◌, map}
-use Rattle.htl_compile.specs.Coded.{code_at, TypedBetween}
-use Rattle.htl_model.specs.Lists.{list_to}
-use Rattle.htl_model.specs.Tables.{fun_of}
+use Rattle.htl_compile.proofs.Words.{code_at, TypedBetween, list_to, fun_of}
 use Rattle.htl_compile.proofs.functions.push_outputs.Given as goal
 
 abbrev pub invariant-loop-j : goal.invariant-loop-j

@@ -1,6 +1,5 @@
 use Rattle.std.proofs.Common.{◌≡◌, sym, ◌∙◌, ap}
-use Rattle.htl_model.specs.Tables.{Tables}
-use Rattle.htl_object.proofs.FunctionPlaces.{switch_type_at}
+use Rattle.htl_compile.proofs.Words.{Tables, switch_type_at}
 use Rattle.htl_compile.proofs.functions.push_switch.Goals as goal
 
 pub push_code-requires-clause-types : goal.push_code-requires-clause-types

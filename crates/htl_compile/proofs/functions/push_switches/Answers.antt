@@ -1,9 +1,6 @@
 use Rattle.std.proofs.Common.{◌≡◌, ◌+◌, List, length, sym, ◌∙◌, ap, arith}
 use Rattle.htl_compile.proofs.FunctionLaws.{codes_to, typed_all, typed_further, typed_to}
-use Rattle.htl_model.specs.Tables.{Tables, count_before}
-use Rattle.htl_model.specs.declared.parts.Switch.{Switch}
-use Rattle.htl_model.specs.declared.parts.Task.{Task}
-use Rattle.htl_object.proofs.FunctionPlaces.{tasks_of}
+use Rattle.htl_compile.proofs.Words.{Tables, count_before, Switch, Task, tasks_of}
 use Rattle.htl_compile.proofs.functions.push_switches.Goals as goal
 use Rattle.htl_compile.proofs.functions.push_switches.Goals.{After-loop-k}
 

@@ -1,7 +1,5 @@
-use Rattle.std.proofs.Common.{map, refl, ap, arith}
+use Rattle.htl_compile.proofs.Words.{map, refl, ap, arith, tasks_of, place_behind_task, at_end, fun_of}
 use Rattle.htl_compile.proofs.FunctionLaws.{typed_none, typed_on, typed_more, typed_to, codes_past, codes_to}
-use Rattle.htl_object.proofs.FunctionPlaces.{tasks_of, place_behind_task, at_end}
-use Rattle.htl_model.specs.Tables.{fun_of}
 use Rattle.htl_compile.proofs.functions.push_tasks.Goals as goal
 
 pub overflow_add-id : goal.overflow_add-id

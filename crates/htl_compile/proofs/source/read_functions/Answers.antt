@@ -1,10 +1,7 @@
-use Rattle.std.proofs.Common.{length, sym, subst}
+use Rattle.htl_compile.proofs.Words.{length, sym, subst, codes, limits_same, KeepsLimits}
 use Rattle.htl_compile.proofs.FunctionTokens.{ill_token, deep_token}
 use Rattle.htl_compile.proofs.SourceLaws.{function_fault}
-use Rattle.htl_compile.specs.Coded.{codes}
 use Rattle.htl_func.specs.declared.compiler.FnFault.TheVariants as fn_fault
-use Rattle.htl_model.proofs.SameRanges.{limits_same}
-use Rattle.htl_model.specs.Broken.{KeepsLimits}
 use Rattle.htl_compile.proofs.source.read_functions.Goals as goal
 
 pub first_byte-at-requires : goal.first_byte-at-requires

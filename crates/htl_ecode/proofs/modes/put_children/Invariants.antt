@@ -1,7 +1,5 @@
 use Rattle.std.proofs.Common.{◌≡◌, ◌++◌, map, drop}
-use Rattle.htl_model.specs.Lists.{places_from}
-use Rattle.htl_ecode.specs.declared.instr.EInstr.TheVariants.{Fork}
-use Rattle.htl_ecode.specs.Chains.{is_child, children}
+use Rattle.htl_ecode.proofs.Words.{places_from, Fork, is_child, children}
 use Rattle.htl_ecode.proofs.modes.put_children.Given as goal
 
 abbrev pub invariant-loop-k : goal.invariant-loop-k

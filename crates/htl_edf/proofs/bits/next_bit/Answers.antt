@@ -1,8 +1,5 @@
 use Rattle.std.proofs.Common.{◌≡◌, ◌/◌, ◌^◌, ◌<◌, true, ℕ, arith, sym, subst}
-use Rattle.std.specs.Int.{trailing_zeros, w128}
-use Rattle.std.proofs.Math.Nat.{div-le_self}
-use Rattle.std.proofs.lemmas.Nat.Bits.{bit_at-trailing_zeros}
-use Rattle.htl_model.specs.Bits.{has_bit}
+use Rattle.htl_edf.proofs.Words.{trailing_zeros, w128, div-le_self, bit_at-trailing_zeros, has_bit}
 use Rattle.htl_edf.proofs.BitRows.{none_from, skipped_to, found_at}
 use Rattle.htl_edf.proofs.bits.next_bit.Goals as goal
 

@@ -1,5 +1,4 @@
-use Rattle.std.proofs.Common.{arith}
-use Rattle.htl_walk.proofs.PendingLaws.{cleared}
+use Rattle.htl_edf.proofs.Words.{arith, cleared}
 use Rattle.htl_edf.proofs.bits.without_bit.Goals as goal
 
 pub returns : goal.returns

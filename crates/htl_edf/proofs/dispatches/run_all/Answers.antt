@@ -1,6 +1,5 @@
 use Rattle.std.proofs.Common.{◌≡◌, List, subst}
-use Rattle.std.specs.Prelude.{IfOk}
-use Rattle.htl_walk.specs.declared.schedule.SInstr.{SInstr}
+use Rattle.htl_edf.proofs.Words.{IfOk, SInstr}
 use Rattle.htl_edf.proofs.Cutting.{whole_part}
 use Rattle.htl_edf.proofs.dispatches.run_all.Goals as goal
 

@@ -1,8 +1,5 @@
 use Rattle.std.proofs.Common.{arith, ◌≡◌, sym, ap, ◌∙◌, ◌+◌, ◌-◌, ◌≤◌, ◌<◌, get_or, ℕ, List, Some, None, length}
-use Rattle.htl_walk.specs.declared.job.Job.{Job}
-use Rattle.htl_edf.specs.Edf.{edf}
-use Rattle.htl_edf.specs.Lists.{jobs_of, QuietFrom}
-use Rattle.htl_edf.specs.Tight.{tight}
+use Rattle.htl_edf.proofs.Words.{Job, edf, jobs_of, QuietFrom, tight}
 use Rattle.htl_edf.proofs.Jumps.{runs_some, left_some, runs_none, left_none, some_chosen}
 use Rattle.htl_edf.proofs.ReadyRanks.{lowest_runs, none_runs, quiet_ahead, ahead_after}
 use Rattle.htl_edf.proofs.events.advance.Goals as goal

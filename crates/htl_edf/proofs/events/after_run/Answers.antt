@@ -1,5 +1,4 @@
-use Rattle.std.proofs.Common.{arith}
-use Rattle.htl_walk.proofs.PendingLaws.{kept_pending, not_kept}
+use Rattle.htl_edf.proofs.Words.{arith, kept_pending, not_kept}
 use Rattle.htl_edf.proofs.events.after_run.Goals as goal
 
 pub returns-then-left-gt0 : goal.returns-then-left-gt0

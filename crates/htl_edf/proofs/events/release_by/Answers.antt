@@ -1,6 +1,5 @@
 use Rattle.std.proofs.Common.{arith, ◌∙◌, ◌&&◌, ◌||◌, ap, eqb, ltb, get_or}
-use Rattle.htl_model.specs.Bits.{has_bit}
-use Rattle.htl_edf.specs.Ranks.{number_of}
+use Rattle.htl_edf.proofs.Words.{has_bit, number_of}
 use Rattle.htl_edf.proofs.ReadyRanks.{releasing_start, releasing_more, releasing_done}
 use Rattle.htl_edf.proofs.events.release_by.Goals as goal
 

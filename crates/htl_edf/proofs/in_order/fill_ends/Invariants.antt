@@ -1,6 +1,5 @@
 use Rattle.std.proofs.Common.{◌≡◌, ℕ, length, get_or}
-use Rattle.htl_edf.specs.Lists.{no_window}
-use Rattle.htl_edf.specs.Turns.{HaveEnds}
+use Rattle.htl_edf.proofs.Words.{no_window, HaveEnds}
 use Rattle.htl_edf.proofs.in_order.fill_ends.Given as goal
 
 abbrev pub invariant-loop-k : goal.invariant-loop-k

@@ -1,8 +1,4 @@
-use Rattle.std.proofs.Common.{take, sym, subst, arith}
-use Rattle.htl_model.specs.Frames.{frame_of}
-use Rattle.htl_walk.specs.WellFormed.{AreWellFormed, EndWithin}
-use Rattle.htl_edf.specs.Lists.{jobs_of}
-use Rattle.htl_edf.specs.Tight.{NoCycle}
+use Rattle.htl_edf.proofs.Words.{take, sym, subst, arith, frame_of, AreWellFormed, EndWithin, jobs_of, NoCycle}
 use Rattle.htl_edf.proofs.NodeCode.{frame_end}
 use Rattle.htl_edf.proofs.nodes.path_overload.Goals as goal
 

@@ -1,7 +1,5 @@
 use Rattle.std.proofs.Common.{◌<◌, ℕ, pos, arith, sym, subst}
-use Rattle.htl_model.specs.Frames.{paths}
-use Rattle.htl_walk.specs.NodeWalks.{instrs_of}
-use Rattle.htl_edf.specs.NodePlans.{HasPart}
+use Rattle.htl_edf.proofs.Words.{paths, instrs_of, HasPart}
 use Rattle.htl_edf.proofs.NodeLists.{nodes_accepted, nodes_refused}
 use Rattle.htl_edf.proofs.NodeCode.{shared_parts, all_parts}
 use Rattle.htl_edf.proofs.nodes.plan_nodes.Goals.{then-path-eq0, else-path-eq0}

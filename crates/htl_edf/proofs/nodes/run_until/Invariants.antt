@@ -1,6 +1,5 @@
 use Rattle.std.proofs.Common.{◌≡◌, ◌≤◌, ◌-◌, length}
-use Rattle.htl_edf.specs.Lists.{LeftAt}
-use Rattle.htl_edf.specs.Ranks.{IsAhead}
+use Rattle.htl_edf.proofs.Words.{LeftAt, IsAhead}
 use Rattle.htl_edf.proofs.nodes.run_until.Given as goal
 
 abbrev pub invariant-loop-t : goal.invariant-loop-t

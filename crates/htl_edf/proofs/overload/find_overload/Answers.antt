@@ -1,8 +1,5 @@
 use Rattle.std.proofs.Common.{arith, ◌≡◌, sym, length, ℕ, ℤ, pos, nat_abs, to_z, of_z, w64, get_or, subst}
-use Rattle.std.proofs.lemmas.Int.{ints}
-use Rattle.htl_edf.specs.Lists.{jobs_of, no_window}
-use Rattle.htl_edf.specs.Windows.{Windows, Reported}
-use Rattle.htl_edf.specs.Tight.{tight}
+use Rattle.htl_edf.proofs.Words.{ints, jobs_of, no_window, Windows, Reported, tight}
 use Rattle.htl_edf.proofs.Bounds.{release_at-small, end_at-small}
 use Rattle.htl_edf.proofs.Found.{found_none, found_some, found_never, found_end}
 use Rattle.htl_edf.proofs.overload.find_overload.Goals as goal

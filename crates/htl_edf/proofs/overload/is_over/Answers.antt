@@ -1,8 +1,6 @@
 use Rattle.std.proofs.Common.{◌≡◌, arith, ◌<◌, ◌≤◌, ℕ, ℤ, pos, ltb, ◌&&◌, lt-ltb, le-ltb, false, true, length, ◌+◌, to_z, of_z, w64, get_or, ◌+ℤ◌}
 use Rattle.std.specs.Prelude.{int_lt}
-use Rattle.std.proofs.lemmas.Int.{ints}
-use Rattle.htl_edf.specs.Lists.{jobs_of, no_window}
-use Rattle.htl_edf.specs.Tight.{release_at, end_at}
+use Rattle.htl_edf.proofs.Words.{ints, jobs_of, no_window, release_at, end_at}
 use Rattle.htl_edf.specs.Search.{over, demand_below}
 use Rattle.htl_edf.proofs.Bounds.{release_at-small}
 use Rattle.htl_edf.proofs.overload.is_over.Goals as goal

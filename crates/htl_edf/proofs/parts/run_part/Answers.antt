@@ -1,8 +1,5 @@
 use Rattle.std.proofs.Common.{arith, rules, ◌∙◌, ◌-◌, refl}
-use Rattle.htl_edf.specs.Lists.{jobs_of}
-use Rattle.htl_edf.specs.Tight.{tight}
-use Rattle.htl_edf.specs.Edf.{edf}
-use Rattle.htl_edf.specs.Parts.{slices_from}
+use Rattle.htl_edf.proofs.Words.{jobs_of, tight, edf, slices_from}
 use Rattle.htl_edf.proofs.PartRuns.{part_some, part_idle, part_none}
 use Rattle.htl_edf.proofs.ReadyRanks.{ahead_start}
 use Rattle.htl_edf.proofs.parts.run_part.Goals as goal

@@ -1,10 +1,5 @@
 use Rattle.std.proofs.Common.{◌≡◌, ◌≤◌, ◌-◌, length}
-use Rattle.htl_edf.specs.Lists.{jobs_of, LeftAt}
-use Rattle.htl_edf.specs.Tight.{tight}
-use Rattle.htl_edf.specs.Edf.{edf}
-use Rattle.htl_edf.specs.Code.{closed_of, open_of}
-use Rattle.htl_edf.specs.Parts.{slices_from}
-use Rattle.htl_edf.specs.Ranks.{IsAhead}
+use Rattle.htl_edf.proofs.Words.{jobs_of, LeftAt, tight, edf, closed_of, open_of, slices_from, IsAhead}
 use Rattle.htl_edf.proofs.parts.run_part.Given as goal
 
 abbrev pub invariant-loop-t : goal.invariant-loop-t

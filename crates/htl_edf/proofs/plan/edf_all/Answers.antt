@@ -1,8 +1,4 @@
-use Rattle.std.proofs.lemmas.Result.{IfErr-weaker}
-use Rattle.htl_edf.specs.NodePlans.{ExplainsNodes}
-use Rattle.htl_edf.specs.Plan.{ExplainsPlan}
-use Rattle.htl_model.proofs.FrameRules.{kept_apart}
-use Rattle.htl_walk.proofs.OneRound.{no_limit}
+use Rattle.htl_edf.proofs.Words.{IfErr-weaker, ExplainsNodes, ExplainsPlan, kept_apart, no_limit}
 use Rattle.htl_edf.proofs.Plannable.{planned_ok, explained}
 use Rattle.htl_edf.proofs.plan.edf_all.Goals as goal
 

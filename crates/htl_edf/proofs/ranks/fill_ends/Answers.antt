@@ -1,5 +1,4 @@
-use Rattle.std.proofs.Common.{arith, length}
-use Rattle.std.proofs.lemmas.Int.{ints}
+use Rattle.htl_edf.proofs.Words.{arith, length, ints}
 use Rattle.htl_edf.proofs.Bounds.{end_at-small}
 use Rattle.htl_edf.proofs.ranks.fill_ends.Goals as goal
 

@@ -1,6 +1,4 @@
-use Rattle.std.proofs.Common.{arith, length}
-use Rattle.std.proofs.lemmas.Int.{ints}
-use Rattle.htl_edf.specs.Ranks.{number_of}
+use Rattle.htl_edf.proofs.Words.{arith, length, ints, number_of}
 use Rattle.htl_edf.proofs.Bounds.{release_at-small}
 use Rattle.htl_edf.proofs.ranks.fill_releases.Goals as goal
 

@@ -1,6 +1,5 @@
 use Rattle.std.proofs.Common.{arith, ◌∙◌, length}
-use Rattle.std.proofs.lemmas.Int.{ints}
-use Rattle.htl_edf.specs.Ranks.{number_of, end_time, release_time}
+use Rattle.htl_edf.proofs.Words.{ints, number_of, end_time, release_time}
 use Rattle.htl_edf.proofs.Bounds.{end_at-small}
 use Rattle.htl_edf.proofs.Ranking.{sorted_in_order}
 use Rattle.htl_edf.proofs.ranks.rank.Goals as goal

@@ -1,8 +1,5 @@
 use Rattle.std.proofs.Common.{◌∙◌, arith, sym, ℕ, ◌+◌, pos, ◌-ℤ◌}
-use Rattle.std.proofs.lemmas.Int.{ints, clamps}
-use Rattle.htl_walk.specs.Jobs.{absent_job}
-use Rattle.htl_edf.specs.Lists.{jobs_of}
-use Rattle.htl_edf.specs.Tight.{end_at}
+use Rattle.htl_edf.proofs.Words.{ints, clamps, absent_job, jobs_of, end_at}
 use Rattle.htl_edf.proofs.Bounds.{end_at-small}
 use Rattle.htl_edf.proofs.Tightening.{least_more_yes, least_skipped}
 use Rattle.htl_edf.proofs.rounds.ended.Goals as goal

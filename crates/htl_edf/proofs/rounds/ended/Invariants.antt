@@ -1,6 +1,5 @@
 use Rattle.std.proofs.Common.{◌≡◌, ◌-◌, ◌<◌, ◌≤◌, true, length, pos, ◌-ℤ◌}
-use Rattle.htl_edf.specs.Lists.{jobs_of}
-use Rattle.htl_edf.specs.Tight.{end_at, least_below}
+use Rattle.htl_edf.proofs.Words.{jobs_of, end_at, least_below}
 use Rattle.htl_edf.proofs.rounds.ended.Given as goal
 
 abbrev pub invariant-loop-q : goal.invariant-loop-q

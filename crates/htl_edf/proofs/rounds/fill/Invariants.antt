@@ -1,6 +1,5 @@
 use Rattle.std.proofs.Common.{◌≡◌, ℕ, ◌<◌, get_or, pos}
-use Rattle.htl_edf.specs.Lists.{jobs_of, no_window}
-use Rattle.htl_edf.specs.Tight.{release_at, end_at}
+use Rattle.htl_edf.proofs.Words.{jobs_of, no_window, release_at, end_at}
 use Rattle.htl_edf.proofs.rounds.fill.Given as goal
 
 abbrev pub invariant-loop-q : goal.invariant-loop-q

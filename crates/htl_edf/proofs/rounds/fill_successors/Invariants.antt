@@ -1,6 +1,5 @@
 use Rattle.std.proofs.Common.{◌≡◌, ◌<◌, ◌&&◌, ℕ, ltb, length}
-use Rattle.htl_model.specs.Bits.{cell}
-use Rattle.htl_edf.specs.Lists.{jobs_of}
+use Rattle.htl_edf.proofs.Words.{cell, jobs_of}
 use Rattle.htl_edf.proofs.rounds.fill_successors.Given as goal
 
 abbrev pub invariant-loop-q : goal.invariant-loop-q

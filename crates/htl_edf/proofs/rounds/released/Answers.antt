@@ -1,8 +1,5 @@
 use Rattle.std.proofs.Common.{arith, ℕ, ◌+◌}
-use Rattle.std.proofs.lemmas.Int.{ints, clamps}
-use Rattle.htl_walk.specs.Jobs.{absent_job}
-use Rattle.htl_edf.specs.Lists.{jobs_of}
-use Rattle.htl_edf.specs.Tight.{release_at}
+use Rattle.htl_edf.proofs.Words.{ints, clamps, absent_job, jobs_of, release_at}
 use Rattle.htl_edf.proofs.Bounds.{release_at-small}
 use Rattle.htl_edf.proofs.Tightening.{greatest_more_yes, greatest_skipped}
 use Rattle.htl_edf.proofs.rounds.released.Goals as goal

@@ -1,6 +1,5 @@
 use Rattle.std.proofs.Common.{◌≡◌, ◌+◌, ◌-◌, ◌<◌, ◌≤◌, true, length, pos}
-use Rattle.htl_edf.specs.Lists.{jobs_of}
-use Rattle.htl_edf.specs.Tight.{release_at, greatest_below}
+use Rattle.htl_edf.proofs.Words.{jobs_of, release_at, greatest_below}
 use Rattle.htl_edf.proofs.rounds.released.Given as goal
 
 abbrev pub invariant-loop-p : goal.invariant-loop-p

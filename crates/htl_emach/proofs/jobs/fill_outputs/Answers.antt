@@ -1,6 +1,5 @@
 use Rattle.std.proofs.Common.{arith, rules, SFits, w64, ◌∙◌, ◌<◌, length, get_or, [], ap}
-use Rattle.std.proofs.lemmas.Int.{to_z-of_z}
-use Rattle.htl_model.specs.Tables.{function_value, output_function}
+use Rattle.htl_emach.proofs.Words.{to_z-of_z, function_value, output_function}
 use Rattle.htl_emach.proofs.Filling.{rows_hold, output_more}
 use Rattle.htl_emach.proofs.jobs.fill_outputs.Goals as goal
 

@@ -1,6 +1,5 @@
 use Rattle.std.proofs.Common.{◌≡◌, ◌++◌, [], get_or, set, drop}
-use Rattle.htl_model.specs.Lists.{list_to}
-use Rattle.htl_model.specs.Tables.{function_value, output_function}
+use Rattle.htl_emach.proofs.Words.{list_to, function_value, output_function}
 use Rattle.htl_emach.proofs.jobs.fill_outputs.Given as goal
 
 abbrev pub invariant-loop-k : goal.invariant-loop-k

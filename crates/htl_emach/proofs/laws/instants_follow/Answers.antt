@@ -1,5 +1,4 @@
-use Rattle.std.proofs.Common.{arith}
-use Rattle.htl_ecode.proofs.SpellingLaws.{spelled_departs_not}
+use Rattle.htl_emach.proofs.Words.{arith, spelled_departs_not}
 use Rattle.htl_emach.proofs.Instants.{passes_instant}
 use Rattle.htl_emach.proofs.Soundness.{sound}
 use Rattle.htl_emach.proofs.laws.instants_follow.Goals as goal

@@ -1,8 +1,5 @@
 use Rattle.std.proofs.Common.{◌≡◌, Err, Ok, List, rules, refl, ap, sym, ◌∙◌, suc, add-one}
-use Rattle.htl_ecode.specs.declared.instr.EInstr.{EInstr}
-use Rattle.htl_ecode.specs.Offsets.{next_offset}
-use Rattle.htl_ecode.specs.Departure.{fault_of}
-use Rattle.htl_espell.specs.Checks.{block_read}
+use Rattle.htl_espell.proofs.Words.{EInstr, next_offset, fault_of, block_read}
 use Rattle.htl_espell.proofs.PhaseBlocks.{checking_starts, checking_more, checking_departs, checking_falls, next_not_before}
 use Rattle.htl_espell.proofs.Whole.{block_fault, block_target}
 use Rattle.htl_espell.proofs.blocks.check_phase.Goals as goal

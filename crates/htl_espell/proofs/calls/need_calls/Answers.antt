@@ -1,9 +1,5 @@
 use Rattle.std.proofs.Common.{true, false, refl, ◌≡◌, ◌∙◌, Ok, Err, List, eqb, ap, rules}
-use Rattle.std.proofs.lemmas.Bool.{eq-eqb, ne_eqb}
-use Rattle.htl_model.specs.Lists.{joined, numbered}
-use Rattle.htl_ecode.specs.declared.instr.EInstr.{EInstr}
-use Rattle.htl_espell.specs.Checks.{next_of}
-use Rattle.htl_espell.specs.Parts.{release_wants}
+use Rattle.htl_espell.proofs.Words.{eq-eqb, ne_eqb, joined, numbered, EInstr, next_of, release_wants}
 use Rattle.htl_espell.proofs.Chaining.{calls_read}
 use Rattle.htl_espell.proofs.calls.need_calls.Goals as goal
 

@@ -1,8 +1,5 @@
 use Rattle.std.proofs.Common.{rules, refl, Err, List, ◌≡◌, ◌∙◌, ap}
-use Rattle.htl_ecode.specs.declared.instr.EInstr.{EInstr}
-use Rattle.htl_espell.specs.Parts.{call_wants}
-use Rattle.htl_espell.specs.Checks.{next_of}
-use Rattle.htl_ecode.proofs.ModeInvLaws.{invs_are, is_within}
+use Rattle.htl_espell.proofs.Words.{EInstr, call_wants, next_of, invs_are, is_within}
 use Rattle.htl_espell.proofs.Chaining.{item_read, item_departs, read_from_start, all_read, calls_wanted_of_mode}
 use Rattle.htl_espell.proofs.calls.need_invs.Goals as goal
 

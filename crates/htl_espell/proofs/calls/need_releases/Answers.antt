@@ -1,6 +1,4 @@
-use Rattle.std.proofs.Common.{refl}
-use Rattle.htl_ecode.proofs.ModeInvLaws.{invs_are}
-use Rattle.htl_espell.specs.Parts.{release_wants}
+use Rattle.htl_espell.proofs.Words.{refl, invs_are, release_wants}
 use Rattle.htl_espell.proofs.Chaining.{read_from_start, all_read, releases_wanted_of_mode}
 use Rattle.htl_espell.proofs.calls.need_releases.Goals as goal
 

@@ -1,7 +1,5 @@
 use Rattle.std.proofs.Common.{arith, rules, Err, List, ◌≡◌, ◌∙◌, ap}
-use Rattle.htl_ecode.specs.declared.instr.EInstr.{EInstr}
-use Rattle.htl_ecode.specs.Chains.{test_of}
-use Rattle.htl_espell.specs.Checks.{next_of}
+use Rattle.htl_espell.proofs.Words.{EInstr, test_of, next_of}
 use Rattle.htl_espell.proofs.Chaining.{item_read, item_departs}
 use Rattle.htl_espell.proofs.endings.need_tests.Goals as goal
 

@@ -1,7 +1,5 @@
 use Rattle.std.proofs.Common.{arith, rules, Err, List, ◌≡◌, ◌∙◌, ap}
-use Rattle.htl_ecode.specs.declared.instr.EInstr.{EInstr}
-use Rattle.htl_espell.specs.Parts.{child_wants}
-use Rattle.htl_espell.specs.Checks.{next_of}
+use Rattle.htl_espell.proofs.Words.{EInstr, child_wants, next_of}
 use Rattle.htl_espell.proofs.Chaining.{item_read, item_departs}
 use Rattle.htl_espell.proofs.entries.need_children.Goals as goal
 

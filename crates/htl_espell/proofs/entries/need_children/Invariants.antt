@@ -1,7 +1,5 @@
 use Rattle.std.proofs.Common.{◌≡◌, drop}
-use Rattle.htl_model.specs.Lists.{joined, numbered}
-use Rattle.htl_espell.specs.Checks.{next_of}
-use Rattle.htl_espell.specs.Parts.{child_wants}
+use Rattle.htl_espell.proofs.Words.{joined, numbered, next_of, child_wants}
 use Rattle.htl_espell.proofs.entries.need_children.Given as goal
 
 abbrev pub invariant-loop-k : goal.invariant-loop-k

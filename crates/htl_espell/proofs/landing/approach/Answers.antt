@@ -1,8 +1,6 @@
 use Rattle.std.proofs.Common.{arith, ◌≡◌, ◌-◌, ◌+◌, ℕ, Some, length, sym, ap, subst, ◌∙◌}
-use Rattle.std.specs.Prelude.{slice_get}
-use Rattle.htl_ecode.specs.declared.instr.EInstr.TheVariants.{Jump}
+use Rattle.htl_espell.proofs.Words.{slice_get, Jump, slid}
 use Rattle.htl_espell.proofs.Jumping.{arrive_by_jump, arrive_branch}
-use Rattle.htl_espell.specs.Slides.{slid}
 use Rattle.htl_espell.proofs.Sliding.{slid_more, slid_joined, slides_in}
 use Rattle.htl_espell.proofs.landing.approach.Goals as goal
 

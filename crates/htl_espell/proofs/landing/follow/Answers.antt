@@ -1,10 +1,5 @@
 use Rattle.std.proofs.Common.{arith, ◌≡◌, ◌-◌, ◌+◌, ℕ, suc, Some, length, refl, sym, ap, subst, ◌∙◌}
-use Rattle.std.specs.Prelude.{slice_get}
-use Rattle.std.proofs.lemmas.Option.{slice_get_within}
-use Rattle.htl_ecode.specs.Jumps.{land}
-use Rattle.htl_ecode.specs.declared.instr.EInstr.TheVariants.{Jump}
-use Rattle.htl_espell.specs.Checks.{place_of}
-use Rattle.htl_espell.specs.Slides.{slid}
+use Rattle.htl_espell.proofs.Words.{slice_get, slice_get_within, land, Jump, place_of, slid}
 use Rattle.htl_espell.proofs.Jumping.{land_by_jump, land_by_landing, land_past, land_endless}
 use Rattle.htl_espell.proofs.Sliding.{land_passed, slid_passed, slid_more}
 use Rattle.htl_espell.proofs.landing.follow.Goals as goal

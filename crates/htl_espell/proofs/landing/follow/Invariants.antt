@@ -1,7 +1,5 @@
 use Rattle.std.proofs.Common.{◌≡◌, ◌≤◌, ◌+◌, ◌-◌, length, Some}
-use Rattle.htl_ecode.specs.Jumps.{land, lands}
-use Rattle.htl_espell.specs.Checks.{place_of}
-use Rattle.htl_espell.specs.Slides.{slid}
+use Rattle.htl_espell.proofs.Words.{land, lands, place_of, slid}
 use Rattle.htl_espell.proofs.landing.follow.Given as goal
 
 abbrev pub invariant-loop-i : goal.invariant-loop-i

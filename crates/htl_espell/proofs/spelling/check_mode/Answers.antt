@@ -1,7 +1,5 @@
 use Rattle.std.proofs.Common.{◌≡◌, ◌∙◌, Err, List, ap, rules, refl}
-use Rattle.htl_ecode.specs.declared.instr.EInstr.{EInstr}
-use Rattle.htl_ecode.specs.Departure.{fault_of}
-use Rattle.htl_espell.specs.Checks.{begin_read, phase_departure, decide_read}
+use Rattle.htl_espell.proofs.Words.{EInstr, fault_of, begin_read, phase_departure, decide_read}
 use Rattle.htl_espell.proofs.ModeFaults.{enter_departs, begin_departs, writes_depart, reads_depart, decided_last}
 use Rattle.htl_espell.proofs.spelling.check_mode.Goals as goal
 

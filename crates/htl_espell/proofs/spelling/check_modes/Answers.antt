@@ -1,7 +1,5 @@
 use Rattle.std.proofs.Common.{◌≡◌, ◌∙◌, Err, ap, rules}
-use Rattle.htl_ecode.specs.Departure.{fault_of, mode_fault}
-use Rattle.htl_ecode.proofs.Fitting.{offsets_fit}
-use Rattle.htl_ecode.proofs.AllModes.{mode_below, start_more}
+use Rattle.htl_espell.proofs.Words.{fault_of, mode_fault, offsets_fit, mode_below, start_more}
 use Rattle.htl_espell.proofs.ModeFaults.{modes_more, mode_departs}
 use Rattle.htl_espell.proofs.spelling.check_modes.Goals as goal
 

@@ -1,6 +1,5 @@
 use Rattle.std.proofs.Common.{◌≡◌, None}
-use Rattle.htl_model.specs.Starts.{IsStartOf}
-use Rattle.htl_ecode.specs.Departure.{departure_before}
+use Rattle.htl_espell.proofs.Words.{IsStartOf, departure_before}
 use Rattle.htl_espell.proofs.spelling.check_modes.Given as goal
 
 abbrev pub invariant-loop-m : goal.invariant-loop-m

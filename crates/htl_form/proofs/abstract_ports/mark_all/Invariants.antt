@@ -1,6 +1,5 @@
 use Rattle.std.proofs.Common.{◌≡◌, ◌<◌, ◌||◌, ℕ, false, get_or, take}
-use Rattle.std.specs.List.{list_any}
-use Rattle.htl_model.specs.PortWriters.{is_port}
+use Rattle.htl_form.proofs.Words.{list_any, is_port}
 use Rattle.htl_form.proofs.abstract_ports.mark_all.Given as goal
 
 abbrev pub invariant-loop-k : goal.invariant-loop-k

@@ -1,6 +1,5 @@
 use Rattle.std.proofs.Common.{◌+◌, sym, ◌∙◌, ap, arith}
-use Rattle.std.specs.List.{list_any}
-use Rattle.htl_form.specs.Apart.{is_taken_end}
+use Rattle.htl_form.proofs.Words.{list_any, is_taken_end}
 use Rattle.htl_form.proofs.ApartLaws.{apart_is}
 use Rattle.htl_form.proofs.apart.is_apart.Goals as goal
 

@@ -1,7 +1,5 @@
 use Rattle.std.proofs.Common.{◌≡◌, length}
-use Rattle.htl_model.specs.Starts.{IsStartOf}
-use Rattle.htl_form.specs.Apart.{AreApart}
-use Rattle.htl_form.specs.Owners.{AreOwners}
+use Rattle.htl_form.proofs.Words.{IsStartOf, AreApart, AreOwners}
 use Rattle.htl_form.proofs.apart.mark_apart.Given as goal
 
 abbrev pub invariant-loop-m : goal.invariant-loop-m

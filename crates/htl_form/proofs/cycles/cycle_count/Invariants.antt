@@ -1,6 +1,5 @@
 use Rattle.std.proofs.Common.{◌≡◌, ◌≤◌}
-use Rattle.htl_model.specs.NumbersBelow.{count_below}
-use Rattle.htl_form.specs.Cycles.{is_on_cycle}
+use Rattle.htl_form.proofs.Words.{count_below, is_on_cycle}
 use Rattle.htl_form.proofs.cycles.cycle_count.Given as goal
 
 abbrev pub invariant-loop-k : goal.invariant-loop-k

@@ -1,10 +1,6 @@
-use Rattle.std.proofs.Common.{arith, rules, refl}
-use Rattle.htl_model.specs.Ranges.{IsInvInRange}
-use Rattle.htl_model.proofs.BitLaws.{no_bits}
-use Rattle.htl_model.proofs.StartLaws.{first_start}
+use Rattle.htl_form.proofs.Words.{arith, rules, refl, IsInvInRange, no_bits, first_start, all_at}
 use Rattle.htl_form.proofs.RangeLaws.{marked_more}
 use Rattle.htl_form.proofs.cycles.mark_cycles.Goals as goal
-use Rattle.htl_base.proofs.Places.{all_at}
 
 pub loop-m-init : goal.loop-m-init
 loop-m-init c =

@@ -1,9 +1,5 @@
 use Rattle.std.proofs.Common.{◌≡◌, ◌<◌, ℕ, false, Some, length, get_or}
-use Rattle.std.specs.Prelude.{slice_get}
-use Rattle.htl_model.specs.declared.parts.Inv.{Inv}
-use Rattle.htl_model.specs.Bits.{cell}
-use Rattle.htl_model.specs.Starts.{IsStartOf}
-use Rattle.htl_form.specs.Cycles.{precedes_itself}
+use Rattle.htl_form.proofs.Words.{slice_get, Inv, cell, IsStartOf, precedes_itself}
 use Rattle.htl_form.proofs.cycles.mark_cycles.Given as goal
 
 abbrev pub invariant-loop-m : goal.invariant-loop-m

@@ -1,7 +1,5 @@
 use Rattle.std.proofs.Common.{◌≡◌, ◌<◌, ℕ, true, take, length, get_or}
-use Rattle.std.specs.List.{list_any}
-use Rattle.htl_form.specs.Apart.{is_comm}
-use Rattle.htl_form.specs.Owners.{has_module, KeepOwners}
+use Rattle.htl_form.proofs.Words.{list_any, is_comm, has_module, KeepOwners}
 use Rattle.htl_form.specs.declared.owners.Owner.TheVariants as owner
 use Rattle.htl_form.proofs.owners.note_ends.Given as goal
 

@@ -1,9 +1,5 @@
 use Rattle.std.proofs.Common.{◌≡◌, ◌<◌, ◌+◌, ℕ, true, false, Some}
-use Rattle.std.specs.Prelude.{slice_get}
-use Rattle.std.specs.List.{list_any}
-use Rattle.htl_model.specs.declared.parts.Inv.{Inv}
-use Rattle.htl_model.specs.Tables.{is_concrete}
-use Rattle.htl_form.specs.Owners.{is_shared_end}
+use Rattle.htl_form.proofs.Words.{slice_get, list_any, Inv, is_concrete, is_shared_end}
 use Rattle.htl_form.proofs.owners.writes_shared.Given as goal
 
 abbrev pub invariant-loop-q : goal.invariant-loop-q

@@ -1,7 +1,5 @@
 use Rattle.std.proofs.Common.{◌≡◌, drop}
-use Rattle.std.specs.Prelude.{slice_get}
-use Rattle.htl_model.specs.Lists.{places_from}
-use Rattle.htl_model.specs.Selections.{mode_of_module}
+use Rattle.htl_form.proofs.Words.{slice_get, places_from, mode_of_module}
 use Rattle.htl_form.proofs.periods.first_mode.Given as goal
 
 abbrev pub invariant-loop-m : goal.invariant-loop-m

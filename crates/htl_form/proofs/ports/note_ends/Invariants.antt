@@ -1,7 +1,5 @@
 use Rattle.std.proofs.Common.{◌≡◌, ◌<◌, ℕ, cond, take, length, get_or, Some, None}
-use Rattle.std.specs.List.{list_any}
-use Rattle.htl_model.specs.PortWriters.{is_port}
-use Rattle.htl_model.specs.First.{or_else}
+use Rattle.htl_form.proofs.Words.{list_any, is_port, or_else}
 use Rattle.htl_form.proofs.ports.note_ends.Given as goal
 
 abbrev pub invariant-loop-j : goal.invariant-loop-j

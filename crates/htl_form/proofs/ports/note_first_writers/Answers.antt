@@ -1,8 +1,5 @@
 use Rattle.std.proofs.Common.{◌∙◌, sym, ap, arith, rules, refl, get_or, cond, Some, None}
-use Rattle.std.specs.List.{list_any}
-use Rattle.htl_model.specs.PortWriters.{is_port}
-use Rattle.htl_model.specs.First.{or_else, first_from}
-use Rattle.htl_form.specs.PortFaults.{port_writer}
+use Rattle.htl_form.proofs.Words.{list_any, is_port, or_else, first_from, port_writer}
 use Rattle.htl_form.proofs.PortLaws.{first_more, first_all}
 use Rattle.htl_form.proofs.ports.note_first_writers.Goals as goal
 

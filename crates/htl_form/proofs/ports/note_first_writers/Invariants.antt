@@ -1,6 +1,5 @@
 use Rattle.std.proofs.Common.{◌≡◌, ◌<◌, ℕ, drop, length, get_or, None}
-use Rattle.htl_model.specs.First.{or_else, first_from}
-use Rattle.htl_form.specs.PortFaults.{port_writer}
+use Rattle.htl_form.proofs.Words.{or_else, first_from, port_writer}
 use Rattle.htl_form.proofs.ports.note_first_writers.Given as goal
 
 abbrev pub invariant-loop-k : goal.invariant-loop-k

@@ -1,7 +1,5 @@
 use Rattle.std.proofs.Common.{◌<◌, sym, ◌∙◌, ap, arith, Some}
-use Rattle.std.proofs.lemmas.Option.{slice_get_within}
-use Rattle.htl_model.specs.PortWriters.{port_writers}
-use Rattle.htl_form.specs.PortFaults.{rewritten_fault}
+use Rattle.htl_form.proofs.Words.{slice_get_within, port_writers, rewritten_fault}
 use Rattle.htl_form.proofs.PortLaws.{none_before}
 use Rattle.htl_form.proofs.ports.rewritten_fault.Goals as goal
 

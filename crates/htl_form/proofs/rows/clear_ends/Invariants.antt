@@ -1,7 +1,5 @@
 use Rattle.std.proofs.Common.{◌≡◌, ◌<◌, ℕ, true, false, take, length}
-use Rattle.std.specs.List.{list_any}
-use Rattle.htl_model.specs.Bits.{cell}
-use Rattle.htl_model.specs.PortWriters.{is_port}
+use Rattle.htl_form.proofs.Words.{list_any, cell, is_port}
 use Rattle.htl_form.proofs.rows.clear_ends.Given as goal
 
 abbrev pub invariant-loop-k : goal.invariant-loop-k

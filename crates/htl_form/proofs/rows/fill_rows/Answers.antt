@@ -1,7 +1,5 @@
 use Rattle.std.proofs.Common.{◌∙◌, ap, arith, rules}
-use Rattle.std.specs.List.{list_any}
-use Rattle.htl_model.specs.PortTable.{is_from}
-use Rattle.htl_form.specs.Rows.{follows}
+use Rattle.htl_form.proofs.Words.{list_any, is_from, follows}
 use Rattle.htl_form.proofs.RowLaws.{one_row, row_is}
 use Rattle.htl_form.proofs.rows.fill_rows.Goals as goal
 

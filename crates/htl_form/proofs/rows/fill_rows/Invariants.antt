@@ -1,6 +1,5 @@
 use Rattle.std.proofs.Common.{◌≡◌, ◌<◌, ℕ, length}
-use Rattle.htl_model.specs.Bits.{cell}
-use Rattle.htl_form.specs.Rows.{follows}
+use Rattle.htl_form.proofs.Words.{cell, follows}
 use Rattle.htl_form.proofs.rows.fill_rows.Given as goal
 
 abbrev pub invariant-loop-b : goal.invariant-loop-b

@@ -1,10 +1,5 @@
 use Rattle.std.proofs.Common.{◌+◌, sym, ◌∙◌, ap, arith, rules}
-use Rattle.std.specs.Prelude.{slice_get}
-use Rattle.std.specs.List.{list_any}
-use Rattle.htl_model.specs.PortWriters.{is_port}
-use Rattle.htl_model.specs.Bits.{cell}
-use Rattle.htl_model.specs.PortTable.{writes_to}
-use Rattle.htl_model.proofs.PortTableLaws.{one_writer}
+use Rattle.htl_form.proofs.Words.{slice_get, list_any, is_port, cell, writes_to, one_writer}
 use Rattle.htl_form.proofs.rows.fill_writers.Goals as goal
 
 pub loop-q-preserved : goal.loop-q-preserved

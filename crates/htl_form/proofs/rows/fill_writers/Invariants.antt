@@ -1,7 +1,5 @@
 use Rattle.std.proofs.Common.{◌≡◌, ◌<◌, ◌+◌, ◌&&◌, ℕ, ltb, length}
-use Rattle.std.specs.Prelude.{slice_get}
-use Rattle.htl_model.specs.Bits.{cell}
-use Rattle.htl_model.specs.PortTable.{writes_to}
+use Rattle.htl_form.proofs.Words.{slice_get, cell, writes_to}
 use Rattle.htl_form.proofs.rows.fill_writers.Given as goal
 
 abbrev pub invariant-loop-q : goal.invariant-loop-q

@@ -1,6 +1,5 @@
 use Rattle.std.proofs.Common.{sym, ◌∙◌, ap, arith, add-one, set, get_or}
-use Rattle.std.proofs.lemmas.Nat.{one_shl}
-use Rattle.htl_form.specs.Rows.{widened}
+use Rattle.htl_form.proofs.Words.{one_shl, widened}
 use Rattle.htl_form.proofs.RowLaws.{map_step, at_step, through_empty}
 use Rattle.htl_form.proofs.rows.through_one.Goals as goal
 

@@ -1,6 +1,5 @@
 use Rattle.std.proofs.Common.{◌≡◌, ◌<◌, ℕ, false, length, get_or}
-use Rattle.htl_form.specs.Apart.{is_taken}
-use Rattle.htl_form.specs.WriterFaults.{stand_together}
+use Rattle.htl_form.proofs.Words.{is_taken, stand_together}
 use Rattle.htl_form.proofs.taken.mark_taken.Given as goal
 
 abbrev pub invariant-loop-l : goal.invariant-loop-l

@@ -1,6 +1,5 @@
 use Rattle.std.proofs.Common.{◌≡◌, ◌<◌, ◌||◌, ℕ, false, take, length, get_or}
-use Rattle.std.specs.List.{list_any}
-use Rattle.htl_form.specs.Apart.{is_comm}
+use Rattle.htl_form.proofs.Words.{list_any, is_comm}
 use Rattle.htl_form.proofs.taken.take_ends.Given as goal
 
 abbrev pub invariant-loop-k : goal.invariant-loop-k

@@ -1,9 +1,6 @@
 use Rattle.std.proofs.Common.{◌<◌, sym, ◌∙◌, arith, length}
-use Rattle.std.proofs.lemmas.Option.{get_or_from_slice_get}
-use Rattle.htl_form.specs.WriterFaults.{writer_before}
-use Rattle.htl_model.proofs.FirstLaws.{first_hit, first_miss}
+use Rattle.htl_form.proofs.Words.{get_or_from_slice_get, writer_before, first_hit, first_miss, item_at}
 use Rattle.htl_form.proofs.writers.first_writer.Goals as goal
-use Rattle.htl_base.proofs.Places.{item_at}
 
 pub returns-in-Some : goal.returns-in-Some
 returns-in-Some c =

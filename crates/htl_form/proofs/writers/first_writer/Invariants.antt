@@ -1,6 +1,5 @@
 use Rattle.std.proofs.Common.{◌≡◌, drop}
-use Rattle.htl_model.specs.First.{first_from}
-use Rattle.htl_form.specs.WriterFaults.{writer_before}
+use Rattle.htl_form.proofs.Words.{first_from, writer_before}
 use Rattle.htl_form.proofs.writers.first_writer.Given as goal
 
 abbrev pub invariant-loop-l : goal.invariant-loop-l

@@ -1,10 +1,7 @@
 use Rattle.std.proofs.Common.{◌≡◌, ◌+◌, length, get_or, List, Some, sym, ◌∙◌, ap, arith}
-use Rattle.htl_base.specs.declared.Ty.{Ty}
+use Rattle.htl_load.proofs.Words.{Ty, output_type, count_at, tasks_of, output_at, outputs_count, concrete_count}
 use Rattle.htl_base.specs.declared.Ty.TheVariants as ty
-use Rattle.htl_model.specs.FunctionTypes.{output_type}
-use Rattle.htl_model.specs.Tables.{count_at}
 use Rattle.htl_load.proofs.UnfitLaws.{fit_to}
-use Rattle.htl_object.proofs.FunctionPlaces.{tasks_of, output_at, outputs_count, concrete_count}
 use Rattle.htl_load.proofs.functions.first_unfit_output.Goals as goal
 
 pub overflow_add-id : goal.overflow_add-id

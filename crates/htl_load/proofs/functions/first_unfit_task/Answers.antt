@@ -1,6 +1,5 @@
-use Rattle.std.proofs.Common.{arith}
+use Rattle.htl_load.proofs.Words.{arith, tasks_of, place_behind_task, at_end}
 use Rattle.htl_load.proofs.UnfitLaws.{fit_more, fit_to}
-use Rattle.htl_object.proofs.FunctionPlaces.{tasks_of, place_behind_task, at_end}
 use Rattle.htl_load.proofs.functions.first_unfit_task.Goals as goal
 
 pub overflow_add-id : goal.overflow_add-id

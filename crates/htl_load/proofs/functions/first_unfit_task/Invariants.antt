@@ -1,6 +1,5 @@
 use Rattle.std.proofs.Common.{◌≡◌}
-use Rattle.htl_model.specs.Tables.{count_before}
-use Rattle.htl_load.specs.Unfit.{FitBetween}
+use Rattle.htl_load.proofs.Words.{count_before, FitBetween}
 use Rattle.htl_load.proofs.functions.first_unfit_task.Given as goal
 
 abbrev pub invariant-loop-k : goal.invariant-loop-k

@@ -1,8 +1,5 @@
 use Rattle.std.proofs.Common.{◌≡◌, List, get_or, slice_get, true, false, Some, sym, ap, ◌∙◌, subst}
-use Rattle.htl_model.specs.FunctionTypes.{FunctionType, output_type, IsFunctionOf}
-use Rattle.htl_model.specs.Tables.{Tables, fun_of}
-use Rattle.htl_model.specs.declared.function.Function.{Function}
-use Rattle.htl_object.proofs.FunctionPlaces.{function_at}
+use Rattle.htl_load.proofs.Words.{FunctionType, output_type, IsFunctionOf, Tables, fun_of, Function, function_at}
 use Rattle.htl_load.proofs.functions.fits_at.Goals as goal
 
 there : (c : goal.After-fits) → slice_get c.args.t.now.functions c.args.id ≡ Some (fun_of c.index-functions-id.result)

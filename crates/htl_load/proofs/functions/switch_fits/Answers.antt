@@ -1,6 +1,5 @@
 use Rattle.std.proofs.Common.{◌≡◌, sym, ◌∙◌, ap}
-use Rattle.htl_model.specs.Tables.{Tables}
-use Rattle.htl_object.proofs.FunctionPlaces.{switch_type_at}
+use Rattle.htl_load.proofs.Words.{Tables, switch_type_at}
 use Rattle.htl_load.proofs.functions.switch_fits.Goals as goal
 
 pub fits_at-requires-clause-types : goal.fits_at-requires-clause-types

@@ -1,13 +1,8 @@
 use Rattle.std.proofs.Common.{◌≡◌, Err, sym, subst}
 use Rattle.htl_load.proofs.Refusals.{accepted_is_not_refused}
 use Rattle.htl_load.proofs.OneAnswer.{bad_field_told, accepted_bytes, fault_told}
-use Rattle.htl_load.specs.Faults.{IsRefused}
-use Rattle.htl_load.specs.Loading.{HasBytes}
-use Rattle.htl_object.specs.Accepted.{IsAccepted}
-use Rattle.htl_object.specs.Objects.{IsDecoded, IsReadAs}
-use Rattle.htl_object.specs.declared.decoding.DecodeFault.{DecodeFault}
+use Rattle.htl_load.proofs.Words.{IsRefused, HasBytes, IsAccepted, IsDecoded, IsReadAs, DecodeFault, Object}
 use Rattle.htl_object.specs.declared.decoding.DecodeFault.TheVariants as decode
-use Rattle.htl_object.specs.declared.object.Object.{Object}
 use Rattle.htl_load.proofs.loading.load.Goals as goal
 
 pub returns-in-Err-clause-only : goal.returns-in-Err-clause-only

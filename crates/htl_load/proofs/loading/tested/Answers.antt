@@ -1,8 +1,6 @@
 use Rattle.std.proofs.Common.{◌∙◌, subst}
 use Rattle.htl_load.proofs.StateLaws.{form_refused, spelling_refused, schedule_refused}
-use Rattle.htl_load.specs.Faults.{IsSpellingFault, IsScheduleFault}
-use Rattle.htl_object.specs.Accepted.{IsSpelled, IsAccepted}
-use Rattle.htl_object.specs.declared.object.Object.{Object}
+use Rattle.htl_load.proofs.Words.{IsSpellingFault, IsScheduleFault, IsSpelled, IsAccepted, Object}
 use Rattle.htl_load.proofs.loading.tested.Goals as goal
 
 pub returns-in-Err-clause-refused : goal.returns-in-Err-clause-refused

@@ -1,6 +1,5 @@
-use Rattle.std.proofs.Common.{subst}
+use Rattle.htl_load.proofs.Words.{subst, IsAccepted}
 use Rattle.htl_load.proofs.StateLaws.{accepted_with}
-use Rattle.htl_object.specs.Accepted.{IsAccepted}
 use Rattle.htl_load.proofs.states.scheduled.Goals as goal
 
 pub invariant_of-result : goal.invariant_of-result

@@ -1,8 +1,5 @@
 use Rattle.std.proofs.Common.{List, length, IfErr, ◌∙◌, ap, subst}
-use Rattle.htl_model.proofs.FrameRules.{kept_apart}
-use Rattle.htl_form.proofs.SearchLaws.{kept_12}
-use Rattle.htl_walk.specs.NodeWalks.{IsFirstFailing, instrs_of}
-use Rattle.htl_walk.specs.declared.schedule.Schedule.{Schedule}
+use Rattle.htl_load.proofs.Words.{kept_apart, kept_12, IsFirstFailing, instrs_of, Schedule}
 use Rattle.htl_load.proofs.states.walked.Goals as goal
 
 pub worst_all-requires-clause-limits : goal.worst_all-requires-clause-limits

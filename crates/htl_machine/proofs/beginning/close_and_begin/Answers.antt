@@ -1,21 +1,5 @@
 use Rattle.std.proofs.Common.{◌≡◌, ℕ, List, sym, ap, ◌∙◌, subst, length, ◌≤◌, suc, arith}
-use Rattle.htl_model.specs.Selected.{IsSelection}
-use Rattle.htl_walk.specs.declared.schedule.SInstr.{SInstr}
-use Rattle.htl_smach.specs.Rounds.{Round, IsInForm, Stands}
-use Rattle.htl_emach.specs.Following.{phase_path}
-use Rattle.htl_refine.proofs.StateLaws.{states_are_selections}
-use Rattle.htl_refine.specs.Records.{modes_at}
-use Rattle.htl_model.specs.declared.event.Event.{Event}
-use Rattle.htl_machine.specs.Asking.{AreToRead, AreToCloseAndBegin}
-use Rattle.htl_machine.specs.Beginning.{CanFollow}
-use Rattle.htl_machine.specs.Counts.{with_instrs, with_records}
-use Rattle.htl_machine.specs.Noting.{MarksChanges}
-use Rattle.htl_machine.specs.Numbering.{IsPath}
-use Rattle.htl_machine.specs.Opening.{first_records}
-use Rattle.htl_machine.specs.Recording.{AreOf}
-use Rattle.htl_machine.specs.RunLists.{turn_at}
-use Rattle.htl_machine.specs.Running.{replay}
-use Rattle.htl_machine.specs.Starting.{instrs_of}
+use Rattle.htl_machine.proofs.Words.{IsSelection, SInstr, Round, IsInForm, Stands, phase_path, states_are_selections, modes_at, Event, AreToRead, AreToCloseAndBegin, CanFollow, with_instrs, with_records, MarksChanges, IsPath, first_records, AreOf, turn_at, replay, instrs_of}
 use Rattle.htl_machine.proofs.Beginnings.{HasBegun, may_follow, node_there, has_begun_so, first_done, first_counted, first_told, then_more, fails_so, ends_so, began_last}
 use Rattle.htl_machine.proofs.Closings.{switches_fail, reads_second, switches_start}
 use Rattle.htl_machine.proofs.Marking.{reads_next, sensors_then, sensors_same}

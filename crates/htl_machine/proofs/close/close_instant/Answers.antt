@@ -1,9 +1,5 @@
 use Rattle.std.proofs.Common.{length, ap, ◌∙◌}
-use Rattle.std.proofs.lemmas.Result.{on_ok_weaker}
-use Rattle.htl_emach.specs.Following.{phase_path}
-use Rattle.htl_machine.specs.Counts.{with_instrs}
-use Rattle.htl_machine.specs.Readiness.{s_machine_replay}
-use Rattle.htl_machine.specs.Running.{replay}
+use Rattle.htl_machine.proofs.Words.{on_ok_weaker, phase_path, with_instrs, s_machine_replay, replay}
 use Rattle.htl_machine.proofs.Closings.{switches_fail, reads_second, switches_start}
 use Rattle.htl_machine.proofs.Marking.{reads_next, sensors_then}
 use Rattle.htl_machine.proofs.close.close_instant.Goals as goal

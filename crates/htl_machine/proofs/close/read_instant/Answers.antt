@@ -1,7 +1,5 @@
 use Rattle.std.proofs.Common.{ℕ, List, Option, ap, ◌∙◌}
-use Rattle.std.proofs.lemmas.Result.{on_ok_weaker}
-use Rattle.htl_emach.specs.Calendars.{list_at}
-use Rattle.htl_emach.specs.Contents.{Content}
+use Rattle.htl_machine.proofs.Words.{on_ok_weaker, list_at, Content}
 use Rattle.htl_machine.proofs.Closings.{modes_known, reads_fail, changes_last, reads_start}
 use Rattle.htl_machine.proofs.close.read_instant.Goals as goal
 

@@ -1,6 +1,5 @@
 use Rattle.std.proofs.Common.{◌≡◌, false, length, ◌-◌}
-use Rattle.htl_machine.specs.Printing.{IsPrinting}
-use Rattle.htl_machine.specs.Recording.{IsRecording}
+use Rattle.htl_machine.proofs.Words.{IsPrinting, IsRecording}
 use Rattle.htl_machine.proofs.instant_records.leave_records.Given as goal
 
 abbrev pub invariant-loop-left : goal.invariant-loop-left

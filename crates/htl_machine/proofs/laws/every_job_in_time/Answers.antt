@@ -1,5 +1,4 @@
-use Rattle.htl_refine.proofs.ServedFrames.{every_job_in_time}
-use Rattle.htl_machine.specs.Programs.{schedules_of}
+use Rattle.htl_machine.proofs.Words.{every_job_in_time, schedules_of}
 use Rattle.htl_machine.proofs.Accepted.{accepted_is_loaded}
 use Rattle.htl_machine.proofs.LoadedLists.{run_of}
 use Rattle.htl_machine.proofs.laws.every_job_in_time.Goals as goal

@@ -1,5 +1,4 @@
-use Rattle.htl_machine.specs.JobLines.{job_lines_to}
-use Rattle.htl_machine.specs.Programs.{schedules_of, text_of}
+use Rattle.htl_machine.proofs.Words.{job_lines_to, schedules_of, text_of}
 use Rattle.htl_machine.proofs.JobLines.{run_shows, jobs_are_found}
 use Rattle.htl_machine.proofs.laws.job_lines_are_found.Goals as goal
 

@@ -1,7 +1,5 @@
 use Rattle.std.proofs.Common.{◌≡◌, subst}
-use Rattle.htl_console.specs.declared.shown.Shown.TheVariants.{Values}
-use Rattle.htl_machine.specs.Lines.{text_before}
-use Rattle.htl_machine.specs.Programs.{schedules_of, before_of}
+use Rattle.htl_machine.proofs.Words.{Values, text_before, schedules_of, before_of}
 use Rattle.htl_machine.proofs.Deciding.{sensors_decide}
 use Rattle.htl_machine.proofs.laws.sensors_decide.Goals as goal
 

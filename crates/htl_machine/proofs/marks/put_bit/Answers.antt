@@ -1,6 +1,5 @@
 use Rattle.std.proofs.Common.{cond, eqb, sym, ◌∙◌, ap, arith}
-use Rattle.htl_model.specs.Bits.{has_bit}
-use Rattle.htl_walk.proofs.PendingLaws.{cleared}
+use Rattle.htl_machine.proofs.Words.{has_bit, cleared}
 use Rattle.htl_machine.proofs.marks.put_bit.Goals as goal
 
 pub returns-else-set : goal.returns-else-set

@@ -1,11 +1,5 @@
 use Rattle.std.proofs.Common.{List, [], ℤ, length, sym, ap, ◌∙◌, subst}
-use Rattle.htl_emach.specs.Following.{phase_path}
-use Rattle.htl_machine.specs.Counts.{with_instrs}
-use Rattle.htl_edge.proofs.Puts.{Puts-second}
-use Rattle.htl_machine.specs.Doing.{path_lines}
-use Rattle.htl_machine.specs.Noting.{MarksChanges}
-use Rattle.htl_machine.specs.Running.{replay}
-use Rattle.htl_machine.specs.Sensors.{AreShown}
+use Rattle.htl_machine.proofs.Words.{phase_path, with_instrs, Puts-second, path_lines, MarksChanges, replay, AreShown}
 use Rattle.htl_machine.proofs.Beginnings.{then_more}
 use Rattle.htl_machine.proofs.Marking.{sensors_then, sensors_same}
 use Rattle.htl_machine.proofs.Openings.{opens_failed, opens_second, opened, writes_start}

@@ -1,6 +1,5 @@
 use Rattle.std.proofs.Common.{◌≡◌, ◌-◌, ◌+◌, ℕ, length, slice_get, Some, sym, ◌∙◌, ap, arith}
-use Rattle.htl_model.specs.Chosen.{chosen_in}
-use Rattle.htl_model.specs.Tables.{Tables}
+use Rattle.htl_model.proofs.Words.{chosen_in, Tables}
 use Rattle.htl_model.proofs.ChosenLaws.{chosen_past, chosen_here, chosen_none, chosen_down, inv_stands}
 use Rattle.htl_model.proofs.choice.chosen_by.Goals as goal
 

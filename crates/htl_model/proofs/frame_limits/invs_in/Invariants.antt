@@ -1,6 +1,5 @@
 use Rattle.std.proofs.Common.{◌≡◌, ◌+◌, ◌≤◌, length, drop}
-use Rattle.htl_model.specs.Lists.{places_from}
-use Rattle.htl_model.specs.Selections.{inv_of_mode}
+use Rattle.htl_model.proofs.Words.{places_from, inv_of_mode}
 use Rattle.htl_model.proofs.frame_limits.invs_in.Given as goal
 
 abbrev pub invariant-loop-k : goal.invariant-loop-k

@@ -1,6 +1,5 @@
 use Rattle.std.proofs.Common.{◌≡◌, ℕ, ◌<◌, length, get_or, take}
-use Rattle.std.specs.Prelude.{count_by}
-use Rattle.htl_model.specs.Selections.{inv_of_mode}
+use Rattle.htl_model.proofs.Words.{count_by, inv_of_mode}
 use Rattle.htl_model.proofs.items.count_invs.Given as goal
 
 abbrev pub invariant-loop-k : goal.invariant-loop-k

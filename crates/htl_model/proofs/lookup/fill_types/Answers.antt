@@ -1,6 +1,5 @@
 use Rattle.std.proofs.Common.{◌+◌, ℕ, take, set, length-set, ap, ◌∙◌, length, arith}
-use Rattle.htl_base.specs.declared.Ty.{Ty}
-use Rattle.htl_model.specs.FunctionTypes.{comm_type}
+use Rattle.htl_model.proofs.Words.{Ty, comm_type}
 use Rattle.htl_model.proofs.PlaceLaws.{types_more, rest_same}
 use Rattle.htl_model.proofs.lookup.fill_types.Goals as goal
 

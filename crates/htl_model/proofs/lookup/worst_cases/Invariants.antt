@@ -1,6 +1,5 @@
 use Rattle.std.proofs.Common.{◌≡◌, map, take}
-use Rattle.htl_model.specs.declared.parts.Inv.{Inv}
-use Rattle.htl_model.specs.Tables.{task_worst}
+use Rattle.htl_model.proofs.Words.{Inv, task_worst}
 use Rattle.htl_model.proofs.lookup.worst_cases.Given as goal
 
 abbrev pub invariant-loop-k : goal.invariant-loop-k

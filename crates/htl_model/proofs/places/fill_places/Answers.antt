@@ -1,7 +1,5 @@
 use Rattle.std.proofs.Common.{◌+◌, ◌++◌, length, take, drop, arith, sym, ap, ◌∙◌, append_assoc}
-use Rattle.std.proofs.lemmas.List.{length-append}
-use Rattle.htl_model.specs.Selections.{invs_of}
-use Rattle.htl_model.specs.Frames.{places_of, places_in}
+use Rattle.htl_model.proofs.Words.{length-append, invs_of, places_of, places_in}
 use Rattle.htl_model.proofs.PlaceSteps.{place_next, round_at}
 use Rattle.htl_model.proofs.places.fill_places.Goals as goal
 

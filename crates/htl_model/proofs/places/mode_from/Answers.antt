@@ -1,6 +1,5 @@
 use Rattle.std.proofs.Common.{cond, ◌+◌, ◌/◌, ◌%◌, drop, get_or, arith, sym, ap, ◌∙◌}
-use Rattle.htl_model.specs.Frames.{mode_from}
-use Rattle.htl_model.specs.Selections.{modes_of}
+use Rattle.htl_model.proofs.Words.{mode_from, modes_of}
 use Rattle.htl_model.proofs.PlaceSteps.{mode_next, round_at}
 use Rattle.htl_model.proofs.places.mode_from.Goals as goal
 

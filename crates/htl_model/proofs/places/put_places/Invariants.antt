@@ -1,7 +1,5 @@
 use Rattle.std.proofs.Common.{◌≡◌, ◌+◌, ◌++◌, length, take, drop}
-use Rattle.htl_model.specs.Lists.{places_from}
-use Rattle.htl_model.specs.Selections.{inv_of_mode, invs_of}
-use Rattle.htl_model.specs.Frames.{places_of}
+use Rattle.htl_model.proofs.Words.{places_from, inv_of_mode, invs_of, places_of}
 use Rattle.htl_model.proofs.places.put_places.Given as goal
 
 abbrev pub invariant-loop-k : goal.invariant-loop-k

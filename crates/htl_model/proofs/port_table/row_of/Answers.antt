@@ -1,8 +1,5 @@
 use Rattle.std.proofs.Common.{◌||◌, ◌∙◌, sym, ap, arith, take}
-use Rattle.std.specs.List.{list_any}
-use Rattle.std.proofs.lemmas.List.Folds.{list_any_more}
-use Rattle.htl_model.specs.Bits.{has_bit}
-use Rattle.htl_model.specs.PortTable.{is_from}
+use Rattle.htl_model.proofs.Words.{list_any, list_any_more, has_bit, is_from}
 use Rattle.htl_model.proofs.BitLaws.{has_bit_or}
 use Rattle.htl_model.proofs.port_table.row_of.Goals as goal
 

@@ -1,7 +1,5 @@
 use Rattle.std.proofs.Common.{◌≡◌, ℕ, take}
-use Rattle.std.specs.List.{list_any}
-use Rattle.htl_model.specs.Bits.{has_bit}
-use Rattle.htl_model.specs.PortTable.{is_from}
+use Rattle.htl_model.proofs.Words.{list_any, has_bit, is_from}
 use Rattle.htl_model.proofs.port_table.row_of.Given as goal
 
 abbrev pub invariant-loop-k : goal.invariant-loop-k

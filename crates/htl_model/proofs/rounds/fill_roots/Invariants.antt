@@ -1,6 +1,5 @@
 use Rattle.std.proofs.Common.{◌≡◌, ◌≤◌, ◌+◌, ◌++◌, length, take, drop}
-use Rattle.htl_model.specs.Lists.{places_from}
-use Rattle.htl_model.specs.Selections.{is_root, root_modules}
+use Rattle.htl_model.proofs.Words.{places_from, is_root, root_modules}
 use Rattle.htl_model.proofs.rounds.fill_roots.Given as goal
 
 abbrev pub invariant-loop-k : goal.invariant-loop-k

@@ -1,6 +1,5 @@
 use Rattle.std.proofs.Common.{◌≡◌, ◌≤◌, ◌*◌, ◌++◌, length, take, drop}
-use Rattle.std.specs.List.{flat_map}
-use Rattle.htl_model.specs.Frames.{rounds_at}
+use Rattle.htl_model.proofs.Words.{flat_map, rounds_at}
 use Rattle.htl_model.proofs.rounds.fill_rounds.Given as goal
 
 abbrev pub invariant-loop-j : goal.invariant-loop-j

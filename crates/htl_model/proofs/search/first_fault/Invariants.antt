@@ -1,6 +1,5 @@
 use Rattle.std.proofs.Common.{◌≡◌, drop}
-use Rattle.htl_model.specs.First.{first_from}
-use Rattle.htl_model.specs.Search.{of_rule}
+use Rattle.htl_model.proofs.Words.{first_from, of_rule}
 use Rattle.htl_model.proofs.search.first_fault.Given as goal
 
 abbrev pub invariant-loop-place : goal.invariant-loop-place

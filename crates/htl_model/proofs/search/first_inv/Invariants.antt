@@ -1,6 +1,5 @@
 use Rattle.std.proofs.Common.{◌≡◌, drop}
-use Rattle.htl_model.specs.First.{first_from}
-use Rattle.htl_model.specs.Search.{inv_in_mode}
+use Rattle.htl_model.proofs.Words.{first_from, inv_in_mode}
 use Rattle.htl_model.proofs.search.first_inv.Given as goal
 
 abbrev pub invariant-loop-k : goal.invariant-loop-k

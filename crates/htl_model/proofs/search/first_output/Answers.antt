@@ -1,9 +1,6 @@
 use Rattle.std.proofs.Common.{sym, ◌≡◌, get_or, Some, subst, List}
-use Rattle.std.specs.Prelude.{slice_get}
-use Rattle.std.proofs.lemmas.Option.{slice_get-get_or}
-use Rattle.htl_model.specs.declared.parts.End.{End}
+use Rattle.htl_model.proofs.Words.{slice_get-get_or, End, EndSite, slice_get}
 use Rattle.htl_model.specs.declared.parts.End.TheVariants as E
-use Rattle.htl_model.specs.declared.search.EndSite.{EndSite}
 use Rattle.htl_model.proofs.FirstLaws.{nothing_first}
 use Rattle.htl_model.proofs.search.first_output.Goals as goal
 

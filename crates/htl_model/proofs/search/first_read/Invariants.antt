@@ -1,6 +1,5 @@
 use Rattle.std.proofs.Common.{◌≡◌, drop}
-use Rattle.htl_model.specs.First.{first_from}
-use Rattle.htl_model.specs.Search.{at_read}
+use Rattle.htl_model.proofs.Words.{first_from, at_read}
 use Rattle.htl_model.proofs.search.first_read.Given as goal
 
 abbrev pub invariant-loop-j : goal.invariant-loop-j

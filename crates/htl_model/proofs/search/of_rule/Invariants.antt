@@ -1,7 +1,5 @@
 use Rattle.std.proofs.Common.{◌≡◌, drop}
-use Rattle.htl_model.specs.First.{first_from}
-use Rattle.htl_model.specs.Search.{in_mode}
-use Rattle.htl_model.specs.Starts.{IsStartOf}
+use Rattle.htl_model.proofs.Words.{first_from, in_mode, IsStartOf}
 use Rattle.htl_model.proofs.search.of_rule.Given as goal
 
 -- what is left of the modes gives what all give, and the next mode's invocations begin at `start`

@@ -1,8 +1,5 @@
 use Rattle.std.proofs.Common.{◌≡◌, ◌<◌, ◌-◌, ◌+◌, ◌^◌, List, length, min, drop, sym, ◌∙◌, ap, arith}
-use Rattle.htl_model.specs.declared.parts.Module.{Module}
-use Rattle.htl_model.specs.RootModes.{modes_below}
-use Rattle.htl_model.specs.Selections.{choices_from}
-use Rattle.htl_model.specs.Tables.{Tables}
+use Rattle.htl_model.proofs.Words.{Module, modes_below, choices_from, Tables}
 use Rattle.htl_model.proofs.RootModeLaws.{choices_none, choices_before, modes_all, modes_between}
 use Rattle.htl_model.proofs.selections.choices.Goals as goal
 

@@ -1,6 +1,5 @@
 use Rattle.std.proofs.Common.{◌≡◌, ◌-◌, ◌^◌, ◌≤◌, length, min, drop}
-use Rattle.htl_model.specs.RootModes.{modes_below}
-use Rattle.htl_model.specs.Selections.{choices_from}
+use Rattle.htl_model.proofs.Words.{modes_below, choices_from}
 use Rattle.htl_model.proofs.selections.choices.Given as goal
 
 abbrev pub invariant-loop-k : goal.invariant-loop-k

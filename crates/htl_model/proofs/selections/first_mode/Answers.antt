@@ -1,8 +1,5 @@
 use Rattle.std.proofs.Common.{◌≡◌, ◌+◌, map, sym, ◌∙◌, ap, subst, arith}
-use Rattle.std.specs.List.Sorted.{IsNonDecreasing}
-use Rattle.htl_model.specs.declared.parts.Mode.{Mode}
-use Rattle.htl_model.specs.RootModes.{modes_below}
-use Rattle.htl_model.specs.Tables.{Tables}
+use Rattle.htl_model.proofs.Words.{IsNonDecreasing, Mode, modes_below, Tables}
 use Rattle.htl_model.proofs.RootModeLaws.{modes_grow, modes_most, first_back, first_found}
 use Rattle.htl_model.proofs.selections.first_mode.Goals as goal
 

@@ -1,6 +1,5 @@
 use Rattle.std.proofs.Common.{◌≡◌, drop}
-use Rattle.htl_model.specs.Lists.{places_from}
-use Rattle.htl_model.specs.Selections.{is_root}
+use Rattle.htl_model.proofs.Words.{places_from, is_root}
 use Rattle.htl_model.proofs.selections.first_root.Given as goal
 
 abbrev pub invariant-loop-k : goal.invariant-loop-k

@@ -1,6 +1,5 @@
 use Rattle.std.proofs.Common.{◌≡◌, drop, get_or}
-use Rattle.htl_model.specs.Lists.{places_from}
-use Rattle.htl_model.specs.Selections.{mode_of_module}
+use Rattle.htl_model.proofs.Words.{places_from, mode_of_module}
 use Rattle.htl_model.proofs.selections.mode_at.Given as goal
 
 abbrev pub invariant-loop-k : goal.invariant-loop-k

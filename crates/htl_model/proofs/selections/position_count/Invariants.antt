@@ -1,6 +1,5 @@
 use Rattle.std.proofs.Common.{◌≡◌, ◌+◌, ◌≤◌, length, drop}
-use Rattle.htl_model.specs.Lists.{places_from}
-use Rattle.htl_model.specs.Selected.{is_running}
+use Rattle.htl_model.proofs.Words.{places_from, is_running}
 use Rattle.htl_model.proofs.selections.position_count.Given as goal
 
 abbrev pub invariant-loop-k : goal.invariant-loop-k

@@ -1,11 +1,5 @@
 use Rattle.std.proofs.Common.{◌≡◌, ◌<◌, ◌-◌, ◌+◌, ◌/◌, suc, List, Some, slice_get, length, drop, sym, ◌∙◌, ap, subst, arith, refl}
-use Rattle.htl_model.specs.declared.parts.Module.{Module}
-use Rattle.htl_model.specs.RootModes.{modes_below}
-use Rattle.htl_model.specs.Selections.{choices_from}
-use Rattle.htl_model.specs.Tables.{Tables}
-use Rattle.std.proofs.Math.Nat.{div-one}
-use Rattle.std.proofs.lemmas.List.{length-set}
-use Rattle.std.proofs.lemmas.Option.{slice_get-get_or}
+use Rattle.htl_model.proofs.Words.{Module, modes_below, choices_from, Tables, div-one, slice_get-get_or, length-set}
 use Rattle.htl_model.proofs.SelectionLaws.{modes_some}
 use Rattle.htl_model.proofs.RootModeLaws.{choices_none, digits_before, modes_all, modes_between, entry_found, entries_none, entries_more, AreRootModesFrom}
 use Rattle.htl_model.proofs.selections.root_modes.Goals as goal

@@ -1,6 +1,5 @@
 use Rattle.std.proofs.Common.{◌∷◌, [], List, ℕ, length, map, arith, refl, ap, ◌∙◌}
-use Rattle.std.proofs.lemmas.List.{length-append}
-use Rattle.htl_model.specs.Frames.{unit_period}
+use Rattle.htl_model.proofs.Words.{length-append, unit_period}
 use Rattle.htl_model.proofs.FrameSteps.{begins_zero, starts_next}
 use Rattle.htl_model.proofs.starts.count_starts.Goals as goal
 

@@ -1,7 +1,6 @@
 use Rattle.std.proofs.Common.{◌++◌, [], ◌∷◌, length, map, arith, refl, sym, ap, ◌∙◌}
-use Rattle.std.proofs.lemmas.List.{length-append, take_more_set}
+use Rattle.htl_model.proofs.Words.{length-append, take_more_set, unit_period}
 use Rattle.std.proofs.Math.ListN.{length-set}
-use Rattle.htl_model.specs.Frames.{unit_period}
 use Rattle.htl_model.proofs.FrameSteps.{begins_zero, room_for, starts_next}
 use Rattle.htl_model.proofs.starts.fill_starts.Goals as goal
 

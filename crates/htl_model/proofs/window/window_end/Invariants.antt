@@ -1,6 +1,5 @@
 use Rattle.std.proofs.Common.{◌≡◌, drop}
-use Rattle.htl_model.specs.Tables.{mode_period, least_or, offsets}
-use Rattle.htl_model.specs.Windows.{least_on}
+use Rattle.htl_model.proofs.Words.{mode_period, least_or, offsets, least_on}
 use Rattle.htl_model.proofs.window.window_end.Given as goal
 
 abbrev pub invariant-loop-k : goal.invariant-loop-k

@@ -1,5 +1,4 @@
-use Rattle.std.proofs.Common.{sym, subst, All}
-use Rattle.htl_names.proofs.Words.{IsNarrowInvoke}
+use Rattle.htl_names.proofs.Words.{IsNarrowInvoke, sym, subst, All}
 use Rattle.htl_names.proofs.invocations.put_invocations.Goals as goal
 
 pub invocation-requires : goal.invocation-requires

@@ -1,5 +1,4 @@
-use Rattle.std.proofs.Common.{rules}
-use Rattle.htl_names.proofs.Words.{map-map}
+use Rattle.htl_names.proofs.Words.{map-map, rules}
 use Rattle.htl_names.proofs.items.output_types.Goals as goal
 
 pub returns : goal.returns

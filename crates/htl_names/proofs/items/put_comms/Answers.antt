@@ -1,7 +1,5 @@
 use Rattle.std.proofs.Common.{arith, ◌≡◌, ◌≤◌, ◌++◌, map, subst, sym, List, rules, All, flat_map}
-use Rattle.htl_names.proofs.Words.{common_steps, YieldsList-from_map, YieldsList-from_slice, items_from_extend, YieldsList-at, flat_map-map, PlainProgram, program_of, CommNode, comm_item, size_of}
-use Rattle.std.proofs.iter.Serving.{serving}
-use Rattle.htl_text.specs.declared.tree.ProgramNode.{ProgramNode}
+use Rattle.htl_names.proofs.Words.{common_steps, YieldsList-from_map, YieldsList-from_slice, items_from_extend, YieldsList-at, flat_map-map, PlainProgram, program_of, CommNode, comm_item, size_of, serving, ProgramNode}
 use Rattle.htl_names.proofs.Members.{all_part}
 use Rattle.htl_names.proofs.items.put_comms.Goals as goal
 

@@ -1,5 +1,4 @@
-use Rattle.std.proofs.Common.{rules}
-use Rattle.htl_names.proofs.Words.{YieldsList-from_map, YieldsList-from_slice, YieldsList-at, items_from_extend, map-map, mode_of, ModeNode, mode_item}
+use Rattle.htl_names.proofs.Words.{YieldsList-from_map, YieldsList-from_slice, YieldsList-at, items_from_extend, map-map, mode_of, ModeNode, mode_item, rules}
 use Rattle.htl_names.proofs.items.put_modes.Goals as goal
 
 pub returns : goal.returns

@@ -1,5 +1,4 @@
-use Rattle.std.proofs.Common.{rules}
-use Rattle.htl_names.proofs.Words.{YieldsList-from_map, YieldsList-from_slice, YieldsList-at, items_from_extend, port_item}
+use Rattle.htl_names.proofs.Words.{YieldsList-from_map, YieldsList-from_slice, YieldsList-at, items_from_extend, port_item, rules}
 use Rattle.htl_names.proofs.items.put_ports.Goals as goal
 
 pub returns : goal.returns

@@ -1,6 +1,5 @@
 use Rattle.std.proofs.Common.{◌≡◌, ℕ, suc, ◌+◌, ◌-◌, ap, arith, length}
-use Rattle.htl_names.proofs.Words.{level_by}
-use Rattle.htl_names.specs.Named.{refined_at}
+use Rattle.htl_names.proofs.Words.{level_by, refined_at}
 use Rattle.htl_names.proofs.limits.level.Goals as goal
 
 pub loop-k-preserved : goal.loop-k-preserved

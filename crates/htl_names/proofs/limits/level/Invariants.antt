@@ -1,6 +1,5 @@
 use Rattle.std.proofs.Common.{◌≡◌, ◌+◌, ◌-◌, length}
-use Rattle.htl_names.proofs.Words.{level_by}
-use Rattle.htl_names.specs.Named.{refined_at}
+use Rattle.htl_names.proofs.Words.{level_by, refined_at}
 use Rattle.htl_names.proofs.limits.level.Given as goal
 
 abbrev pub invariant-loop-k : goal.invariant-loop-k

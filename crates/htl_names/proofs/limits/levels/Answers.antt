@@ -1,6 +1,4 @@
-use Rattle.std.proofs.Common.{arith, length}
-use Rattle.htl_names.proofs.Words.{common_steps, length-list_to, get_list_to, level_by}
-use Rattle.htl_names.specs.Named.{refined_at}
+use Rattle.htl_names.proofs.Words.{common_steps, length-list_to, get_list_to, level_by, arith, length, refined_at}
 use Rattle.htl_names.proofs.limits.levels.Goals as goal
 
 pub loop-p-preserved : goal.loop-p-preserved

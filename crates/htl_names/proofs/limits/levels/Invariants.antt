@@ -1,6 +1,5 @@
 use Rattle.std.proofs.Common.{◌≡◌, length, drop}
-use Rattle.htl_names.proofs.Words.{list_to, greatest, level_by}
-use Rattle.htl_names.specs.Named.{refined_at}
+use Rattle.htl_names.proofs.Words.{list_to, greatest, level_by, refined_at}
 use Rattle.htl_names.proofs.limits.levels.Given as goal
 
 abbrev pub invariant-loop-p : goal.invariant-loop-p

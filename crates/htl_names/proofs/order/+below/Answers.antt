@@ -1,6 +1,5 @@
 use Rattle.std.proofs.Common.{arith, ◌≡◌, ◌-◌, ◌++◌, ℕ, List, Option, Some, map, sym, ap, ◌∙◌, flat_map}
-use Rattle.htl_names.proofs.Words.{common_steps, mode_of, tree_of, PlainMode, flat_map_at, mode_in, mode_kids, program_modules, ModuleAt}
-use Rattle.htl_names.specs.Order.{below}
+use Rattle.htl_names.proofs.Words.{common_steps, mode_of, tree_of, PlainMode, flat_map_at, mode_in, mode_kids, program_modules, ModuleAt, below}
 use Rattle.htl_names.proofs.Growing.{flat_map_inside, next_item}
 use Rattle.htl_names.proofs.Walking.{kids_start}
 use Rattle.htl_names.proofs.order.+below.Goals as goal

@@ -1,6 +1,5 @@
 use Rattle.std.proofs.Common.{◌≡◌, ◌+◌, ◌*◌, ◌-◌, ◌++◌, ℕ, map, drop, flat_map}
-use Rattle.htl_names.proofs.Words.{list_to, mode_of, tree_of, PlainMode, flat_map_at, nth_module, mode_kids}
-use Rattle.htl_names.specs.Order.{below}
+use Rattle.htl_names.proofs.Words.{list_to, mode_of, tree_of, PlainMode, flat_map_at, nth_module, mode_kids, below}
 use Rattle.htl_names.proofs.order.+below.Given as goal
 
 abbrev pub decreases-put_module : goal.decreases-put_module

@@ -1,6 +1,5 @@
 use Rattle.std.proofs.Common.{arith, ◌≡◌, ◌+◌, ◌++◌, ℕ, zero, suc, List, [], ◌∷◌, None, length, get_or, map, refl, sym, ap, ◌∙◌, rules}
-use Rattle.htl_names.proofs.Words.{range_with_len, common_steps, YieldsList-from_map, YieldsList-from_range, items_from_extend, YieldsList-at, length-map, list_to, tree_of, mode_of, mode_in, modes_at, ModeAt}
-use Rattle.std.proofs.lemmas.List.FromFn.{map-range_with_len_more}
+use Rattle.htl_names.proofs.Words.{range_with_len, common_steps, YieldsList-from_map, YieldsList-from_range, items_from_extend, YieldsList-at, length-map, list_to, tree_of, mode_of, mode_in, modes_at, ModeAt, map-range_with_len_more}
 use Rattle.htl_names.proofs.order.put_modes.Goals as goal
 
 listed : {A : Type 0} (f : ℕ → A) (n : ℕ) → map f (range_with_len 0 n) ≡ list_to f n

@@ -1,6 +1,5 @@
 use Rattle.std.proofs.Common.{◌<◌, ◌+◌, ◌∷◌, ◌++◌, ◌∙◌, [], length, true, false, map, replicate, sym, ap, arith}
-use Rattle.htl_names.proofs.Words.{length-map, get_or_default, targets}
-use Rattle.std.proofs.Math.ListN.{set}
+use Rattle.htl_names.proofs.Words.{length-map, get_or_default, targets, set}
 use Rattle.htl_names.proofs.Reaching.{Searches, owed, search_start, search_asked, marks_reached}
 use Rattle.htl_names.proofs.programs.reach.Goals as goal
 

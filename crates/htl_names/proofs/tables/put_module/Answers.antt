@@ -1,6 +1,5 @@
 use Rattle.std.proofs.Common.{◌≡◌, ◌<◌, ◌≤◌, List, map, sym, subst, rules, All}
-use Rattle.htl_names.proofs.Words.{length-map, PlainMode, PlainTask, mode_of, task_of, tree_of, size_of, modes_at, tasks_at}
-use Rattle.std.proofs.Math.ListN.{get_or-map}
+use Rattle.htl_names.proofs.Words.{length-map, PlainMode, PlainTask, mode_of, task_of, tree_of, size_of, modes_at, tasks_at, get_or-map}
 use Rattle.htl_names.proofs.tables.put_module.Goals as goal
 
 all_of : {X Y : Type 0} (P : Y → Type 0) (f : X → Y) (xs : List X) (ys : List Y) → ys ≡ map f xs → All P ys → All (λ x. P (f x)) xs

@@ -1,5 +1,4 @@
-use Rattle.std.proofs.Common.{arith, length-append}
-use Rattle.htl_names.proofs.Words.{drop_more, common_steps}
+use Rattle.htl_names.proofs.Words.{drop_more, common_steps, arith, length-append}
 use Rattle.htl_names.proofs.Walking.{length-map_at}
 use Rattle.htl_names.proofs.walk.rows_of.Goals as goal
 

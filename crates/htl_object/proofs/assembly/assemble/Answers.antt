@@ -1,8 +1,5 @@
 use Rattle.std.proofs.Common.{map, ◌∙◌, ap, subst}
-use Rattle.htl_model.specs.Ranges.{AreInRange}
-use Rattle.htl_model.specs.Tables.{Tables, Compiled, fun_of}
-use Rattle.htl_model.specs.declared.function.Code.{Code}
-use Rattle.htl_object.specs.declared.lists.Anchors.{Anchors}
+use Rattle.htl_object.proofs.Words.{AreInRange, Tables, Compiled, fun_of, Code, Anchors}
 use Rattle.htl_object.proofs.Assembled.{assembled, whole}
 use Rattle.htl_object.proofs.ListRanges.{lists_in_range}
 use Rattle.htl_object.proofs.assembly.assemble.Goals as goal

@@ -1,6 +1,5 @@
 use Rattle.std.proofs.Common.{◌≡◌, ◌++◌, map}
-use Rattle.htl_model.specs.Tables.{Compiled, fun_of}
-use Rattle.htl_model.specs.declared.function.Code.{Code}
+use Rattle.htl_object.proofs.Words.{Compiled, fun_of, Code}
 use Rattle.htl_object.proofs.assembly.functions.Given as goal
 
 abbrev pub invariant-loop-code : goal.invariant-loop-code

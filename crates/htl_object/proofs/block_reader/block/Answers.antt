@@ -1,8 +1,5 @@
 use Rattle.std.proofs.Common.{ℕ, List, length, map, Err, sym, ap, subst, ◌∙◌, arith}
-use Rattle.htl_object.specs.Blocks.{block_at}
-use Rattle.htl_object.specs.Reading.{IsBytes, Fails, bad_at}
-use Rattle.htl_object.specs.declared.malformed.MalKind.TheVariants.{Spelling}
-use Rattle.htl_object.specs.declared.malformed.Stop.{Stop}
+use Rattle.htl_object.proofs.Words.{block_at, IsBytes, Fails, bad_at, Spelling, Stop}
 use Rattle.htl_object.proofs.BlockReading.{piece_read, rest_shorter, new_piece, block_given, block_refused, pieces_more}
 use Rattle.htl_object.proofs.block_reader.block.Goals as goal
 

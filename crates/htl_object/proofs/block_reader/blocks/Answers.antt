@@ -1,5 +1,4 @@
-use Rattle.std.proofs.Common.{[], arith}
-use Rattle.htl_object.specs.Blocks.{block_at}
+use Rattle.htl_object.proofs.Words.{[], arith, block_at}
 use Rattle.htl_object.proofs.BlockReading.{numbers_below}
 use Rattle.htl_object.proofs.Sizes.{items-length}
 use Rattle.htl_object.proofs.block_reader.blocks.Goals as goal

@@ -1,7 +1,4 @@
-use Rattle.std.proofs.Common.{[]}
-use Rattle.std.proofs.lemmas.Result.{err_from_is_err_and}
-use Rattle.htl_object.specs.Blocks.{block_at}
-use Rattle.htl_object.specs.Reading.{items_at}
+use Rattle.htl_object.proofs.Words.{[], err_from_is_err_and, block_at, items_at}
 use Rattle.htl_object.proofs.Loops.{goes_on, stops}
 use Rattle.htl_object.proofs.block_reader.distinct_blocks.Goals as goal
 

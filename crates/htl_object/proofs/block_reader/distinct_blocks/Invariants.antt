@@ -1,6 +1,5 @@
 use Rattle.std.proofs.Common.{◌≡◌, [], ◌-◌, map}
-use Rattle.htl_object.specs.Blocks.{block_at, AreSpelled}
-use Rattle.htl_object.specs.Reading.{items_at}
+use Rattle.htl_object.proofs.Words.{block_at, AreSpelled, items_at}
 use Rattle.htl_object.proofs.block_reader.distinct_blocks.Given as goal
 
 -- what is left to read gives what all gives, and the pieces are the spellings of the blocks found

@@ -1,12 +1,8 @@
 use Rattle.std.proofs.Common.{[], ◌++◌, map, refl}
-use Rattle.std.specs.Int.{w16, to_be_bytes}
-use Rattle.std.specs.List.{flat_map}
-use Rattle.std.specs.Str.{bytes_eq}
+use Rattle.htl_object.proofs.Words.{w16, to_be_bytes, flat_map, bytes_eq, numbers_from, schedule_bytes}
 use Rattle.htl_object.proofs.Appends.{appends, puts_same}
 use Rattle.htl_object.proofs.ScheduleLaws.{put_as_blocks}
 use Rattle.htl_object.proofs.block_writer.put_blocks.Goals as goal
-use Rattle.htl_object.specs.Blocks.{numbers_from}
-use Rattle.htl_object.specs.Schedules.{schedule_bytes}
 
 pub returns-clause-spelled : goal.returns-clause-spelled
 returns-clause-spelled c =

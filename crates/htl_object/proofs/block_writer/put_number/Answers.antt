@@ -1,10 +1,7 @@
 use Rattle.std.proofs.Common.{ap, ◌∙◌, map}
-use Rattle.std.specs.Int.{w16, to_be_bytes}
-use Rattle.std.specs.Str.{bytes_eq}
+use Rattle.htl_object.proofs.Words.{w16, to_be_bytes, bytes_eq, with_block, number_in, schedule_bytes}
 use Rattle.htl_object.proofs.Appends.{puts_same, puts_whole}
 use Rattle.htl_object.proofs.block_writer.put_number.Goals as goal
-use Rattle.htl_object.specs.Blocks.{with_block, number_in}
-use Rattle.htl_object.specs.Schedules.{schedule_bytes}
 
 pub returns-clause-number : goal.returns-clause-number
 returns-clause-number c =

@@ -1,8 +1,4 @@
-use Rattle.std.proofs.Common.{map, All}
-use Rattle.std.specs.Int.{w16, to_be_bytes}
-use Rattle.std.specs.Str.{bytes_eq}
-use Rattle.htl_object.specs.Items.{IsSInstr}
-use Rattle.htl_object.specs.Schedules.{schedule_bytes}
+use Rattle.htl_object.proofs.Words.{map, All, w16, to_be_bytes, bytes_eq, IsSInstr, schedule_bytes}
 use Rattle.htl_object.proofs.Rounds.{kept, numbered, blocked}
 use Rattle.htl_object.proofs.block_writer.put_numbers.Goals as goal
 

@@ -1,10 +1,5 @@
 use Rattle.std.proofs.Common.{◌≡◌, map, take, drop, All}
-use Rattle.std.specs.Int.{w16, to_be_bytes}
-use Rattle.std.specs.List.{flat_map}
-use Rattle.std.specs.Str.{bytes_eq}
-use Rattle.htl_object.specs.Blocks.{blocks_from, numbers_from}
-use Rattle.htl_object.specs.Items.{IsSInstr}
-use Rattle.htl_object.specs.Schedules.{schedule_bytes}
+use Rattle.htl_object.proofs.Words.{w16, to_be_bytes, flat_map, bytes_eq, blocks_from, numbers_from, IsSInstr, schedule_bytes}
 use Rattle.htl_object.proofs.Appends.{PutsBut}
 use Rattle.htl_object.proofs.block_writer.put_numbers.Given as goal
 

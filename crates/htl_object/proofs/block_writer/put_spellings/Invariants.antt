@@ -1,6 +1,4 @@
-use Rattle.std.proofs.Common.{take}
-use Rattle.std.specs.List.{flat_map}
-use Rattle.htl_object.specs.Bytes.{Puts}
+use Rattle.htl_object.proofs.Words.{take, flat_map, Puts}
 use Rattle.htl_object.proofs.block_writer.put_spellings.Given as goal
 
 abbrev pub invariant-loop-spelling : goal.invariant-loop-spelling

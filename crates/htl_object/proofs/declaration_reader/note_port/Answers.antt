@@ -1,5 +1,4 @@
-use Rattle.htl_model.specs.declared.parts.Port.{Port}
-use Rattle.htl_object.specs.Names.{owned, same_name}
+use Rattle.htl_object.proofs.Words.{Port, owned, same_name}
 use Rattle.htl_object.proofs.Naming.{differs_mapped}
 use Rattle.htl_object.proofs.declaration_reader.note_port.Goals as goal
 

@@ -1,10 +1,7 @@
 use Rattle.std.proofs.Common.{◌≡◌, Some, sym, ◌∙◌, ap, subst, arith}
 use Rattle.htl_object.proofs.ObjectLaws.{object_said, fault_said, one_spelling, one_object, not_refused}
-use Rattle.htl_object.specs.Files.{first_bad}
-use Rattle.htl_object.specs.Objects.{object_at}
-use Rattle.htl_object.specs.Reading.{IsBytes}
+use Rattle.htl_object.proofs.Words.{first_bad, object_at, IsBytes, Malformed}
 use Rattle.htl_object.specs.declared.decoding.DecodeFault.TheVariants as fault
-use Rattle.htl_object.specs.declared.malformed.Malformed.{Malformed}
 use Rattle.htl_object.proofs.decoding.decode.Goals as goal
 
 pub object-requires : goal.object-requires

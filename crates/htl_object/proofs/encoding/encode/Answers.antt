@@ -1,9 +1,8 @@
 use Rattle.std.proofs.Common.{ap, ◌∙◌}
-use Rattle.std.proofs.lemmas.Result.{IfOk-weaker}
+use Rattle.htl_object.proofs.Words.{IfOk-weaker, object_bytes, object_in}
 use Rattle.htl_object.proofs.Appends.{puts_whole}
 use Rattle.htl_object.proofs.ObjectLaws.{says_itself}
 use Rattle.htl_object.proofs.encoding.encode.Goals as goal
-use Rattle.htl_object.specs.Objects.{object_bytes, object_in}
 
 pub returns-clause-spelled : goal.returns-clause-spelled
 returns-clause-spelled c =

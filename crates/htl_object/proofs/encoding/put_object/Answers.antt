@@ -1,23 +1,8 @@
 use Rattle.std.proofs.Common.{◌≡◌, ◌++◌, map, length, sym, ap, subst, ◌∙◌}
-use Rattle.std.specs.List.{flat_map}
-use Rattle.std.proofs.lemmas.List.Elements.{All-map}
-use Rattle.std.proofs.lemmas.Result.{on_ok_weaker}
-use Rattle.htl_model.specs.Lists.{list_to}
-use Rattle.htl_model.specs.Tables.{Tables, fun_of, tables_of}
+use Rattle.htl_object.proofs.Words.{flat_map, All-map, on_ok_weaker, list_to, Tables, fun_of, tables_of, Puts, comm_bytes, counts_bytes, anchors_bytes, e_code_bytes, code_bytes, inv_bytes, switch_bytes, anchors_of, codes_of, counts_in, mode_bytes, module_bytes, KeepsFunction, KeepsTypes, object_bytes, port_bytes, task_bytes, head_bytes, tail_bytes}
 use Rattle.htl_object.proofs.Appends.{appends, puts_same}
 use Rattle.htl_object.proofs.Spelled.{functions_spelled, enter_kept, begin_kept, decide_kept}
 use Rattle.htl_object.proofs.encoding.put_object.Goals as goal
-use Rattle.htl_object.specs.Bytes.{Puts}
-use Rattle.htl_object.specs.Comms.{comm_bytes}
-use Rattle.htl_object.specs.Files.{counts_bytes, anchors_bytes, e_code_bytes}
-use Rattle.htl_object.specs.Instructions.{code_bytes}
-use Rattle.htl_object.specs.Invocations.{inv_bytes, switch_bytes}
-use Rattle.htl_object.specs.Lists.{anchors_of, codes_of, counts_in}
-use Rattle.htl_object.specs.Modes.{mode_bytes}
-use Rattle.htl_object.specs.Modules.{module_bytes}
-use Rattle.htl_object.specs.Objects.{KeepsFunction, KeepsTypes, object_bytes}
-use Rattle.htl_object.specs.Ports.{port_bytes, task_bytes}
-use Rattle.htl_object.specs.Versions.{head_bytes, tail_bytes}
 
 pub returns-clause-spelled : goal.returns-clause-spelled
 returns-clause-spelled c =

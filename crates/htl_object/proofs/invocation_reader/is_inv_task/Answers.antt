@@ -1,5 +1,4 @@
-use Rattle.std.proofs.Common.{length, sym, arith}
-use Rattle.std.proofs.lemmas.Bool.{ltb-true}
+use Rattle.htl_object.proofs.Words.{length, sym, arith, ltb-true}
 use Rattle.htl_object.proofs.invocation_reader.is_inv_task.Goals as goal
 
 pub is_invoked-requires-clause-few : goal.is_invoked-requires-clause-few

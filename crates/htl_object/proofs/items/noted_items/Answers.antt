@@ -1,6 +1,4 @@
-use Rattle.std.proofs.Common.{[]}
-use Rattle.std.proofs.lemmas.Result.{err_from_is_err_and}
-use Rattle.htl_object.specs.Reading.{items_at}
+use Rattle.htl_object.proofs.Words.{[], err_from_is_err_and, items_at}
 use Rattle.htl_object.proofs.Loops.{goes_on, stops}
 use Rattle.htl_object.proofs.items.noted_items.Goals as goal
 

@@ -1,5 +1,4 @@
-use Rattle.std.proofs.Common.{length, ap, arith}
-use Rattle.htl_model.specs.Tables.{Tables}
+use Rattle.htl_object.proofs.Words.{length, ap, arith, Tables}
 use Rattle.htl_object.proofs.selections.is_node_count.Goals as goal
 
 pub are_few-requires : goal.are_few-requires

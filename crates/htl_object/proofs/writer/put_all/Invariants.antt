@@ -1,6 +1,4 @@
-use Rattle.std.proofs.Common.{take, All}
-use Rattle.std.specs.List.{flat_map}
-use Rattle.htl_object.specs.Bytes.{Puts}
+use Rattle.htl_object.proofs.Words.{take, All, flat_map, Puts}
 use Rattle.htl_object.proofs.writer.put_all.Given as goal
 
 abbrev pub invariant-loop-x : goal.invariant-loop-x

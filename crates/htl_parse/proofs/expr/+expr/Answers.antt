@@ -1,7 +1,5 @@
 use Rattle.std.proofs.Common.{rules, ◌≡◌, ◌-◌, ℕ, length, ap₂, refl, sym, subst}
-use Rattle.std.proofs.lemmas.Result.{err_from_is_err_and}
-use Rattle.htl_text.specs.Expressions.{Expr, Prefix, Infix, Choice}
-use Rattle.htl_parse.specs.ReadingExpressions.{read_expr}
+use Rattle.htl_parse.proofs.Words.{err_from_is_err_and, Expr, Prefix, Infix, Choice, read_expr}
 use Rattle.htl_parse.proofs.Climbing.{IsClimbing, climbing-start, climbing-more, climbing-stopped, climbing-done}
 use Rattle.htl_parse.proofs.Descent.{unary-plain}
 use Rattle.htl_parse.proofs.Fixed.{read_expr-is}

@@ -1,8 +1,5 @@
 use Rattle.std.proofs.Common.{◌++◌, ap, sym, ◌∙◌, List, Ok}
-use Rattle.htl_text.specs.Expressions.{Expr}
-use Rattle.htl_text.specs.Postfix.{nodes_of}
-use Rattle.htl_text.proofs.Parts.{is_expr, in_expr}
-use Rattle.htl_text.specs.declared.expression.Node.{Node}
+use Rattle.htl_parse.proofs.Words.{Expr, nodes_of, is_expr, in_expr, Node}
 use Rattle.htl_parse.proofs.expr.expr.Goals as goal
 
 pub new-requires : goal.new-requires

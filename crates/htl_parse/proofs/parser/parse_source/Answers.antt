@@ -1,10 +1,5 @@
 use Rattle.std.proofs.Common.{ℕ, List, [], ◌≡◌, map, sym, subst}
-use Rattle.htl_text.specs.Nodes.{program_of}
-use Rattle.htl_text.specs.Placed.{Placed}
-use Rattle.htl_text.specs.Statements.{SpellsSource}
-use Rattle.htl_parse.specs.Answers.{SpellNone, IsMisfit}
-use Rattle.htl_parse.specs.Reading.{left_of}
-use Rattle.htl_parse.specs.ReadingStatements.{source_at}
+use Rattle.htl_parse.proofs.Words.{program_of, Placed, SpellsSource, SpellNone, IsMisfit, left_of, source_at}
 use Rattle.htl_parse.proofs.Stopping.{misfit-left}
 use Rattle.htl_parse.proofs.Whole.{IsStopped, read-spells, stopped}
 use Rattle.htl_parse.proofs.parser.parse_source.Goals as goal

@@ -1,6 +1,4 @@
-use Rattle.std.proofs.Common.{map}
-use Rattle.htl_text.specs.Nodes.{program_of}
-use Rattle.htl_parse.specs.ReadingStatements.{source_at}
+use Rattle.htl_parse.proofs.Words.{map, program_of, source_at}
 use Rattle.htl_parse.proofs.Whole.{whole-ended, whole-more}
 use Rattle.htl_parse.proofs.parser.whole_source.Goals as goal
 

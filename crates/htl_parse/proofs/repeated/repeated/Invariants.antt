@@ -1,5 +1,4 @@
-use Rattle.std.proofs.Common.{length}
-use Rattle.htl_parse.specs.ReadingLists.{repeated_at}
+use Rattle.htl_parse.proofs.Words.{length, repeated_at}
 use Rattle.htl_parse.proofs.Repeats.{IsRepeating}
 use Rattle.htl_parse.proofs.repeated.repeated.Given as goal
 

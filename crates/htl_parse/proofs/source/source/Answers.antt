@@ -1,7 +1,5 @@
 use Rattle.std.proofs.Common.{map, refl, sym, ◌∙◌}
-use Rattle.std.proofs.lemmas.List.{map-append}
-use Rattle.htl_text.specs.Nodes.{program_of}
-use Rattle.htl_parse.specs.ReadingStatements.{begins_program, program_at, source_at}
+use Rattle.htl_parse.proofs.Words.{map-append, program_of, begins_program, program_at, source_at}
 use Rattle.htl_parse.proofs.Items.{less-read}
 use Rattle.htl_parse.proofs.Repeats.{repeat-more, program-less}
 use Rattle.htl_parse.proofs.source.source.Goals as goal

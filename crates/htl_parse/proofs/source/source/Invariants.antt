@@ -1,6 +1,4 @@
-use Rattle.std.proofs.Common.{map, length}
-use Rattle.htl_text.specs.Nodes.{program_of}
-use Rattle.htl_parse.specs.ReadingStatements.{begins_program, program_at, source_at}
+use Rattle.htl_parse.proofs.Words.{map, length, program_of, begins_program, program_at, source_at}
 use Rattle.htl_parse.proofs.Repeats.{IsRepeating}
 use Rattle.htl_parse.proofs.source.source.Given as goal
 

@@ -1,7 +1,5 @@
 use Rattle.std.proofs.Common.{◌≡◌, drop}
-use Rattle.htl_model.specs.Lists.{places_from}
-use Rattle.htl_patch.specs.Joining.{first}
-use Rattle.htl_patch.specs.United.{is_call}
+use Rattle.htl_patch.proofs.Words.{places_from, first, is_call}
 use Rattle.htl_patch.proofs.calls.call_named.Given as goal
 
 abbrev pub invariant-loop-k : goal.invariant-loop-k

@@ -1,7 +1,5 @@
 use Rattle.std.proofs.Common.{◌≡◌}
-use Rattle.htl_model.specs.Lists.{list_to}
-use Rattle.htl_patch.specs.Calls.{call_for}
-use Rattle.htl_patch.specs.United.{graft}
+use Rattle.htl_patch.proofs.Words.{list_to, call_for, graft}
 use Rattle.htl_patch.proofs.calls.calls_for.Given as goal
 
 abbrev pub invariant-loop-p : goal.invariant-loop-p

@@ -1,7 +1,5 @@
 use Rattle.std.proofs.Common.{◌≡◌, ◌≤◌, ◌*◌}
-use Rattle.htl_model.specs.Lists.{list_to}
-use Rattle.htl_model.specs.Tables.{count_before}
-use Rattle.htl_patch.specs.Firsts.{first_function}
+use Rattle.htl_patch.proofs.Words.{list_to, count_before, first_function}
 use Rattle.htl_patch.proofs.functions.firsts.Given as goal
 
 abbrev pub invariant-loop-k : goal.invariant-loop-k

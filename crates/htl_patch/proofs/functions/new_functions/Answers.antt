@@ -1,10 +1,5 @@
 use Rattle.std.proofs.Common.{◌<◌, ◌++◌, ℕ, List, length, map, All, ap, subst, sym, ◌∙◌}
-use Rattle.std.specs.List.{flat_map}
-use Rattle.htl_model.specs.Tables.{Fun, fun_of}
-use Rattle.htl_model.specs.declared.function.Function.{Function}
-use Rattle.htl_patch.specs.Patched.{order, new_numbers}
-use Rattle.htl_patch.specs.Renumbered.{Numbering, functions_of, function_of_switch}
-use Rattle.htl_patch.specs.United.{graft, united}
+use Rattle.htl_patch.proofs.Words.{flat_map, Fun, fun_of, Function, order, new_numbers, Numbering, functions_of, function_of_switch, graft, united}
 use Rattle.htl_patch.proofs.NumberLaws.{tasks_within, switches_within}
 use Rattle.htl_patch.proofs.functions.new_functions.Goals as goal
 

@@ -1,6 +1,5 @@
 use Rattle.std.proofs.Common.{◌≡◌, ◌<◌, ◌+◌, ◌++◌, ℕ, length, map, take, drop, ap, sym, ◌∙◌, refl, arith}
-use Rattle.std.proofs.lemmas.Bool.Decides.{nat_tests}
-use Rattle.htl_model.specs.Tables.{Tables, fun_of}
+use Rattle.htl_patch.proofs.Words.{nat_tests, Tables, fun_of}
 use Rattle.htl_patch.proofs.FunctionLists.{function_is_code, function_pushed}
 use Rattle.htl_patch.proofs.functions.push_functions.Goals as goal
 

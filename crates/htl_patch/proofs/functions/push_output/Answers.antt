@@ -1,8 +1,5 @@
 use Rattle.std.proofs.Common.{◌≡◌, ◌≤◌, ◌++◌, ◌-◌, ℕ, List, length, map, ap, subst, ◌∙◌, OnOk, arith}
-use Rattle.std.proofs.lemmas.Bool.Decides.{nat_tests}
-use Rattle.htl_model.specs.Tables.{Fun, fun_of}
-use Rattle.htl_patch.specs.Renumbered.{functions_of}
-use Rattle.htl_patch.specs.United.{graft}
+use Rattle.htl_patch.proofs.Words.{nat_tests, Fun, fun_of, functions_of, graft}
 use Rattle.htl_patch.proofs.FunctionParts.{of_front, of_back}
 use Rattle.htl_patch.proofs.functions.push_output.Goals as goal
 

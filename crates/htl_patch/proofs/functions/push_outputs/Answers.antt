@@ -1,8 +1,5 @@
 use Rattle.std.proofs.Common.{◌<◌, length, map, arith}
-use Rattle.std.proofs.lemmas.Bool.Decides.{nat_tests}
-use Rattle.htl_model.specs.Tables.{fun_of}
-use Rattle.htl_patch.specs.Renumbered.{functions_of}
-use Rattle.htl_patch.specs.United.{graft, united}
+use Rattle.htl_patch.proofs.Words.{nat_tests, fun_of, functions_of, graft, united}
 use Rattle.htl_patch.proofs.FunctionLists.{flat_more}
 use Rattle.htl_patch.proofs.functions.push_outputs.Goals as goal
 

@@ -1,8 +1,5 @@
 use Rattle.std.proofs.Common.{◌≡◌, ◌++◌, map, take}
-use Rattle.std.specs.List.{flat_map}
-use Rattle.htl_model.specs.Tables.{fun_of}
-use Rattle.htl_patch.specs.Renumbered.{functions_of}
-use Rattle.htl_patch.specs.United.{graft, united}
+use Rattle.htl_patch.proofs.Words.{flat_map, fun_of, functions_of, graft, united}
 use Rattle.htl_patch.proofs.functions.push_outputs.Given as goal
 
 abbrev pub invariant-loop-k : goal.invariant-loop-k

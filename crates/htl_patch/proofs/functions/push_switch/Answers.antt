@@ -1,8 +1,5 @@
 use Rattle.std.proofs.Common.{◌≡◌, ◌≤◌, ◌++◌, ◌-◌, ◌∷◌, [], ℕ, length, map, ap, subst, ◌∙◌, OnOk, arith}
-use Rattle.std.proofs.lemmas.Bool.Decides.{nat_tests}
-use Rattle.htl_model.specs.Tables.{Fun, fun_of}
-use Rattle.htl_patch.specs.Renumbered.{function_of_switch}
-use Rattle.htl_patch.specs.United.{graft}
+use Rattle.htl_patch.proofs.Words.{nat_tests, Fun, fun_of, function_of_switch, graft}
 use Rattle.htl_patch.proofs.FunctionParts.{switch_front, switch_back}
 use Rattle.htl_patch.proofs.functions.push_switch.Goals as goal
 

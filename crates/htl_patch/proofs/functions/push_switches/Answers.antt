@@ -1,8 +1,5 @@
 use Rattle.std.proofs.Common.{◌<◌, length, map, arith}
-use Rattle.std.proofs.lemmas.Bool.Decides.{nat_tests}
-use Rattle.htl_model.specs.Tables.{fun_of}
-use Rattle.htl_patch.specs.Renumbered.{function_of_switch}
-use Rattle.htl_patch.specs.United.{graft, united}
+use Rattle.htl_patch.proofs.Words.{nat_tests, fun_of, function_of_switch, graft, united}
 use Rattle.htl_patch.proofs.FunctionLists.{map_more}
 use Rattle.htl_patch.proofs.functions.push_switches.Goals as goal
 

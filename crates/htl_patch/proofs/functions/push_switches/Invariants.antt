@@ -1,7 +1,5 @@
 use Rattle.std.proofs.Common.{◌≡◌, ◌++◌, map, take}
-use Rattle.htl_model.specs.Tables.{fun_of}
-use Rattle.htl_patch.specs.Renumbered.{function_of_switch}
-use Rattle.htl_patch.specs.United.{graft, united}
+use Rattle.htl_patch.proofs.Words.{fun_of, function_of_switch, graft, united}
 use Rattle.htl_patch.proofs.functions.push_switches.Given as goal
 
 abbrev pub invariant-loop-k : goal.invariant-loop-k

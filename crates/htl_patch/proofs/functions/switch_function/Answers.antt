@@ -1,6 +1,4 @@
-use Rattle.std.proofs.Common.{length, ap, arith}
-use Rattle.std.proofs.lemmas.List.{length-map}
-use Rattle.htl_model.specs.Tables.{Tables, fun_of}
+use Rattle.htl_patch.proofs.Words.{length, ap, arith, length-map, Tables, fun_of}
 use Rattle.htl_patch.proofs.functions.switch_function.Goals as goal
 
 pub overflow_sub-result : goal.overflow_sub-result

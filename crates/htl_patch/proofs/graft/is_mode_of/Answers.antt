@@ -1,7 +1,5 @@
 use Rattle.std.proofs.Common.{◌+◌, ℕ, eqb, [], length, map, ap, sym, ◌∙◌}
-use Rattle.htl_model.specs.Tables.{Tables}
-use Rattle.htl_model.specs.declared.parts.Mode.{Mode}
-use Rattle.htl_patch.specs.United.{graft, donor_mode}
+use Rattle.htl_patch.proofs.Words.{Tables, Mode, graft, donor_mode}
 use Rattle.htl_patch.proofs.NewItems.{here, there}
 use Rattle.htl_patch.proofs.graft.is_mode_of.Goals as goal
 

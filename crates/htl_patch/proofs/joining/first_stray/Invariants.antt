@@ -1,7 +1,5 @@
 use Rattle.std.proofs.Common.{◌≡◌, drop}
-use Rattle.htl_model.specs.Lists.{places_from}
-use Rattle.htl_patch.specs.Joining.{first, is_stray, first_stray}
-use Rattle.htl_patch.specs.United.{graft}
+use Rattle.htl_patch.proofs.Words.{places_from, first, is_stray, first_stray, graft}
 use Rattle.htl_patch.proofs.joining.first_stray.Given as goal
 
 abbrev pub invariant-loop-k : goal.invariant-loop-k

@@ -1,7 +1,5 @@
 use Rattle.std.proofs.Common.{◌<◌, length, ap, refl, arith}
-use Rattle.std.proofs.lemmas.Bool.Decides.{nat_tests}
-use Rattle.htl_patch.specs.Joining.{first_twice}
-use Rattle.htl_patch.specs.United.{graft}
+use Rattle.htl_patch.proofs.Words.{nat_tests, first_twice, graft}
 use Rattle.htl_patch.proofs.JoinLaws.{twice_next, twice_found}
 use Rattle.htl_patch.proofs.joining.first_twice.Goals as goal
 

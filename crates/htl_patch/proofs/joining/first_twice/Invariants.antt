@@ -1,7 +1,5 @@
 use Rattle.std.proofs.Common.{◌≡◌, drop}
-use Rattle.htl_model.specs.Lists.{first_some, numbered}
-use Rattle.htl_patch.specs.Joining.{twice_at, first_twice}
-use Rattle.htl_patch.specs.United.{graft}
+use Rattle.htl_patch.proofs.Words.{first_some, numbered, twice_at, first_twice, graft}
 use Rattle.htl_patch.proofs.joining.first_twice.Given as goal
 
 abbrev pub invariant-loop-k : goal.invariant-loop-k

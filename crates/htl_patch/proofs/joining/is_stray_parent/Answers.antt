@@ -1,6 +1,5 @@
 use Rattle.std.proofs.Common.{◌∙◌, Some, None, ap, sym}
-use Rattle.htl_patch.specs.Joining.{is_taken}
-use Rattle.htl_patch.specs.United.{graft}
+use Rattle.htl_patch.proofs.Words.{is_taken, graft}
 use Rattle.htl_patch.proofs.JoinLaws.{calls_within, call_is, stray_met, stray_unmet, inv_unit}
 use Rattle.htl_patch.proofs.joining.is_stray_parent.Goals as goal
 

@@ -1,5 +1,4 @@
-use Rattle.std.proofs.Common.{length, ap}
-use Rattle.htl_patch.specs.United.{graft}
+use Rattle.htl_patch.proofs.Words.{length, ap, graft}
 use Rattle.htl_patch.proofs.JoinLaws.{taken_is}
 use Rattle.htl_patch.proofs.joining.is_taken.Goals as goal
 

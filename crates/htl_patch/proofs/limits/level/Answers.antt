@@ -1,7 +1,5 @@
 use Rattle.std.proofs.Common.{◌≡◌, ◌<◌, arith}
-use Rattle.std.proofs.lemmas.Bool.Decides.{nat_tests}
-use Rattle.htl_patch.specs.Joining.{level}
-use Rattle.htl_patch.specs.Levels.{upright}
+use Rattle.htl_patch.proofs.Words.{nat_tests, level, upright}
 use Rattle.htl_patch.proofs.LevelLaws.{level_more, level_top, level_end, level_start}
 use Rattle.htl_patch.proofs.limits.level.Goals as goal
 

@@ -1,6 +1,5 @@
 use Rattle.std.proofs.Common.{◌≡◌, ◌≤◌, ◌+◌, ◌-◌}
-use Rattle.htl_patch.specs.Joining.{level}
-use Rattle.htl_patch.specs.Levels.{upright}
+use Rattle.htl_patch.proofs.Words.{level, upright}
 use Rattle.htl_patch.proofs.limits.level.Given as goal
 
 abbrev pub invariant-loop-left : goal.invariant-loop-left

@@ -1,6 +1,4 @@
-use Rattle.std.proofs.Common.{arith}
-use Rattle.htl_patch.specs.Joining.{level}
-use Rattle.htl_patch.specs.Levels.{upright}
+use Rattle.htl_patch.proofs.Words.{arith, level, upright}
 use Rattle.htl_patch.proofs.LevelLaws.{greatest_next}
 use Rattle.htl_patch.proofs.limits.levels.Goals as goal
 

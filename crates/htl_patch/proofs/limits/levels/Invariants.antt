@@ -1,8 +1,5 @@
 use Rattle.std.proofs.Common.{◌≡◌, ◌≤◌}
-use Rattle.htl_model.specs.Lists.{list_to}
-use Rattle.htl_model.specs.Tables.{greatest}
-use Rattle.htl_patch.specs.Joining.{level}
-use Rattle.htl_patch.specs.Levels.{upright}
+use Rattle.htl_patch.proofs.Words.{list_to, greatest, level, upright}
 use Rattle.htl_patch.proofs.limits.levels.Given as goal
 
 abbrev pub invariant-loop-unit : goal.invariant-loop-unit

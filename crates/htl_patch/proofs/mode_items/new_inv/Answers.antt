@@ -1,8 +1,5 @@
 use Rattle.std.proofs.Common.{◌≡◌, IfOk, length, ap, subst, arith}
-use Rattle.std.proofs.lemmas.Bool.Decides.{nat_tests}
-use Rattle.htl_model.specs.declared.parts.Inv.{Inv}
-use Rattle.htl_patch.specs.Patched.{new_numbers}
-use Rattle.htl_patch.specs.United.{graft}
+use Rattle.htl_patch.proofs.Words.{nat_tests, Inv, new_numbers, graft}
 use Rattle.htl_patch.proofs.NewItems.{inv_here, inv_there, inv_parent_in}
 use Rattle.htl_patch.proofs.mode_items.new_inv.Goals as goal
 

@@ -1,7 +1,5 @@
 use Rattle.std.proofs.Common.{◌≡◌, ℕ, map, take}
-use Rattle.htl_patch.specs.Patched.{new_numbers}
-use Rattle.htl_patch.specs.Renumbered.{inv_at, new_inv}
-use Rattle.htl_patch.specs.United.{graft, united}
+use Rattle.htl_patch.proofs.Words.{new_numbers, inv_at, new_inv, graft, united}
 use Rattle.htl_patch.proofs.mode_items.new_invs.Given as goal
 
 abbrev pub invariant-loop-k : goal.invariant-loop-k

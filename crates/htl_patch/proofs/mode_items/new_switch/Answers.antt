@@ -1,8 +1,5 @@
 use Rattle.std.proofs.Common.{◌≡◌, IfOk, length, ap, subst, arith}
-use Rattle.std.proofs.lemmas.Bool.Decides.{nat_tests}
-use Rattle.htl_model.specs.declared.parts.Switch.{Switch}
-use Rattle.htl_patch.specs.Patched.{new_numbers}
-use Rattle.htl_patch.specs.United.{graft}
+use Rattle.htl_patch.proofs.Words.{nat_tests, Switch, new_numbers, graft}
 use Rattle.htl_patch.proofs.NewItems.{switch_here, switch_there}
 use Rattle.htl_patch.proofs.mode_items.new_switch.Goals as goal
 

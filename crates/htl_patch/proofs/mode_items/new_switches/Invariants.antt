@@ -1,7 +1,5 @@
 use Rattle.std.proofs.Common.{◌≡◌, ℕ, map, take}
-use Rattle.htl_patch.specs.Patched.{new_numbers}
-use Rattle.htl_patch.specs.Renumbered.{switch_at, new_switch}
-use Rattle.htl_patch.specs.United.{graft, united}
+use Rattle.htl_patch.proofs.Words.{new_numbers, switch_at, new_switch, graft, united}
 use Rattle.htl_patch.proofs.mode_items.new_switches.Given as goal
 
 abbrev pub invariant-loop-k : goal.invariant-loop-k

@@ -1,8 +1,5 @@
 use Rattle.std.proofs.Common.{◌≡◌, ◌<◌, ℕ, List, length, get_or, ap, subst, sym, ◌∙◌, IfOk, arith}
-use Rattle.std.specs.List.{flat_map}
-use Rattle.std.specs.List.Sorted.{IsNonDecreasing}
-use Rattle.htl_patch.specs.Owners.{owned_by}
-use Rattle.htl_patch.specs.United.{graft, united}
+use Rattle.htl_patch.proofs.Words.{flat_map, IsNonDecreasing, owned_by, graft, united}
 use Rattle.htl_patch.proofs.BothOwners.{invs_low, invs_joined, invs_rise, invs_few}
 use Rattle.htl_patch.proofs.NumberLaws.{owned_invs}
 use Rattle.htl_patch.proofs.numbers.invs_in.Goals as goal

@@ -1,7 +1,5 @@
 use Rattle.std.proofs.Common.{◌+◌, length, ◌∙◌, ap, arith}
-use Rattle.htl_patch.specs.Patched.{new_numbers}
-use Rattle.htl_patch.specs.Renumbered.{Numbering}
-use Rattle.htl_patch.specs.United.{graft, united, donor_port, donor_task, donor_inv}
+use Rattle.htl_patch.proofs.Words.{new_numbers, Numbering, graft, united, donor_port, donor_task, donor_inv}
 use Rattle.htl_patch.proofs.Grafting.{CanGraft}
 use Rattle.htl_patch.proofs.JoinLaws.{places_are, both_count}
 use Rattle.htl_patch.proofs.NumberLaws.{few_units, few_modes, few_tasks, few_ports, few_invs}

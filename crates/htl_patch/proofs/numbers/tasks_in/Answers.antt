@@ -1,8 +1,5 @@
 use Rattle.std.proofs.Common.{◌≡◌, ◌<◌, ℕ, List, length, get_or, ap, subst, sym, ◌∙◌, IfOk, arith}
-use Rattle.std.specs.List.{flat_map}
-use Rattle.std.specs.List.Sorted.{IsNonDecreasing}
-use Rattle.htl_patch.specs.Owners.{owned_by}
-use Rattle.htl_patch.specs.United.{graft, united}
+use Rattle.htl_patch.proofs.Words.{flat_map, IsNonDecreasing, owned_by, graft, united}
 use Rattle.htl_patch.proofs.BothOwners.{tasks_low, tasks_joined, tasks_rise, tasks_few}
 use Rattle.htl_patch.proofs.NumberLaws.{owned_tasks}
 use Rattle.htl_patch.proofs.numbers.tasks_in.Goals as goal

@@ -1,5 +1,4 @@
-use Rattle.std.proofs.Common.{[]}
-use Rattle.htl_patch.specs.Owners.{owned_by}
+use Rattle.htl_patch.proofs.Words.{[], owned_by}
 use Rattle.htl_patch.proofs.FunctionLists.{flat_more}
 use Rattle.htl_patch.proofs.owned.owned.Goals as goal
 

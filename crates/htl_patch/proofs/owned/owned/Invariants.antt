@@ -1,6 +1,5 @@
 use Rattle.std.proofs.Common.{◌≡◌, take}
-use Rattle.std.specs.List.{flat_map}
-use Rattle.htl_patch.specs.Owners.{owned_by}
+use Rattle.htl_patch.proofs.Words.{flat_map, owned_by}
 use Rattle.htl_patch.proofs.owned.owned.Given as goal
 
 abbrev pub invariant-loop-k : goal.invariant-loop-k

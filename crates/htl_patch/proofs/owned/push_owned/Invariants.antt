@@ -1,6 +1,5 @@
 use Rattle.std.proofs.Common.{◌≡◌, ◌≤◌, ◌++◌, ◌-◌, length, drop}
-use Rattle.htl_model.specs.Lists.{places_from}
-use Rattle.htl_patch.specs.Owners.{is_owner, owned_by}
+use Rattle.htl_patch.proofs.Words.{places_from, is_owner, owned_by}
 use Rattle.htl_patch.proofs.owned.push_owned.Given as goal
 
 abbrev pub invariant-loop-place : goal.invariant-loop-place

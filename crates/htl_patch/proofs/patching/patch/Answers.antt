@@ -1,5 +1,4 @@
-use Rattle.std.proofs.Common.{subst}
-use Rattle.htl_object.specs.Accepted.{IsAccepted}
+use Rattle.htl_patch.proofs.Words.{subst, IsAccepted}
 use Rattle.htl_patch.proofs.Answering.{only, refused}
 use Rattle.htl_patch.proofs.patching.patch.Goals as goal
 

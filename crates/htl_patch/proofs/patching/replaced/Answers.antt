@@ -1,12 +1,5 @@
 use Rattle.std.proofs.Common.{◌≡◌, ℕ, Some, All, subst}
-use Rattle.htl_load.specs.Alike.{AskTheSame}
-use Rattle.htl_model.specs.Broken.{KeepsLimits}
-use Rattle.htl_object.specs.Accepted.{IsAccepted}
-use Rattle.htl_object.specs.Ranges.{IsFunctionCode}
-use Rattle.htl_object.specs.declared.object.Object.{Object}
-use Rattle.htl_patch.specs.Joining.{graft_of, Joins}
-use Rattle.htl_patch.specs.Patched.{patched}
-use Rattle.htl_patch.specs.United.{Graft, graft}
+use Rattle.htl_patch.proofs.Words.{AskTheSame, KeepsLimits, IsAccepted, IsFunctionCode, Object, graft_of, Joins, patched, Graft, graft}
 use Rattle.htl_patch.proofs.Accepting.{graft_is}
 use Rattle.htl_patch.proofs.Answering.{graft_named, made_ok, made_err, given, patched_by, late_stop, early_stop}
 use Rattle.htl_patch.proofs.patching.replaced.Goals as goal

@@ -1,9 +1,5 @@
 use Rattle.std.proofs.Common.{◌≡◌, ◌<◌, ℕ, List, length, map, All, ap, subst, sym, ◌∙◌}
-use Rattle.htl_model.specs.Ranges.{AreInRange}
-use Rattle.htl_model.specs.Tables.{fun_of}
-use Rattle.htl_patch.specs.Patched.{order, new_numbers, patched}
-use Rattle.htl_patch.specs.Renumbered.{Numbering, port_at, task_at, inv_at, switch_at, new_port, new_task, new_inv, new_switch}
-use Rattle.htl_patch.specs.United.{graft, united}
+use Rattle.htl_patch.proofs.Words.{AreInRange, fun_of, order, new_numbers, patched, Numbering, port_at, task_at, inv_at, switch_at, new_port, new_task, new_inv, new_switch, graft, united}
 use Rattle.htl_patch.proofs.Assembling.{made, same_tables}
 use Rattle.htl_patch.proofs.NumberLaws.{ports_within, tasks_within, invs_within, switches_within}
 use Rattle.htl_patch.proofs.tables.assembled.Goals as goal

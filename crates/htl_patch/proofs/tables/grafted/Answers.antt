@@ -1,8 +1,5 @@
 use Rattle.std.proofs.Common.{ℕ, List, length, ap, subst, sym, ◌∙◌}
-use Rattle.htl_patch.specs.Patched.{order}
-use Rattle.htl_patch.specs.Placed.{ArePlacesOf}
-use Rattle.htl_patch.specs.Renumbered.{Numbering}
-use Rattle.htl_patch.specs.United.{graft, united}
+use Rattle.htl_patch.proofs.Words.{order, ArePlacesOf, Numbering, graft, united}
 use Rattle.htl_patch.proofs.tables.grafted.Goals as goal
 
 pub join_fault-requires-clause-units : goal.join_fault-requires-clause-units

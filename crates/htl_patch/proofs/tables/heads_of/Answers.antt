@@ -1,7 +1,5 @@
 use Rattle.std.proofs.Common.{◌<◌, ℕ, List, length, map, All, ap, subst, sym, ◌∙◌}
-use Rattle.htl_patch.specs.Patched.{order, new_numbers}
-use Rattle.htl_patch.specs.Renumbered.{Numbering, mode_at, module_at, new_mode, new_module}
-use Rattle.htl_patch.specs.United.{graft, united}
+use Rattle.htl_patch.proofs.Words.{order, new_numbers, Numbering, mode_at, module_at, new_mode, new_module, graft, united}
 use Rattle.htl_patch.proofs.Grafting.{CanGraft}
 use Rattle.htl_patch.proofs.NumberLaws.{order_within, modes_within}
 use Rattle.htl_patch.proofs.tables.heads_of.Goals as goal

@@ -1,10 +1,5 @@
 use Rattle.std.proofs.Common.{◌≡◌, ap, subst, sym, ◌∙◌}
-use Rattle.htl_patch.specs.Joining.{exceeded, first_limit}
-use Rattle.htl_patch.specs.Levels.{sizes_of, AreFewNumbers}
-use Rattle.htl_patch.specs.Numbers.{numbering_of}
-use Rattle.htl_patch.specs.Patched.{patched}
-use Rattle.htl_patch.specs.Renumbered.{Numbering}
-use Rattle.htl_patch.specs.United.{graft}
+use Rattle.htl_patch.proofs.Words.{exceeded, first_limit, sizes_of, AreFewNumbers, numbering_of, patched, Numbering, graft}
 use Rattle.htl_patch.proofs.Assembling.{joined, limited}
 use Rattle.htl_patch.proofs.Grafting.{CanGraft}
 use Rattle.htl_patch.proofs.LimitLaws.{few_numbers, limit_is, levels_upright}

@@ -1,7 +1,5 @@
 use Rattle.std.proofs.Common.{length, ap, ◌∙◌, arith}
-use Rattle.std.proofs.lemmas.Bool.Decides.{nat_tests}
-use Rattle.htl_patch.specs.Patched.{new_numbers}
-use Rattle.htl_patch.specs.United.{graft}
+use Rattle.htl_patch.proofs.Words.{nat_tests, new_numbers, graft}
 use Rattle.htl_patch.proofs.NewItems.{module_here, module_there, guest_parent_in}
 use Rattle.htl_patch.proofs.unit_items.new_module.Goals as goal
 

@@ -1,7 +1,5 @@
 use Rattle.std.proofs.Common.{◌≡◌, ℕ, map, take}
-use Rattle.htl_patch.specs.Patched.{new_numbers}
-use Rattle.htl_patch.specs.Renumbered.{module_at, new_module}
-use Rattle.htl_patch.specs.United.{graft, united}
+use Rattle.htl_patch.proofs.Words.{new_numbers, module_at, new_module, graft, united}
 use Rattle.htl_patch.proofs.unit_items.new_modules.Given as goal
 
 abbrev pub invariant-loop-k : goal.invariant-loop-k

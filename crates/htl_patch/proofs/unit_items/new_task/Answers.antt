@@ -1,8 +1,5 @@
 use Rattle.std.proofs.Common.{◌≡◌, length, ap, subst, IfOk, arith}
-use Rattle.std.proofs.lemmas.Bool.Decides.{nat_tests}
-use Rattle.htl_model.specs.declared.parts.Task.{Task}
-use Rattle.htl_patch.specs.Patched.{new_numbers}
-use Rattle.htl_patch.specs.United.{graft}
+use Rattle.htl_patch.proofs.Words.{nat_tests, Task, new_numbers, graft}
 use Rattle.htl_patch.proofs.NewItems.{task_here, task_there}
 use Rattle.htl_patch.proofs.unit_items.new_task.Goals as goal
 

@@ -1,7 +1,5 @@
 use Rattle.std.proofs.Common.{◌≡◌, ℕ, map, take}
-use Rattle.htl_patch.specs.Patched.{new_numbers}
-use Rattle.htl_patch.specs.Renumbered.{task_at, new_task}
-use Rattle.htl_patch.specs.United.{graft, united}
+use Rattle.htl_patch.proofs.Words.{new_numbers, task_at, new_task, graft, united}
 use Rattle.htl_patch.proofs.unit_items.new_tasks.Given as goal
 
 abbrev pub invariant-loop-k : goal.invariant-loop-k

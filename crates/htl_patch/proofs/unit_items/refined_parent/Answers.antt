@@ -1,5 +1,4 @@
-use Rattle.std.proofs.Common.{arith}
-use Rattle.htl_patch.specs.United.{graft}
+use Rattle.htl_patch.proofs.Words.{arith, graft}
 use Rattle.htl_patch.proofs.NewItems.{refined_small}
 use Rattle.htl_patch.proofs.unit_items.refined_parent.Goals as goal
 

@@ -1,7 +1,5 @@
 use Rattle.std.proofs.Common.{◌≡◌, List, ℕ, ◌∙◌, ap, sym, subst}
-use Rattle.htl_model.specs.Ranges.{AreInRange}
-use Rattle.htl_model.specs.Tables.{Tables, tables_of}
-use Rattle.htl_platform.specs.Applied.{with_worst}
+use Rattle.htl_platform.proofs.Words.{AreInRange, Tables, tables_of, with_worst}
 use Rattle.htl_platform.proofs.WorstRanges.{timed_in_range}
 use Rattle.htl_platform.proofs.applying.apply.Goals as goal
 

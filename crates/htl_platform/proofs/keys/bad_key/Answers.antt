@@ -1,6 +1,5 @@
 use Rattle.std.proofs.Common.{ap, sym, ◌∙◌}
-use Rattle.toml.specs.View.{table_view}
-use Rattle.htl_model.specs.Tables.{Tables}
+use Rattle.htl_platform.proofs.Words.{table_view, Tables}
 use Rattle.htl_platform.proofs.KeyLaws.{bad_key-index}
 use Rattle.htl_platform.proofs.keys.bad_key.Goals as goal
 

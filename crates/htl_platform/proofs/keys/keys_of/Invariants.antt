@@ -1,5 +1,4 @@
-use Rattle.std.proofs.Common.{take}
-use Rattle.htl_platform.specs.Keys.{Holds, keys_of}
+use Rattle.htl_platform.proofs.Words.{take, Holds, keys_of}
 use Rattle.htl_platform.proofs.keys.keys_of.Given as goal
 
 abbrev pub invariant-loop-k : goal.invariant-loop-k

@@ -1,6 +1,5 @@
 use Rattle.std.proofs.Common.{is_some, sym, ap, ◌∙◌}
-use Rattle.std.proofs.lemmas.Bool.{false≢true}
-use Rattle.toml.specs.View.{table_view}
+use Rattle.htl_platform.proofs.Words.{false≢true, table_view}
 use Rattle.htl_platform.proofs.ShapeLaws.{has_name-from_shape}
 use Rattle.htl_platform.proofs.reading.name_in.Goals as goal
 

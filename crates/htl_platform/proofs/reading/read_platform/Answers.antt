@@ -1,8 +1,5 @@
 use Rattle.std.proofs.Common.{◌≡◌, ℕ, List, All, subst, sym, ap, ◌∙◌}
-use Rattle.toml.specs.View.{table_view}
-use Rattle.htl_model.specs.Ranges.{IsSpan}
-use Rattle.htl_model.specs.Tables.{Tables}
-use Rattle.htl_platform.specs.Entries.{worst_of}
+use Rattle.htl_platform.proofs.Words.{table_view, IsSpan, Tables, worst_of}
 use Rattle.htl_platform.proofs.SpanLaws.{spans}
 use Rattle.htl_platform.proofs.reading.read_platform.Goals as goal
 

@@ -1,7 +1,5 @@
 use Rattle.std.proofs.Common.{◌≡◌, map, take}
-use Rattle.toml.specs.View.{table_view}
-use Rattle.htl_platform.specs.Entries.{worst_of}
-use Rattle.htl_platform.specs.Platforms.{worst_in}
+use Rattle.htl_platform.proofs.Words.{table_view, worst_of, worst_in}
 use Rattle.htl_platform.proofs.reading.worst_cases.Given as goal
 
 abbrev pub invariant-loop-k : goal.invariant-loop-k

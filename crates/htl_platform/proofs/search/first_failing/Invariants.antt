@@ -1,7 +1,5 @@
 use Rattle.std.proofs.Common.{◌≡◌, ◌+◌, ◌<◌, ◌^◌, length}
-use Rattle.toml.specs.View.{members_view}
-use Rattle.htl_platform.specs.Entries.{entries_of}
-use Rattle.htl_platform.specs.Faults.{first_failing}
+use Rattle.htl_platform.proofs.Words.{members_view, entries_of, first_failing}
 use Rattle.htl_platform.proofs.search.first_failing.Given as goal
 
 abbrev pub invariant-entries : goal.invariant-entries

@@ -1,6 +1,5 @@
 use Rattle.std.proofs.Common.{◌≡◌, ◌∙◌}
-use Rattle.toml.specs.View.{table_view}
-use Rattle.htl_platform.specs.Entries.{worst_of}
+use Rattle.htl_platform.proofs.Words.{table_view, worst_of}
 use Rattle.htl_platform.proofs.TableLaws.{first_failing-equal}
 use Rattle.htl_platform.proofs.table.first_in_worst.Goals as goal
 

@@ -1,8 +1,5 @@
 use Rattle.std.proofs.Common.{◌≡◌, Some, Option, ◌∙◌, ap}
-use Rattle.std.specs.Prelude.{codes, option_and_then}
-use Rattle.toml.specs.Data.{Data, get_member, as_table}
-use Rattle.toml.specs.View.{view, table_view}
-use Rattle.htl_platform.specs.Entries.{members_or}
+use Rattle.htl_platform.proofs.Words.{codes, option_and_then, Data, get_member, as_table, view, table_view, members_or}
 use Rattle.htl_platform.proofs.table.worst_table.Goals as goal
 
 pub returns-in-Some : goal.returns-in-Some

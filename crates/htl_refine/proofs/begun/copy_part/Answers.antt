@@ -1,6 +1,5 @@
 use Rattle.std.proofs.Common.{◌≡◌, ◌-◌, length, drop, ap, arith}
-use Rattle.std.proofs.lemmas.List.{length-drop, length-take-le}
-use Rattle.std.proofs.lemmas.Slice.{drop-put_mid}
+use Rattle.htl_refine.proofs.Words.{length-drop, length-take-le, drop-put_mid}
 use Rattle.htl_refine.proofs.begun.copy_part.Goals as goal
 
 pub returns-clause-rest : goal.returns-clause-rest

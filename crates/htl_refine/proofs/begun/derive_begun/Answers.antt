@@ -1,8 +1,5 @@
 use Rattle.std.proofs.Common.{length, take, ◌++◌, ◌≡◌, refl, sym, ap, ◌∙◌, subst, arith}
-use Rattle.std.specs.List.{All}
-use Rattle.htl_walk.specs.PathJobs.{placed_jobs}
-use Rattle.htl_walk.specs.Placing.{HasTimes}
-use Rattle.htl_refine.specs.BegunJobs.{new_places}
+use Rattle.htl_refine.proofs.Words.{All, placed_jobs, HasTimes, new_places}
 use Rattle.htl_refine.proofs.BegunTimes.{new_times}
 use Rattle.htl_refine.proofs.NewJobs.{places_are, jobs_are, end_is}
 use Rattle.htl_refine.proofs.begun.derive_begun.Goals as goal

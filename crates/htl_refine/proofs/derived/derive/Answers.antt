@@ -1,11 +1,5 @@
 use Rattle.std.proofs.Common.{◌≡◌, ◌∙◌, ap, ℕ, List, Option, length, arith}
-use Rattle.std.proofs.lemmas.List.{length-map}
-use Rattle.htl_model.specs.Chosen.{chosen}
-use Rattle.htl_model.specs.Tables.{Tables}
-use Rattle.htl_model.proofs.FrameRules.{kept_apart}
-use Rattle.htl_walk.specs.Jobs.{job_of}
-use Rattle.htl_refine.specs.BegunJobs.{new_jobs}
-use Rattle.htl_refine.specs.ConcreteJobs.{running_positions, standing}
+use Rattle.htl_refine.proofs.Words.{length-map, chosen, Tables, kept_apart, job_of, new_jobs, running_positions, standing}
 use Rattle.htl_refine.proofs.FirstRound.{new_are}
 use Rattle.htl_refine.proofs.Inherit.{refinement}
 use Rattle.htl_refine.proofs.RootSelection.{few_positions}

@@ -1,13 +1,5 @@
 use Rattle.std.proofs.Common.{◌≡◌, ◌∙◌, ℕ, List, Option, length, take, sym, ap, subst, arith}
-use Rattle.std.specs.List.{All}
-use Rattle.std.proofs.lemmas.List.{length-map}
-use Rattle.htl_model.specs.Frames.{starts}
-use Rattle.htl_model.specs.Tables.{Tables}
-use Rattle.htl_model.specs.declared.frame.Place.{Place}
-use Rattle.htl_walk.specs.declared.job.Job.{Job}
-use Rattle.htl_walk.specs.PathJobs.{placed_job, placed_jobs}
-use Rattle.htl_walk.specs.Placing.{HasTimes}
-use Rattle.htl_refine.specs.DerivedPaths.{begun_places, begun_jobs, modes_of_all}
+use Rattle.htl_refine.proofs.Words.{All, length-map, starts, Tables, Place, Job, placed_job, placed_jobs, HasTimes, begun_places, begun_jobs, modes_of_all}
 use Rattle.htl_refine.proofs.AlongPath.{jobs_along}
 use Rattle.htl_refine.proofs.AlongServing.{refines_along, serves_along}
 use Rattle.htl_refine.proofs.BegunPlaces.{begun_few, selections_of, as_many}

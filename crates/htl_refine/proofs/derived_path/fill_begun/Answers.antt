@@ -1,7 +1,5 @@
 use Rattle.std.proofs.Common.{◌<◌, length, get_or, take, arith, ◌∙◌}
-use Rattle.htl_model.specs.Frames.{starts}
-use Rattle.htl_walk.proofs.CodeWalk.{start_read}
-use Rattle.htl_refine.specs.DerivedPaths.{begun_places, modes_of_all}
+use Rattle.htl_refine.proofs.Words.{starts, start_read, begun_places, modes_of_all}
 use Rattle.htl_refine.proofs.BegunPlaces.{begun_step, begun_room, modes_read, as_many}
 use Rattle.htl_refine.proofs.derived_path.fill_begun.Goals as goal
 

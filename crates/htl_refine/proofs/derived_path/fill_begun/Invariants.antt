@@ -1,6 +1,5 @@
 use Rattle.std.proofs.Common.{◌≡◌, ◌+◌, ◌++◌, length, take, drop}
-use Rattle.htl_model.specs.Frames.{starts}
-use Rattle.htl_refine.specs.DerivedPaths.{begun_places, modes_of_all}
+use Rattle.htl_refine.proofs.Words.{starts, begun_places, modes_of_all}
 use Rattle.htl_refine.proofs.derived_path.fill_begun.Given as goal
 
 abbrev pub invariant-loop-j : goal.invariant-loop-j

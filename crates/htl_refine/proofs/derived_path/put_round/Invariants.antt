@@ -1,8 +1,5 @@
 use Rattle.std.proofs.Common.{◌≡◌, ◌+◌, ◌++◌, length, map, take, drop}
-use Rattle.htl_model.specs.Lists.{places_from}
-use Rattle.htl_model.specs.Selections.{inv_of_mode, invs_of}
-use Rattle.htl_model.specs.Frames.{places_of}
-use Rattle.htl_refine.specs.DerivedPaths.{standing_place}
+use Rattle.htl_refine.proofs.Words.{places_from, inv_of_mode, invs_of, places_of, standing_place}
 use Rattle.htl_refine.proofs.derived_path.put_round.Given as goal
 
 abbrev pub invariant-loop-k : goal.invariant-loop-k

@@ -1,9 +1,5 @@
-use Rattle.std.proofs.Common.{arith, rules}
-use Rattle.htl_model.specs.Ranges.{IsInvInRange}
-use Rattle.htl_model.proofs.BitLaws.{no_bits}
-use Rattle.htl_model.proofs.StartLaws.{first_start}
+use Rattle.htl_refine.proofs.Words.{arith, rules, IsInvInRange, no_bits, first_start, all_at}
 use Rattle.htl_refine.proofs.order.note_modes.Goals as goal
-use Rattle.htl_base.proofs.Places.{all_at}
 
 pub loop-m-init : goal.loop-m-init
 loop-m-init c =

@@ -1,7 +1,5 @@
 use Rattle.std.proofs.Common.{◌≡◌, ◌≤◌, ◌+◌, drop}
-use Rattle.htl_model.specs.Lists.{places_from}
-use Rattle.htl_model.specs.Selections.{mode_of_module, modes_of}
-use Rattle.htl_refine.specs.Roots.{place_among}
+use Rattle.htl_refine.proofs.Words.{places_from, mode_of_module, modes_of, place_among}
 use Rattle.htl_refine.proofs.roots.mode_place.Given as goal
 
 abbrev pub invariant-loop-k : goal.invariant-loop-k

@@ -1,6 +1,5 @@
 use Rattle.std.proofs.Common.{sym, ◌∙◌, subst, ap}
-use Rattle.std.specs.Bool.{Decides}
-use Rattle.htl_model.specs.Selected.{is_selection, IsSelection}
+use Rattle.htl_refine.proofs.Words.{Decides, is_selection, IsSelection}
 use Rattle.htl_refine.proofs.SelectedLaws.{selection_is}
 use Rattle.htl_refine.proofs.selection.is_selection.Goals as goal
 

@@ -1,10 +1,5 @@
 use Rattle.std.proofs.Common.{◌≡◌, ◌∙◌, ℕ, Bool, true, false, cond, List, Some, None, ap, sym, refl}
-use Rattle.std.proofs.lemmas.Bool.{both_ways}
-use Rattle.std.specs.Prelude.{IsSome}
-use Rattle.std.specs.Option.{option_map}
-use Rattle.std.specs.Ordering.{nat_cmp}
-use Rattle.std.specs.Cmp.Lexicographic.{slice_cmp}
-use Rattle.std.specs.declared.cmp.Ordering.{Ordering}
+use Rattle.htl_script.proofs.Words.{both_ways, IsSome, option_map, nat_cmp, slice_cmp, Ordering}
 use Rattle.htl_script.proofs.index.compare_sensor.Goals as goal
 
 compared : (sensor : Bool) (name text : List ℕ) (r : Ordering) → IsSome (cond sensor (Some name) None) → r ≡ slice_cmp nat_cmp name text

@@ -1,10 +1,6 @@
 use Rattle.std.proofs.Common.{◌≡◌, ◌∙◌, sym, ap, ℤ, Result, Ok, rules, Option}
-use Rattle.htl_model.specs.declared.event.Event.{Event}
+use Rattle.htl_script.proofs.Words.{Event, ScriptKind, signed_of, is_value, Ty}
 use Rattle.htl_model.specs.declared.event.Event.TheVariants as event
-use Rattle.htl_script.specs.declared.fault.ScriptKind.{ScriptKind}
-use Rattle.htl_script.specs.Numbers.{signed_of}
-use Rattle.htl_script.specs.Judging.{is_value}
-use Rattle.htl_base.specs.declared.Ty.{Ty}
 use Rattle.htl_script.proofs.Judged.{sense_range, sense_value}
 use Rattle.htl_script.proofs.judge.sense.Goals as goal
 

@@ -1,6 +1,4 @@
-use Rattle.std.proofs.Common.{sym, ap, Option}
-use Rattle.htl_script.specs.Statements.{Statement}
-use Rattle.htl_script.specs.Judging.{judged_statement}
+use Rattle.htl_script.proofs.Words.{sym, ap, Option, Statement, judged_statement}
 use Rattle.htl_script.proofs.Judged.{statement_of-many}
 use Rattle.htl_script.proofs.judge.statement.Goals as goal
 

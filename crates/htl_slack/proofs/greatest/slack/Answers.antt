@@ -1,8 +1,5 @@
 use Rattle.std.proofs.Common.{◌≡◌, ◌≤◌, ◌<◌, length, sym, ◌∙◌, ap, subst, arith}
-use Rattle.htl_model.specs.Frames.{frame_limit, nodes}
-use Rattle.htl_model.specs.Tables.{Tables, task_worst}
-use Rattle.htl_edf.specs.Greatest.{with_worst}
-use Rattle.htl_edf.specs.NodePlans.{AreReady, ExplainsNodes}
+use Rattle.htl_edf.proofs.Words.{frame_limit, nodes, Tables, task_worst, with_worst, AreReady, ExplainsNodes}
 use Rattle.htl_edf.proofs.FrameTasks.{limits_with_worst}
 use Rattle.htl_edf.proofs.PathOrder.{ready}
 use Rattle.htl_slack.proofs.RootTasks.{task_below, own_span, own_within, limit_small}

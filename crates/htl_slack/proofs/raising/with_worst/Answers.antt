@@ -1,7 +1,6 @@
 use Rattle.std.proofs.Common.{◌≡◌, ◌∙◌, ap, sym, subst}
-use Rattle.htl_model.specs.Ranges.{AreInRange}
+use Rattle.htl_edf.proofs.Words.{AreInRange, with_worst}
 use Rattle.htl_model.specs.Tables.{Tables, tables_of}
-use Rattle.htl_edf.specs.Greatest.{with_worst}
 use Rattle.htl_slack.proofs.Ranges.{raised_in_range}
 use Rattle.htl_slack.proofs.raising.with_worst.Goals as goal
 

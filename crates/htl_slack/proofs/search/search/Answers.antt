@@ -1,6 +1,5 @@
 use Rattle.std.proofs.Common.{◌≡◌, ◌+◌, ◌-◌, ◌/◌, ◌∙◌, sym, subst, arith}
-use Rattle.htl_model.specs.Tables.{Tables, task_worst}
-use Rattle.htl_edf.specs.Greatest.{with_worst, Fits}
+use Rattle.htl_edf.proofs.Words.{Tables, task_worst, with_worst, Fits}
 use Rattle.htl_edf.proofs.ReadyTasks.{own_worst}
 use Rattle.htl_slack.specs.Slack.{NoneOverloaded, IsFirstOverload}
 use Rattle.htl_slack.proofs.Searching.{own_fits, is_greatest, middle, try_ready, try_frame}

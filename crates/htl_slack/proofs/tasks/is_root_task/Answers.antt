@@ -1,6 +1,5 @@
 use Rattle.std.proofs.Common.{◌≡◌, ◌∙◌, ap, sym}
-use Rattle.std.specs.List.{list_any}
-use Rattle.htl_model.specs.Tables.{Tables}
+use Rattle.htl_edf.proofs.Words.{list_any, Tables}
 use Rattle.htl_slack.specs.RootTasks.{calls}
 use Rattle.htl_slack.proofs.RootTasks.{found, finding}
 use Rattle.htl_slack.proofs.tasks.is_root_task.Goals as goal

@@ -1,5 +1,4 @@
-use Rattle.std.proofs.Common.{take, arith}
-use Rattle.std.proofs.lemmas.List.{length-take}
+use Rattle.htl_smach.proofs.Words.{take, arith, length-take}
 use Rattle.htl_smach.proofs.Joined.{front}
 use Rattle.htl_smach.proofs.machine.copy_front.Goals as goal
 

@@ -1,6 +1,5 @@
 use Rattle.std.proofs.Common.{◌≡◌, ◌||◌, Bool, true, false, cond, eqb, refl, sym, ◌∙◌, ap, arith}
-use Rattle.htl_model.specs.Bits.{has_bit}
-use Rattle.htl_walk.proofs.PendingLaws.{cleared}
+use Rattle.htl_smach.proofs.Words.{has_bit, cleared}
 use Rattle.htl_smach.proofs.position_states.put_bit.Goals as goal
 
 one_more : (a b : Bool) → (a || b) ≡ cond b true a

@@ -1,12 +1,8 @@
 use Rattle.std.proofs.Common.{arith, ◌<◌, ◌-◌, ℕ, List, length, sym, subst, ap, refl}
-use Rattle.std.specs.List.{zip}
-use Rattle.htl_text.specs.Entries.{tokens_in, offsets_of}
-use Rattle.htl_text.specs.Scanning.{IsFront}
+use Rattle.htl_text.proofs.Words.{zip, tokens_in, offsets_of, IsFront, Entry, Front}
 use Rattle.htl_text.proofs.Cutting.{cut-char, cut-number, cut-name, cut-shorter, not_empty, is_empty, skip-fits}
 use Rattle.htl_text.proofs.Keeping.{AreKeeping, AreKeeping-all, AreKeeping-push}
 use Rattle.htl_text.proofs.Lengths.{token_len-fits}
-use Rattle.htl_text.specs.declared.entry.Entry.{Entry}
-use Rattle.htl_text.specs.declared.scan.Front.{Front}
 use Rattle.htl_text.proofs.lexer.read_tokens.Goals as goal
 
 pub hold-requires : goal.hold-requires

@@ -1,6 +1,4 @@
-use Rattle.std.proofs.Common.{take}
-use Rattle.htl_text.specs.PrintedBytes.{Adds}
-use Rattle.htl_text.specs.PrintedTokens.{after_commas}
+use Rattle.htl_text.proofs.Words.{take, Adds, after_commas}
 use Rattle.htl_text.proofs.printer.after_commas.Given as goal
 
 abbrev pub invariant-loop-item : goal.invariant-loop-item

@@ -1,6 +1,4 @@
-use Rattle.std.proofs.Common.{take}
-use Rattle.htl_text.specs.PrintedBytes.{Adds}
-use Rattle.htl_text.specs.PrintedTokens.{each}
+use Rattle.htl_text.proofs.Words.{take, Adds, each}
 use Rattle.htl_text.proofs.printer.each.Given as goal
 
 abbrev pub invariant-loop-item : goal.invariant-loop-item

@@ -1,6 +1,5 @@
 use Rattle.std.proofs.Common.{rules, to_z, of_z, w64, ◌≡◌, sym, subst, ℤ}
-use Rattle.htl_text.specs.PrintedBytes.{Adds}
-use Rattle.htl_text.specs.PrintedTokens.{number_tokens}
+use Rattle.htl_text.proofs.Words.{Adds, number_tokens}
 use Rattle.htl_text.proofs.printing.+term.Goals as goal
 
 pub returns-in-Int : goal.returns-in-Int

@@ -1,6 +1,4 @@
-use Rattle.std.proofs.Common.{take}
-use Rattle.htl_text.specs.PrintedBytes.{Adds}
-use Rattle.htl_text.specs.PrintedTokens.{each, port_tokens}
+use Rattle.htl_text.proofs.Words.{take, Adds, each, port_tokens}
 use Rattle.htl_text.proofs.printing.ports.Given as goal
 
 abbrev pub invariant-loop-port : goal.invariant-loop-port

@@ -1,7 +1,4 @@
-use Rattle.std.specs.Prelude.{map}
-use Rattle.std.proofs.lemmas.Result.{IfOk-weaker}
-use Rattle.htl_text.specs.Nodes.{program_of}
-use Rattle.htl_text.specs.PrintedTokens.{each, program_tokens}
+use Rattle.htl_text.proofs.Words.{IfOk-weaker, program_of, each, program_tokens, map}
 use Rattle.htl_text.proofs.Writing.{Adds-each_of, Adds-whole}
 use Rattle.htl_text.proofs.printing.print.Goals as goal
 

@@ -1,6 +1,5 @@
 use Rattle.std.proofs.Common.{◌≡◌, ◌≤◌, ◌+◌, length}
-use Rattle.std.specs.List.{prefix_len}
-use Rattle.htl_base.specs.Names.{is_word_byte}
+use Rattle.htl_text.proofs.Words.{prefix_len, is_word_byte}
 use Rattle.htl_text.proofs.scan.behind_fours.Given as goal
 
 abbrev pub invariant-loop-rest : goal.invariant-loop-rest

@@ -1,6 +1,5 @@
 use Rattle.std.proofs.Common.{arith, is_some, sym, ap, ◌∙◌}
-use Rattle.std.specs.Char.{is_ascii_digit}
-use Rattle.std.proofs.lemmas.List.Sums.{prefix_len-le-length}
+use Rattle.htl_text.proofs.Words.{is_ascii_digit, prefix_len-le-length}
 use Rattle.htl_text.proofs.Fronts.{front-digits, front-number, front-short, front-large}
 use Rattle.htl_text.proofs.scan.number_front.Goals as goal
 

@@ -1,6 +1,5 @@
 use Rattle.std.proofs.Common.{arith, sym, ◌∙◌}
-use Rattle.std.proofs.lemmas.List.Sums.{prefix_len-le-length}
-use Rattle.htl_base.specs.Names.{is_word_byte}
+use Rattle.htl_text.proofs.Words.{prefix_len-le-length, is_word_byte}
 use Rattle.htl_text.proofs.Fronts.{front-word, front-name, front-long}
 use Rattle.htl_text.proofs.scan.word_front.Goals as goal
 

@@ -1,6 +1,4 @@
-use Rattle.std.proofs.Common.{arith}
-use Rattle.std.proofs.lemmas.List.Sums.{prefix_len-le-length}
-use Rattle.htl_base.specs.Names.{is_word_byte}
+use Rattle.htl_text.proofs.Words.{arith, prefix_len-le-length, is_word_byte}
 use Rattle.htl_text.proofs.scan.word_len.Goals as goal
 
 pub overflow_sub-result : goal.overflow_sub-result

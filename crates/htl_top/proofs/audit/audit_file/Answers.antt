@@ -1,12 +1,6 @@
-use Rattle.std.proofs.Common.{List, Some, ℕ, sym, subst}
-use Rattle.htl_load.specs.Loading.{HasBytes}
+use Rattle.htl_top.proofs.Vocabulary.{List, Some, ℕ, sym, subst, HasBytes, files, streams, IsAuditOf, IsObjectTables, SpeaksOf, Outcome}
 use Rattle.htl_top.proofs.AuditFiles.{audit_done}
 use Rattle.htl_top.proofs.Fetching.{fetching_speaks}
-use Rattle.htl_top.specs.Answers.{files, streams}
-use Rattle.htl_top.specs.Audited.{IsAuditOf}
-use Rattle.htl_top.specs.Objects.{IsObjectTables}
-use Rattle.htl_top.specs.ErrorLines.{SpeaksOf}
-use Rattle.htl_top.specs.declared.outcome.Outcome.{Outcome}
 use Rattle.htl_top.proofs.audit.audit_file.Goals as goal
 
 pub returns-in-Err-clause-tables : goal.returns-in-Err-clause-tables

@@ -1,16 +1,7 @@
 use Rattle.std.proofs.Common.{Option, Ok, Err, refl, sym, ap, ◌∙◌, arith, subst}
-use Rattle.htl_audit.specs.Auditing.{IsAudited}
-use Rattle.htl_console.specs.declared.shown.Shown.TheVariants.{Values}
-use Rattle.htl_model.specs.declared.event.Event.{Event}
-use Rattle.htl_script.proofs.Taken.{taken_none, taken_on, taken_more, taken_all}
-use Rattle.htl_script.specs.Reading.{LosesFront}
-use Rattle.htl_script.specs.Streaming.{Gives, Goes, IsAnswer, LosesPiece, at_start}
-use Rattle.htl_script.specs.declared.fault.ScriptFault.{ScriptFault}
-use Rattle.htl_script.specs.declared.fault.ScriptStop.{ScriptStop}
+use Rattle.htl_top.proofs.Vocabulary.{IsAudited, Values, Event, taken_none, taken_on, taken_more, taken_all, LosesFront, Gives, Goes, IsAnswer, LosesPiece, at_start, ScriptFault, ScriptStop, streams, IsFaultyRun}
 use Rattle.htl_top.proofs.AuditStreaming.{IsAuditHeard, IsAuditOver, audit_start, audit_heard, audit_told_on, audit_told_cut, audit_read_cut, audit_over, audit_faulty, concluded}
 use Rattle.htl_top.proofs.Streaming.{rose_since}
-use Rattle.htl_top.specs.Answers.{streams}
-use Rattle.htl_top.specs.Runs.{IsFaultyRun}
 use Rattle.htl_top.proofs.audit_play.play_audit.Given as given
 use Rattle.htl_top.proofs.audit_play.play_audit.Goals as goal
 use Rattle.htl_top.proofs.audit_play.play_audit.Goals.{After-next, In-Ok-Some, In-Ok-None}

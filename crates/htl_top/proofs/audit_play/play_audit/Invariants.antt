@@ -1,7 +1,5 @@
 use Rattle.std.proofs.Common.{◌≡◌, ◌-◌, true, Ok}
-use Rattle.htl_script.specs.Orders.{IsIndex}
-use Rattle.htl_script.specs.Streaming.{LosesPiece, at_start}
-use Rattle.htl_top.specs.AuditPlaying.{IsAuditPlaying}
+use Rattle.htl_top.proofs.Vocabulary.{IsIndex, LosesPiece, at_start, IsAuditPlaying}
 use Rattle.htl_top.proofs.audit_play.play_audit.Given as goal
 
 abbrev pub invariant-events : goal.invariant-events

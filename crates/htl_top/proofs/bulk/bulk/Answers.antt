@@ -1,6 +1,4 @@
-use Rattle.std.proofs.Common.{ℕ, List, sym, subst}
-use Rattle.htl_compile.specs.Building.{IsCompiledTo}
-use Rattle.htl_compile.specs.BulkTree.{bulk_bytes}
+use Rattle.htl_top.proofs.Vocabulary.{ℕ, List, sym, subst, IsCompiledTo, bulk_bytes}
 use Rattle.htl_top.proofs.Bulking.{bulk_put}
 use Rattle.htl_top.proofs.bulk.bulk.Goals as goal
 

@@ -1,9 +1,6 @@
 use Rattle.std.proofs.Common.{ℕ, ◌*◌, List, [], refl, sym, ap, ◌∙◌, subst}
-use Rattle.htl_edge.proofs.Puts.{append_known-start, Puts-failed, Puts-second}
-use Rattle.htl_edge.specs.Content.{Puts}
-use Rattle.htl_object.specs.declared.object.Object.{Object}
+use Rattle.htl_top.proofs.Vocabulary.{append_known-start, Puts-failed, Puts-second, Puts, Object, object_text, readings_of}
 use Rattle.htl_top.proofs.Bulking.{seen_behind, values_count}
-use Rattle.htl_top.specs.Bulk.{object_text, readings_of}
 use Rattle.htl_top.proofs.bulk.write_measured.Goals as goal
 
 pub returns-in-Err : goal.returns-in-Err

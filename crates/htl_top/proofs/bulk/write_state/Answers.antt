@@ -1,8 +1,4 @@
-use Rattle.std.proofs.Common.{length}
-use Rattle.htl_edge.proofs.Puts.{Puts-second}
-use Rattle.htl_model.specs.Lines.{lines_text, totals_line}
-use Rattle.htl_model.specs.Lists.{up_to}
-use Rattle.htl_top.specs.Bulk.{value_seen}
+use Rattle.htl_top.proofs.Vocabulary.{length, Puts-second, lines_text, totals_line, up_to, value_seen}
 use Rattle.htl_top.proofs.bulk.write_state.Goals as goal
 
 pub returns : goal.returns

@@ -1,5 +1,4 @@
-use Rattle.htl_machine.proofs.Putting.{IsPutting}
-use Rattle.htl_top.specs.Bulk.{value_seen}
+use Rattle.htl_top.proofs.Vocabulary.{IsPutting, value_seen}
 use Rattle.htl_top.proofs.bulk.write_values.Given as goal
 
 abbrev pub invariant-loop-c : goal.invariant-loop-c

@@ -1,6 +1,4 @@
-use Rattle.std.proofs.Common.{Some, ap}
-use Rattle.htl_top.specs.Answers.{files}
-use Rattle.htl_top.specs.Checked.{check_text}
+use Rattle.htl_top.proofs.Vocabulary.{Some, ap, files, check_text}
 use Rattle.htl_top.proofs.ObjectAnswering.{IsTextOnObject-opened}
 use Rattle.htl_top.proofs.check.check_file.Goals as goal
 

@@ -1,6 +1,5 @@
-use Rattle.std.proofs.Common.{Some}
+use Rattle.htl_top.proofs.Vocabulary.{Some, most_taken, with_file}
 use Rattle.htl_top.proofs.Inputs.{taken_none}
-use Rattle.htl_top.specs.Words.{most_taken, with_file}
 use Rattle.htl_top.proofs.commands.about_file.Goals as goal
 
 pub returns-in-Check-clause-taken : goal.returns-in-Check-clause-taken

@@ -1,15 +1,8 @@
-use Rattle.std.proofs.Common.{Some, refl, sym, subst}
+use Rattle.htl_top.proofs.Vocabulary.{Some, refl, sym, subst, LosesFront, files, streams, IsBulked, IsCall, HasSource, HasObject, SpeaksOf, asked_for, most_taken, Asked}
 use Rattle.htl_top.proofs.Bulking.{bulked_of}
 use Rattle.htl_top.proofs.Inputs.{taken_none}
 use Rattle.htl_top.proofs.ErrorLineNames.{SpeaksOf-bulk}
-use Rattle.htl_script.specs.Reading.{LosesFront}
 use Rattle.htl_top.proofs.Slacking.{IsOnObject-slack}
-use Rattle.htl_top.specs.Answers.{files, streams}
-use Rattle.htl_top.specs.Bulk.{IsBulked}
-use Rattle.htl_top.specs.Calls.{IsCall, HasSource, HasObject}
-use Rattle.htl_top.specs.ErrorLines.{SpeaksOf}
-use Rattle.htl_top.specs.Words.{asked_for, most_taken}
-use Rattle.htl_top.specs.declared.words.Asked.{Asked}
 use Rattle.htl_top.proofs.commands.answered.Goals as goal
 
 pub returns-in-Bulk-clause-answer : goal.returns-in-Bulk-clause-answer

@@ -1,7 +1,6 @@
 use Rattle.htl_top.proofs.ErrorLineNames.{SpeaksOf-stop}
 use Rattle.htl_top.proofs.Stopping.{of_answer}
-use Rattle.htl_top.specs.Sources.{HasTypedTables}
-use Rattle.htl_top.specs.ErrorLines.{SpeaksOf}
+use Rattle.htl_top.proofs.Vocabulary.{HasTypedTables, SpeaksOf}
 use Rattle.htl_top.proofs.compile.compile.Goals as goal
 
 pub returns-in-Err-clause-tables : goal.returns-in-Err-clause-tables

@@ -1,7 +1,5 @@
-use Rattle.std.proofs.Common.{List, ℕ, Some, refl, sym, subst}
+use Rattle.htl_top.proofs.Vocabulary.{List, ℕ, Some, refl, sym, subst, files, IsSource}
 use Rattle.htl_top.proofs.Inputs.{taken_none}
-use Rattle.htl_top.specs.Answers.{files}
-use Rattle.htl_top.specs.Causes.{IsSource}
 use Rattle.htl_top.proofs.compile.compile_for_file.Goals as goal
 
 pub returns-in-Ok-clause-answer : goal.returns-in-Ok-clause-answer

@@ -1,7 +1,5 @@
-use Rattle.std.proofs.Common.{List, ℕ, subst}
+use Rattle.htl_top.proofs.Vocabulary.{List, ℕ, subst, streams, IsBytesCompiled}
 use Rattle.htl_top.proofs.Compiling.{IsCompiling-bytes}
-use Rattle.htl_top.specs.Answers.{streams}
-use Rattle.htl_top.specs.Compiling.{IsBytesCompiled}
 use Rattle.htl_top.proofs.compile.compile_input.Goals as goal
 
 pub returns-in-Ok-clause-answer : goal.returns-in-Ok-clause-answer

@@ -1,10 +1,6 @@
-use Rattle.std.proofs.Common.{List, ℕ, subst}
+use Rattle.htl_top.proofs.Vocabulary.{List, ℕ, subst, streams, IsBytesCompiledOn, HasTypedOn, IsTypedOn, SpeaksOf}
 use Rattle.htl_top.proofs.CompilingOn.{IsCompilingOn-bytes}
 use Rattle.htl_top.proofs.ErrorLineNames.{SpeaksOf-source, in_files}
-use Rattle.htl_top.specs.Answers.{streams}
-use Rattle.htl_top.specs.CompilingOn.{IsBytesCompiledOn}
-use Rattle.htl_top.specs.SourcesOn.{HasTypedOn, IsTypedOn}
-use Rattle.htl_top.specs.ErrorLines.{SpeaksOf}
 use Rattle.htl_top.proofs.compile.compile_input_on.Goals as goal
 
 pub returns-in-Ok-clause-answer : goal.returns-in-Ok-clause-answer

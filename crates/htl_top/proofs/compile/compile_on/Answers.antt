@@ -1,7 +1,6 @@
 use Rattle.htl_top.proofs.ErrorLineNames.{SpeaksOf-stop-on}
 use Rattle.htl_top.proofs.Stopping.{of_answer}
-use Rattle.htl_top.specs.SourcesOn.{HasTypedOn}
-use Rattle.htl_top.specs.ErrorLines.{SpeaksOf}
+use Rattle.htl_top.proofs.Vocabulary.{HasTypedOn, SpeaksOf}
 use Rattle.htl_top.proofs.compile.compile_on.Goals as goal
 
 pub returns-in-Err-clause-tables : goal.returns-in-Err-clause-tables

@@ -1,12 +1,7 @@
-use Rattle.std.proofs.Common.{inl}
-use Rattle.htl_compile.specs.Built.{built}
-use Rattle.htl_console.specs.declared.shown.Shown.TheVariants.{Jobs}
+use Rattle.htl_top.proofs.Vocabulary.{inl, built, Jobs, streams, HasTypedTables, SpeaksOf}
 use Rattle.htl_top.proofs.Going.{bytes_run}
 use Rattle.htl_top.proofs.ErrorLineNames.{SpeaksOf-run, SpeaksOf-stop}
 use Rattle.htl_top.proofs.Stopping.{of_answer}
-use Rattle.htl_top.specs.Answers.{streams}
-use Rattle.htl_top.specs.Sources.{HasTypedTables}
-use Rattle.htl_top.specs.ErrorLines.{SpeaksOf}
 use Rattle.htl_top.proofs.Inputs.{taken_none}
 use Rattle.htl_top.proofs.go.go.Goals as goal
 

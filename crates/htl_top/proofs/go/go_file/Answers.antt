@@ -1,7 +1,5 @@
-use Rattle.std.proofs.Common.{List, ℕ, Some, refl, subst}
+use Rattle.htl_top.proofs.Vocabulary.{List, ℕ, Some, refl, subst, files, streams, IsBytesGoing}
 use Rattle.htl_top.proofs.Going.{IsGoing-bytes}
-use Rattle.htl_top.specs.Answers.{files, streams}
-use Rattle.htl_top.specs.Going.{IsBytesGoing}
 use Rattle.htl_top.proofs.Inputs.{taken_none}
 use Rattle.htl_top.proofs.go.go_file.Goals as goal
 

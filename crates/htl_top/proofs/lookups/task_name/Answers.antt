@@ -1,7 +1,5 @@
 use Rattle.std.proofs.Common.{◌≡◌, List, ℕ, [], Option, Some, None, ap, sym, ◌∙◌}
-use Rattle.std.specs.Prelude.{slice_get}
-use Rattle.htl_model.specs.Tables.{Tables}
-use Rattle.htl_model.specs.declared.parts.Inv.{Inv}
+use Rattle.htl_top.proofs.Vocabulary.{slice_get, Tables, Inv}
 use Rattle.htl_model.specs.declared.parts.Task.{Task}
 use Rattle.htl_top.proofs.Found.{found_at, none_at}
 use Rattle.htl_top.proofs.lookups.task_name.Goals as goal

@@ -1,9 +1,5 @@
-use Rattle.std.proofs.Common.{Some, sym, subst}
+use Rattle.htl_top.proofs.Vocabulary.{Some, sym, subst, files, IsObjectTables, IsStopped, SpeaksOf, Outcome}
 use Rattle.htl_top.proofs.Fetching.{fetching_speaks, unfetched_stops}
-use Rattle.htl_top.specs.Answers.{files}
-use Rattle.htl_top.specs.Objects.{IsObjectTables, IsStopped}
-use Rattle.htl_top.specs.ErrorLines.{SpeaksOf}
-use Rattle.htl_top.specs.declared.outcome.Outcome.{Outcome}
 use Rattle.htl_top.proofs.object.open.Goals as goal
 
 pub returns-in-Err-clause-stopped : goal.returns-in-Err-clause-stopped

@@ -1,7 +1,4 @@
-use Rattle.std.proofs.Common.{sym, subst}
-use Rattle.htl_load.specs.Loading.{HasBytes}
-use Rattle.htl_object.specs.Accepted.{IsAccepted}
-use Rattle.htl_object.specs.declared.object.Object.{Object}
+use Rattle.htl_top.proofs.Vocabulary.{sym, subst, HasBytes, IsAccepted, Object}
 use Rattle.htl_top.proofs.object.read_object.Goals as goal
 
 pub returns-in-Ok-tested : goal.returns-in-Ok-tested

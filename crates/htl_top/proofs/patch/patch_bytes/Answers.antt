@@ -1,9 +1,7 @@
-use Rattle.std.proofs.Common.{inl, Some}
+use Rattle.htl_top.proofs.Vocabulary.{inl, Some, IsObjectTables, HasPatchedTables, IsPatchedTables}
 use Rattle.htl_top.proofs.ErrorLineNames.{SpeaksOf-donor}
 use Rattle.htl_top.proofs.PatchedObjects.{in_both_files}
 use Rattle.htl_top.proofs.Patching.{IsPatchOfFiles-stop, SpeaksOf-unloaded}
-use Rattle.htl_top.specs.Objects.{IsObjectTables}
-use Rattle.htl_top.specs.PatchedFiles.{HasPatchedTables, IsPatchedTables}
 use Rattle.htl_top.proofs.patch.patch_bytes.Goals as goal
 
 pub returns-in-Ok-clause-answer : goal.returns-in-Ok-clause-answer

@@ -1,10 +1,5 @@
-use Rattle.std.proofs.Common.{List, ℕ, Some, sym, subst}
+use Rattle.htl_top.proofs.Vocabulary.{List, ℕ, Some, sym, subst, files, IsObjectFile, IsObjectTables, IsPatchedTables, SpeaksOf, Outcome}
 use Rattle.htl_top.proofs.Fetching.{fetching_speaks}
-use Rattle.htl_top.specs.Answers.{files}
-use Rattle.htl_top.specs.Objects.{IsObjectFile, IsObjectTables}
-use Rattle.htl_top.specs.PatchedFiles.{IsPatchedTables}
-use Rattle.htl_top.specs.ErrorLines.{SpeaksOf}
-use Rattle.htl_top.specs.declared.outcome.Outcome.{Outcome}
 use Rattle.htl_top.proofs.patch.patch_file.Goals as goal
 
 pub returns-in-Err-clause-tables : goal.returns-in-Err-clause-tables

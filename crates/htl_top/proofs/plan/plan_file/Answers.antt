@@ -1,6 +1,4 @@
-use Rattle.std.proofs.Common.{Some}
-use Rattle.htl_top.specs.Answers.{files, streams}
-use Rattle.htl_top.specs.Planned.{IsPlanned}
+use Rattle.htl_top.proofs.Vocabulary.{Some, files, streams, IsPlanned}
 use Rattle.htl_top.proofs.ObjectAnswering.{IsOnObject-opened}
 use Rattle.htl_top.proofs.Inputs.{taken_none}
 use Rattle.htl_top.proofs.plan.plan_file.Goals as goal

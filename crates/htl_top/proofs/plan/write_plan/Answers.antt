@@ -1,10 +1,6 @@
 use Rattle.std.proofs.Common.{◌≡◌, ℕ, List, Some, take, ap, sym, subst, ◌∙◌}
-use Rattle.htl_edge.specs.Content.{Puts}
+use Rattle.htl_top.proofs.Vocabulary.{Puts, KeptApart, hyper, Tables, frame_jobs, path_of}
 use Rattle.htl_edge.specs.declared.Failed.{Failed}
-use Rattle.htl_model.specs.FrameRules.{KeptApart}
-use Rattle.htl_model.specs.Frames.{hyper}
-use Rattle.htl_model.specs.Tables.{Tables}
-use Rattle.htl_refine.specs.FrameRuns.{frame_jobs, path_of}
 use Rattle.htl_top.proofs.NoneOverloaded.{keeps_apart}
 use Rattle.htl_top.proofs.PlanFrame.{path_count, path_inside, plan_is}
 use Rattle.htl_top.proofs.plan.write_plan.Goals as goal

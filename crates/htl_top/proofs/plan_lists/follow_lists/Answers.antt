@@ -1,22 +1,10 @@
 use Rattle.std.proofs.Common.{◌≡◌, ◌≤◌, ◌<◌, ◌+◌, ◌++◌, ℕ, suc, List, length, drop, get_or, add-one, ap, sym, refl, subst, ◌∙◌, arith}
-use Rattle.htl_model.specs.FrameTables.{IsFrame}
-use Rattle.htl_model.specs.Frames.{starts}
-use Rattle.htl_model.specs.Tables.{Tables}
-use Rattle.htl_model.specs.declared.frame.Frame.{Frame}
-use Rattle.htl_walk.proofs.CodeWalk.{start_read}
-use Rattle.htl_walk.specs.Feasible.{lists_of}
-use Rattle.htl_walk.specs.NodeWalks.{instrs_of}
-use Rattle.htl_walk.specs.PathJobs.{legs}
-use Rattle.htl_walk.specs.Paths.{end_to_end, walk_path, walks_from}
-use Rattle.htl_walk.specs.declared.schedule.SInstr.{SInstr}
-use Rattle.htl_walk.specs.Walk.{Point, last_point, walk_from, worst_cases}
+use Rattle.htl_top.proofs.Vocabulary.{IsFrame, starts, Tables, Frame, start_read, lists_of, instrs_of, legs, end_to_end, walk_path, walks_from, SInstr, Point, last_point, walk_from, worst_cases, walk_text, length-walk}
 use Rattle.htl_top.proofs.ListByList.{list_next, lists_end, path_leg, path_legs, path_list, path_lists}
 use Rattle.htl_top.proofs.ToldRecords.{IsTold, IsTold-start, IsTold-step, IsTold-cut, IsTold-all, IsTold-count, IsTold-few, IsTold-many, few_finish}
-use Rattle.htl_top.specs.Planned.{walk_text}
 use Rattle.htl_top.proofs.plan_lists.follow_lists.Given as given
 use Rattle.htl_top.proofs.plan_lists.follow_lists.Goals as goal
 use Rattle.htl_top.proofs.plan_lists.follow_lists.Goals.{After-follow}
-use Rattle.htl_refine.proofs.WorkDone.{length-walk}
 
 -- behind the last start there is no list
 no_list_behind : (t : Tables) (f : Frame) (lists : List (List SInstr)) (path j : ℕ) → IsFrame t f → f.count ≤ j → length (lists_of t lists path) ≤ j

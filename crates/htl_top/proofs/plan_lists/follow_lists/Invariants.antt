@@ -1,9 +1,5 @@
 use Rattle.std.proofs.Common.{◌≡◌, ◌≤◌, ◌*◌, length, drop}
-use Rattle.htl_walk.specs.Feasible.{lists_of}
-use Rattle.htl_walk.specs.NodeWalks.{instrs_of}
-use Rattle.htl_walk.specs.PathJobs.{legs}
-use Rattle.htl_walk.specs.Paths.{end_to_end, walk_path, walks_from}
-use Rattle.htl_walk.specs.Walk.{worst_cases}
+use Rattle.htl_top.proofs.Vocabulary.{lists_of, instrs_of, legs, end_to_end, walk_path, walks_from, worst_cases}
 use Rattle.htl_top.proofs.ToldRecords.{IsTold}
 use Rattle.htl_top.proofs.plan_lists.follow_lists.Given as goal
 

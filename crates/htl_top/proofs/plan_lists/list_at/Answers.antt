@@ -1,8 +1,5 @@
 use Rattle.std.proofs.Common.{◌≤◌, ◌<◌, List, length, get_or, ap, subst, ◌∙◌, arith}
-use Rattle.htl_model.specs.Frames.{node}
-use Rattle.htl_model.specs.Tables.{Tables}
-use Rattle.htl_walk.specs.declared.schedule.SInstr.{SInstr}
-use Rattle.htl_walk.specs.declared.schedule.Schedule.{Schedule}
+use Rattle.htl_top.proofs.Vocabulary.{node, Tables, SInstr, Schedule}
 use Rattle.htl_top.proofs.ListByList.{list_is, list_known, node_inside}
 use Rattle.htl_top.proofs.plan_lists.list_at.Goals as goal
 

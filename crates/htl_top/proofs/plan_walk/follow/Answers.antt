@@ -1,7 +1,5 @@
 use Rattle.std.proofs.Common.{◌+◌, ℕ, [], ◌∷◌, get_or, ap, arith, add-one, ◌∙◌, sym, refl}
-use Rattle.std.proofs.lemmas.Option.{slice_get-get_or}
-use Rattle.htl_walk.specs.declared.schedule.SInstr.TheVariants.{Dispatch}
-use Rattle.htl_walk.specs.Walk.{Point, left_by, next_point}
+use Rattle.htl_top.proofs.Vocabulary.{slice_get-get_or, Dispatch, Point, left_by, next_point}
 use Rattle.htl_top.proofs.PlanWalk.{left_next, last_next, last_reached, nothing_left, one_finish, one_text}
 use Rattle.htl_top.proofs.ToldRecords.{IsTold-start, IsTold-step, IsTold-cut, IsTold-all, IsTold-count, IsTold-few}
 use Rattle.htl_top.proofs.plan_walk.follow.Goals as goal

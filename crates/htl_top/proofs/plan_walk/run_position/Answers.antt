@@ -1,8 +1,5 @@
 use Rattle.std.proofs.Common.{arith, ◌≡◌, ◌<◌, ℕ, List, length, get_or, set, Option, Some, None, ap, ap₂, sym, ◌∙◌}
-use Rattle.std.proofs.lemmas.Option.{slice_get-get_or}
-use Rattle.htl_walk.specs.declared.job.Job.{Job}
-use Rattle.htl_walk.specs.Jobs.{absent_job}
-use Rattle.htl_walk.specs.Walk.{Point, dispatch_begins, finishes_by, job_at, slice_between, time_after, work_after}
+use Rattle.htl_top.proofs.Vocabulary.{slice_get-get_or, Job, absent_job, Point, dispatch_begins, finishes_by, job_at, slice_between, time_after, work_after}
 use Rattle.htl_top.proofs.plan_walk.run_position.Goals as goal
 
 -- the job at a position is what code reads there

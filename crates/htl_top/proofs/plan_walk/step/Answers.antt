@@ -1,11 +1,7 @@
 use Rattle.std.proofs.Common.{◌<◌, ◌++◌, arith, ap, sym, subst, ◌∙◌, List, ℕ, length}
-use Rattle.htl_walk.specs.declared.schedule.SInstr.{SInstr}
-use Rattle.htl_walk.specs.Following.{IsKnown}
-use Rattle.htl_walk.specs.Walk.{Point, next_point, left_by, finished_by}
-use Rattle.htl_top.specs.Planned.{left_text, slice_text, done_text}
+use Rattle.htl_top.proofs.Vocabulary.{SInstr, IsKnown, Point, next_point, left_by, finished_by, left_text, slice_text, done_text, nothing_put}
 use Rattle.htl_top.proofs.PlanWalk.{dispatch_finished, dispatch_text, Puts-same, Puts-same_cut}
 use Rattle.htl_top.proofs.plan_walk.step.Goals as goal
-use Rattle.htl_machine.proofs.Printing.{nothing_put}
 
 pub returns-in-Idle-clause-put : goal.returns-in-Idle-clause-put
 returns-in-Idle-clause-put g c =

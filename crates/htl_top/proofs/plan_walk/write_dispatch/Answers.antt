@@ -1,5 +1,4 @@
-use Rattle.htl_console.proofs.Writing.{Puts-cut}
-use Rattle.htl_edge.proofs.Puts.{Puts-second}
+use Rattle.htl_top.proofs.Vocabulary.{Puts-cut, Puts-second}
 use Rattle.htl_top.proofs.plan_walk.write_dispatch.Goals as goal
 
 pub returns-in-Err : goal.returns-in-Err

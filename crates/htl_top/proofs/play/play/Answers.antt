@@ -1,13 +1,7 @@
 use Rattle.std.proofs.Common.{Option, Ok, Err, refl, sym, ap, ◌∙◌, arith, subst}
-use Rattle.htl_model.specs.declared.event.Event.{Event}
-use Rattle.htl_script.proofs.Taken.{taken_none, taken_on, taken_more, taken_all}
-use Rattle.htl_script.specs.Reading.{LosesFront}
-use Rattle.htl_script.specs.Streaming.{Gives, Goes, IsAnswer, LosesPiece, at_start}
-use Rattle.htl_script.specs.declared.fault.ScriptFault.{ScriptFault}
-use Rattle.htl_script.specs.declared.fault.ScriptStop.{ScriptStop}
+use Rattle.htl_top.proofs.Vocabulary.{Event, taken_none, taken_on, taken_more, taken_all, LosesFront, Gives, Goes, IsAnswer, LosesPiece, at_start, ScriptFault, ScriptStop, IsFaultyRun}
 use Rattle.htl_top.proofs.StreamEnd.{IsOver, over, over_done, over_cut}
 use Rattle.htl_top.proofs.Streaming.{IsHeard, playing_start, heard, told_on, told_cut, read_cut, faulty, rose_since}
-use Rattle.htl_top.specs.Runs.{IsFaultyRun}
 use Rattle.htl_top.proofs.play.play.Given as given
 use Rattle.htl_top.proofs.play.play.Goals as goal
 use Rattle.htl_top.proofs.play.play.Goals.{After-next, In-Ok-Some, In-Ok-None, in-Ok, in-Err-write_totals}

@@ -1,7 +1,5 @@
 use Rattle.std.proofs.Common.{◌≡◌, ◌-◌, true, Ok}
-use Rattle.htl_script.specs.Orders.{IsIndex}
-use Rattle.htl_script.specs.Streaming.{LosesPiece, at_start}
-use Rattle.htl_top.specs.Playing.{IsPlaying}
+use Rattle.htl_top.proofs.Vocabulary.{IsIndex, LosesPiece, at_start, IsPlaying}
 use Rattle.htl_top.proofs.play.play.Given as goal
 
 abbrev pub invariant-events : goal.invariant-events

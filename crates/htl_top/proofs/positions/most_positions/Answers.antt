@@ -1,15 +1,8 @@
 use Rattle.std.proofs.Common.{◌≡◌, ◌≤◌, ◌<◌, ◌+◌, ℕ, List, length, get_or, take, drop, add-one, sym, ap, ◌∙◌, arith}
-use Rattle.std.proofs.Math.Seq.{drop-cons}
-use Rattle.std.proofs.lemmas.List.{drop_all, get_or-take, length-take}
-use Rattle.std.specs.Prelude.{count_by}
+use Rattle.htl_top.proofs.Vocabulary.{drop-cons, drop_all, get_or-take, length-take, count_by, inv_of_mode, modes_of, Tables, Round, count_places, all_zero}
 use Rattle.htl_model.specs.Frames as frames
-use Rattle.htl_model.specs.Selections.{inv_of_mode, modes_of}
-use Rattle.htl_model.specs.Tables.{Tables}
-use Rattle.htl_model.specs.declared.frame.Round.{Round}
-use Rattle.htl_object.proofs.Limits.{count_places}
 use Rattle.htl_top.proofs.PathPositions.{most_is}
 use Rattle.htl_top.proofs.positions.most_positions.Goals as goal
-use Rattle.htl_base.proofs.Places.{all_zero}
 
 -- a round more
 one_more : (t : Tables) (n wide k count : ℕ) (rounds : List Round) (x : Round) (total : ℕ) → count ≤ length rounds → k < count → wide ≡ frames.most_invs t (modes_of t (get_or rounds k x).unit)

@@ -1,13 +1,5 @@
 use Rattle.std.proofs.Common.{◌≡◌, ◌+◌, ◌<◌, ℕ, suc, max, Bool, true, false, cond, eqb, List, ◌∷◌, get_or, length, drop, add-one, sym, ap, ◌∙◌, arith, nat_cmp}
-use Rattle.std.proofs.Math.Seq.{drop-cons}
-use Rattle.std.proofs.lemmas.Bool.{eq-eqb, ne_eqb}
-use Rattle.std.proofs.lemmas.Bool.Decides.{nat_tests}
-use Rattle.std.specs.Ordering.{ord_max}
-use Rattle.htl_model.specs.Frames.{most_invs}
-use Rattle.htl_model.specs.Lists.{places_from}
-use Rattle.htl_model.specs.Selections.{mode_of_module, invs_of}
-use Rattle.htl_model.specs.Tables.{Tables}
-use Rattle.htl_model.specs.declared.parts.Mode.{Mode}
+use Rattle.htl_top.proofs.Vocabulary.{drop-cons, eq-eqb, ne_eqb, nat_tests, ord_max, most_invs, places_from, mode_of_module, invs_of, Tables, Mode}
 use Rattle.htl_top.proofs.positions.widest.Goals as goal
 use Rattle.htl_top.proofs.positions.widest.Goals.{then-modes-k, else-modes-k}
 

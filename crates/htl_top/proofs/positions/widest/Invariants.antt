@@ -1,7 +1,5 @@
 use Rattle.std.proofs.Common.{◌≡◌, max, drop}
-use Rattle.htl_model.specs.Frames.{most_invs}
-use Rattle.htl_model.specs.Lists.{places_from}
-use Rattle.htl_model.specs.Selections.{mode_of_module, modes_of}
+use Rattle.htl_top.proofs.Vocabulary.{most_invs, places_from, mode_of_module, modes_of}
 use Rattle.htl_top.proofs.positions.widest.Given as goal
 
 abbrev pub invariant-loop-k : goal.invariant-loop-k

@@ -1,7 +1,5 @@
-use Rattle.std.proofs.Common.{Some}
+use Rattle.htl_top.proofs.Vocabulary.{Some, files, streams, IsRun}
 use Rattle.htl_top.proofs.ObjectAnswering.{IsOnObject-opened}
-use Rattle.htl_top.specs.Answers.{files, streams}
-use Rattle.htl_top.specs.Runs.{IsRun}
 use Rattle.htl_top.proofs.Inputs.{taken_none}
 use Rattle.htl_top.proofs.run.run_file.Goals as goal
 

@@ -1,5 +1,4 @@
-use Rattle.std.proofs.Common.{sym, ap, Option, List, ℕ}
-use Rattle.htl_top.specs.SelectionInput.{entered}
+use Rattle.htl_top.proofs.Vocabulary.{sym, ap, Option, List, ℕ, entered}
 use Rattle.htl_top.proofs.SelectionFields.{named_by-many}
 use Rattle.htl_top.proofs.selection_judge.statement.Goals as goal
 

@@ -1,6 +1,4 @@
-use Rattle.std.proofs.Common.{Some, refl}
-use Rattle.htl_top.specs.Answers.{files}
-use Rattle.htl_top.specs.Shown.{show_text}
+use Rattle.htl_top.proofs.Vocabulary.{Some, refl, files, show_text}
 use Rattle.htl_top.proofs.ObjectAnswering.{IsTextOnObject-opened}
 use Rattle.htl_top.proofs.show.show_file.Goals as goal
 

@@ -1,5 +1,4 @@
-use Rattle.std.proofs.Common.{Some}
-use Rattle.htl_top.specs.Answers.{files}
+use Rattle.htl_top.proofs.Vocabulary.{Some, files}
 use Rattle.htl_top.proofs.Slacking.{IsSlackOnObject-opened}
 use Rattle.htl_top.proofs.slack.slack_file.Goals as goal
 

@@ -1,8 +1,5 @@
 use Rattle.std.proofs.Common.{◌≡◌, None, sym, subst}
-use Rattle.htl_model.specs.FrameRules.{KeptApart}
-use Rattle.htl_model.specs.Frames.{frame_limit}
-use Rattle.htl_model.specs.Tables.{Tables}
-use Rattle.htl_slack.specs.Slack.{NoneOverloaded}
+use Rattle.htl_top.proofs.Vocabulary.{KeptApart, frame_limit, Tables, NoneOverloaded}
 use Rattle.htl_top.proofs.NoneOverloaded.{keeps_apart, none_overloaded}
 use Rattle.htl_top.proofs.slack.slack_in.Goals as goal
 

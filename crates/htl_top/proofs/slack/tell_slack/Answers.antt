@@ -1,7 +1,5 @@
 use Rattle.std.proofs.Common.{◌<◌, length, refl, sym, subst}
-use Rattle.std.proofs.lemmas.Option.{slice_get_within}
-use Rattle.htl_model.specs.Tables.{Tables}
-use Rattle.htl_top.specs.Slacked.{IsRootNamed, NamesNoTask}
+use Rattle.htl_top.proofs.Vocabulary.{slice_get_within, Tables, IsRootNamed, NamesNoTask}
 use Rattle.htl_top.proofs.slack.tell_slack.Goals as goal
 
 pub returns-in_default-clause-answer : goal.returns-in_default-clause-answer

@@ -1,6 +1,5 @@
-use Rattle.std.proofs.Common.{sym, subst}
+use Rattle.htl_top.proofs.Vocabulary.{sym, subst, HasPlatformFault}
 use Rattle.htl_compile.proofs.OnPlatform.{compiled_on, no_platform_on}
-use Rattle.htl_compile.specs.OnPlatform.{HasPlatformFault}
 use Rattle.htl_top.proofs.Stopping.{IsNotCompiledOn-unread, IsNotCompiledOn-unbuilt}
 use Rattle.htl_top.proofs.source.compile_source_on.Goals as goal
 

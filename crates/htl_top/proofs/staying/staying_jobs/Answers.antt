@@ -1,9 +1,5 @@
 use Rattle.std.proofs.Common.{◌≡◌, ◌<◌, ◌+◌, length, get_or, add-one, ap, ◌∙◌, sym, arith}
-use Rattle.htl_model.specs.Frames.{starts}
-use Rattle.htl_model.specs.Tables.{Tables}
-use Rattle.htl_refine.specs.BegunJobs.{new_jobs}
-use Rattle.htl_refine.proofs.BegunLimits.{start_early}
-use Rattle.htl_walk.proofs.CodeWalk.{start_read}
+use Rattle.htl_top.proofs.Vocabulary.{starts, Tables, new_jobs, start_early, start_read}
 use Rattle.htl_top.proofs.StayingJobs.{begun_before, more_begun, jobs_more, jobs_all, room}
 use Rattle.htl_top.proofs.staying.staying_jobs.Goals as goal
 

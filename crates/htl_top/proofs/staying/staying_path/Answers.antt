@@ -1,10 +1,5 @@
 use Rattle.std.proofs.Common.{◌≤◌, ◌<◌, ◌+◌, ◌*◌, suc, length, get_or, add-one, ap, ◌∙◌, sym, refl, subst, arith}
-use Rattle.htl_model.specs.Frames.{starts}
-use Rattle.htl_model.specs.Tables.{Tables}
-use Rattle.htl_refine.specs.BegunJobs.{choice_of}
-use Rattle.htl_refine.specs.FrameRuns.{path_of}
-use Rattle.htl_refine.proofs.BegunLimits.{choice_few}
-use Rattle.htl_walk.proofs.CodeWalk.{start_read}
+use Rattle.htl_top.proofs.Vocabulary.{starts, Tables, choice_of, path_of, choice_few, start_read}
 use Rattle.htl_top.proofs.StayingPath.{path_from, path_last, path_next, path_small, radix_read}
 use Rattle.htl_top.proofs.staying.staying_path.Goals as goal
 

@@ -6,13 +6,8 @@ use Rattle.htl_top.proofs.ObjectCalling as objects
 use Rattle.htl_top.proofs.PatchCalling as patches
 use Rattle.htl_top.proofs.SlackCalling as slacks
 use Rattle.htl_top.proofs.SourceCalling as sources
-use Rattle.std.proofs.Common.{subst}
+use Rattle.htl_top.proofs.Vocabulary.{subst, files, streams, Tells, IsCall, command_in, Outcome, Memory}
 use Rattle.htl_compile.specs.declared.compiling.CompileFault.TheVariants as compile
-use Rattle.htl_top.specs.Answers.{files, streams, Tells}
-use Rattle.htl_top.specs.Calls.{IsCall}
-use Rattle.htl_top.specs.Words.{command_in}
-use Rattle.htl_top.specs.declared.outcome.Outcome.{Outcome}
-use Rattle.htl_top.specs.declared.outcome.Outcome.TheVariants.{Memory}
 use Rattle.htl_top.proofs.top.htl.Goals as goal
 
 pub returns : goal.returns

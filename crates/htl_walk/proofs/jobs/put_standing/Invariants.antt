@@ -1,6 +1,5 @@
 use Rattle.std.proofs.Common.{◌≡◌, ◌+◌, ◌++◌, length, take, drop, map, Some}
-use Rattle.htl_model.specs.Lists.{places_from}
-use Rattle.htl_walk.specs.Writers.{stands, standing_in}
+use Rattle.htl_walk.proofs.Words.{places_from, stands, standing_in}
 use Rattle.htl_walk.proofs.jobs.put_standing.Given as goal
 
 abbrev pub invariant-loop-k : goal.invariant-loop-k

@@ -1,6 +1,5 @@
 use Rattle.std.proofs.Common.{◌≡◌, ℕ, length, refl, sym, subst, arith, add-one}
-use Rattle.std.proofs.lemmas.Option.{slice_get-get_or}
-use Rattle.htl_walk.specs.declared.schedule.SInstr.TheVariants.{Dispatch}
+use Rattle.htl_walk.proofs.Words.{slice_get-get_or, Dispatch}
 use Rattle.htl_walk.proofs.Following.{known_at}
 use Rattle.htl_walk.proofs.Walked.{IsWalked, walked_none, walked_more, missed_here, at_end, left_open, none_left, known_more}
 use Rattle.htl_walk.proofs.listing.follow.Goals as goal

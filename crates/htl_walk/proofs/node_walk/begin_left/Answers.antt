@@ -1,5 +1,4 @@
-use Rattle.std.proofs.Common.{arith}
-use Rattle.htl_walk.specs.NodeWalks.{instrs_of}
+use Rattle.htl_walk.proofs.Words.{arith, instrs_of}
 use Rattle.htl_walk.proofs.CodeWalk.{resumed_first, first_left_is, later_left_is}
 use Rattle.htl_walk.proofs.node_walk.begin_left.Goals as goal
 

@@ -1,8 +1,5 @@
 use Rattle.std.proofs.Common.{◌<◌, length, arith, sym, ap, ◌∙◌, add-one}
-use Rattle.std.proofs.Math.ListN.{length-set}
-use Rattle.htl_model.specs.Frames.{starts}
-use Rattle.htl_walk.specs.PathMisses.{counted}
-use Rattle.htl_walk.specs.NodeWalks.{reached, instrs_of}
+use Rattle.htl_walk.proofs.Words.{length-set, starts, counted, reached, instrs_of}
 use Rattle.htl_walk.proofs.CodeWalk.{at_list, clean_here, miss_here, left_next, clean_more, saved_more, left_length, jobs_few, known_within}
 use Rattle.htl_walk.proofs.node_walk.walk_jobs.Goals as goal
 

@@ -1,8 +1,5 @@
 use Rattle.std.proofs.Common.{◌≡◌, ◌∙◌, sym, ap, subst, take}
-use Rattle.std.specs.List.{All}
-use Rattle.htl_model.specs.Frames.{places_in, path_places}
-use Rattle.htl_walk.specs.PathJobs.{placed_jobs, path_jobs}
-use Rattle.htl_walk.specs.Placing.{HasTimes}
+use Rattle.htl_walk.proofs.Words.{All, places_in, path_places, placed_jobs, path_jobs, HasTimes}
 use Rattle.htl_walk.proofs.Placing.{formed_times}
 use Rattle.htl_walk.proofs.node_walk.walk_on.Goals as goal
 

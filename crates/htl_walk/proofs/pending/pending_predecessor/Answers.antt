@@ -1,7 +1,5 @@
 use Rattle.std.proofs.Common.{◌≡◌, arith, ap, ◌∙◌}
-use Rattle.std.specs.Int.{bit_at, w128}
-use Rattle.std.specs.Int.Bits.{bit_and}
-use Rattle.std.proofs.lemmas.Nat.Bits.{bit_at-trailing_zeros, bit_at-zero}
+use Rattle.htl_walk.proofs.Words.{bit_at, w128, bit_and, bit_at-trailing_zeros, bit_at-zero}
 use Rattle.htl_walk.proofs.PendingLaws.{both_set, not_both, both_fit}
 use Rattle.htl_walk.proofs.pending.pending_predecessor.Goals as goal
 

@@ -1,6 +1,5 @@
 use Rattle.std.proofs.Common.{◌*◌, ◌%◌, ◌^◌, arith}
-use Rattle.std.specs.Int.{bit_not, w128}
-use Rattle.std.specs.Int.Bits.{bit_and}
+use Rattle.htl_walk.proofs.Words.{bit_not, w128, bit_and}
 use Rattle.htl_walk.proofs.PendingLaws.{cleared, kept_pending, not_kept}
 use Rattle.htl_walk.proofs.pending.still_pending.Goals as goal
 

@@ -1,6 +1,5 @@
 use Rattle.std.proofs.Common.{◌≡◌, ℕ, take}
-use Rattle.htl_model.specs.Bits.{has_bit}
-use Rattle.htl_walk.specs.Placing.{begins_with}
+use Rattle.htl_walk.proofs.Words.{has_bit, begins_with}
 use Rattle.htl_walk.proofs.placed.mates.Given as goal
 
 abbrev pub invariant-loop-q : goal.invariant-loop-q

@@ -1,6 +1,4 @@
-use Rattle.std.proofs.Common.{sym, subst}
-use Rattle.htl_walk.specs.declared.schedule.SInstr.{SInstr}
-use Rattle.htl_walk.specs.Following.{IsMissAt}
+use Rattle.htl_walk.proofs.Words.{sym, subst, SInstr, IsMissAt}
 use Rattle.htl_walk.proofs.step.step.Goals as goal
 
 pub returns-in-Err-clause-missed : goal.returns-in-Err-clause-missed

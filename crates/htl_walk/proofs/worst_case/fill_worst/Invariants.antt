@@ -1,6 +1,5 @@
 use Rattle.std.proofs.Common.{◌≡◌, ℕ, ◌<◌, get_or, ltb}
-use Rattle.htl_model.specs.Bits.{has_bit}
-use Rattle.htl_walk.specs.Walk.{worst_cases}
+use Rattle.htl_walk.proofs.Words.{has_bit, worst_cases}
 use Rattle.htl_walk.proofs.worst_case.fill_worst.Given as goal
 
 abbrev pub invariant-loop-p : goal.invariant-loop-p

@@ -1,6 +1,5 @@
 use Rattle.std.proofs.Common.{◌≡◌, ℕ, List, length, get_or, refl, sym, subst, arith, add-one}
-use Rattle.std.proofs.lemmas.Option.{slice_get-get_or}
-use Rattle.htl_walk.specs.declared.schedule.SInstr.TheVariants.{Dispatch}
+use Rattle.htl_walk.proofs.Words.{slice_get-get_or, Dispatch}
 use Rattle.htl_walk.proofs.Following.{IsFollowedTo, followed_none, followed_more, followed_all, missed_here, unfinished, known_at}
 use Rattle.htl_walk.specs.declared.miss.Miss.TheVariants as miss
 use Rattle.htl_walk.proofs.Acceptance.{refused}

@@ -1,7 +1,5 @@
-use Rattle.std.proofs.Common.{List, length, subst}
+use Rattle.htl_walk.proofs.Words.{List, length, subst, SInstr, IsFirstDeparture}
 use Rattle.htl_walk.specs.declared.miss.Miss.TheVariants as miss
-use Rattle.htl_walk.specs.declared.schedule.SInstr.{SInstr}
-use Rattle.htl_walk.specs.Misses.{IsFirstDeparture}
 use Rattle.htl_walk.proofs.Acceptance.{refused}
 use Rattle.htl_walk.proofs.worst_case.worst.Goals as goal
 

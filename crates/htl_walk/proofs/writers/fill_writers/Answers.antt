@@ -1,8 +1,4 @@
-use Rattle.std.proofs.Common.{arith, rules, get_or, None, refl}
-use Rattle.htl_model.specs.Bits.{cell}
-use Rattle.htl_model.specs.PortTable.{writes_to}
-use Rattle.htl_model.proofs.PortTableLaws.{one_writer}
-use Rattle.htl_walk.specs.Writers.{inv_of}
+use Rattle.htl_walk.proofs.Words.{arith, rules, get_or, None, refl, cell, writes_to, one_writer, inv_of}
 use Rattle.htl_walk.proofs.Masks.{writers_all}
 use Rattle.htl_walk.proofs.writers.fill_writers.Goals as goal
 

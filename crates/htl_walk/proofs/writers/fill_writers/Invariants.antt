@@ -1,7 +1,5 @@
 use Rattle.std.proofs.Common.{◌≡◌, ◌<◌, ◌&&◌, ℕ, ltb, length, get_or, None}
-use Rattle.htl_model.specs.Bits.{cell}
-use Rattle.htl_model.specs.PortTable.{writes_to}
-use Rattle.htl_walk.specs.Writers.{inv_of}
+use Rattle.htl_walk.proofs.Words.{cell, writes_to, inv_of}
 use Rattle.htl_walk.proofs.writers.fill_writers.Given as goal
 
 abbrev pub invariant-loop-q : goal.invariant-loop-q

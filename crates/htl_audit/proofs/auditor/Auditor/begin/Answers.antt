@@ -1,5 +1,4 @@
-use Rattle.std.proofs.Common.{sym, subst, arith, inl}
-use Rattle.htl_audit.specs.Auditing.{IsAuditor}
+use Rattle.htl_audit.proofs.Words.{sym, subst, arith, inl, IsAuditor}
 use Rattle.htl_audit.proofs.Keepers.{begun_auditor}
 use Rattle.htl_audit.proofs.auditor.Auditor.begin.Goals as goal
 

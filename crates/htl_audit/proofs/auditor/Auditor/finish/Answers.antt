@@ -1,8 +1,7 @@
 use Rattle.std.proofs.Common.{◌≡◌, ◌≤◌, ◌+◌, suc, [], ◌∷◌, ◌++◌, drop, refl, sym, subst, arith}
 use Rattle.htl_model.specs.declared.event.Event.TheVariants as V
 use Rattle.htl_machine.specs.Calls as machines
-use Rattle.htl_audit.specs.Auditing.{Audit}
-use Rattle.htl_audit.specs.Keeping.{passed}
+use Rattle.htl_audit.proofs.Words.{Audit, passed}
 use Rattle.htl_audit.proofs.Going.{stop_first, turn_text, going_start, going_text, going_failed, going_gone, finish_all}
 use Rattle.htl_audit.proofs.auditor.Auditor.finish.Goals as goal
 

@@ -1,6 +1,5 @@
 use Rattle.std.proofs.Common.{◌-◌, ◌≤◌, List}
-use Rattle.htl_model.specs.declared.event.Event.{Event}
-use Rattle.htl_audit.specs.Auditing.{IsStopped, IsSameAudit}
+use Rattle.htl_audit.proofs.Words.{Event, IsStopped, IsSameAudit}
 use Rattle.htl_audit.proofs.Going.{IsGoing}
 use Rattle.htl_audit.proofs.auditor.Auditor.go.Given as goal
 

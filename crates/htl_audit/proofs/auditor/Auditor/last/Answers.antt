@@ -1,9 +1,5 @@
-use Rattle.std.proofs.Common.{sym, subst}
-use Rattle.std.specs.Prelude.{suc}
-use Rattle.htl_edge.specs.Content.{Puts}
+use Rattle.htl_audit.proofs.Words.{sym, subst, Puts, text_between, Audit, suc}
 use Rattle.htl_machine.specs.Calls as machines
-use Rattle.htl_machine.specs.Calls.{text_between}
-use Rattle.htl_audit.specs.Auditing.{Audit}
 use Rattle.htl_audit.proofs.auditor.Auditor.last.Goals as goal
 
 pub returns-clause-text : goal.returns-clause-text

@@ -1,9 +1,5 @@
 use Rattle.std.proofs.Common.{◌∙◌, length, map, ap, sym, arith, inl}
-use Rattle.htl_model.specs.declared.parts.Inv.{Inv}
-use Rattle.htl_model.specs.Tables.{Tables, task_worst}
-use Rattle.htl_object.specs.declared.object.Object.{Object}
-use Rattle.htl_audit.specs.Feeders.{all_feeders}
-use Rattle.htl_audit.specs.Keeping.{first_kept}
+use Rattle.htl_audit.proofs.Words.{Inv, Tables, task_worst, Object, all_feeders, first_kept}
 use Rattle.htl_audit.proofs.Keepers.{first_auditor, audit_first}
 use Rattle.htl_audit.proofs.auditor.Auditor.new.Goals as goal
 

@@ -1,9 +1,5 @@
 use Rattle.std.proofs.Common.{◌≡◌, ◌∙◌, List, length, drop, ap, sym, subst, arith}
-use Rattle.htl_model.specs.Tables.{Tables}
-use Rattle.htl_object.specs.declared.object.Object.{Object}
-use Rattle.htl_audit.specs.declared.slice.Slice.{Slice}
-use Rattle.htl_audit.specs.Auditing.{Audit, AreDue, IsAuditor}
-use Rattle.htl_audit.specs.Keeping.{Kept, judged_to, settled, passed}
+use Rattle.htl_audit.proofs.Words.{Tables, Object, Slice, Audit, AreDue, IsAuditor, Kept, judged_to, settled, passed}
 use Rattle.htl_audit.proofs.Dues.{judged_due, none_due}
 use Rattle.htl_audit.proofs.Keepers.{passed_rows, passed_auditor}
 use Rattle.htl_audit.proofs.auditor.Auditor.pass.Goals as goal

@@ -1,9 +1,7 @@
 use Rattle.std.proofs.Common.{◌≡◌, rules, List, [], ◌∷◌, ◌++◌, sym, subst}
-use Rattle.htl_model.specs.declared.event.Event.{Event}
+use Rattle.htl_audit.proofs.Words.{Event, shown_as, Audit, AuditFollows}
 use Rattle.htl_model.specs.declared.event.Event.TheVariants as event
 use Rattle.htl_machine.specs.Calls as machines
-use Rattle.htl_machine.specs.Follows.{shown_as}
-use Rattle.htl_audit.specs.Auditing.{Audit, AuditFollows}
 use Rattle.htl_audit.proofs.Auditing.{sense_follows}
 use Rattle.htl_audit.proofs.auditor.Auditor.sense.Goals as goal
 

@@ -1,12 +1,7 @@
 use Rattle.std.proofs.Common.{◌≡◌, ◌∙◌, ◌<◌, ◌≤◌, ◌+◌, min, [], ◌∷◌, ◌++◌, length, ap, sym, subst, arith}
-use Rattle.std.proofs.lemmas.Option.{slice_get_within}
+use Rattle.htl_audit.proofs.Words.{slice_get_within, Tables, Object, IsAccepted, Audit, AreDue, AuditFollows, IsAuditor, start_at, end_at, inv_takes}
 use Rattle.htl_model.specs.declared.event.Event.TheVariants as V
-use Rattle.htl_model.specs.Tables.{Tables}
-use Rattle.htl_object.specs.declared.object.Object.{Object}
-use Rattle.htl_object.specs.Accepted.{IsAccepted}
 use Rattle.htl_machine.specs.Calls as machines
-use Rattle.htl_audit.specs.Auditing.{Audit, AreDue, AuditFollows, IsAuditor}
-use Rattle.htl_audit.specs.Keeping.{start_at, end_at, inv_takes}
 use Rattle.htl_audit.proofs.Dues.{taken_due}
 use Rattle.htl_audit.proofs.Keepers.{length_known, length_small, taken_auditor, took_follows}
 use Rattle.htl_audit.proofs.auditor.Auditor.took.Goals as goal

@@ -1,6 +1,5 @@
 use Rattle.std.proofs.Common.{◌≡◌, map, ℕ, Vec, Global}
-use Rattle.htl_model.specs.Lists.{list_to}
-use Rattle.htl_audit.specs.Feeders.{feeders_of}
+use Rattle.htl_audit.proofs.Words.{list_to, feeders_of}
 use Rattle.htl_audit.proofs.feeders.Feeders.new.Given as goal
 
 abbrev pub invariant-loop-i : goal.invariant-loop-i

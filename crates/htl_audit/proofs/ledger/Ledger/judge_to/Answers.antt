@@ -1,10 +1,8 @@
 use Rattle.std.proofs.Common.{◌∙◌, ◌+◌, length, get_or, is_some, sym, ap, arith}
-use Rattle.htl_audit.specs.declared.slice.Slice.{Slice}
-use Rattle.htl_audit.specs.Keeping.{Kept, judged_to}
+use Rattle.htl_audit.proofs.Words.{Slice, Kept, judged_to, drop}
 use Rattle.htl_audit.proofs.Steps.{judged_stopped, judged_late, judged_next, judged_roster, judged_place}
 use Rattle.htl_audit.proofs.ledger.Ledger.judge_to.Goals as goal
 use Rattle.htl_audit.proofs.ledger.Ledger.judge_to.Goals.{then-is_some-via-then-is_some, then-is_some-via-else-is_some+then-now-log}
-use Rattle.std.specs.Prelude.{drop}
 
 pub returns-then-is_some : goal.returns-then-is_some
 returns-then-is_some c =

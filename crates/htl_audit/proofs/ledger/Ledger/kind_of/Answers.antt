@@ -1,9 +1,7 @@
 use Rattle.std.proofs.Common.{◌≡◌, ◌<◌, ℕ, true, false, List, [], length, get_or, All, ap, sym, ◌∙◌, subst, arith}
-use Rattle.htl_audit.specs.Feeders.{feeders_of, are_done}
-use Rattle.htl_audit.specs.Keeping.{Kept, is_inside}
+use Rattle.htl_audit.proofs.Words.{feeders_of, are_done, Kept, is_inside, length-list_to}
 use Rattle.htl_audit.proofs.Feeding.{row_is, feeders_within, kind_last}
 use Rattle.htl_audit.proofs.ledger.Ledger.kind_of.Goals as goal
-use Rattle.htl_model.proofs.Listed.{length-list_to}
 
 pub row-requires : goal.row-requires
 row-requires c = omega (arith, c.requires.inv, ap (λ (rs : List (List ℕ)). length rs) c.requires.feeders, length-list_to (feeders_of c.args.t.now) (length c.args.t.now.invs))

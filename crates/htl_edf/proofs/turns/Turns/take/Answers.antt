@@ -1,8 +1,5 @@
 use Rattle.std.proofs.Common.{◌≡◌, get_or, arith, ap, ◌∙◌}
-use Rattle.std.specs.Int.{bit_at}
-use Rattle.std.specs.Int.Bits.{bit_and}
-use Rattle.std.proofs.lemmas.Nat.Bits.{bit_at-zero}
-use Rattle.htl_walk.proofs.PendingLaws.{not_both}
+use Rattle.htl_edf.proofs.Words.{bit_at, bit_and, bit_at-zero, not_both}
 use Rattle.htl_edf.proofs.turns.Turns.take.Goals as goal
 
 pub returns-clause-free : goal.returns-clause-free

@@ -1,9 +1,6 @@
 -- A write to one row, read as lists.
 use Rattle.std.proofs.Common.{rules, arith, ◌≡◌, ◌<◌, length, get_or, map, set, ℕ, List, [], ◌∷◌, ℤ, w64, refl, sym, ap, ap₂, ◌∙◌, subst, SFits, Vec, Global, suc, zero}
-use Rattle.std.specs.Vec.{with_item}
-use Rattle.std.proofs.lemmas.Int.{to_z-of_z}
-use Rattle.std.proofs.lemmas.List.{map-set}
-use Rattle.htl_emach.specs.Contents.{put_in}
+use Rattle.htl_emach.proofs.Words.{with_item, to_z-of_z, map-set, put_in}
 use Rattle.htl_emach.proofs.buffers.Buffers.put.Goals as goal
 
 items_of : Vec ℤ Global → List ℤ

@@ -1,7 +1,4 @@
-use Rattle.std.proofs.Common.{arith, sym, subst}
-use Rattle.htl_ecode.proofs.SpellingLaws.{spelled_departs_not}
-use Rattle.htl_emach.specs.Following.{FollowsCode}
-use Rattle.htl_emach.specs.Safety.{StandsSafely}
+use Rattle.htl_emach.proofs.Words.{arith, sym, subst, spelled_departs_not, FollowsCode, StandsSafely}
 use Rattle.htl_emach.proofs.Instants.{first_follows}
 use Rattle.htl_emach.proofs.SafeCalls.{first_safely}
 use Rattle.htl_emach.proofs.Soundness.{sound}

@@ -1,7 +1,5 @@
 use Rattle.std.proofs.Common.{◌≡◌, ◌<◌, length, get_or, sym, ap, ◌∙◌, subst, arith}
-use Rattle.htl_model.specs.Tables.{count_before}
-use Rattle.htl_emach.specs.Indices.{Indices, first_functions}
-use Rattle.htl_model.proofs.Listed.{length-list_to, get_list_to}
+use Rattle.htl_emach.proofs.Words.{count_before, Indices, first_functions, length-list_to, get_list_to}
 use Rattle.htl_emach.proofs.IndexedPorts.{count_few}
 use Rattle.htl_emach.proofs.index.Index.first.Goals as goal
 

@@ -1,6 +1,5 @@
 use Rattle.std.proofs.Common.{◌≡◌, ◌<◌, true, None, length, get_or, sym, ap, ◌∙◌, subst}
-use Rattle.htl_emach.specs.Indices.{Indices, port_writers, writer_of, is_own}
-use Rattle.htl_model.proofs.Listed.{length-list_to, get_list_to}
+use Rattle.htl_emach.proofs.Words.{Indices, port_writers, writer_of, is_own, length-list_to, get_list_to}
 use Rattle.htl_emach.proofs.IndexedPorts.{own_within, own_writer}
 use Rattle.htl_emach.proofs.index.Index.writer.Goals as goal
 

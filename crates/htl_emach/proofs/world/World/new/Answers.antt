@@ -1,5 +1,4 @@
-use Rattle.std.proofs.Common.{sym, subst}
-use Rattle.htl_emach.specs.Shapes.{IsShaped}
+use Rattle.htl_emach.proofs.Words.{sym, subst, IsShaped}
 use Rattle.htl_emach.proofs.Keeping.{first_shaped}
 use Rattle.htl_emach.proofs.world.World.new.Goals as goal
 

@@ -1,5 +1,4 @@
-use Rattle.std.proofs.Common.{false}
-use Rattle.std.proofs.lemmas.List.{get_or-replicate}
+use Rattle.htl_form.proofs.Words.{false, get_or-replicate}
 use Rattle.htl_form.proofs.abstract_ports.AbstractPorts.of.Goals as goal
 
 pub loop-k-init : goal.loop-k-init

@@ -1,6 +1,4 @@
-use Rattle.std.proofs.Common.{take}
-use Rattle.std.specs.List.{list_any}
-use Rattle.htl_form.specs.AbstractWriters.{writes_abstractly, MarksPorts}
+use Rattle.htl_form.proofs.Words.{take, list_any, writes_abstractly, MarksPorts}
 use Rattle.htl_form.proofs.abstract_ports.AbstractPorts.of.Given as goal
 
 abbrev pub invariant-loop-k : goal.invariant-loop-k

@@ -1,6 +1,5 @@
 use Rattle.std.proofs.Common.{◌≤◌, ◌∙◌, ℕ, sym, ap, subst}
-use Rattle.htl_machine.specs.Calls.{Seen, IsUpTo}
-use Rattle.htl_machine.specs.Quiet.{AreQuiet}
+use Rattle.htl_machine.proofs.Words.{Seen, IsUpTo, AreQuiet}
 use Rattle.htl_machine.proofs.Beginnings.{ends_so, fails_so}
 use Rattle.htl_machine.proofs.Viewing.{seen_in}
 use Rattle.htl_machine.proofs.Calling.{read_follows}

@@ -1,9 +1,5 @@
 use Rattle.std.proofs.Common.{◌∙◌, None, ap, sym, subst, map, length, replicate, arith}
-use Rattle.std.proofs.lemmas.List.{length-map}
-use Rattle.htl_model.specs.declared.parts.Inv.{Inv}
-use Rattle.htl_model.specs.Tables.{task_worst}
-use Rattle.htl_smach.specs.Rounds.{Round}
-use Rattle.htl_machine.specs.Numbering.{IsPath}
+use Rattle.htl_machine.proofs.Words.{length-map, Inv, task_worst, Round, IsPath}
 use Rattle.htl_machine.proofs.Calling.{first_is}
 use Rattle.htl_machine.proofs.Quiet.{nothing_due}
 use Rattle.htl_machine.proofs.ShownOn.{noted_marks, none_waits}

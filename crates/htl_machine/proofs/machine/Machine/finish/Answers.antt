@@ -1,7 +1,5 @@
 use Rattle.std.proofs.Common.{◌≡◌, ◌+◌, ℕ, suc, Ok, Err, sym, subst, arith}
-use Rattle.htl_edge.specs.Content.{Puts}
-use Rattle.htl_edge.specs.declared.Failed.{Failed}
-use Rattle.htl_machine.specs.Calls.{Seen, IsUpTo, text_between}
+use Rattle.htl_machine.proofs.Words.{Puts, Failed, Seen, IsUpTo, text_between}
 use Rattle.htl_machine.proofs.Beginnings.{ends_so, fails_so}
 use Rattle.htl_machine.proofs.Viewing.{seen_in}
 use Rattle.htl_machine.proofs.Calling.{finished}

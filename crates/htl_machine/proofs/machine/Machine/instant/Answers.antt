@@ -1,21 +1,5 @@
 use Rattle.std.proofs.Common.{◌≡◌, ◌∙◌, List, [], true, length, Err, Ok, refl, sym, ap, subst, arith}
-use Rattle.htl_edge.specs.Content.{Puts}
-use Rattle.htl_edge.specs.declared.Failed.{Failed}
-use Rattle.htl_smach.specs.Rounds.{Round}
-use Rattle.htl_emach.specs.Following.{phase_path}
-use Rattle.htl_emach.specs.Shapes.{HasValues}
-use Rattle.htl_walk.specs.declared.schedule.Schedule.{Schedule}
-use Rattle.htl_machine.specs.Asking.{AreToClose, AreToCloseAndBegin}
-use Rattle.htl_machine.specs.Calls.{Seen, IsUpTo, schedule_by}
-use Rattle.htl_machine.specs.Counts.{with_instrs, with_records}
-use Rattle.htl_machine.specs.Numbering.{IsPath}
-use Rattle.htl_machine.specs.Opening.{first_records, IsOpened}
-use Rattle.htl_machine.specs.Recording.{AreOf}
-use Rattle.htl_machine.specs.Starting.{instrs_of}
-use Rattle.htl_machine.specs.Timing.{some_round_begins}
-use Rattle.htl_model.specs.declared.event.Event.{Event}
-use Rattle.htl_machine.specs.Programs.{lines_of, schedules_of}
-use Rattle.htl_machine.specs.declared.tally.Tally.{Tally}
+use Rattle.htl_machine.proofs.Words.{Puts, Failed, Round, phase_path, HasValues, Schedule, AreToClose, AreToCloseAndBegin, Seen, IsUpTo, schedule_by, with_instrs, with_records, IsPath, first_records, IsOpened, AreOf, instrs_of, some_round_begins, Event, lines_of, schedules_of, Tally}
 use Rattle.htl_machine.proofs.After.{passed_of, s_machine_goes_on, list_goes_on, over, s_machine_begins_so, list_begins, records_go_on, records_begin}
 use Rattle.htl_machine.proofs.Asking.{sound_of, noted_of, begun_at, stood_at, counts_at}
 use Rattle.htl_machine.proofs.Beginnings.{ends_so, fails_so}

@@ -1,5 +1,4 @@
-use Rattle.std.proofs.Common.{[], sym, subst}
-use Rattle.htl_machine.specs.Calls.{Seen, Follows}
+use Rattle.htl_machine.proofs.Words.{[], sym, subst, Seen, Follows}
 use Rattle.htl_machine.proofs.Calling.{new_follows_none}
 use Rattle.htl_machine.proofs.machine.Machine.new.Goals as goal
 

@@ -1,9 +1,5 @@
 use Rattle.std.proofs.Common.{◌≡◌, ◌<◌, ◌∙◌, ℕ, cond, eqb, get_or, length, not, pos, set, length-set, rules, arith, ap, sym, subst}
-use Rattle.std.proofs.lemmas.Option.{slice_get_within}
-use Rattle.htl_model.specs.Functions.{same}
-use Rattle.htl_machine.specs.Calls.{Seen, Follows, IsSensorValue}
-use Rattle.htl_machine.specs.Follows.{shown_as}
-use Rattle.htl_machine.specs.Marks.{is_marked}
+use Rattle.htl_machine.proofs.Words.{slice_get_within, same, Seen, Follows, IsSensorValue, shown_as, is_marked}
 use Rattle.htl_machine.proofs.Calling.{sense_follows}
 use Rattle.htl_machine.proofs.Quiet.{nothing_due}
 use Rattle.htl_machine.proofs.ShownOn.{sensed_waits}

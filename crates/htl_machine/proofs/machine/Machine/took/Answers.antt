@@ -1,10 +1,5 @@
 use Rattle.std.proofs.Common.{◌≡◌, ◌≤◌, ℕ, Some, sym, ap, ◌∙◌, subst, List, length, length-set}
-use Rattle.htl_walk.specs.declared.job.Job.{Job}
-use Rattle.htl_walk.specs.Walk.{job_at}
-use Rattle.htl_smach.specs.Rounds.{Round, Stands}
-use Rattle.htl_machine.specs.Calls.{Seen, Follows, IsLength}
-use Rattle.htl_machine.specs.Numbering.{IsPath}
-use Rattle.htl_machine.specs.Turns.{position_from}
+use Rattle.htl_machine.proofs.Words.{Job, job_at, Round, Stands, Seen, Follows, IsLength, IsPath, position_from}
 use Rattle.htl_machine.proofs.Calling.{position_worst, took_follows}
 use Rattle.htl_machine.proofs.Quiet.{nothing_due}
 use Rattle.htl_machine.proofs.machine.Machine.took.Goals as goal

@@ -1,11 +1,5 @@
 use Rattle.std.proofs.Common.{◌<◌, ◌≤◌, ◌%◌, ℕ, List, Option, Some, ne_eqb, length, sym, ap, ◌∙◌, subst, arith}
-use Rattle.htl_model.specs.Selected.{IsSelection}
-use Rattle.htl_smach.specs.Rounds.{Round}
-use Rattle.htl_refine.specs.BegunJobs.{choice_of, new_jobs}
-use Rattle.htl_refine.specs.declared.selection.Selection.{Selection}
-use Rattle.htl_refine.proofs.BegunLimits.{choice_few, start_early}
-use Rattle.htl_machine.specs.Numbering.{IsNumbering, first_list}
-use Rattle.htl_machine.specs.StandingList.{next_at}
+use Rattle.htl_machine.proofs.Words.{IsSelection, Round, choice_of, new_jobs, Selection, choice_few, start_early, IsNumbering, first_list, next_at}
 use Rattle.htl_machine.proofs.Followed.{later_can, later_begun, later_all, first_can, first_begun, first_all, room_there, stands_on}
 use Rattle.htl_machine.proofs.path.Path.begin.Goals as goal
 

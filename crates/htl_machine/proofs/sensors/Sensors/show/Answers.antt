@@ -1,6 +1,5 @@
 use Rattle.std.proofs.Common.{◌≡◌, ◌<◌, ap, arith, length, slice_get, sym, subst, refl, ◌∙◌}
-use Rattle.std.proofs.lemmas.Option.{slice_get_read}
-use Rattle.htl_machine.specs.Sensors.{AreSet}
+use Rattle.htl_machine.proofs.Words.{slice_get_read, AreSet}
 use Rattle.htl_machine.proofs.Waits.{taking_start, taking_step}
 use Rattle.htl_machine.proofs.sensors.Sensors.show.Goals as goal
 

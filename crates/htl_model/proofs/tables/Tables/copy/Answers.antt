@@ -1,5 +1,4 @@
-use Rattle.std.proofs.Common.{subst}
-use Rattle.htl_model.specs.FunctionCode.{AreCode}
+use Rattle.htl_model.proofs.Words.{subst, AreCode}
 use Rattle.htl_model.proofs.CodeLaws.{code_held}
 use Rattle.htl_model.proofs.tables.Tables.copy.Goals as goal
 

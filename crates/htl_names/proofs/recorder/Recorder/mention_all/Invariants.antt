@@ -1,5 +1,4 @@
-use Rattle.std.proofs.Common.{drop, map}
-use Rattle.htl_names.proofs.Words.{names_in, AddsWith, using, use_in}
+use Rattle.htl_names.proofs.Words.{names_in, AddsWith, using, use_in, drop, map}
 use Rattle.htl_names.proofs.recorder.Recorder.mention_all.Given as goal
 
 abbrev pub invariant-loop-k : goal.invariant-loop-k

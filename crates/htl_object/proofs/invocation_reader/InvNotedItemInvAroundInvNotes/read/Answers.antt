@@ -1,5 +1,4 @@
-use Rattle.std.proofs.Common.{sym}
-use Rattle.htl_model.specs.declared.parts.Inv.{Inv}
+use Rattle.htl_object.proofs.Words.{sym, Inv}
 use Rattle.htl_object.proofs.Noting.{inv_more}
 use Rattle.htl_object.proofs.invocation_reader.InvNotedItemInvAroundInvNotes.read.Goals as goal
 

@@ -1,7 +1,5 @@
 use Rattle.std.proofs.Common.{◌++◌}
-use Rattle.std.specs.Int.{w16, w32, to_be_bytes}
-use Rattle.htl_object.specs.Fields.{name_bytes, flag_bytes}
-use Rattle.htl_object.specs.Ports.{types_bytes}
+use Rattle.htl_object.proofs.Words.{w16, w32, to_be_bytes, name_bytes, flag_bytes, types_bytes}
 use Rattle.htl_object.proofs.Appends.{appends}
 use Rattle.htl_object.proofs.table_writer.TaskSpelled.put.Goals as goal
 

@@ -1,6 +1,5 @@
 use Rattle.std.proofs.Common.{List, ◌+◌, drop, sym, subst, ap, ◌∙◌}
-use Rattle.htl_text.specs.Placed.{Placed}
-use Rattle.htl_parse.specs.Cursors.{next_kind, NextIs}
+use Rattle.htl_parse.proofs.Words.{Placed, next_kind, NextIs}
 use Rattle.htl_parse.proofs.Standing.{next-first, kind-at}
 use Rattle.htl_parse.proofs.cursor.Cursor.next.Goals as goal
 

@@ -1,8 +1,6 @@
 use Rattle.std.proofs.Common.{◌≡◌, List, ◌∷◌, ◌+◌, drop, sym, subst, ap, ◌∙◌}
-use Rattle.htl_text.specs.Placed.{Placed, Put}
+use Rattle.htl_parse.proofs.Words.{Placed, Put, next_kind, behind, place_at}
 use Rattle.htl_text.specs.declared.token.Token.TheVariants as token
-use Rattle.htl_parse.specs.Cursors.{next_kind, behind}
-use Rattle.htl_parse.specs.Reading.{place_at}
 use Rattle.htl_parse.proofs.Standing.{next-is, kind-at}
 use Rattle.htl_parse.proofs.cursor.Cursor.next_name.Goals as goal
 

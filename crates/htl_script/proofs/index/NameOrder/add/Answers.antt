@@ -1,7 +1,5 @@
 use Rattle.std.proofs.Common.{◌≡◌, ◌+◌, List, ℕ, Some, Err, sym, ap, ◌∙◌, subst}
-use Rattle.htl_model.specs.Tables.{Tables, tables_of}
-use Rattle.htl_script.specs.Naming.{name_of}
-use Rattle.htl_script.specs.Orders.{AreOrdered, IsPlace}
+use Rattle.htl_script.proofs.Words.{Tables, tables_of, name_of, AreOrdered, IsPlace}
 use Rattle.htl_script.proofs.Orders.{ordered_put}
 use Rattle.htl_script.proofs.index.NameOrder.add.Goals as goal
 

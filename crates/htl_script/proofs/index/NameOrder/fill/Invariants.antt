@@ -1,6 +1,5 @@
 use Rattle.std.proofs.Common.{◌≤◌, length}
-use Rattle.htl_script.specs.Naming.{name_of}
-use Rattle.htl_script.specs.Orders.{AreOrdered}
+use Rattle.htl_script.proofs.Words.{name_of, AreOrdered}
 use Rattle.htl_script.proofs.index.NameOrder.fill.Given as goal
 
 abbrev pub invariant-loop-number : goal.invariant-loop-number

@@ -1,8 +1,5 @@
 use Rattle.std.proofs.Common.{◌<◌, List, ℕ, length, get_or, Some, Ok, Err, sym, ap, ◌∙◌, subst, arith}
-use Rattle.std.proofs.lemmas.List.{length-take, get_or-take}
-use Rattle.htl_model.specs.Tables.{Tables}
-use Rattle.htl_script.specs.Naming.{name_of}
-use Rattle.htl_script.specs.Orders.{IsPlace}
+use Rattle.htl_script.proofs.Words.{length-take, get_or-take, Tables, name_of, IsPlace}
 use Rattle.htl_script.proofs.Named.{found_named, none_found}
 use Rattle.htl_script.proofs.index.NameOrder.find.Goals as goal
 

@@ -1,7 +1,5 @@
 use Rattle.std.proofs.Common.{◌+◌, ◌-◌, ◌/◌, ℕ, List, get_or, take, Option, Ok, Err, sym, subst, arith}
-use Rattle.htl_model.specs.Tables.{tables_of}
-use Rattle.htl_script.specs.Naming.{name_of}
-use Rattle.htl_script.specs.Orders.{AreRising, IsPlace}
+use Rattle.htl_script.proofs.Words.{tables_of, name_of, AreRising, IsPlace}
 use Rattle.htl_script.proofs.Orders.{less_before, greater_after, equal_name}
 use Rattle.htl_script.proofs.index.NameOrder.place.Goals as goal
 

@@ -1,8 +1,5 @@
 use Rattle.std.proofs.Common.{◌≡◌, ◌≤◌, ◌<◌, ◌-◌, ℕ, length, Some}
-use Rattle.std.specs.declared.cmp.Ordering.TheVariants.{Less, Greater}
-use Rattle.htl_model.specs.Tables.{tables_of}
-use Rattle.htl_script.specs.Naming.{name_of}
-use Rattle.htl_script.specs.Orders.{compared}
+use Rattle.htl_script.proofs.Words.{Less, Greater, tables_of, name_of, compared}
 use Rattle.htl_script.proofs.index.NameOrder.place.Given as goal
 
 abbrev pub invariant-halves : goal.invariant-halves

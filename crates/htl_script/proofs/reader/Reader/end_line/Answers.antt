@@ -1,8 +1,5 @@
 use Rattle.std.proofs.Common.{◌≡◌, ◌∙◌, List, Option, Result, Ok, ℕ, ap, sym}
-use Rattle.htl_model.specs.declared.event.Event.{Event}
-use Rattle.htl_script.specs.declared.fault.ScriptKind.{ScriptKind}
-use Rattle.htl_script.specs.Judging.{judged_text}
-use Rattle.htl_script.specs.Readers.{Here}
+use Rattle.htl_script.proofs.Words.{Event, ScriptKind, judged_text, Here}
 use Rattle.htl_script.proofs.reader.Reader.end_line.Goals as goal
 use Rattle.htl_script.proofs.reader.Reader.end_line.Goals.{in-Some, in_default}
 

@@ -1,11 +1,5 @@
 use Rattle.std.proofs.Common.{◌≡◌, ◌∷◌, ℕ, List, Option, Some, Ok, Err, arith, sym, ap, ◌∙◌, subst}
-use Rattle.htl_edge.specs.declared.Failed.{Failed}
-use Rattle.htl_model.specs.declared.event.Event.{Event}
-use Rattle.htl_script.specs.Reading.{answered}
-use Rattle.htl_script.specs.Readers.{Here, rest_of}
-use Rattle.htl_script.specs.Streaming.{Ahead, LineFollows, Gives, GivesByte, IsAnswer, IsSame, LosesPiece}
-use Rattle.htl_script.specs.declared.fault.ScriptKind.{ScriptKind}
-use Rattle.htl_script.specs.declared.fault.ScriptStop.{ScriptStop}
+use Rattle.htl_script.proofs.Words.{Failed, Event, answered, Here, rest_of, Ahead, LineFollows, Gives, GivesByte, IsAnswer, IsSame, LosesPiece, ScriptKind, ScriptStop}
 use Rattle.htl_script.specs.declared.fault.ScriptStop.TheVariants as stop
 use Rattle.htl_script.proofs.Streaming.{gives_byte, gives_none, gives_event, gives_fault, gives_on}
 use Rattle.htl_script.proofs.Taken.{taken_byte, taken_fault, taken_same}

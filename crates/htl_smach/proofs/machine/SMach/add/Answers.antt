@@ -1,6 +1,5 @@
 use Rattle.std.proofs.Common.{◌-◌, sym, subst, ap, ◌∙◌, arith}
-use Rattle.htl_smach.specs.Rounds.{Round, Stands, state_of, added_from}
-use Rattle.htl_smach.specs.Adding.{IsEven}
+use Rattle.htl_smach.proofs.Words.{Round, Stands, state_of, added_from, IsEven}
 use Rattle.htl_smach.proofs.Adding.{stands_added, state_added}
 use Rattle.htl_smach.proofs.Holding.{holds_even}
 use Rattle.htl_smach.proofs.machine.SMach.add.Goals as goal

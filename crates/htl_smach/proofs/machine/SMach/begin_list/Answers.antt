@@ -1,6 +1,5 @@
 use Rattle.std.proofs.Common.{[], ap, ◌∙◌, arith, length}
-use Rattle.std.proofs.lemmas.List.{length-take}
-use Rattle.htl_smach.specs.Rounds.{Round, added_from}
+use Rattle.htl_smach.proofs.Words.{length-take, Round, added_from}
 use Rattle.htl_smach.proofs.Holding.{holds_added, are_added}
 use Rattle.htl_smach.proofs.machine.SMach.begin_list.Goals as goal
 

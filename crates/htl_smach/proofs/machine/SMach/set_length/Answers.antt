@@ -1,9 +1,5 @@
 use Rattle.std.proofs.Common.{◌≡◌, ◌<◌, false, eqb, drop, sym, ap, ◌∙◌, subst, arith}
-use Rattle.std.proofs.lemmas.List.{get_or-take}
-use Rattle.htl_model.specs.Bits.{has_bit}
-use Rattle.htl_smach.specs.declared.state.PosState.TheVariants.{Pending}
-use Rattle.htl_smach.specs.Rounds.{Round, Stands, given, state_of}
-use Rattle.htl_smach.specs.Fields.{inside_round}
+use Rattle.htl_smach.proofs.Words.{get_or-take, has_bit, Pending, Round, Stands, given, state_of, inside_round}
 use Rattle.htl_smach.proofs.RoundRecords.{with_length, given_stays, stands_set, pending_is, pending_below}
 use Rattle.htl_smach.proofs.Holding.{holds_length, are_set, below_count}
 use Rattle.htl_smach.proofs.machine.SMach.set_length.Goals as goal

@@ -1,6 +1,5 @@
 use Rattle.std.proofs.Common.{◌≡◌, ◌<◌, length, take, sym, ap, ◌∙◌, subst}
-use Rattle.htl_smach.specs.Rounds.{Round, state_of}
-use Rattle.htl_smach.specs.Fields.{inside_round}
+use Rattle.htl_smach.proofs.Words.{Round, state_of, inside_round}
 use Rattle.htl_smach.proofs.RoundRecords.{done_is}
 use Rattle.htl_smach.proofs.Holding.{holds_state, below_count}
 use Rattle.htl_smach.proofs.machine.SMach.state.Goals as goal

@@ -1,13 +1,5 @@
 use Rattle.std.proofs.Common.{◌≡◌, ℕ, true, cond, List, length, take, get_or, slice_get, Some, None, sym, ap, ◌∙◌, subst, arith}
-use Rattle.std.proofs.lemmas.List.{length-take}
-use Rattle.std.proofs.lemmas.Option.{slice_get-get_or, slice_get_past}
-use Rattle.htl_walk.specs.declared.schedule.SInstr.{SInstr}
-use Rattle.htl_walk.specs.declared.schedule.SInstr.TheVariants.{Dispatch}
-use Rattle.htl_walk.specs.Following.{IsKnown}
-use Rattle.htl_walk.proofs.Following.{known_at}
-use Rattle.htl_smach.specs.Rounds.{Round, Stands, IsInForm, walk_records, left_until, next_left}
-use Rattle.htl_smach.specs.Fields.{inside_round}
-use Rattle.htl_smach.specs.Upcoming.{IsUpcoming}
+use Rattle.htl_smach.proofs.Words.{length-take, slice_get-get_or, slice_get_past, SInstr, Dispatch, IsKnown, known_at, Round, Stands, IsInForm, walk_records, left_until, next_left, inside_round, IsUpcoming}
 use Rattle.htl_smach.proofs.RoundRecords.{none_past}
 use Rattle.htl_smach.proofs.machine.SMach.upcoming.Goals as goal
 

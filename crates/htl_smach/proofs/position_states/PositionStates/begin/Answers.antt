@@ -1,5 +1,4 @@
-use Rattle.std.proofs.Common.{ap}
-use Rattle.htl_walk.specs.declared.job.Job.{Job}
+use Rattle.htl_smach.proofs.Words.{ap, Job}
 use Rattle.htl_smach.proofs.Begun.{none_begun, one_more_begun}
 use Rattle.htl_smach.proofs.Joined.{job_at_is}
 use Rattle.htl_smach.proofs.position_states.PositionStates.begin.Goals as goal

@@ -1,6 +1,5 @@
 use Rattle.htl_text.proofs.Writing.{Adds-each_of}
-use Rattle.htl_text.specs.Nodes.{switch_of}
-use Rattle.htl_text.specs.PrintedTokens.{switch_tokens}
+use Rattle.htl_text.proofs.Words.{switch_of, switch_tokens}
 use Rattle.htl_text.proofs.printing.ModeNodePrint.print.Goals as goal
 
 pub returns : goal.returns

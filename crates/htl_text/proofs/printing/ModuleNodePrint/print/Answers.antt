@@ -1,6 +1,5 @@
 use Rattle.htl_text.proofs.Writing.{Adds-each_of}
-use Rattle.htl_text.specs.Nodes.{task_of, mode_of}
-use Rattle.htl_text.specs.PrintedTokens.{task_tokens, mode_tokens}
+use Rattle.htl_text.proofs.Words.{task_of, mode_of, task_tokens, mode_tokens}
 use Rattle.htl_text.proofs.printing.ModuleNodePrint.print.Goals as goal
 
 pub returns : goal.returns

@@ -1,6 +1,5 @@
 use Rattle.htl_text.proofs.Writing.{Adds-brackets_of}
-use Rattle.htl_text.specs.Nodes.{out_of}
-use Rattle.htl_text.specs.PrintedTokens.{out_tokens}
+use Rattle.htl_text.proofs.Words.{out_of, out_tokens}
 use Rattle.htl_text.proofs.printing.OutNodesPrint.print.Goals as goal
 
 pub returns-in-Concrete : goal.returns-in-Concrete

@@ -1,6 +1,5 @@
 use Rattle.htl_text.proofs.Writing.{Adds-each_of}
-use Rattle.htl_text.specs.Nodes.{module_of}
-use Rattle.htl_text.specs.PrintedTokens.{module_tokens}
+use Rattle.htl_text.proofs.Words.{module_of, module_tokens}
 use Rattle.htl_text.proofs.printing.ProgramNodePrint.print.Goals as goal
 
 pub returns : goal.returns

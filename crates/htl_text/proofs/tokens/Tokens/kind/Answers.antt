@@ -1,11 +1,6 @@
 use Rattle.std.proofs.Common.{◌≡◌, List, ap, sym, subst, ◌∙◌}
-use Rattle.std.specs.Prelude.{slice_get}
-use Rattle.std.specs.Option.{option_map}
-use Rattle.htl_text.specs.Entries.{kind_at}
-use Rattle.htl_text.specs.Kinds.{kind_of}
-use Rattle.htl_text.specs.TokenLists.{TokenList}
+use Rattle.htl_text.proofs.Words.{slice_get, option_map, kind_at, kind_of, TokenList, Entry}
 use Rattle.htl_text.proofs.AtPlaces.{kinds-at, first-at}
-use Rattle.htl_text.specs.declared.entry.Entry.{Entry}
 use Rattle.htl_text.proofs.tokens.Tokens.kind.Goals as goal
 
 pub returns-clause-kind : goal.returns-clause-kind

@@ -1,13 +1,7 @@
 use Rattle.std.proofs.Common.{◌≡◌, ℕ, List, Some, length, ap, sym, subst, ◌∙◌, ◌<◌}
-use Rattle.std.specs.Prelude.{slice_get}
-use Rattle.std.specs.Option.{option_map}
-use Rattle.htl_text.specs.Entries.{IsKept, token_in}
-use Rattle.htl_text.specs.Kinds.{kind_of}
-use Rattle.htl_text.specs.TokenLists.{TokenList}
+use Rattle.htl_text.proofs.Words.{slice_get, option_map, IsKept, token_in, kind_of, TokenList, Entry, Token}
 use Rattle.htl_text.proofs.AtPlaces.{entry-below, entry-kind, token-at}
-use Rattle.htl_text.specs.declared.entry.Entry.{Entry}
 use Rattle.htl_text.specs.declared.token.Kind.TheVariants as kind
-use Rattle.htl_text.specs.declared.token.Token.{Token}
 use Rattle.htl_text.specs.declared.token.Token.TheVariants as token
 use Rattle.htl_text.proofs.tokens.Tokens.name_at.Goals as goal
 

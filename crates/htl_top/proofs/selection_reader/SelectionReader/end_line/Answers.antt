@@ -1,6 +1,5 @@
 use Rattle.std.proofs.Common.{ℕ, ◌+◌, ◌++◌, List, [], length, take, Option, ap, ap₂, sym, ◌∙◌}
-use Rattle.htl_top.specs.SelectionInput.{judged_text, listed}
-use Rattle.htl_top.specs.SelectionReaders.{Place, next_line}
+use Rattle.htl_top.proofs.Vocabulary.{judged_text, listed, Place, next_line}
 use Rattle.htl_top.proofs.selection_reader.SelectionReader.end_line.Goals as goal
 
 pub returns-clause-judged : goal.returns-clause-judged

@@ -1,6 +1,5 @@
 use Rattle.std.proofs.Common.{◌≡◌, ◌+◌, ◌<◌, length, arith, sym, ap, ◌∙◌, subst}
-use Rattle.std.proofs.lemmas.Bool.{ne_eqb}
-use Rattle.htl_top.specs.SelectionReaders.{Place, IsPlace}
+use Rattle.htl_top.proofs.Vocabulary.{ne_eqb, Place, IsPlace}
 use Rattle.htl_top.proofs.SelectionLines.{rest_of-limit, rest_of-long, rest_of-feed}
 use Rattle.htl_top.proofs.selection_reader.SelectionReader.take.Goals as goal
 

@@ -1,6 +1,5 @@
 use Rattle.std.proofs.Common.{◌≤◌, length, arith, sym, ap, ◌∙◌, subst}
-use Rattle.std.proofs.lemmas.Bool.{eqb-false}
-use Rattle.htl_top.specs.SelectionReaders.{Place, IsPlace}
+use Rattle.htl_top.proofs.Vocabulary.{eqb-false, Place, IsPlace}
 use Rattle.htl_top.proofs.SelectionLines.{rest_of-last}
 use Rattle.htl_top.proofs.selection_reader.SelectionReader.take_end.Goals as goal
 
