@@ -364,8 +364,7 @@ impl<'a> Machine<'a> {
         self.reading
     }
 
-    /// The mode in which a module was at the last instant that was done; None where it was inactive, and before instant 0. Behind
-    /// `finish` no clause says which it is.
+    /// A module's mode at the last instant that was done; None: inactive, or before 0. No clause says it behind `finish`.
     pub fn mode(&self, module: u16) -> Option<u16>
         ensures { result ≡ list_at self.now.standing.calendar.modes «module» }
     {
