@@ -154,7 +154,8 @@ pub use Rattle.htl_refine.proofs.RecordLists.{new_joined, no_frames, none_joined
 pub use Rattle.htl_refine.proofs.RecordOrder.{counted, not_some, path_rises, times_within, walk_rises}
 pub use Rattle.htl_refine.proofs.RootSelection.{roots_some}
 pub use Rattle.htl_refine.proofs.RoundOrder.{of_rounds, round_of, run_of}
-pub use Rattle.htl_refine.proofs.ServedFrames.{every_job_in_time, frames_are_served, have_lengths, paths_are, within_worst}
+pub use Rattle.htl_refine.proofs.RoundLaws.{have_lengths, within_worst}
+pub use Rattle.htl_refine.proofs.ServedFrames.{every_job_in_time, frames_are_served, paths_are}
 pub use Rattle.htl_refine.proofs.ServedSoFar.{front_served}
 pub use Rattle.htl_refine.proofs.SliceOrder.{slice_inside}
 pub use Rattle.htl_refine.proofs.Standing.{IsStanding, standing_at, stood}
