@@ -132,6 +132,15 @@ class Repository:
             return self.resolve(*file.passed[name], depth + 1)
         return None
 
+    def origin(self, module, name):
+        """Where a name comes from that modules of the repository pass on."""
+        for _ in range(8):
+            file = self.by_module.get(module)
+            if not file or name not in file.passed:
+                break
+            module, name = file.passed[name]
+        return module, name
+
     def cited(self, file, text):
         """The declarations that a text of a file names."""
         found = set()

@@ -16,7 +16,7 @@ TOKEN = re.compile(
 )
 
 
-def plain(file, text):
+def plain(repository, file, text):
     """A statement with its variables numbered, one binder each, and the names of the repository by where they are declared."""
     variables = set()
     for names in re.findall(r"[({]([^(){}:=]+?) :", text) + re.findall(r"λ ([^.(]+)\.", text):
@@ -27,12 +27,13 @@ def plain(file, text):
         head, *fields = token.split(".")
         if head in variables:
             said.append(".".join([f"#{number.setdefault(head, len(number))}", *fields]))
-        elif token in file.local and file.local[token][0].startswith("Rattle.htl_"):
-            said.append(":".join(file.local[token]))
         elif token in own:
             said.append(f"{file.module}:{token}")
+        elif token in file.local:
+            module, name = repository.origin(*file.local[token])
+            said.append(f"{module}:{name}" if module.startswith("Rattle.htl_") else name)
         else:
-            said.append(file.local[token][1] if token in file.local else token)
+            said.append(token)
     text = " ".join(said)
     each = lambda it: " ".join(f"{it[1]} {name} : {it[3]} {it[4]}" for name in it[2].split())
     text = re.sub(r"(\(|\{) ((?:#\d+ )+): ([^()]*?) (\)|\})", each, text)
@@ -47,7 +48,7 @@ def main():
             text = it.statement() if it.is_lemma() and not it.depth and not file.answers else None
             # (what gives no fact is a function, whose type many share)
             if text and any(sign in text for sign in "≡≤<≢⊥"):
-                groups[plain(file, text)].append(it)
+                groups[plain(repository, file, text)].append(it)
     reasons, rows, bare = reasons_of("repeats"), 0, 0
     for found in sorted((it for it in groups.values() if len(it) > 1), key=lambda it: (-len(it), it[0].file.path)):
         reason = next(filter(None, (reasons.get((it.file.path, it.name)) for it in found)), None)
