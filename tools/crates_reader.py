@@ -1,12 +1,12 @@
-"""Reads the layout of a repository of crates: the imports and declarations of .antt files, the functions of .rt files.
-
-It knows no more of either language than their layout, by rt fmt, tells: what it says of reach is by name."""
+"""Reads the layout of a repository of crates, by names alone: imports and declarations of .antt files, texts of .rt files."""
 import collections
 import os
 import re
 
 USE = re.compile(r"^( *)(pub )?use ([^\s{]+?)(?:\.\{(.*)\}| as (\S+))?\s*$")
 DECLARED = re.compile(r"^ *((?:abbrev |pub |opaque |unfoldable )*)((?:data |record |ruleset )?)([A-Za-z_◌«][^\s:]*)")
+# What begins as a declaration and is none; the last is a clause of an operator.
+NONE = re.compile(r" *((pub )?mod |unfolding |where\b|\w+ [^\w\s:({]+ \w+ = )")
 WORD = re.compile(r"[A-Za-z_◌α-ωΑ-Ω⟦«ℕℤ][^\s(){}\[\],;:λ→=≡≤<×⊎∷∙]*")
 
 
@@ -72,7 +72,7 @@ class File:
                 at += 1
             return at + 1
         found = DECLARED.match(line)
-        if not line.strip() or line.lstrip().startswith("--") or not found or re.match(r" *((pub )?mod |unfolding |where\b)", line):
+        if not line.strip() or line.lstrip().startswith("--") or not found or NONE.match(line):
             return at + 1
         end = self.end_of(at, found.group(3))
         self.declared.append(Declaration(self, at, end, found))
@@ -123,23 +123,16 @@ class Repository:
             for it in file.declared:
                 self.by_name[file.module, it.name].append(it)
 
-    def resolve(self, module, name, depth=0):
-        """Where a name that a module passes on is declared, if that is in the repository."""
-        if (module, name) in self.by_name:
-            return module, name
-        file = self.by_module.get(module)
-        if file and name in file.passed and depth < 8:
-            return self.resolve(*file.passed[name], depth + 1)
-        return None
-
     def origin(self, module, name):
         """Where a name comes from that modules of the repository pass on."""
-        for _ in range(8):
-            file = self.by_module.get(module)
-            if not file or name not in file.passed:
-                break
-            module, name = file.passed[name]
+        while module in self.by_module and name in self.by_module[module].passed:
+            module, name = self.by_module[module].passed[name]
         return module, name
+
+    def resolve(self, module, name):
+        """Where a name is declared, if that is in the repository."""
+        found = self.origin(module, name)
+        return found if found in self.by_name else None
 
     def cited(self, file, text):
         """The declarations that a text of a file names."""
