@@ -12,17 +12,18 @@ sum_of() {
 	echo "$1"
 }
 
-# What a proof reads: not what was made from it, nor the wrong bodies that it refuses, nor what only tests are compiled from.
+# What a proof of the program reads: not what was made from it, nor the wrong bodies that it refuses, nor what only tests are compiled
+# from, as the crates of tests and of their samples.
 read_by_proof() {
 	cd "$here" || return
 	things="crates.txt crates"
 	[ ! -f HANDLES ] || things="HANDLES $things"
-	find $things \( -name out -o -name must-fail \) -prune -o "$@"
+	find $things \( -name out -o -name must-fail -o -name 'htl_*_tests' -o -name htl_tests -o -name htl_samples \) -prune -o "$@"
 }
 
 # One sum of the names and contents of all that a proof reads.
 sources() {
-	(read_by_proof ! -type d ! -name '*_tests.rt' ! -name tests.rt -exec "$sums" {} +) 2>/dev/null | LC_ALL=C sort | sum_of
+	(read_by_proof ! -type d ! -name '*_tests.rt' -exec "$sums" {} +) 2>/dev/null | LC_ALL=C sort | sum_of
 }
 
 # The item $1 of the stamp.

@@ -1,6 +1,0 @@
-use Rattle.std.proofs.Common.{◌≡◌}
-use Rattle.htl_smach.specs.Rounds.{Stands}
-use Rattle.htl.proofs.smach_tests.answers.Given as goal
-
-abbrev pub invariant-loop-k : goal.invariant-loop-k
-invariant-loop-k l = (l.m.jobs ≡ l.jobs) × (l.m.start ≡ 100) × Stands l.m l.s.instrs

@@ -1,0 +1,7 @@
+use Rattle.std.proofs.Common.{◌≡◌, ◌+◌, ◌*◌}
+use Rattle.htl_model.specs.Functions.{term_of}
+use Rattle.htl_model.specs.Small.{ArgumentsBelow, nodes}
+use Rattle.htl_part_tests.proofs.tables.func_tests.nested.Given as goal
+
+abbrev pub invariant-loop : goal.invariant-loop
+invariant-loop l = (nodes (term_of l.e) ≡ 2 * l.counter + 1) × ArgumentsBelow 0 (term_of l.e)

@@ -1,0 +1,5 @@
+// Objects: bytes, faults, loading and patches.
+mod damaged_tests;
+mod load_tests;
+mod object_tests;
+mod patch_tables_tests;

@@ -1,0 +1,20 @@
+// The top call, command by command.
+mod audit_tests;
+mod bulk_tests;
+mod call_tests;
+mod check_tests;
+mod compile_tests;
+mod fault_line_tests;
+mod go_tests;
+mod lines_tests;
+mod patch_tests;
+mod period_tests;
+mod plan_tests;
+mod platform_tests;
+mod run_tests;
+mod script_tests;
+mod show_tests;
+mod slack_tests;
+mod source_tests;
+mod stages_tests;
+mod unpatched_tests;

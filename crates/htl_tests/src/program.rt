@@ -1,0 +1,3 @@
+// The program and its adapters.
+mod adapters_tests;
+mod program_tests;
