@@ -1,20 +1,17 @@
 -- The limits of frames, and what is kept where none is exceeded.
-use Rattle.std.proofs.Common.{◌≡◌, ℕ, zero, suc, ◌+◌, ◌*◌, ◌/◌, ◌%◌, ◌≤◌, ◌<◌, Bool, true, false, cond, eqb, ltb, min, List, [], ◌∷◌, ◌++◌, length, map, drop, drop-cons, add-one, get_or, Option, Some, None, refl, sym, ap, ◌∙◌, arith, inl, inr}
-use Rattle.htl_model.proofs.Words.{flat_map, cases_Bool, cases_lt, nat_tests, length-append, length-map, Round, Place, unit_period, root_periods, gcd_in, common_multiple, multiple_of, frame_of, starts_below, starts, rounds_of, rounds_at, rounds, choices, mode_in, places_of, places_in, most_invs, most_positions, ways, too_long, last_of, exceeds, first_of, frame_limit, KeepsFrames, AreInRange, is_root, root_modules, modes_of, invs_of, Tables, mod-eq_of_lt, mul_assoc, le-mul_of_pos_right}
+use Rattle.std.proofs.Common.{◌≡◌, ℕ, zero, suc, ◌+◌, ◌*◌, ◌/◌, ◌%◌, ◌≤◌, ◌<◌, Bool, true, false, cond, eqb, ltb, min, List, [], ◌∷◌, ◌++◌, length, map, drop, drop-cons, add-one, get_or, Option, Some, None, option_map, refl, sym, ap, ◌∙◌, arith, inl, inr}
+use Rattle.htl_model.proofs.Words.{flat_map, cases_Bool, cases_lt, nat_tests, length-append, length-map, Round, Place, unit_period, root_periods, gcd_in, common_multiple, multiple_of, frame_of, starts_below, starts, rounds_of, rounds_at, rounds, choices, mode_in, places_of, places_in, most_invs, most_positions, ways, too_long, last_of, exceeds, or_else, other_limit, frame_limit, KeepsFrames, AreInRange, is_root, root_modules, modes_of, invs_of, Tables, mod-eq_of_lt, mul_assoc, le-mul_of_pos_right}
 use Rattle.htl_model.proofs.ChoiceLaws.{capped}
+use Rattle.htl_model.proofs.FirstLaws.{or_else_none}
 use Rattle.htl_model.proofs.SelectionLaws.{modes_some, all_places_below}
 
 -- ---- limits one after another
 
-within_need : (u have need : ℕ) → exceeds u have need ≡ None → have ≤ need
-within_need u have need e = elim (cases_lt need have) [
-  | inl l ↦ absurd (let b : ltb need have ≡ true = grind (arith, nat_tests) in let no : Some (u, (have, need)) ≡ None = sym (ap (λ c. cond c (Some (u, (have, need))) None) b) ∙ e in cc)
+within_need : (have need : ℕ) → exceeds have need ≡ None → have ≤ need
+within_need have need e = elim (cases_lt need have) [
+  | inl l ↦ absurd (let b : ltb need have ≡ true = grind (arith, nat_tests) in let no : Some (have, need) ≡ None = sym (ap (λ c. cond c (Some (have, need)) None) b) ∙ e in cc)
   | inr l ↦ l
 ]
-
-both_none : {A : Type 0} (a b : Option A) → first_of a b ≡ None → (a ≡ None) × (b ≡ None)
-both_none (Some x) b e = absurd (let no : Some x ≡ None = e in cc)
-both_none None b e = (refl, e)
 
 -- ---- the least common multiple
 
@@ -126,45 +123,53 @@ frame_is t u us e =
     ap (λ (vs : List ℕ). elim (elim (map (unit_period t) vs) as (λ _. Option ℕ) [ [] ↦ None | p ∷ ps ↦ Some (multiple_of p ps) ]) as (λ _. ℕ) [ Some h ↦ h | None ↦ 0 ]) e
     ∙ sym (ap (λ n. multiple_of n (map (unit_period t) us)) (one_divides (unit_period t u)))
 
--- the limits of frames that have this first module, where the multiples are these
-abbrev pub long : Tables → ℕ → List ℕ → Option (ℕ × ℕ) → Option (ℕ × (ℕ × ℕ))
-long t u us o = elim o as (λ _. Option (ℕ × (ℕ × ℕ))) [
-  | Some x ↦ Some (x.0, (x.1, 1000000))
-  | None ↦ first_of (exceeds (last_of u us) (length (starts t)) 32) (first_of (exceeds (last_of u us) (min (choices t (rounds t)) 4294967295) 1024) (exceeds (last_of u us) (most_positions t (rounds t)) 128))
-]
+abbrev pub with_unit : ℕ → ℕ × ℕ → ℕ × (ℕ × ℕ)
+with_unit v o = (v, o)
+
+-- the first limit that is exceeded, of the one on ticks and the others, where this is the last module
+abbrev pub limit_by : ℕ → Option (ℕ × ℕ) → Option (ℕ × ℕ) → Option (ℕ × (ℕ × ℕ))
+limit_by last long other = elim long as (λ _. Option (ℕ × (ℕ × ℕ))) [ Some x ↦ Some (x.0, (x.1, 1000000)) | None ↦ option_map (with_unit last) other ]
+
+-- that of frames with these root modules
+abbrev pub limit_of : Tables → List ℕ → Option (ℕ × (ℕ × ℕ))
+limit_of t us = elim us as (λ _. Option (ℕ × (ℕ × ℕ))) [ [] ↦ None | u ∷ vs ↦ limit_by (last_of u vs) (too_long t 1 (u ∷ vs)) (other_limit t) ]
 
 pub too_short : (t : Tables) → frame_limit t ≡ None → too_long t 1 (root_modules t) ≡ None
 too_short t e = by (root_modules t) e
   where
-    of_long : (u : ℕ) (us : List ℕ) (o : Option (ℕ × ℕ)) → long t u us o ≡ None → o ≡ None
-    of_long u us (Some x) f = absurd (let no : Some (x.0, (x.1, 1000000)) ≡ None = f in cc)
-    of_long u us None f = refl
+    of_long : (v : ℕ) (o : Option (ℕ × ℕ)) → limit_by v o (other_limit t) ≡ None → o ≡ None
+    of_long v (Some x) f = absurd (let no : Some (x.0, (x.1, 1000000)) ≡ None = f in cc)
+    of_long v None f = refl
 
-    by : (us : List ℕ) → elim us as (λ _. Option (ℕ × (ℕ × ℕ))) [ [] ↦ None | u ∷ vs ↦ long t u vs (too_long t 1 (u ∷ vs)) ] ≡ None → too_long t 1 us ≡ None
+    by : (us : List ℕ) → limit_of t us ≡ None → too_long t 1 us ≡ None
     by [] f = refl
-    by (u ∷ us) f = of_long u us (too_long t 1 (u ∷ us)) f
+    by (u ∷ us) f = of_long (last_of u us) (too_long t 1 (u ∷ us)) f
 
 pub limits_kept : (t : Tables) → AreInRange t → frame_limit t ≡ None → KeepsFrames t
 limits_kept t r e = by (root_modules t) refl e
   where
-    kept : (u : ℕ) (us : List ℕ) → root_modules t ≡ u ∷ us → (o : Option (ℕ × ℕ)) → too_long t 1 (u ∷ us) ≡ o → long t u us o ≡ None → KeepsFrames t
+    none_mapped : (v : ℕ) (o : Option (ℕ × ℕ)) → option_map (with_unit v) o ≡ None → o ≡ None
+    none_mapped v None f = refl
+    none_mapped v (Some p) f = absurd (let no : Some (v, p) ≡ None = f in cc)
+
+    kept : (u : ℕ) (us : List ℕ) → root_modules t ≡ u ∷ us → (o : Option (ℕ × ℕ)) → too_long t 1 (u ∷ us) ≡ o → limit_by (last_of u us) o (other_limit t) ≡ None → KeepsFrames t
     kept u us roots (Some x) is f = absurd (let no : Some (x.0, (x.1, 1000000)) ≡ None = f in cc)
     kept u us roots None is f =
-        let v = last_of u us in
-        let a = both_none (exceeds v (length (starts t)) 32) (first_of (exceeds v (min (choices t (rounds t)) 4294967295) 1024) (exceeds v (most_positions t (rounds t)) 128)) f in
-        let b = both_none (exceeds v (min (choices t (rounds t)) 4294967295) 1024) (exceeds v (most_positions t (rounds t)) 128) a.1 in
-        let few : min (choices t (rounds t)) 4294967295 ≤ 1024 = within_need v (min (choices t (rounds t)) 4294967295) 1024 b.0 in
-        let most : most_positions t (rounds t) ≤ 128 = within_need v (most_positions t (rounds t)) 128 b.1 in
+        let paths : Option (ℕ × ℕ) = exceeds (min (choices t (rounds t)) 4294967295) 1024 in
+        let a = or_else_none (exceeds (length (starts t)) 32) (or_else paths (exceeds (most_positions t (rounds t)) 128)) (none_mapped (last_of u us) (other_limit t) f) in
+        let b = or_else_none paths (exceeds (most_positions t (rounds t)) 128) a.1 in
+        let few : min (choices t (rounds t)) 4294967295 ≤ 1024 = within_need (min (choices t (rounds t)) 4294967295) 1024 b.0 in
+        let most : most_positions t (rounds t) ≤ 128 = within_need (most_positions t (rounds t)) 128 b.1 in
         record {
           frame = omega (arith, frame_is t u us roots, not_too_long t 1 (u ∷ us) (omega arith) is);
-          starts = within_need v (length (starts t)) 32 a.0;
+          starts = within_need (length (starts t)) 32 a.0;
           paths = omega (arith, few, ap (λ (ws : List ℕ). elim ws as (λ _. ℕ) [ [] ↦ 0 | w ∷ vs ↦ choices t (rounds t) ]) roots);
           choices = omega (arith, few);
           most = most;
           positions = λ path. omega (arith, most, few_places t path (rounds t) (rounds_have t r));
         }
 
-    by : (us : List ℕ) → root_modules t ≡ us → elim us as (λ _. Option (ℕ × (ℕ × ℕ))) [ [] ↦ None | u ∷ vs ↦ long t u vs (too_long t 1 (u ∷ vs)) ] ≡ None → KeepsFrames t
+    by : (us : List ℕ) → root_modules t ≡ us → limit_of t us ≡ None → KeepsFrames t
     by [] roots f = no_roots t roots
     by (u ∷ us) roots f = kept u us roots (too_long t 1 (u ∷ us)) refl f
 

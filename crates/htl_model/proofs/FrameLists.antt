@@ -1,27 +1,13 @@
 -- A frame is made of modules, modes and invocations: tables that share these three lists have the same frame, the same paths, and the
 -- same limits.
-use Rattle.std.proofs.Common.{◌≡◌, ℕ, ◌+◌, ◌*◌, ◌/◌, ◌%◌, min, max, cond, eqb, ltb, List, [], ◌∷◌, ◌++◌, length, map, get_or, Option, Some, None, refl, ◌∙◌, ap}
+use Rattle.std.proofs.Common.{◌≡◌, ℕ, ◌+◌, ◌*◌, ◌/◌, ◌%◌, min, max, cond, eqb, ltb, List, [], ◌∷◌, ◌++◌, length, map, get_or, Option, Some, refl, ◌∙◌, ap, ap₂}
 use mathlib.Core.Path.{fun_ext}
-use Rattle.htl_model.proofs.Words.{flat_map, starts, unit_period, common_multiple, rounds_of, rounds_at, rounds, choices, paths, mode_in, radices, places_of, places_in, path_places, most_invs, most_positions, too_long, last_of, exceeds, first_of, frame_limit, root_modules, modes_of, invs_of, Tables, Place, Round}
+use Rattle.htl_model.proofs.Words.{flat_map, starts, unit_period, common_multiple, rounds_of, rounds_at, rounds, choices, paths, mode_in, radices, places_of, places_in, path_places, most_invs, most_positions, too_long, last_of, exceeds, or_else, other_limit, frame_limit, root_modules, modes_of, invs_of, Tables, Place, Round}
+use Rattle.htl_model.proofs.FrameLimits.{limit_by, limit_of}
 
 -- the tables with these three lists alone
 abbrev pub framed : Tables → Tables
 framed t = record { comms = []; modes = t.modes; modules = t.modules; ports = []; tasks = []; invs = t.invs; switches = []; functions = [] }
-
--- the first limit that is exceeded, of a first module and those behind it
-abbrev limit_of : ℕ → List ℕ → Option (ℕ × ℕ) → ℕ → ℕ → ℕ → Option (ℕ × (ℕ × ℕ))
-limit_of u us long s c m =
-    elim long [
-      | Some x ↦ Some (x.0, (x.1, 1000000))
-      | None ↦ let v = last_of u us in first_of (exceeds v s 32) (first_of (exceeds v (min c 4294967295) 1024) (exceeds v m 128))
-    ]
-
-abbrev limit_in : Tables → List ℕ → Option (ℕ × (ℕ × ℕ))
-limit_in t roots =
-    elim roots as (λ _. Option (ℕ × (ℕ × ℕ))) [
-      | [] ↦ None
-      | u ∷ us ↦ limit_of u us (too_long t 1 (u ∷ us)) (length (starts t)) (choices t (rounds t)) (most_positions t (rounds t))
-    ]
 
 module _ (t : Tables) where
   pub rounds_of_framed : (a : ℕ) (us : List ℕ) → rounds_of t a us ≡ rounds_of (framed t) a us
@@ -72,15 +58,13 @@ module _ (t : Tables) where
   pub all_most_framed : most_positions t (rounds t) ≡ most_positions (framed t) (rounds (framed t))
   all_most_framed = ap (most_positions t) rounds_framed ∙ most_framed (rounds (framed t))
 
-  limit_in_framed : (roots : List ℕ) → limit_in t roots ≡ limit_in (framed t) roots
-  limit_in_framed [] = refl
-  limit_in_framed (u ∷ us) =
-      let s = length (starts t) in
-      let long = too_long (framed t) 1 (u ∷ us) in
-      let c = choices (framed t) (rounds (framed t)) in
-      ap (λ (o : Option (ℕ × ℕ)). limit_of u us o s (choices t (rounds t)) (most_positions t (rounds t))) (too_long_framed 1 (u ∷ us))
-      ∙ ap (λ (n : ℕ). limit_of u us long s n (most_positions t (rounds t))) all_choices_framed
-      ∙ ap (limit_of u us long s c) all_most_framed
+  other_framed : other_limit t ≡ other_limit (framed t)
+  other_framed =
+      ap₂ (λ (c m : ℕ). or_else (exceeds (length (starts t)) 32) (or_else (exceeds (min c 4294967295) 1024) (exceeds m 128))) all_choices_framed all_most_framed
 
   pub limit_framed : frame_limit t ≡ frame_limit (framed t)
-  limit_framed = limit_in_framed (root_modules t)
+  limit_framed = by (root_modules t)
+    where
+      by : (us : List ℕ) → limit_of t us ≡ limit_of (framed t) us
+      by [] = refl
+      by (u ∷ us) = ap₂ (limit_by (last_of u us)) (too_long_framed 1 (u ∷ us)) other_framed

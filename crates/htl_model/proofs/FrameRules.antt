@@ -4,7 +4,8 @@ use Rattle.std.specs.Prelude.{◌≤◌, ◌+◌, ◌-◌}
 use Rattle.htl_model.proofs.Words.{eqb-true, slice_get-get_or, mul-div_assoc, dvd-mul_left, mod_self, dvd_trans, dvd_of_mod-eq-zero, mod-eq-zero_of_dvd, Mode, breach, BreaksAt, Broken, KeptTo, FrameLimits, Part, Itself, Input, Output, Test, Site, KeptApart, gcd_in, common_multiple, multiple_of, frame_of, unit_period, too_long, other_limit, frame_limit, first_mode, AreInRange, is_root, root_modules, modes_of, mode_of_module, Tables}
 use Rattle.htl_model.proofs.Divisors.{greatest_divisor}
 use Rattle.htl_model.proofs.FrameBuild.{frame_is_multiple}
-use Rattle.htl_model.proofs.LimitCode.{with_unit, limit_none, limit_long, limit_rest}
+use Rattle.htl_model.proofs.FrameLimits.{with_unit}
+use Rattle.htl_model.proofs.LimitCode.{limit_none, limit_long, limit_rest}
 use Rattle.htl_model.proofs.SelectionLaws.{modes_some, places_below, place_passes_0}
 
 -- ---- what divides the frame

@@ -24,3 +24,8 @@ get_list_to f (suc n) k d h =
       | inl q ↦ get_front (list_to f n) _ d k (omega (arith, length-list_to f n)) ∙ get_list_to f n k d q
       | inr e ↦ get_end (list_to f n) (f n) d k (e ∙ sym (length-list_to f n)) ∙ ap f (sym e)
     ]
+
+-- equal functions, equal lists
+pub list_same : {A : Type 0} (f g : ℕ → A) (n : ℕ) → ((j : ℕ) → j < n → f j ≡ g j) → list_to f n ≡ list_to g n
+list_same f g zero h = refl
+list_same f g (suc n) h = ap (λ xs. xs ++ f n ∷ []) (list_same f g n (λ j l. h j (omega arith))) ∙ ap (λ x. list_to g n ++ x ∷ []) (h n (omega arith))

@@ -6,18 +6,18 @@ use Rattle.htl_model.proofs.Words.{take-suc, take-suc-set, drop-set-lt, length-m
 
 -- ---- tasks
 
-count_types : (k : Task) → length (task_types k) ≡ function_count k
+pub count_types : (k : Task) → length (task_types k) ≡ function_count k
 count_types k = by k.is_abstract
   where
     by : (b : Bool) → length (cond b [] (map (output_type k.inputs) k.outputs)) ≡ cond b 0 (length k.outputs)
     by true = refl
     by false = length-map k.outputs (output_type k.inputs)
 
-count_more : (k : Task) (ts : List Task) (n : ℕ) → count_before (suc n) (k ∷ ts) ≡ function_count k + count_before n ts
+pub count_more : (k : Task) (ts : List Task) (n : ℕ) → count_before (suc n) (k ∷ ts) ≡ function_count k + count_before n ts
 count_more k ts zero = omega arith
 count_more k ts (suc n) = let e : count_before (suc n) (k ∷ ts) ≡ function_count k + count_before n ts = count_more k ts n in omega (arith, e)
 
-count_all : (ts : List Task) → length (flat_map task_types ts) ≡ count_before (length ts) ts
+pub count_all : (ts : List Task) → length (flat_map task_types ts) ≡ count_before (length ts) ts
 count_all [] = refl
 count_all (k ∷ ts) =
     let e = length-append (task_types k) (flat_map task_types ts) in

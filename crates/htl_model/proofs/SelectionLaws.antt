@@ -1,13 +1,20 @@
 -- Laws of selections: modules in range have modes, and a cap on the choices changes no quotient.
 use Rattle.std.proofs.Common.{◌≡◌, ◌≤◌, ◌<◌, ◌+◌, ◌-◌, ◌*◌, ◌/◌, ◌%◌, ◌^◌, ℕ, zero, suc, Bool, true, false, cond, List, [], ◌∷◌, ◌++◌, length, drop, get_or, slice_get, Option, Some, None, min, refl, sym, subst, ◌∙◌, ap, arith, inl, inr, length-drop, IfSome, eq-eqb}
 use Rattle.std.specs.List.{flat_map, All}
-use Rattle.htl_model.proofs.Words.{All-append, All-get_or, All-from_get_or, div-eq_of_lt, mul-lt, slice_get_cases, slice_get-get_or, Module, places_from, Task, Tables, mode_period, function_count, count_at, count_before, AreInRange, IsModeThat, is_root, mode_of_module, modes_of, choices_from, root_mode, invs_of, root_modules, root_period, inv_of_mode, positions, cases_lt}
+use Rattle.htl_model.proofs.Words.{All-append, All-get_or, count_by, sum_by-cons, All-from_get_or, div-eq_of_lt, mul-lt, slice_get_cases, slice_get-get_or, Module, places_from, Task, Tables, mode_period, function_count, count_at, count_before, AreInRange, IsModeThat, is_root, mode_of_module, modes_of, choices_from, root_mode, invs_of, root_modules, root_period, inv_of_mode, positions, cases_lt}
 
 -- ---- places that pass a test
 
 on_front : (b : Bool) (k : ℕ) (rest : List ℕ) → 0 < length rest → 0 < length (cond b (k ∷ rest) rest)
 on_front true k rest h = omega arith
 on_front false k rest h = h
+
+pub count_places : {A : Type 0} (test : A → Bool) (k : ℕ) (xs : List A) → length (places_from test k xs) ≡ count_by test xs
+count_places test k [] = refl
+count_places test k (x ∷ xs) =
+    let rest = count_places test (suc k) xs in
+    let first = sum_by-cons (λ y. cond (test y) 1 0) x xs in
+    grind arith
 
 pub places_some : {A : Type 0} (test : A → Bool) (k p : ℕ) (xs : List A) (x : A) → slice_get xs p ≡ Some x → test x ≡ true → 0 < length (places_from test k xs)
 places_some test k p [] x e f = cc

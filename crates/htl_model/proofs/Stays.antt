@@ -1,6 +1,6 @@
 -- Where a module is, by where the modules are.
-use Rattle.std.proofs.Common.{◌≡◌, ℕ, zero, suc, ◌<◌, List, [], ◌∷◌, ◌++◌, length, slice_get, Option, Some, None, ℤ, refl, sym, ap, ◌∙◌, arith, inl, inr, length-append}
-use Rattle.htl_model.proofs.Words.{Tables, Stay, stay_of, stays_to, next_stay_at, within_front, cases_below}
+use Rattle.std.proofs.Common.{◌≡◌, ℕ, zero, suc, ◌<◌, true, false, eqb, List, [], ◌∷◌, ◌++◌, length, slice_get, Option, Some, None, ℤ, refl, sym, ap, ◌∙◌, arith, inl, inr, length-append}
+use Rattle.htl_model.proofs.Words.{Tables, Mode, Stay, mode_module, stay_of, stays_to, next_stay_at, runs, within_front, cases_below, eqb-true}
 
 pub length-stays_to : (t : Tables) (v : List ℤ) (now : ℕ) (old : List (Option Stay)) (k : ℕ) → length (stays_to t v now old k) ≡ k
 length-stays_to t v now old zero = refl
@@ -27,3 +27,14 @@ stay_at t v now old (suc n) k h =
           ap opened (get_end (stays_to t v now old n) _ k (e ∙ sym (length-stays_to t v now old n)))
           ∙ ap (λ m. next_stay_at t v now (stays_to t v now old m) m (stay_of old m)) (sym e)
     ]
+
+pub module_is : (t : Tables) (m : ℕ) (x : Mode) → slice_get t.modes m ≡ Some x → mode_module t m ≡ x.«module»
+module_is t m x e = ap (λ (o : Option Mode). elim o [ Some y ↦ y.«module» | None ↦ 0 ]) e
+
+-- a mode that runs is that of its module's stay
+pub runs_is : (t : Tables) (stays : List (Option Stay)) (m : ℕ) → runs t stays m ≡ true → (y : Stay) × (stay_of stays (mode_module t m) ≡ Some y) × (y.mode ≡ m)
+runs_is t stays m e = by_stay (stay_of stays (mode_module t m)) refl e
+  where
+    by_stay : (o : Option Stay) → stay_of stays (mode_module t m) ≡ o → elim o [ Some x ↦ eqb x.mode m | None ↦ false ] ≡ true → (y : Stay) × (stay_of stays (mode_module t m) ≡ Some y) × (y.mode ≡ m)
+    by_stay None is f = absurd (let z : ⊥ = cc in z)
+    by_stay (Some y) is f = (y, is, eqb-true y.mode m f)

@@ -2,7 +2,7 @@
 pub use Rattle.htl_base.proofs.Numbers.{cases_at_most, cases_below, cases_less_same, cases_up_to, product_parts, round_down}
 pub use Rattle.htl_base.proofs.Places.{all_zero, each_at, get_back, get_front, get_mapped, some_place, within_front}
 pub use Rattle.htl_base.proofs.Tests.{and_none, or_second, true_not_false}
-pub use Rattle.htl_base.proofs.Words.{All-append, All-from_get_or, All-get_or, AllByRecursion, Contains-from_any, IsDistinct, IsDistinct-cons, IsDistinct-from_apart, IsGcd, IsNonDecreasing, and_parts, bit_at, bit_at-lt, bit_at-suc, bit_at-zero, bit_at_lowest, bit_or, bytes_eq, bytes_eq-Decides, cases_Bool, cases_lt, div-div-eq-div-mul, div-eq_of_lt, div-one, drop-set-lt, dvd-mul_left, dvd_trans, eq-eqb, eqb-true, false_from_ne_true, flat_map, get_or-map, get_or_from_slice_get, le-ltb, length-append, length-map, length-set, list_any, list_any-from_Contains, list_any_more, lt-ltb, mod-eq_of_lt, mod_self, mul-le-mul_left, mul-le-mul_right, mul_assoc, mul_comm, nat_eq_equiv, nat_tests, ne_eqb, nil_from_length, none-some, not-true, or_cases, or_left, or_right, pos, pos_of_dvd_of_pos, slice_get, slice_get-get_or, slice_get_cases, slice_get_within, subst, take-suc, take_more_set, w128}
+pub use Rattle.htl_base.proofs.Words.{All-append, All-from_get_or, All-get_or, AllByRecursion, Contains-from_any, IsDistinct, IsDistinct-cons, IsDistinct-from_apart, IsGcd, IsNonDecreasing, and_parts, bit_at, bit_at-lt, bit_at-suc, bit_at-zero, bit_at_lowest, bit_or, bytes_eq, bytes_eq-Decides, cases_Bool, cases_lt, div-div-eq-div-mul, div-eq_of_lt, div-one, drop-set-lt, dvd-mul_left, dvd_trans, eq-eqb, eqb-true, false_from_ne_true, flat_map, get_or-map, get_or_from_slice_get, le-ltb, length-append, length-map, length-set, list_any, list_any-from_Contains, list_any_more, lt-ltb, mod-eq_of_lt, mod_self, mul-le-mul_left, mul-le-mul_right, mul_assoc, mul_comm, nat_eq_equiv, nat_tests, ne_eqb, nil_from_length, none-some, not-true, or_cases, or_left, or_right, pos, pos_of_dvd_of_pos, slice_get, slice_get-get_or, slice_get_cases, slice_get_within, subst, take-suc, take_more_set, w128, sum_by-cons}
 pub use Rattle.htl_base.specs.declared.Ty.{Ty}
 pub use Rattle.htl_base.specs.declared.Ty.TheVariants.{Bool as BoolTy, Int as IntTy}
 pub use Rattle.htl_base.specs.declared.operator.BinOp.TheVariants.{Add, Div, Ge, Gt, Lt, Mul, Sub}
@@ -16,7 +16,7 @@ pub use Rattle.htl_model.specs.First.{first_from, first_to, or_else}
 pub use Rattle.htl_model.specs.FormRules.{AbstractPlaces, AbstractPorts, ConcreteWriters, Divides, Ends, FormRule, FrameLimits, Inheritance, Input, Itself, ModulePeriod, Offsets, Output, Parents, Part, PortCycles, PortWriters, Sensors, SharedParents, Site, Test, Windows, WorstCases}
 pub use Rattle.htl_model.specs.Found.{Found}
 pub use Rattle.htl_model.specs.FrameRules.{KeptApart}
-pub use Rattle.htl_model.specs.Frames.{KeepsFrames, begins, choices, common_multiple, exceeds, first_of, frame_limit, frame_of, gcd_in, hyper, last_of, mode_from, mode_in, most_invs, most_positions, multiple_of, node_of, nodes_of, other_limit, over, path_places, paths, places_in, places_of, radices, root_periods, rounds, rounds_at, rounds_of, starts, starts_below, too_long, unit_period, unit_start, ways}
+pub use Rattle.htl_model.specs.Frames.{KeepsFrames, begins, choices, common_multiple, exceeds, frame_limit, frame_of, gcd_in, hyper, last_of, mode_from, mode_in, most_invs, most_positions, multiple_of, node_of, nodes_of, other_limit, path_places, paths, places_in, places_of, radices, root_periods, rounds, rounds_at, rounds_of, starts, starts_below, too_long, unit_period, unit_start, ways}
 pub use Rattle.htl_model.specs.FunctionCode.{AreCode, HoldsCode, IsCode}
 pub use Rattle.htl_model.specs.FunctionTypes.{FunctionType, comm_type, function_types, output_type, switch_type, task_types}
 pub use Rattle.htl_model.specs.Functions.{Arg, Binary, Choose, Number, Term, Unary, is_zero}

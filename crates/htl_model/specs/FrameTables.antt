@@ -1,5 +1,6 @@
 -- The numbers of a frame, as the code keeps them.
 use Rattle.std.specs.Prelude.{◌≡◌, ◌+◌, ◌≤◌, [], ◌∷◌, ◌++◌, length, take}
+use Rattle.htl_base.specs.declared.limits.TheConstants.{MAX_STARTS, MAX_ROUNDS}
 use Rattle.htl_model.specs.declared.frame.Frame.{Frame}
 use Rattle.htl_model.specs.Frames.{frame_of, starts, rounds, radices, paths, nodes, KeepsFrames}
 use Rattle.htl_model.specs.Tables.{Tables}
@@ -9,10 +10,10 @@ pub record IsFrame (t : Tables) (f : Frame) : Type 0 where
   pub limits : KeepsFrames t
   pub count : f.count ≡ length (starts t)
   pub starts : take (f.count + 1) f.starts ≡ starts t ++ frame_of t ∷ []
-  pub room : length f.starts ≡ 33
-  pub round_count : f.round_count ≤ 2048
+  pub room : length f.starts ≡ MAX_STARTS + 1
+  pub round_count : f.round_count ≤ MAX_ROUNDS
   pub rounds : take f.round_count f.rounds ≡ rounds t
   pub radices : take f.count f.radices ≡ radices t
-  pub radix_room : length f.radices ≡ 32
+  pub radix_room : length f.radices ≡ MAX_STARTS
   pub paths : f.paths ≡ paths t
   pub nodes : f.nodes ≡ nodes t

@@ -1,8 +1,10 @@
 -- Frames: the rounds of root modules of different periods, up to the least common multiple of these.
-use Rattle.std.specs.Prelude.{◌≤◌, ℕ, zero, suc, ◌+◌, ◌*◌, ◌/◌, ◌%◌, Bool, cond, ◌&&◌, eqb, leb, ltb, max, min, List, [], ◌∷◌, ◌++◌, length, get_or, slice_get, map, Option, Some, None}
+use Rattle.std.specs.Prelude.{◌≤◌, ℕ, zero, suc, ◌+◌, ◌*◌, ◌/◌, ◌%◌, Bool, cond, ◌&&◌, eqb, leb, ltb, max, min, List, [], ◌∷◌, ◌++◌, length, get_or, slice_get, map, Option, Some, None, option_map}
 use Rattle.std.specs.List.{flat_map, list_any}
+use Rattle.htl_base.specs.declared.limits.TheConstants.{MAX_FRAME, MAX_STARTS, MAX_PATHS, MAX_POSITIONS}
 use Rattle.htl_model.specs.declared.frame.Round.{Round}
 use Rattle.htl_model.specs.declared.frame.Place.{Place}
+use Rattle.htl_model.specs.First.{or_else}
 use Rattle.htl_model.specs.Functions.{of_bool}
 use Rattle.htl_model.specs.Tables.{Tables, mode_period}
 use Rattle.htl_model.specs.Selections.{root_modules, modes_of, invs_of}
@@ -153,45 +155,37 @@ most_positions t (r ∷ rs) = most_invs t (modes_of t r.unit) + most_positions t
 -- the first of the modules up to which the multiple is too great, with the multiple
 abbrev pub too_long : Tables → ℕ → List ℕ → Option (ℕ × ℕ)
 too_long t m [] = None
-too_long t m (u ∷ us) = let n = common_multiple m (unit_period t u) in cond (ltb 1000000 n) (Some (u, n)) (too_long t n us)
+too_long t m (u ∷ us) = let n = common_multiple m (unit_period t u) in cond (ltb MAX_FRAME n) (Some (u, n)) (too_long t n us)
 
 abbrev pub last_of : ℕ → List ℕ → ℕ
 last_of u [] = u
 last_of u (v ∷ vs) = last_of v vs
 
-abbrev pub exceeds : ℕ → ℕ → ℕ → Option (ℕ × (ℕ × ℕ))
-exceeds u have need = cond (ltb need have) (Some (u, (have, need))) None
+-- what there is and what there may be, where there is more
+abbrev pub exceeds : ℕ → ℕ → Option (ℕ × ℕ)
+exceeds have need = cond (ltb need have) (Some (have, need)) None
 
-abbrev pub first_of : {A : Type 0} → Option A → Option A → Option A
-first_of (Some x) other = Some x
-first_of None other = other
+-- the first limit that is exceeded behind the one on ticks
+abbrev pub other_limit : Tables → Option (ℕ × ℕ)
+other_limit t =
+    or_else (exceeds (length (starts t)) MAX_STARTS)
+    (or_else (exceeds (min (choices t (rounds t)) 4294967295) MAX_PATHS) (exceeds (most_positions t (rounds t)) MAX_POSITIONS))
 
 -- the first limit of frames that is exceeded: the module, what it has and what it may have
 abbrev pub frame_limit : Tables → Option (ℕ × (ℕ × ℕ))
 frame_limit t = elim (root_modules t) [
   | [] ↦ None
-  | u ∷ us ↦ elim (too_long t 1 (u ∷ us)) [
-    | Some x ↦ Some (x.0, (x.1, 1000000))
-    | None ↦ let v = last_of u us in
-        first_of (exceeds v (length (starts t)) 32) (first_of (exceeds v (min (choices t (rounds t)) 4294967295) 1024) (exceeds v (most_positions t (rounds t)) 128))
-  ]
+  | u ∷ us ↦ elim (too_long t 1 (u ∷ us)) [ Some x ↦ Some (x.0, (x.1, MAX_FRAME)) | None ↦ option_map (λ o. (last_of u us, o)) (other_limit t) ]
 ]
 
 -- what tables have where no limit of frames is exceeded
 pub record KeepsFrames (t : Tables) : Type 0 where
-  pub frame : frame_of t ≤ 1000000
-  pub starts : length (starts t) ≤ 32
-  pub paths : paths t ≤ 1024
-  pub choices : choices t (rounds t) ≤ 1024
-  pub most : most_positions t (rounds t) ≤ 128
-  pub positions : (path : ℕ) → length (path_places t path) ≤ 128
-
--- the limits of frames behind the one on ticks: what there is, and what there may be
-abbrev pub over : ℕ → ℕ → Option (ℕ × ℕ)
-over have need = cond (ltb need have) (Some (have, need)) None
-
-abbrev pub other_limit : Tables → Option (ℕ × ℕ)
-other_limit t = first_of (over (length (starts t)) 32) (first_of (over (min (choices t (rounds t)) 4294967295) 1024) (over (most_positions t (rounds t)) 128))
+  pub frame : frame_of t ≤ MAX_FRAME
+  pub starts : length (starts t) ≤ MAX_STARTS
+  pub paths : paths t ≤ MAX_PATHS
+  pub choices : choices t (rounds t) ≤ MAX_PATHS
+  pub most : most_positions t (rounds t) ≤ MAX_POSITIONS
+  pub positions : (path : ℕ) → length (path_places t path) ≤ MAX_POSITIONS
 
 -- ---- single positions
 

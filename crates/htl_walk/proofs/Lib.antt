@@ -23,6 +23,7 @@ pub mod NodeNumbers
 pub mod OneMiss
 pub mod OnePeriod
 pub mod OneRound
+pub mod PathLists
 pub mod PathReady
 pub mod PendingLaws
 pub mod Placing

@@ -1,6 +1,6 @@
 -- Where all root modules have one period no limit of frames is exceeded, and a path is accepted exactly where its root selection is.
 use Rattle.std.proofs.Common.{◌≡◌, ℕ, ◌+◌, ◌*◌, ◌≤◌, ◌<◌, ◌⊎◌, min, Bool, false, cond, ltb, List, [], ◌∷◌, length, map, get_or, slice_get, Option, Some, None, option_map, refl, sym, ap, ◌∙◌, subst, arith, inl, inr}
-use Rattle.htl_walk.proofs.Words.{nat_tests, length-map, slice_get-get_or, one_divides, rounds_have, kept_apart, over_no, rest_is, limit_none, limit_rest, KeptTo, KeepsLimits, common_multiple, multiple_of, unit_period, starts_below, starts, rounds, rounds_at, choices, paths, nodes, node, nodes_of, path_places, most_positions, too_long, frame_limit, other_limit, list_to, AreInRange, root_modules, choices_from, selection_count, positions, round_length, Tables, Place, AllHave, RootsHaveOnePeriod, HasOnePeriod, AreRounds, AreFeasible, lists_of, abstract_jobs, path_jobs, legs, whole, Leg, IsPathAccepted, ScheduleIsAccepted, Job, SInstr}
+use Rattle.htl_walk.proofs.Words.{nat_tests, length-map, slice_get-get_or, one_divides, rounds_have, kept_apart, not_exceeded, rest_is, limit_none, limit_rest, KeptTo, KeepsLimits, common_multiple, multiple_of, unit_period, starts_below, starts, rounds, rounds_at, choices, paths, nodes, node, nodes_of, path_places, most_positions, too_long, frame_limit, other_limit, list_to, AreInRange, root_modules, choices_from, selection_count, positions, round_length, Tables, Place, AllHave, RootsHaveOnePeriod, HasOnePeriod, AreRounds, AreFeasible, lists_of, abstract_jobs, path_jobs, legs, whole, Leg, IsPathAccepted, ScheduleIsAccepted, Job, SInstr}
 use Rattle.htl_walk.proofs.Accepted.{one_list_accepted}
 use Rattle.htl_walk.proofs.EqualPeriods.{first_round, one_round as round_period}
 use Rattle.htl_walk.proofs.OnePeriod.{same_multiple, one_period}
@@ -66,7 +66,7 @@ module _ (t : Tables) (r : AreInRange t) (kept : KeptTo t 12) (one : RootsHaveOn
         ap (λ (xs : List Place). length xs) (are_rounds.positions w.0) ∙ length-map (positions t w.0) (λ (k : ℕ). let x : Place = record { inv = Some k; at = 0 } in x) in
         let few : most_positions t (rounds t) ≤ 128 = omega (arith, most, here, limits.positions w.0 below) in
         let least : min (choices t (rounds t)) 4294967295 ≤ 1024 = omega (arith, ways, limits.selections) in
-        let other : other_limit t ≡ None = rest_is t (omega (arith, begins)) least ∙ over_no (most_positions t (rounds t)) 128 few in
+        let other : other_limit t ≡ None = rest_is t (omega (arith, begins)) least ∙ not_exceeded (most_positions t (rounds t)) 128 few in
         let long : too_long t 1 (root_modules t) ≡ None = none_long (root_modules t) 1 (one_divides (round_length t)) one_round.each in
         limit_rest t (root_modules t) refl some long ∙ ap (option_map _) other
 

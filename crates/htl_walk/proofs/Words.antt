@@ -6,7 +6,7 @@ pub use Rattle.htl_model.proofs.BitLaws.{has_no_bit, same_row}
 pub use Rattle.htl_model.proofs.FrameBuild.{frame_some, paths_ways}
 pub use Rattle.htl_model.proofs.FrameLimits.{HaveModes, choices_append, choices_starts, limits_kept, one_divides, rounds_have}
 pub use Rattle.htl_model.proofs.FrameRules.{first_own, frame_divided, kept_apart}
-pub use Rattle.htl_model.proofs.LimitCode.{limit_none, limit_rest, over_no, rest_is}
+pub use Rattle.htl_model.proofs.LimitCode.{limit_none, limit_rest, not_exceeded, rest_is}
 pub use Rattle.htl_model.proofs.PortChains.{mode_there}
 pub use Rattle.htl_model.proofs.PortTableLaws.{one_writer, row_of_none, row_of_reads}
 pub use Rattle.htl_model.proofs.SameRanges.{positions_same}
@@ -41,7 +41,7 @@ pub use Rattle.htl_walk.specs.NodeWalks.{AreCleanTo, AreResumed, AreSaved, AreWa
 pub use Rattle.htl_walk.specs.PathJobs.{job_in, legs, legs_of, next_of, path_jobs, placed, placed_job, placed_jobs}
 pub use Rattle.htl_walk.specs.PathLaws.{Accepting, CleanAlike, Locality, OneList, OneListAccepted, OneListMiss, OnePathMiss, PathDominance, PathInheritance, PathRefused, WaitWithin, whole}
 pub use Rattle.htl_walk.specs.PathMisses.{AreClean, IsCleanIn, IsFirstBeforeIn, IsFirstLateIn, IsFirstOpenIn, IsListClean, IsListMiss, IsOpen, IsPathMiss, IsTooEarlyIn, IsTooLateIn, counted, point_in}
-pub use Rattle.htl_walk.specs.Paths.{AgreeAt, AgreeOn, AreChained, AreInForm, AreInOrder, IsPathAccepted, Leg, PathMeets, end_to_end, list_point, path_point, walks_from}
+pub use Rattle.htl_walk.specs.Paths.{AgreeAt, AgreeOn, AreChained, AreInForm, AreInOrder, IsPathAccepted, Leg, PathMeets, end_to_end, list_point, no_leg, path_point, walks_from}
 pub use Rattle.htl_walk.specs.Placing.{HasTimes, begins_with, moved, standing_of}
 pub use Rattle.htl_walk.specs.Refinement.{AreWithinWorst, HasWork, HaveLengths, LeadsTo, Refines, RefinesJob}
 pub use Rattle.htl_walk.specs.Walk.{AllWithin, AreDone, DoneBy, InForm, InOrder, IsMet, IsStep, Left, Meets, Point, ScheduleIsAccepted, dispatch_begins, earlier, finish, finishes_by, first_point, is_position, job_at, last_point, left_by, next_point, point_at, slice_between, slice_onto, slices, time_after, walk, walk_from, work, work_after, worst_cases}

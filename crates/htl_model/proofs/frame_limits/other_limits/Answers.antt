@@ -1,6 +1,6 @@
 use Rattle.std.proofs.Common.{min, arith, sym, ap, ◌∙◌}
-use Rattle.htl_model.specs.Frames.{choices, most_positions, over}
-use Rattle.htl_model.proofs.LimitCode.{paths_over, rest_is, over_yes, over_no, few_starts, rounds_same}
+use Rattle.htl_model.specs.Frames.{choices, most_positions, exceeds}
+use Rattle.htl_model.proofs.LimitCode.{paths_over, rest_is, exceeded, not_exceeded, few_starts, rounds_same}
 use Rattle.htl_model.proofs.frame_limits.other_limits.Goals as goal
 
 pub fill_starts-count-requires-clause-few : goal.fill_starts-count-requires-clause-few
@@ -22,7 +22,7 @@ returns-then-positions c =
     c.fill_starts-count.ensures.count c.fill_rounds-round_count.ensures.rounds in
     let rest = rest_is t (omega (arith, many, c.if-many.false)) (omega (arith, c.round_choices-choices.ensures ∙ ap (λ rs. min (choices t rs) 4294967295) rounds, c.if-choices.false)) in
     let n = c.most_positions-positions.ensures ∙ ap (most_positions t) rounds in
-    sym (rest ∙ sym (ap (λ m. over m 128) n) ∙ over_yes c.most_positions-positions.result 128 c.if-positions.true)
+    sym (rest ∙ sym (ap (λ m. exceeds m 128) n) ∙ exceeded c.most_positions-positions.result 128 c.if-positions.true)
 
 pub returns : goal.returns
 returns c =
@@ -32,4 +32,4 @@ returns c =
     c.fill_starts-count.ensures.count c.fill_rounds-round_count.ensures.rounds in
     let rest = rest_is t (omega (arith, many, c.if-many.false)) (omega (arith, c.round_choices-choices.ensures ∙ ap (λ rs. min (choices t rs) 4294967295) rounds, c.if-choices.false)) in
     let n = c.most_positions-positions.ensures ∙ ap (most_positions t) rounds in
-    sym (rest ∙ sym (ap (λ m. over m 128) n) ∙ over_no c.most_positions-positions.result 128 (omega (arith, c.if-positions.false)))
+    sym (rest ∙ sym (ap (λ m. exceeds m 128) n) ∙ not_exceeded c.most_positions-positions.result 128 (omega (arith, c.if-positions.false)))
