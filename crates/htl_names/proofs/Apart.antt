@@ -1,12 +1,12 @@
 -- In a tree of programs each module stands once in the order, so the modules in order have no more of a kind than the source.
 use Rattle.std.proofs.Common.{◌≡◌, inl, inr, ℕ, zero, suc, ◌+◌, ◌≤◌, ◌<◌, Bool, true, false, cond, eqb, List, [], ◌∷◌, length, take, slice_get, Option, Some, None, refl, sym, ◌∙◌, ap, ap₂, subst, arith, ◌≢◌, map, set, sum, sum_by, length-set, get_or-set_other, flat_map, count_by, ltb}
-use Rattle.htl_names.proofs.Words.{cases_eq, ne_eqb, nat_tests, same_Some, slice_get_within, get_or_from_slice_get, slice_get-get_or, length-flat_map, sum_by-le, sum-map, sum_by-cons, sum_by-append, sum_by_push, sum_by-set, get_or-le-sum_by, list_to, get_mapped, modules_of, PlainProgram, PlainMode, PlainModule, Key, ModeAt, ModuleAt, is_module, flat_map_at, place_in, refined_place, nth_module, mode_in, modules_at, modes_at, modules_in, mode_kids, kids, order, module_at, mode_at, module_modes, mode_order, named_program, naming, refined_by, modes_of, below}
+use Rattle.htl_names.proofs.Words.{cases_eq, ne_eqb, nat_tests, same_Some, slice_get_within, get_or_from_slice_get, slice_get-get_or, length-flat_map, sum_by-le, sum-map, sum_by-cons, sum_by-append, sum_by_push, sum_by-set, get_or-le-sum_by, list_to, get_mapped, modules_of, PlainProgram, PlainMode, PlainModule, Key, ModeAt, ModuleAt, is_module, flat_map_at, place_in, refined_place, nth_module, mode_in, modules_at, modes_at, modules_in, mode_children, children, order, module_at, mode_at, module_modes, mode_order, refining_program, refinements, refined_by, modes_of, below}
 use Rattle.htl_names.proofs.FlatMaps.{at_part, same_part, flat_map_is, most_in_part}
 use Rattle.htl_names.proofs.ListLaws.{flat_map_flat_map, flat_map_places}
-use Rattle.htl_names.proofs.ModulePlaces.{Exists, Comes, top, under, kid, comes}
+use Rattle.htl_names.proofs.ModulePlaces.{Exists, Comes, top, under, child, comes}
 use Rattle.htl_names.proofs.Places.{program_of_module, within, modes_there}
-use Rattle.htl_names.proofs.TreeLevels.{IsTree, refined_at, root_unnamed, root_not_named}
-use Rattle.htl_names.proofs.Naming.{Names, in_naming, refined_none}
+use Rattle.htl_names.proofs.TreeLevels.{IsTree, refined_at, root_refines_none, root_refines_no_mode}
+use Rattle.htl_names.proofs.Refinements.{IsRefined, in_refinements, refined_none}
 
 -- where one item passes at most, it is the first
 place_is : {A : Type 0} (test : A → Bool) (xs : List A) (k : ℕ) (x : A) → count_by test xs ≤ 1 → slice_get xs k ≡ Some x → test x ≡ true → place_in test xs ≡ k
@@ -36,12 +36,12 @@ is_over (Some a) s = is_module a.program a.«module» s
 
 module _ (symbols : List (Key × ℕ)) (ps : List PlainProgram) (tree : IsTree symbols ps) where
   -- a module stands once at most among those below the modes of one, and only below the one that its program refines
-  kids_few : (p u : ℕ) → p < length ps → (s : ModuleAt) → count_by (is_module p u) (kids symbols ps s) ≤ cond (is_over (refined_by symbols ps p) s) 1 0
-  kids_few p u lt s =
-      most_in_part (is_module p u) (mode_kids symbols ps s.program s.«module») (refined_place (refined_by symbols ps p)) (cond (is_over (refined_by symbols ps p) s) 1 0)
-      (modes_at ps s.program s.«module») (λ i x there. by i x there (named_program symbols x) refl)
+  children_few : (p u : ℕ) → p < length ps → (s : ModuleAt) → count_by (is_module p u) (children symbols ps s) ≤ cond (is_over (refined_by symbols ps p) s) 1 0
+  children_few p u lt s =
+      most_in_part (is_module p u) (mode_children symbols ps s.program s.«module») (refined_place (refined_by symbols ps p)) (cond (is_over (refined_by symbols ps p) s) 1 0)
+      (modes_at ps s.program s.«module») (λ i x there. by i x there (refining_program symbols x) refl)
     where
-      by : (i : ℕ) (x : PlainMode) → slice_get (modes_at ps s.program s.«module») i ≡ Some x → (o : Option ℕ) → named_program symbols x ≡ o
+      by : (i : ℕ) (x : PlainMode) → slice_get (modes_at ps s.program s.«module») i ≡ Some x → (o : Option ℕ) → refining_program symbols x ≡ o
           → count_by (is_module p u) (elim o [ Some q ↦ modules_in ps (Some (mode_in s i)) q | None ↦ [] ])
           ≤ cond (eqb i (refined_place (refined_by symbols ps p))) (cond (is_over (refined_by symbols ps p) s) 1 0) 0
       by i x there None e = omega arith
@@ -49,14 +49,14 @@ module _ (symbols : List (Key × ℕ)) (ps : List PlainProgram) (tree : IsTree s
           let few = in_program p u q (Some (mode_in s i)) (length (modules_at ps q)) in
           elim (cases_eq q p) [
             | inl is ↦
-                let refined = refined_at symbols ps tree (mode_in s i) p lt (record { mode = x; there = there; named = e ∙ ap Some is }) in
+                let refined = refined_at symbols ps tree (mode_in s i) p lt (record { mode = x; there = there; refined = e ∙ ap Some is }) in
                 subst (λ (o : Option ModeAt). count_by (is_module p u) (modules_in ps (Some (mode_in s i)) q) ≤ cond (eqb i (refined_place o)) (cond (is_over o s) 1 0) 0) (sym refined)
                 (grind (arith, nat_tests))
             | inr other ↦ let no = ne_eqb q p other in grind (arith, nat_tests)
           ]
 
   -- so it stands no more often than that one, but for the modules from which the order starts
-  module _ (test over : ModuleAt → Bool) (few : (s : ModuleAt) → count_by test (kids symbols ps s) ≤ cond (over s) 1 0) where
+  module _ (test over : ModuleAt → Bool) (few : (s : ModuleAt) → count_by test (children symbols ps s) ≤ cond (over s) 1 0) where
     flat_few : (f : ModuleAt → List ModuleAt) → ((s : ModuleAt) → count_by test (f s) ≤ cond (test s) 1 0 + count_by over (f s)) → (xs : List ModuleAt)
         → count_by test (flat_map f xs) ≤ count_by test xs + count_by over (flat_map f xs)
     flat_few f own [] = omega arith
@@ -73,19 +73,19 @@ module _ (symbols : List (Key × ℕ)) (ps : List PlainProgram) (tree : IsTree s
     below_few : (n : ℕ) (s : ModuleAt) → count_by test (below n symbols ps s) ≤ cond (test s) 1 0 + count_by over (below n symbols ps s)
     below_few zero s = omega arith
     below_few (suc n) s =
-        let rest = flat_map (below n symbols ps) (kids symbols ps s) in
+        let rest = flat_map (below n symbols ps) (children symbols ps s) in
         omega (
           arith,
           sum_by-cons (λ r. cond (test r) 1 0) s rest,
           sum_by-cons (λ r. cond (over r) 1 0) s rest,
-          flat_few (below n symbols ps) (below_few n) (kids symbols ps s),
+          flat_few (below n symbols ps) (below_few n) (children symbols ps s),
           few s,
         )
 
   all : (p u : ℕ) (o : Option ModeAt) → p < length ps → refined_by symbols ps p ≡ o
       → count_by (is_module p u) (order symbols ps) ≤ cond (eqb 0 p) 1 0 + count_by (is_over o) (order symbols ps)
   all p u o lt refined =
-      let few = subst (λ (o : Option ModeAt). (t : ModuleAt) → count_by (is_module p u) (kids symbols ps t) ≤ cond (is_over o t) 1 0) refined (kids_few p u lt) in
+      let few = subst (λ (o : Option ModeAt). (t : ModuleAt) → count_by (is_module p u) (children symbols ps t) ≤ cond (is_over o t) 1 0) refined (children_few p u lt) in
       let along = flat_few (is_module p u) (is_over o) few (below (length ps) symbols ps) (below_few (is_module p u) (is_over o) few (length ps)) (modules_in ps None 0) in
       let roots = in_program p u 0 None (length (modules_at ps 0)) in
       grind (arith, nat_tests)
@@ -94,12 +94,12 @@ module _ (symbols : List (Key × ℕ)) (ps : List PlainProgram) (tree : IsTree s
   once zero k s less h = absurd (omega (arith, less))
   once (suc n) k s less (top u y its) =
       let some = within ps 0 u y its in
-      let few = all 0 u None some (refined_none 0 (naming symbols ps) (root_unnamed symbols ps tree some)) in
+      let few = all 0 u None some (refined_none 0 (refinements symbols ps) (root_refines_none symbols ps tree some)) in
       omega (arith, few, sum_by-le (λ r. cond (is_over None r) 1 0) 0 (order symbols ps) (λ k d below. omega arith))
-  once (suc n) k s less (under j t r lower there (kid m q u y names its)) =
+  once (suc n) k s less (under j t r lower there (child m q u y names its)) =
       let before = once n j t (omega (arith, lower, less)) (comes symbols ps j t there) in
       let few = all q u (Some (mode_in t m)) (within ps q u y its) (refined_at symbols ps tree (mode_in t m) q (within ps q u y its) names) in
-      let no_root = ne_eqb 0 q (λ is. root_not_named symbols ps tree (omega (arith, within ps q u y its)) (mode_in t m) (in_naming symbols ps (mode_in t m) 0 (subst (Names symbols ps (mode_in t m)) (sym is) names))) in
+      let no_root = ne_eqb 0 q (λ is. root_refines_no_mode symbols ps tree (omega (arith, within ps q u y its)) (mode_in t m) (in_refinements symbols ps (mode_in t m) 0 (subst (IsRefined symbols ps (mode_in t m)) (sym is) names))) in
       omega (arith, few, before, ap {B = ℕ} (λ b. cond b 1 0) no_root)
 
   pub order_number : (k : ℕ) (s : ModuleAt) → slice_get (order symbols ps) k ≡ Some s → place_in (is_module s.program s.«module») (order symbols ps) ≡ k

@@ -1,6 +1,6 @@
 -- Small sources and the name rules that they break, worked out by the definitions.
 use Rattle.std.proofs.Common.{◌≡◌, ◌+◌, ◌∷◌, ◌<◌, ℕ, zero, suc, inl, inr, Bool, eqb, true, false, length, replicate, get_or, sym, ◌∙◌, List, [], Option, Some, None, pos, refl, arith, map}
-use Rattle.htl_names.proofs.Words.{first_some, Variable, Infix, Expr, PlainProgram, PlainModule, PlainMode, PlainTask, Concrete, Id, InvokeNode, ParamNode, CommNode, Key, ModeAt, ModuleAt, entry, symbols_of, module_key, NameBroken, RepeatedName, UnknownName, WrongKind, ProgramTree, ParentName, Limits, Span, unknown_token, uses, input_use, Num, map_at, list_to, layout, comms_in, names_of, distinct_count, bytes_eq, Graph, Reached, root, beneath, links, named_by, namings, levels, order, get_list_to, list_any, program_modules, nth_module, IsMisplaced}
+use Rattle.htl_names.proofs.Words.{first_some, Variable, Infix, Expr, PlainProgram, PlainModule, PlainMode, PlainTask, Concrete, Id, InvokeNode, ParamNode, CommNode, Key, ModeAt, ModuleAt, entry, symbols_of, module_key, NameBroken, RepeatedName, UnknownName, WrongKind, ProgramTree, ParentName, Limits, Span, unknown_token, uses, input_use, Num, map_at, list_to, layout, comms_in, names_of, distinct_count, bytes_eq, Graph, Reached, root, beneath, edges, edges_from, refined_count, levels, order, get_list_to, list_any, program_modules, nth_module, IsMisplaced}
 use Rattle.std.proofs.lemmas.List.{get_or-replicate}
 use Rattle.htl_names.proofs.TreeLevels.{IsTree}
 use Rattle.htl_base.specs.declared.Ty.TheVariants as ty
@@ -107,18 +107,18 @@ symbols rows = symbols_of (source rows)
 
 -- of each program the programs that its modes name, and how many modes name it
 abbrev graph : List (List ℕ) → Graph × List ℕ
-graph rows = (links (symbols rows) (source rows), list_to (namings (symbols rows) (source rows)) (length rows))
+graph rows = (edges (symbols rows) (source rows), list_to (refined_count (symbols rows) (source rows)) (length rows))
 
 abbrev at : ℕ → ℕ → Option ModeAt
 at p m = Some (record { program = p; «module» = 0; mode = m })
 
 -- where no mode of the root is refined, the root alone is reached
-root_alone : (g : Graph) → named_by g 0 ≡ [] → (p : ℕ) → Reached g p → p ≡ 0
+root_alone : (g : Graph) → edges_from g 0 ≡ [] → (p : ℕ) → Reached g p → p ≡ 0
 root_alone g none _ root = refl
 root_alone g none _ (beneath q p r e) = let same = root_alone g none q r in grind arith
 
 -- a program that one mode names, and that is reached, is in place
-in_place : (rows : List (List ℕ)) (p : ℕ) → namings (symbols rows) (source rows) (suc p) ≡ 1 → Reached (links (symbols rows) (source rows)) (suc p)
+in_place : (rows : List (List ℕ)) (p : ℕ) → refined_count (symbols rows) (source rows) (suc p) ≡ 1 → Reached (edges (symbols rows) (source rows)) (suc p)
     → IsMisplaced (symbols rows) (source rows) (suc p) → ⊥
 in_place rows p one reached (inl other) = other one
 in_place rows p one reached (inr not) = not reached
@@ -211,12 +211,12 @@ chain_in_place zero lt wrong = omega (arith, wrong)
 chain_in_place (suc p) lt wrong = in_place chain p (sym (get_list_to count 9 (suc p) 0 lt) ∙ get_or-replicate 8 p 1 0 (omega (arith, lt))) (reached (suc p) lt) wrong
   where
     count : ℕ → ℕ
-    count = namings (symbols chain) (source chain)
+    count = refined_count (symbols chain) (source chain)
 
     names_next : ℕ → Bool
-    names_next p = list_any (eqb (suc p)) (named_by (links (symbols chain) (source chain)) p)
+    names_next p = list_any (eqb (suc p)) (edges_from (edges (symbols chain) (source chain)) p)
 
-    reached : (p : ℕ) → p < 9 → Reached (links (symbols chain) (source chain)) p
+    reached : (p : ℕ) → p < 9 → Reached (edges (symbols chain) (source chain)) p
     reached zero lt = root
     reached (suc p) lt = beneath p (suc p) (reached p (omega (arith, lt))) (sym (get_list_to names_next 8 p false (omega (arith, lt))) ∙ get_or-replicate 8 p true false (omega (arith, lt)))
 

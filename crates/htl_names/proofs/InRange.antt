@@ -6,7 +6,7 @@ use Rattle.htl_names.proofs.EntryLaws.{declared, one_place, one_entry, source_en
 use Rattle.htl_names.proofs.FlatMaps.{at_part, same_part, part_of, given, counted, few_owned, owners_order, stands as item_stands}
 use Rattle.htl_names.proofs.SmallFunctions.{functions_in_range, functions_counted}
 use Rattle.htl_names.proofs.Numbered.{task_small, switch_small, each_mode, each_module, module_in_range, mode_count, module_count, mode_number_is, all_in_modes, mode_numbered, mode_owner, mode_stands, mode_meant}
-use Rattle.htl_names.proofs.ModulePlaces.{Comes, top, under, kid, comes}
+use Rattle.htl_names.proofs.ModulePlaces.{Comes, top, under, child, comes}
 use Rattle.htl_names.proofs.TreeLevels.{refined_at}
 use Rattle.htl_names.proofs.Members.{In, in_next, in_second, in_part_at, All-from_places, in_first, in_mapped, all_given}
 use Rattle.htl_names.proofs.NameUses.{mode_period_span, worst_span, known, used_in_invoke, comm_period_span, initial_fits, used_in_switch, parent_stands}
@@ -166,7 +166,7 @@ module _ (ps : List PlainProgram) (small : MeetsBounds ps) (right : AreNamesRigh
 
       by : (r : ModuleAt) → Comes (symbols_of ps) ps (layout ps).modules k r → r.program ≡ s.program → Goal r.parent
       by r (top u y here) same = tt
-      by r (under h t v lower before (kid c q u y names here)) same =
+      by r (under h t v lower before (child c q u y names here)) same =
           let refined = refined_at (symbols_of ps) ps (right_tree ps right) (mode_in t c) q (inside ps q u y here) names in
           let w = parent_stands ps right a j i id at is (mode_in t c) (ap (refined_by (symbols_of ps) ps) (sym same) ∙ refined) in
           let number = ap (slice_get (layout ps).modes) (sym (mode_number_is ps right h c t before)) ∙ mode_numbered ps h c t names.mode before names.there in

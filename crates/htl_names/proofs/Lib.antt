@@ -13,7 +13,7 @@ pub mod KeepsLimits
 mod SymbolLaws
 mod NameUses
 mod Ordering
-mod Naming
+mod Refinements
 mod TreeLevels
 pub mod Members
 mod ModulePlaces

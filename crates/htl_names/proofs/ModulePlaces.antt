@@ -1,7 +1,7 @@
 -- The modules in the order of the tables: where each comes from, and which of them are root modules.
 use Rattle.std.proofs.Common.{◌≡◌, ◌⊎◌, inl, inr, ℕ, zero, suc, ◌+◌, ◌<◌, Bool, true, false, cond, List, [], ◌∷◌, length, take, slice_get, Option, Some, None, filter, refl, ◌∙◌, ap, subst, sym, arith, flat_map}
-use Rattle.htl_names.proofs.Words.{common_steps, filter-append, none-some, same_Some, PlainProgram, PlainModule, PlainMode, Key, ModeAt, ModuleAt, module_at, modules_at, modes_at, modules_in, mode_kids, kids, order, named_program, nth_module, mode_in, below, item_at}
-use Rattle.htl_names.proofs.Naming.{Names}
+use Rattle.htl_names.proofs.Words.{common_steps, filter-append, none-some, same_Some, PlainProgram, PlainModule, PlainMode, Key, ModeAt, ModuleAt, module_at, modules_at, modes_at, modules_in, mode_children, children, order, refining_program, nth_module, mode_in, below, item_at}
+use Rattle.htl_names.proofs.Refinements.{IsRefined}
 use Rattle.htl_names.proofs.Members.{In}
 use Rattle.htl_names.proofs.FlatMaps.{at_flat, flat_part, part_of, of_list_to}
 
@@ -13,13 +13,13 @@ abbrev pub is_root_module : ModuleAt → Bool
 is_root_module s = elim s.parent [ Some a ↦ false | None ↦ true ]
 
 -- a module of the program that a mode of s names
-pub data IsKid (symbols : List (Key × ℕ)) (ps : List PlainProgram) (s : ModuleAt) : ModuleAt → Type 0 where
-  kid : (m q u : ℕ) (y : PlainModule) → Names symbols ps (mode_in s m) q → module_at ps q u ≡ Some y → IsKid symbols ps s (nth_module q (Some (mode_in s m)) u)
+pub data IsChild (symbols : List (Key × ℕ)) (ps : List PlainProgram) (s : ModuleAt) : ModuleAt → Type 0 where
+  child : (m q u : ℕ) (y : PlainModule) → IsRefined symbols ps (mode_in s m) q → module_at ps q u ≡ Some y → IsChild symbols ps s (nth_module q (Some (mode_in s m)) u)
 
 -- the module at place k is a root module, or stands below one before it
 pub data Comes (symbols : List (Key × ℕ)) (ps : List PlainProgram) (modules : List ModuleAt) (k : ℕ) : ModuleAt → Type 0 where
   top : (u : ℕ) (y : PlainModule) → module_at ps 0 u ≡ Some y → Comes symbols ps modules k (nth_module 0 None u)
-  under : (j : ℕ) (s r : ModuleAt) → j < k → slice_get modules j ≡ Some s → IsKid symbols ps s r → Comes symbols ps modules k r
+  under : (j : ℕ) (s r : ModuleAt) → j < k → slice_get modules j ≡ Some s → IsChild symbols ps s r → Comes symbols ps modules k r
 
 module _ (symbols : List (Key × ℕ)) (ps : List PlainProgram) where
   in_program : (parent : Option ModeAt) (q k : ℕ) (r : ModuleAt) → slice_get (modules_in ps parent q) k ≡ Some r → (y : PlainModule) × (module_at ps q k ≡ Some y) × (nth_module q parent k ≡ r)
@@ -28,19 +28,19 @@ module _ (symbols : List (Key × ℕ)) (ps : List PlainProgram) where
       let y = item_at (modules_at ps q) k u.0 in
       (y.0, y.1, u.1)
 
-  kid_of : (s : ModuleAt) (k : ℕ) (r : ModuleAt) → slice_get (kids symbols ps s) k ≡ Some r → IsKid symbols ps s r
-  kid_of s k r e =
-      let p = part_of (mode_kids symbols ps s.program s.«module») (modes_at ps s.program s.«module») k r e in
-      by p.part p.owner p.there p.place (named_program symbols p.owner) refl p.item
+  child_of : (s : ModuleAt) (k : ℕ) (r : ModuleAt) → slice_get (children symbols ps s) k ≡ Some r → IsChild symbols ps s r
+  child_of s k r e =
+      let p = part_of (mode_children symbols ps s.program s.«module») (modes_at ps s.program s.«module») k r e in
+      by p.part p.owner p.there p.place (refining_program symbols p.owner) refl p.item
     where
-      by : (m : ℕ) (x : PlainMode) → slice_get (modes_at ps s.program s.«module») m ≡ Some x → (j : ℕ) (o : Option ℕ) → named_program symbols x ≡ o
-          → slice_get (elim o as (λ _. List ModuleAt) [ Some q ↦ modules_in ps (Some (mode_in s m)) q | None ↦ [] ]) j ≡ Some r → IsKid symbols ps s r
+      by : (m : ℕ) (x : PlainMode) → slice_get (modes_at ps s.program s.«module») m ≡ Some x → (j : ℕ) (o : Option ℕ) → refining_program symbols x ≡ o
+          → slice_get (elim o as (λ _. List ModuleAt) [ Some q ↦ modules_in ps (Some (mode_in s m)) q | None ↦ [] ]) j ≡ Some r → IsChild symbols ps s r
       by m x its j None is e = absurd (none-some r e)
-      by m x its j (Some q) is e = let y = in_program (Some (mode_in s m)) q j r e in subst (IsKid symbols ps s) y.2 (kid m q j y.0 (record { mode = x; there = its; named = is }) y.1)
+      by m x its j (Some q) is e = let y = in_program (Some (mode_in s m)) q j r e in subst (IsChild symbols ps s) y.2 (child m q j y.0 (record { mode = x; there = its; refined = is }) y.1)
 
   -- below one before place k
   abbrev Under : List ModuleAt → ℕ → ModuleAt → Type 0
-  Under xs k r = (j : ℕ) × (s : ModuleAt) × (j < k) × (slice_get xs j ≡ Some s) × IsKid symbols ps s r
+  Under xs k r = (j : ℕ) × (s : ModuleAt) × (j < k) × (slice_get xs j ≡ Some s) × IsChild symbols ps s r
 
   flat_under : (f : ModuleAt → List ModuleAt) → ((s : ModuleAt) (k : ℕ) (r : ModuleAt) → slice_get (f s) k ≡ Some r → (s ≡ r) ⊎ Under (f s) k r)
       → (xs : List ModuleAt) (k : ℕ) (r : ModuleAt) → slice_get (flat_map f xs) k ≡ Some r → In r xs ⊎ Under (flat_map f xs) k r
@@ -56,8 +56,8 @@ module _ (symbols : List (Key × ℕ)) (ps : List PlainProgram) where
   below_under zero s (suc k) r e = absurd (none-some r e)
   below_under (suc n) s zero r e = inl (same_Some s r e)
   below_under (suc n) s (suc k) r e =
-      elim (flat_under (below n symbols ps) (below_under n) (kids symbols ps s) k r e) [
-        | inl h ↦ inr (0, s, omega arith, refl, kid_of s h.0 r h.1)
+      elim (flat_under (below n symbols ps) (below_under n) (children symbols ps s) k r e) [
+        | inl h ↦ inr (0, s, omega arith, refl, child_of s h.0 r h.1)
         | inr b ↦ inr (suc b.0, b.1, omega (arith, b.2), b.3, b.4)
       ]
 
@@ -73,7 +73,7 @@ module _ (symbols : List (Key × ℕ)) (ps : List PlainProgram) where
     where
       by : (s : ModuleAt) → Comes symbols ps (order symbols ps) k s → Exists ps s
       by s (top u y its) = (y, its)
-      by s (under j t r lower there (kid m q u y n its)) = (y, its)
+      by s (under j t r lower there (child m q u y n its)) = (y, its)
 
   -- ---- the root modules
 
@@ -82,17 +82,17 @@ module _ (symbols : List (Key × ℕ)) (ps : List PlainProgram) where
   roots_alike b [] h = grind (arith, common_steps)
   roots_alike b (x ∷ xs) h = let here = h 0 x refl in let rest = roots_alike b xs (λ k s e. h (suc k) s e) in grind (arith, common_steps)
 
-  no_root_below : (s : ModuleAt) → filter is_root_module (kids symbols ps s) ≡ []
-  no_root_below s = roots_alike false (kids symbols ps s) (λ k r e. by r (kid_of s k r e))
+  no_root_below : (s : ModuleAt) → filter is_root_module (children symbols ps s) ≡ []
+  no_root_below s = roots_alike false (children symbols ps s) (λ k r e. by r (child_of s k r e))
     where
-      by : (r : ModuleAt) → IsKid symbols ps s r → is_root_module r ≡ false
-      by r (kid m q u y n its) = refl
+      by : (r : ModuleAt) → IsChild symbols ps s r → is_root_module r ≡ false
+      by r (child m q u y n its) = refl
 
   roots_stay : (n : ℕ) (xs : List ModuleAt) → filter is_root_module (flat_map (below n symbols ps) xs) ≡ filter is_root_module xs
   roots_stay n [] = refl
   roots_stay zero (x ∷ xs) = let rest = roots_stay zero xs in grind (arith, common_steps)
   roots_stay (suc n) (x ∷ xs) =
-      let lower = roots_stay n (kids symbols ps x) ∙ no_root_below x in
+      let lower = roots_stay n (children symbols ps x) ∙ no_root_below x in
       let both = filter-append is_root_module (below (suc n) symbols ps x) (flat_map (below (suc n) symbols ps) xs) in
       let rest = roots_stay (suc n) xs in
       grind (arith, common_steps)

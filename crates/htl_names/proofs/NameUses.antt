@@ -1,7 +1,7 @@
 -- Where no name rule is broken, what the names mean that a tree uses stands in their lists, those after `parent` too, and
 -- its numbers and values are of their kinds.
 use Rattle.std.proofs.Common.{arith, ◌≡◌, ◌<◌, ◌≤◌, ℕ, List, slice_get, Some, None, refl, ap, inl, inr, ℤ, pos, negsuc, true, false, leb, leb-true, zero, suc, [], ◌∷◌, ◌∙◌, Option, MatchOption, flat_map}
-use Rattle.htl_names.proofs.Words.{and_parts, true_from_ne_false, Ty, IsSpan, FitsType, comms_of, PlainProgram, PlainModule, PlainMode, PlainTask, PlainSwitch, Id, InvokeNode, CommNode, ConstNode, EndNode, Use, symbols_of, layout, meaning, size_of, value_of, ModeAt, look_up, invoke_key, AreNamesRight, UnknownName, WrongKind, ParentName, module_at, tasks_at, modes_at, mode_at, invokes_at, switches_at, task_uses, invoke_uses, switch_uses, program_use, mode_uses, module_uses, program_uses, uses, Judged, Span, Instance, Initial, token_of, is_span, is_instance, has_type, IsWrongKind, comm_kinds, end_kinds, invoke_kinds, mode_kinds, task_kind, module_kinds, program_kinds, ParentUse, parents, IsOrphan, parent_in, invoke_parent, mode_parents, module_parents, program_parents, refined_by, Key, IsNarrowEnd, IsNarrowInvoke}
+use Rattle.htl_names.proofs.Words.{and_parts, true_from_ne_false, Ty, IsSpan, FitsType, comms_of, PlainProgram, PlainModule, PlainMode, PlainTask, PlainSwitch, Id, InvokeNode, CommNode, ConstNode, EndNode, Use, symbols_of, layout, meaning, size_of, value_of, ModeAt, look_up, invoke_key, AreNamesRight, UnknownName, WrongKind, ParentName, module_at, tasks_at, modes_at, mode_at, invokes_at, switches_at, task_uses, invoke_uses, switch_uses, program_use, mode_uses, module_uses, program_uses, uses, Judged, Span, Instance, Initial, token_of, is_span, is_instance, has_type, IsWrongKind, comm_kinds, end_kinds, invoke_kinds, mode_kinds, task_kind, module_kinds, program_kinds, ParentUse, parents, IsUnmatchedParent, parent_in, invoke_parent, mode_parents, module_parents, program_parents, refined_by, Key, IsNarrowEnd, IsNarrowInvoke}
 use Rattle.htl_base.specs.declared.Ty.TheVariants as ty
 use Rattle.htl_text.specs.declared.tree.ConstNode.TheVariants as const
 use Rattle.htl_text.specs.declared.tree.EndNode.TheVariants as end
@@ -52,7 +52,7 @@ module _ (ps : List PlainProgram) (u : Use) where
       let x = part_there (λ (z : PlainMode). z.switches) (mode_at ps a) j s there in
       used_in_mode a x.0 x.1 (in_second (program_use x.0.program) _ (in_second _ _ (in_part (switch_uses a.program a.«module») x.0.switches j s x.2 at)))
 
--- ---- a name after `parent` that is no orphan
+-- ---- a name after `parent` that stands for an invocation
 
 abbrev use_of : ℕ → Id → ParentUse
 use_of p id = record { program = p; id = id }
@@ -75,12 +75,12 @@ parent_stands ps right a j i id its is b refined = by (look_up key (symbols_of p
         in_part_at program_parents ps a.program q.0 q.1 (in_part (module_parents a.program) q.0.modules a.«module» o.0 q.2
         (in_part (mode_parents a.program) o.0.modes a.mode x.0 o.2 (in_part (invoke_parent a.program) x.0.invokes j i x.2 own)))
 
-    orphan : (p : ℕ) → refined_by (symbols_of ps) ps p ≡ Some b → look_up key (symbols_of ps) ≡ None → IsOrphan (symbols_of ps) ps p id
-    orphan zero r none = tt
-    orphan (suc p) r none = ap (λ o. parent_in (symbols_of ps) o id.name) r ∙ none
+    unmatched : (p : ℕ) → refined_by (symbols_of ps) ps p ≡ Some b → look_up key (symbols_of ps) ≡ None → IsUnmatchedParent (symbols_of ps) ps p id
+    unmatched zero r none = tt
+    unmatched (suc p) r none = ap (λ o. parent_in (symbols_of ps) o id.name) r ∙ none
 
     by : (o : Option ℕ) → look_up key (symbols_of ps) ≡ o → (y : InvokeNode) × (slice_get (invokes_at ps b) (meaning (layout ps) key) ≡ Some y)
-    by None none = absurd (right ParentName used.0 (fault.Unknown id.token) (use_of a.program id, used.1, orphan a.program refined none, refl))
+    by None none = absurd (right ParentName used.0 (fault.Unknown id.token) (use_of a.program id, used.1, unmatched a.program refined none, refl))
     by (Some n) some = let y = means ps key n some in (y.0, y.1)
 
 -- ---- what is judged is of its kind

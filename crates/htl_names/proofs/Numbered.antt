@@ -1,10 +1,10 @@
 -- Which items the numbers of the tables name; the modules of the tables are in range.
 use Rattle.std.proofs.Common.{◌≡◌, ◌<◌, ◌+◌, ℕ, zero, suc, true, List, [], ◌∷◌, length, take, slice_get, Some, None, refl, sym, ◌∙◌, ap, subst, arith, length-append, ◌≤◌, Option, IfSome, All}
-use Rattle.htl_names.proofs.Words.{length-take-le, slice_get_within, same_Some, Module, IsModeThat, IsModuleInRange, parent_of, is_within, mode_module, PlainProgram, PlainModule, PlainMode, PlainTask, PlainSwitch, modules_of, tasks_of, switches_of, ModeAt, ModuleAt, Layout, modes_before, mode_item, mode_items, module_item, module_items_at, module_items, layout, symbols_of, meaning, mode_number, tables_of_tree, flat_map_at, module_at, tasks_at, module_modes, switches_at, MeetsBounds, MeetsTaskBounds, MeetsSwitchBounds, mode_key, AreNamesRight, naming, Naming, level, usage, uses, mode_in, Id, modes_of, all_at, from_take, item_at}
+use Rattle.htl_names.proofs.Words.{length-take-le, slice_get_within, same_Some, Module, IsModeThat, IsModuleInRange, parent_of, is_within, mode_module, PlainProgram, PlainModule, PlainMode, PlainTask, PlainSwitch, modules_of, tasks_of, switches_of, ModeAt, ModuleAt, Layout, modes_before, mode_item, mode_items, module_item, module_items_at, module_items, layout, symbols_of, meaning, mode_number, tables_of_tree, flat_map_at, module_at, tasks_at, module_modes, switches_at, MeetsBounds, MeetsTaskBounds, MeetsSwitchBounds, mode_key, AreNamesRight, refinements, Refinement, level, usage, uses, mode_in, Id, modes_of, all_at, from_take, item_at}
 use Rattle.htl_names.proofs.FlatMaps.{at_part, at_flat, flat_part, list_to_at, of_list_to, counted, given, stands}
 use Rattle.htl_names.proofs.NameUses.{known, used_in_module}
 use Rattle.htl_names.proofs.Places.{modes_in, mode_parts, within, item_in_source, part_in_source}
-use Rattle.htl_names.proofs.ModulePlaces.{Comes, top, under, kid, comes, exist}
+use Rattle.htl_names.proofs.ModulePlaces.{Comes, top, under, child, comes, exist}
 use Rattle.htl_names.proofs.Ordering.{right_tree, number_is, low}
 use Rattle.htl_names.proofs.TreeLevels.{level_step}
 use Rattle.htl_names.proofs.Members.{In, all_given}
@@ -97,9 +97,9 @@ module _ (ps : List PlainProgram) where
 
 -- the level of the program of a module
 abbrev level_of : List PlainProgram → ℕ → ℕ
-level_of ps p = level (naming (symbols_of ps) ps) (length ps) p
+level_of ps p = level (refinements (symbols_of ps) ps) (length ps) p
 
-level_some : (xs : List Naming) (n p : ℕ) → 0 < n → 1 ≤ level xs n p
+level_some : (xs : List Refinement) (n p : ℕ) → 0 < n → 1 ≤ level xs n p
 level_some xs zero p h = absurd (omega (arith, h))
 level_some xs (suc n) p h = grind arith
 
@@ -117,16 +117,16 @@ module _ (ps : List PlainProgram) (right : AreNamesRight ps) where
 
   parent_in_range : (k : ℕ) (s : ModuleAt) → Comes (symbols_of ps) ps (layout ps).modules k s → IfSome (parent_item s) (IsModeThat (tables_of_tree ps) (λ owner. owner < k))
   parent_in_range k s (top u y its) = tt
-  parent_in_range k s (under j t r lower there (kid m q u y names its)) =
+  parent_in_range k s (under j t r lower there (child m q u y names its)) =
       subst (IsModeThat (tables_of_tree ps) (λ owner. owner < k)) (mode_number_is j m t there) (its_mode ps j m t names.mode (λ owner. owner < k) lower there names.there)
 
   within_levels : (steps k : ℕ) (s : ModuleAt) → Comes (symbols_of ps) ps (layout ps).modules k s → level_of ps s.program ≤ steps + 1 → is_within steps (tables_of_tree ps) (parent_item s) ≡ true
   within_levels zero k s (top u y its) few = refl
   within_levels (suc steps) k s (top u y its) few = refl
-  within_levels zero k s (under j t r lower there (kid m q u y names its)) few =
-      let some = level_some (naming (symbols_of ps) ps) (length ps) t.program (omega (arith, within ps q u y its)) in
+  within_levels zero k s (under j t r lower there (child m q u y names its)) few =
+      let some = level_some (refinements (symbols_of ps) ps) (length ps) t.program (omega (arith, within ps q u y its)) in
       absurd (omega (arith, few, level_step (symbols_of ps) ps (right_tree ps right) q (mode_in t m) (within ps q u y its) names, some))
-  within_levels (suc steps) k s (under j t r lower there (kid m q u y names its)) few =
+  within_levels (suc steps) k s (under j t r lower there (child m q u y names its)) few =
       let t' = tables_of_tree ps in
       let owner = ap (mode_module t') (sym (mode_number_is j m t there)) ∙ mode_owner ps j m t names.mode there names.there in
       let z = exist (symbols_of ps) ps j t there in

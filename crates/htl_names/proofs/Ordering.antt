@@ -1,12 +1,12 @@
 -- Where the name rules are kept, the modules in order differ and are few, and their numbers fit the fields.
 use Rattle.std.proofs.Common.{◌≡◌, ℕ, suc, ◌≤◌, ◌<◌, min, ◌^◌, ◌-◌, List, length, slice_get, Some, refl, arith, le_trans, [], All, ap, ◌+◌, ◌∙◌, ◌∷◌, flat_map}
-use Rattle.htl_names.proofs.Words.{list_to, mode_in, PlainProgram, PlainModule, PlainMode, PlainTask, ModeAt, ModuleAt, symbols_of, layout, module_number, size_of, Layout, layout_by, tables_by, tables_of_tree, counts, limits, AreNamesRight, ProgramTree, Limits, order, mode_order, mode_at, modes_at, tasks_at, ports_at, invokes_at, switches_at, naming, level, levels, length-map, flat_map_single, slice_get_within, comms_of, modules_of, CommNode, MeetsBounds, IsNarrow, IsNarrowParent, IsNarrowInvoke, Tables, Key, modes_of}
+use Rattle.htl_names.proofs.Words.{list_to, mode_in, PlainProgram, PlainModule, PlainMode, PlainTask, ModeAt, ModuleAt, symbols_of, layout, module_number, size_of, Layout, layout_by, tables_by, tables_of_tree, counts, limits, AreNamesRight, ProgramTree, Limits, order, mode_order, mode_at, modes_at, tasks_at, ports_at, invokes_at, switches_at, refinements, level, levels, length-map, flat_map_single, slice_get_within, comms_of, modules_of, CommNode, MeetsBounds, IsNarrow, IsNarrowParent, IsNarrowInvoke, Tables, Key, modes_of}
 use Rattle.htl_names.proofs.Apart.{order_number, few, few_in_modes}
 use Rattle.htl_names.proofs.Places.{part_is, part_there, modes_there, tasks_there, modes_in, tasks_in, mode_parts, item_in_source}
 use Rattle.htl_names.proofs.FlatMaps.{list_to_at, take_length}
 use Rattle.htl_names.proofs.TreeLevels.{IsTree, few_programs}
 use Rattle.htl_names.proofs.Members.{All-from_places}
-use Rattle.htl_names.proofs.ModulePlaces.{Comes, top, under, kid, comes, exist}
+use Rattle.htl_names.proofs.ModulePlaces.{Comes, top, under, child, comes, exist}
 use Rattle.htl_names.proofs.ListLaws.{greatest_at, invokes_most}
 use Rattle.htl_names.proofs.EntryLaws.{IsLowSource, meaning_low}
 use Rattle.htl_names.proofs.NameUses.{comm_period_span, mode_period_span, worst_span, narrow_invoke}
@@ -24,9 +24,9 @@ right_tree ps right p lt wrong = right ProgramTree p (fault.NotATree p) (lt, wro
 pub number_is : (ps : List PlainProgram) → AreNamesRight ps → (k : ℕ) (s : ModuleAt) → slice_get (layout ps).modules k ≡ Some s → module_number (layout ps) s.program s.«module» ≡ k
 number_is ps right = order_number (symbols_of ps) ps (right_tree ps right)
 
-pub low : (ps : List PlainProgram) → AreNamesRight ps → (p : ℕ) → p < length ps → level (naming (symbols_of ps) ps) (length ps) p ≤ 8
+pub low : (ps : List PlainProgram) → AreNamesRight ps → (p : ℕ) → p < length ps → level (refinements (symbols_of ps) ps) (length ps) p ≤ 8
 low ps right p lt =
-    let f : ℕ → ℕ = level (naming (symbols_of ps) ps) (length ps) in
+    let f : ℕ → ℕ = level (refinements (symbols_of ps) ps) (length ps) in
     let one = greatest_at 0 (f p) (list_to f (length ps)) p (list_to_at f (length ps) p lt) in
     let two = kept_limit ps right 8 (levels (symbols_of ps) ps) 8 refl refl in
     omega (arith, one, two)
@@ -83,7 +83,7 @@ module _ (ps : List PlainProgram) (right : AreNamesRight ps) where
 
   parent_narrow : (k : ℕ) (s : ModuleAt) → Comes (symbols_of ps) ps (layout ps).modules k s → IsNarrowParent s.parent
   parent_narrow k s (top u y its) = omega arith
-  parent_narrow k s (under j t r lower there (kid m q u y names its)) =
+  parent_narrow k s (under j t r lower there (child m q u y names its)) =
       let n = item_in_source (λ (y : PlainModule). y.modes) ps t.program t.«module» m names.mode names.there in
       omega (arith, slice_get_within (modes_of (modules_of ps)) (n.0 + m) names.mode n.1, kept_limit ps right 2 _ 256 refl refl)
 

@@ -1,6 +1,6 @@
 -- The search for the programs that are reached: which are marked, and which wait.
 use Rattle.std.proofs.Common.{◌≡◌, ◌<◌, ◌+◌, ◌⊎◌, ℕ, zero, suc, Bool, true, false, cond, List, [], ◌∷◌, ◌++◌, length, map, get_or, replicate, sym, ◌∙◌, ap, arith}
-use Rattle.htl_names.proofs.Words.{nat_tests, common_steps, length-map, MarksReached, Graph, Naming, targets, named_by, Reached, root, set}
+use Rattle.htl_names.proofs.Words.{nat_tests, common_steps, length-map, MarksReached, Graph, Refinement, edge_targets, edges_from, Reached, root, set}
 use Rattle.std.proofs.lemmas.List.{get_or-map}
 use Rattle.htl_names.proofs.ListLaws.{is_among}
 use Rattle.htl_names.specs.Programs.{below}
@@ -15,9 +15,9 @@ pub record Searches (g : Graph) (seen : List Bool) (waiting : List ℕ) : Type 0
   pub says : (p : ℕ) → get_or seen p false ≡ true → Reached g p
   pub waits : (p : ℕ) → is_among waiting p ≡ true → Reached g p
   pub first : Covered seen waiting 0
-  pub closed : (p q : ℕ) → get_or seen p false ≡ true → is_among (named_by g p) q ≡ true → Covered seen waiting q
+  pub closed : (p q : ℕ) → get_or seen p false ≡ true → is_among (edges_from g p) q ≡ true → Covered seen waiting q
 
--- how many programs are named by those that aren't marked
+-- how many edges lead from the programs that aren't marked
 abbrev pub owed : List Bool → Graph → ℕ
 owed [] g = 0
 owed (b ∷ seen) [] = 0
@@ -39,23 +39,23 @@ search_start g seen waiting free alone =
 
 -- what a program that isn't marked names is owed no longer once it is
 owed-set : (seen : List Bool) (g : Graph) (p : ℕ) → p < length seen → length seen ≡ length g → get_or seen p false ≡ false
-    → owed (set seen p true) g + length (named_by g p) ≡ owed seen g
+    → owed (set seen p true) g + length (edges_from g p) ≡ owed seen g
 owed-set [] g p small len free = grind arith
 owed-set (b ∷ seen) [] p small len free = grind arith
 owed-set (b ∷ seen) (r ∷ g) zero small len free = grind arith
 owed-set (b ∷ seen) (r ∷ g) (suc p) small len free = grind (arith, owed-set seen g p)
 
 -- the next that waits is not marked: it is, and what its row names waits, which is less to do
-pub search_asked : (rows : List (List Naming)) (seen : List Bool) (old rest new : List ℕ) (p : ℕ) (row : List Naming) → p < length seen → row ≡ get_or rows p row
-    → get_or seen p false ≡ false → old ≡ rest ++ p ∷ [] → new ≡ rest ++ targets row → Searches (map targets rows) seen old
-    → Searches (map targets rows) (set seen p true) new × (owed (set seen p true) (map targets rows) + length new < owed seen (map targets rows) + length old)
+pub search_asked : (rows : List (List Refinement)) (seen : List Bool) (old rest new : List ℕ) (p : ℕ) (row : List Refinement) → p < length seen → row ≡ get_or rows p row
+    → get_or seen p false ≡ false → old ≡ rest ++ p ∷ [] → new ≡ rest ++ edge_targets row → Searches (map edge_targets rows) seen old
+    → Searches (map edge_targets rows) (set seen p true) new × (owed (set seen p true) (map edge_targets rows) + length new < owed seen (map edge_targets rows) + length old)
 search_asked rows seen old rest new p row small is free was grew s =
-    let g = map targets rows in
+    let g = map edge_targets rows in
     let len = s.len in
-    let size = length-map rows targets in
-    let names : targets row ≡ named_by g p = ap targets is ∙ sym (get_or-map targets rows p row [] (omega (arith, small, len, size))) in
+    let size = length-map rows edge_targets in
+    let names : edge_targets row ≡ edges_from g p = ap edge_targets is ∙ sym (get_or-map edge_targets rows p row [] (omega (arith, small, len, size))) in
     let owes = owed-set seen g p small len free in
-    let more = length-map row (λ (x : Naming). x.1) in
+    let more = length-map row (λ (x : Refinement). x.program) in
     let here : Reached g p = s.waits p (grind (arith, common_steps, nat_tests)) in (
       record {
         len = grind (arith, common_steps);
@@ -71,7 +71,7 @@ search_asked rows seen old rest new p row small is free was grew s =
 
 search_complete : (g : Graph) (seen : List Bool) → Searches g seen [] → (p : ℕ) → Reached g p → get_or seen p true ≡ true
 search_complete g seen s _ root = grind (arith, s.first)
-search_complete g seen s _ (below p q r named) =
+search_complete g seen s _ (below p q r edge) =
     let small : p < length g = grind (arith, common_steps) in
     let up = search_complete g seen s p r in
     let more = s.closed p q in

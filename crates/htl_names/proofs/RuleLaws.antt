@@ -1,6 +1,6 @@
 -- What the searches of single rules find, and the first fault over all rules.
 use Rattle.std.proofs.Common.{◌≡◌, ◌<◌, ℕ, zero, suc, List, [], ◌∷◌, slice_get, Option, Some, None, refl, sym, ap, subst, arith, ◌≤◌, Result, Ok, Err, ◌∙◌, inl, inr, length, Bool, true, false, cond, leb, leb-true, le-leb, MatchOption, IsErrAnd}
-use Rattle.htl_names.proofs.Words.{none-some, same_Some, slice_get_within, first_some, NameFault, PlainProgram, NameRule, RepeatedName, UnknownName, WrongKind, ParentName, NameBroken, IsFirstNameFault, AreNamesRight, IsResolved, IsKept, KeptBelow, IsFirstOf, IsSearched, IsRefusal, Key, Entry, entries, symbols_of, Named, AreNamed, refined_by, EntriesAreApart, IsRepeat, wrong_tokens, Judged, kinds, token_of, is_kind, IsWrongKind, wrong_token, Use, look_up, unknown_by, unknown_token, uses, IsUnknown, Id, ModeAt, absent, orphan_at, orphan_token, ParentUse, invoke_parent, mode_parents, module_parents, program_parents, parents, parent_in, IsOrphan, eq-or-lt_of_le, order_of, refined_at}
+use Rattle.htl_names.proofs.Words.{none-some, same_Some, slice_get_within, first_some, NameFault, PlainProgram, NameRule, RepeatedName, UnknownName, WrongKind, ParentName, NameBroken, IsFirstNameFault, AreNamesRight, IsResolved, IsKept, KeptBelow, IsFirstOf, IsSearched, IsRefusal, Key, Entry, entries, symbols_of, RefinedModes, AreRefinedModes, refined_by, EntriesAreApart, IsRepeat, wrong_tokens, Judged, kinds, token_of, is_kind, IsWrongKind, wrong_token, Use, look_up, unknown_by, unknown_token, uses, IsUnknown, Id, ModeAt, absent, unmatched_at, unmatched_token, ParentUse, invoke_parent, mode_parents, module_parents, program_parents, parents, parent_in, IsUnmatchedParent, eq-or-lt_of_le, order_of, refined_at}
 use Rattle.htl_names.specs.Rows.{wrong_of}
 use Rattle.htl_names.proofs.Members.{Each, each_at, each_always, each_flat_map, each_flat_map_at}
 use Rattle.htl_names.specs.declared.fault.NameFault.TheVariants as fault
@@ -157,23 +157,23 @@ parents_below ps =
     one n p (Some id) less = (less, tt)
     one n p None less = tt
 
-parent_tells : (symbols : List (Key × ℕ)) (ps : List PlainProgram) (refined : List Named) (p : ℕ) (id : Id) → refined_at refined p ≡ refined_by symbols ps p
-    → MatchOption (orphan_at symbols refined p id) (IsOrphan symbols ps p id → ⊥) (λ t. IsOrphan symbols ps p id × (t ≡ id.token))
+parent_tells : (symbols : List (Key × ℕ)) (ps : List PlainProgram) (refined : List RefinedModes) (p : ℕ) (id : Id) → refined_at refined p ≡ refined_by symbols ps p
+    → MatchOption (unmatched_at symbols refined p id) (IsUnmatchedParent symbols ps p id → ⊥) (λ t. IsUnmatchedParent symbols ps p id × (t ≡ id.token))
 parent_tells symbols ps refined zero id is = (tt, refl)
 parent_tells symbols ps refined (suc p) id is =
-    subst (λ (m : Option ModeAt). MatchOption (absent (parent_in symbols m id.name) id.token) (IsOrphan symbols ps (suc p) id → ⊥) (λ t. IsOrphan symbols ps (suc p) id × (t ≡ id.token)))
+    subst (λ (m : Option ModeAt). MatchOption (absent (parent_in symbols m id.name) id.token) (IsUnmatchedParent symbols ps (suc p) id → ⊥) (λ t. IsUnmatchedParent symbols ps (suc p) id × (t ≡ id.token)))
     (sym is) (by (parent_in symbols (refined_by symbols ps (suc p)) id.name) id.token)
   where
     by : (o : Option ℕ) (token : ℕ) → MatchOption (absent o token) (o ≡ None → ⊥) (λ t. (o ≡ None) × (t ≡ token))
     by None token = (refl, refl)
     by (Some n) token = λ e. cc
 
-pub parents_searched : (ps : List PlainProgram) (refined : List Named) (o : Option ℕ) → AreNamed ps refined
-    → o ≡ first_some (orphan_token (symbols_of ps) refined) (parents ps) → IsSearched ps ParentName (λ t. fault.Unknown t) o
+pub parents_searched : (ps : List PlainProgram) (refined : List RefinedModes) (o : Option ℕ) → AreRefinedModes ps refined
+    → o ≡ first_some (unmatched_token (symbols_of ps) refined) (parents ps) → IsSearched ps ParentName (λ t. fault.Unknown t) o
 parents_searched ps refined o table is =
     let names = symbols_of ps in
     subst (λ (x : Option ℕ). IsSearched ps ParentName (λ t. fault.Unknown t) x) (sym is)
-    (first_bad (λ (u : ParentUse). IsOrphan names ps u.program u.id) (λ (u : ParentUse). u.id.token) (λ t. fault.Unknown t) (orphan_token names refined) (parents ps)
+    (first_bad (λ (u : ParentUse). IsUnmatchedParent names ps u.program u.id) (λ (u : ParentUse). u.id.token) (λ t. fault.Unknown t) (unmatched_token names refined) (parents ps)
     (λ k u at.
     parent_tells names ps refined u.program u.id
-    (ap (λ (n : Named). n.mode) (table.says u.program (each_at (λ (x : ParentUse). x.program < length ps) (parents ps) k u (parents_below ps) at)))))
+    (ap (λ (n : RefinedModes). n.mode) (table.says u.program (each_at (λ (x : ParentUse). x.program < length ps) (parents ps) k u (parents_below ps) at)))))

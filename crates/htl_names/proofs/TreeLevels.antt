@@ -1,8 +1,8 @@
 -- A tree of programs: its levels, how many programs it has, and the table of refined modes.
 use Rattle.std.proofs.Common.{◌≡◌, ℕ, zero, suc, ◌+◌, ◌≤◌, ◌<◌, inl, inr, true, eqb, List, [], ◌∷◌, length, Some, refl, sym, ◌∙◌, ap, subst, arith, cond, eq-or-lt_of_le, flat_map, count_by}
-use Rattle.htl_names.proofs.Words.{list_any, nat_tests, le-length_from_below, list_to, length-list_to, PlainProgram, PlainModule, Key, ModeAt, Reached, root, Naming, mode_naming, module_naming, program_naming, naming, namings, targets, links, IsMisplaced, refined_by, level, length-map, sum_by-cons, modules_of, beneath, modes_of}
+use Rattle.htl_names.proofs.Words.{list_any, nat_tests, le-length_from_below, list_to, length-list_to, PlainProgram, PlainModule, Key, ModeAt, Reached, root, Refinement, refinement, mode_refinement, module_refinements, program_refinements, refinements, refined_count, edge_targets, edges, IsMisplaced, refined_by, level, length-map, sum_by-cons, modules_of, beneath, modes_of}
 use Rattle.htl_names.proofs.Places.{stable}
-use Rattle.htl_names.proofs.Naming.{Names, in_naming, naming_counts, naming_below, refined_one, refined_none, link_names}
+use Rattle.htl_names.proofs.Refinements.{IsRefined, in_refinements, refinement_counts, refinement_below, refined_one, refined_none, edge_refines}
 use Rattle.htl_names.proofs.Members.{In, each_at}
 use Rattle.htl_names.proofs.ListLaws.{among_at, flat_map_flat_map}
 use Rattle.htl_names.proofs.FlatMaps.{list_to_at, flat_map_at_shorter, flat_map_at_single}
@@ -12,32 +12,32 @@ abbrev pub IsTree : List (Key × ℕ) → List PlainProgram → Type 0
 IsTree symbols ps = (p : ℕ) → p < length ps → IsMisplaced symbols ps p → ⊥
 
 module _ (symbols : List (Key × ℕ)) (ps : List PlainProgram) (tree : IsTree symbols ps) where
-  pub root_unnamed : 0 < length ps → namings symbols ps 0 ≡ 0
-  root_unnamed some = let no : 0 < namings symbols ps 0 → ⊥ = tree 0 some in omega arith
+  pub root_refines_none : 0 < length ps → refined_count symbols ps 0 ≡ 0
+  root_refines_none some = let no : 0 < refined_count symbols ps 0 → ⊥ = tree 0 some in omega arith
 
-  -- the root is named by no mode
-  pub root_not_named : 0 < length ps → (a : ModeAt) → In {A = Naming} (a, 0) (naming symbols ps) → ⊥
-  root_not_named some a h = omega (arith, root_unnamed some, naming_counts a 0 (naming symbols ps) h.0 h.1)
+  -- the root refines no mode
+  pub root_refines_no_mode : 0 < length ps → (a : ModeAt) → In {A = Refinement} (refinement a 0) (refinements symbols ps) → ⊥
+  root_refines_no_mode some a h = omega (arith, root_refines_none some, refinement_counts a 0 (refinements symbols ps) h.0 h.1)
 
-  -- another program is named by one mode
-  pub named_once : (q : ℕ) → suc q < length ps → namings symbols ps (suc q) ≡ 1
-  named_once q lt = stable _ _ (λ ne. tree (suc q) lt (inl ne))
+  -- another program refines one mode
+  pub refines_once : (q : ℕ) → suc q < length ps → refined_count symbols ps (suc q) ≡ 1
+  refines_once q lt = stable _ _ (λ ne. tree (suc q) lt (inl ne))
 
-  refines : (a : ModeAt) (q : ℕ) → q < length ps → In {A = Naming} (a, q) (naming symbols ps) → refined_by symbols ps q ≡ Some a
-  refines a zero lt h = absurd (root_not_named lt a h)
-  refines a (suc q) lt h = refined_one a (suc q) (naming symbols ps) h.0 h.1 (named_once q lt)
+  refines : (a : ModeAt) (q : ℕ) → q < length ps → In {A = Refinement} (refinement a q) (refinements symbols ps) → refined_by symbols ps q ≡ Some a
+  refines a zero lt h = absurd (root_refines_no_mode lt a h)
+  refines a (suc q) lt h = refined_one a (suc q) (refinements symbols ps) h.0 h.1 (refines_once q lt)
 
-  -- a program refines the mode that names it
-  pub refined_at : (a : ModeAt) (q : ℕ) → q < length ps → Names symbols ps a q → refined_by symbols ps q ≡ Some a
-  refined_at a q lt h = refines a q lt (in_naming symbols ps a q h)
+  -- a program refines the mode whose head names it
+  pub refined_at : (a : ModeAt) (q : ℕ) → q < length ps → IsRefined symbols ps a q → refined_by symbols ps q ≡ Some a
+  refined_at a q lt h = refines a q lt (in_refinements symbols ps a q h)
 
   -- with more than so many steps back the level of q is one more
   abbrev Deep : ℕ → ℕ → Type 0
-  Deep d q = (m : ℕ) → d < m → level (naming symbols ps) m q ≡ suc d
+  Deep d q = (m : ℕ) → d < m → level (refinements symbols ps) m q ≡ suc d
 
   deep_root : 0 < length ps → Deep 0 0
   deep_root some zero lt = absurd (omega arith)
-  deep_root some (suc m) lt = let none = refined_none 0 (naming symbols ps) (root_unnamed some) in grind arith
+  deep_root some (suc m) lt = let none = refined_none 0 (refinements symbols ps) (root_refines_none some) in grind arith
 
   deep_more : (d q : ℕ) (a : ModeAt) → refined_by symbols ps q ≡ Some a → Deep d a.program → Deep (suc d) q
   deep_more d q a e h zero lt = absurd (omega arith)
@@ -47,11 +47,11 @@ module _ (symbols : List (Key × ℕ)) (ps : List PlainProgram) (tree : IsTree s
   abbrev Chain : ℕ → Type 0
   Chain d = (k : ℕ) → k ≤ d → (p : ℕ) × (p < length ps) × Deep k p
 
-  chain_of : (q : ℕ) → Reached (links symbols ps) q → q < length ps → (d : ℕ) × Deep d q × Chain d
+  chain_of : (q : ℕ) → Reached (edges symbols ps) q → q < length ps → (d : ℕ) × Deep d q × Chain d
   chain_of q root lt = (0, deep_root lt, λ k le. (0, lt, subst (λ j. Deep j 0) (omega (arith, le)) (deep_root lt)))
   chain_of q (beneath p r up by) lt =
-      let n = link_names symbols ps p q by in
-      let c = chain_of p up (omega (arith, n.1, each_at (λ (x : Naming). x.0.program < length ps) (naming symbols ps) n.2.0 (n.0, q) (naming_below symbols ps) n.2.1)) in
+      let n = edge_refines symbols ps p q by in
+      let c = chain_of p up (omega (arith, n.1, each_at (λ (x : Refinement). x.mode.program < length ps) (refinements symbols ps) n.2.0 (refinement n.0 q) (refinement_below symbols ps) n.2.1)) in
       let here = deep_more c.0 q n.0 (refines n.0 q lt n.2) (subst (Deep c.0) (sym n.1) c.1) in (
         suc c.0,
         here,
@@ -66,7 +66,7 @@ module _ (symbols : List (Key × ℕ)) (ps : List PlainProgram) (tree : IsTree s
       omega (arith, size, all)
     where
       deep : ℕ → ℕ
-      deep = level (naming symbols ps) (suc d)
+      deep = level (refinements symbols ps) (suc d)
 
       there : (k : ℕ) → k < suc (suc d) → list_any (eqb k) (0 ∷ list_to deep (length ps)) ≡ true
       there zero lt = refl
@@ -76,9 +76,9 @@ module _ (symbols : List (Key × ℕ)) (ps : List PlainProgram) (tree : IsTree s
           among_at (0 ∷ list_to deep (length ps)) (suc p.0) (suc k) at
 
   -- one level more than the program of the mode that it refines
-  pub level_step : (q : ℕ) (a : ModeAt) → q < length ps → Names symbols ps a q
-      → level (naming symbols ps) (length ps) q ≡ suc (level (naming symbols ps) (length ps) a.program)
-  level_step zero a lt h = absurd (root_not_named lt a (in_naming symbols ps a 0 h))
+  pub level_step : (q : ℕ) (a : ModeAt) → q < length ps → IsRefined symbols ps a q
+      → level (refinements symbols ps) (length ps) q ≡ suc (level (refinements symbols ps) (length ps) a.program)
+  level_step zero a lt h = absurd (root_refines_no_mode lt a (in_refinements symbols ps a 0 h))
   level_step (suc q) a lt h =
       stable _ _ (λ no. tree (suc q) lt (inr (λ r.
       let d = chain_of (suc q) r lt in
@@ -90,25 +90,25 @@ module _ (symbols : List (Key × ℕ)) (ps : List PlainProgram) (tree : IsTree s
 
 -- ---- a tree of programs has at most one program more than modes
 
-named_among : (q : ℕ) (xs : List Naming) → 0 < count_by (λ (x : Naming). eqb q x.1) xs → list_any (eqb q) (targets xs) ≡ true
-named_among q [] h = absurd (let none : count_by (λ (x : Naming). eqb q x.1) [] ≡ 0 = refl in omega (arith, h, none))
-named_among q (x ∷ xs) h = let first = sum_by-cons (λ (y : Naming). cond (eqb q y.1) 1 0) x xs in grind (arith, named_among q xs)
+refining_among : (q : ℕ) (xs : List Refinement) → 0 < count_by (λ (x : Refinement). eqb q x.program) xs → list_any (eqb q) (edge_targets xs) ≡ true
+refining_among q [] h = absurd (let none : count_by (λ (x : Refinement). eqb q x.program) [] ≡ 0 = refl in omega (arith, h, none))
+refining_among q (x ∷ xs) h = let first = sum_by-cons (λ (y : Refinement). cond (eqb q y.program) 1 0) x xs in grind (arith, refining_among q xs)
 
 module _ (symbols : List (Key × ℕ)) (ps : List PlainProgram) where
-  naming_length : length (naming symbols ps) ≤ length (modes_of (modules_of ps))
-  naming_length =
-      let one = flat_map_at_shorter (program_naming symbols) (λ (x : PlainProgram). flat_map (λ (y : PlainModule). y.modes) x.modules)
-      (λ p x. flat_map_at_shorter (module_naming symbols p) (λ (y : PlainModule). y.modes) (λ u y. flat_map_at_single (mode_naming symbols p u) (λ m z. grind arith) 0 y.modes) 0 x.modules) 0 ps in
+  refinements_length : length (refinements symbols ps) ≤ length (modes_of (modules_of ps))
+  refinements_length =
+      let one = flat_map_at_shorter (program_refinements symbols) (λ (x : PlainProgram). flat_map (λ (y : PlainModule). y.modes) x.modules)
+      (λ p x. flat_map_at_shorter (module_refinements symbols p) (λ (y : PlainModule). y.modes) (λ u y. flat_map_at_single (mode_refinement symbols p u) (λ m z. grind arith) 0 y.modes) 0 x.modules) 0 ps in
       let two = ap length (flat_map_flat_map (λ (y : PlainModule). y.modes) (λ (x : PlainProgram). x.modules) ps) in
       omega (arith, one, two)
 
   pub few_programs : IsTree symbols ps → length ps ≤ length (modes_of (modules_of ps)) + 1
   few_programs tree =
-      let all = le-length_from_below (0 ∷ targets (naming symbols ps)) (length ps) there in
-      omega (arith, all, naming_length, length-map (naming symbols ps) (λ (x : Naming). x.1))
+      let all = le-length_from_below (0 ∷ edge_targets (refinements symbols ps)) (length ps) there in
+      omega (arith, all, refinements_length, length-map (refinements symbols ps) (λ (x : Refinement). x.program))
     where
-      there : (q : ℕ) → q < length ps → list_any (eqb q) (0 ∷ targets (naming symbols ps)) ≡ true
+      there : (q : ℕ) → q < length ps → list_any (eqb q) (0 ∷ edge_targets (refinements symbols ps)) ≡ true
       there zero lt = refl
       there (suc q) lt =
-          let named = named_among (suc q) (naming symbols ps) (omega (arith, named_once symbols ps tree q lt)) in
+          let refines = refining_among (suc q) (refinements symbols ps) (omega (arith, refines_once symbols ps tree q lt)) in
           grind (arith, nat_tests)

@@ -27,19 +27,19 @@ pub use Rattle.htl_names.specs.Kinds.{Initial, Instance, IsWrongKind, Judged, Sp
 pub use Rattle.htl_names.specs.Limits.{choices, counts, limits, most_invokes, most_positions, plain_root_modules, selections}
 pub use Rattle.htl_names.specs.Lists.{distinct, flat_map_at, map_at, place_in, with_new}
 pub use Rattle.htl_names.specs.NameRules.{AreNamesRight, IsFirstNameFault, IsResolved, Limits, NameBroken, NameRule, ParentName, ProgramTree, RepeatedName, TriedBefore, UnknownName, WrongKind, order_of}
-pub use Rattle.htl_names.specs.Named.{AreNamed, MarksReached, is_misplaced, named_too, noted, refined_at, unnamed}
+pub use Rattle.htl_names.specs.RefinedModes.{AreRefinedModes, MarksReached, is_misplaced, with_refined, with_refinement, refined_at, refines_none}
 pub use Rattle.htl_names.specs.Narrow.{IsNarrow, IsNarrowEnd, IsNarrowInvoke, IsNarrowParent, refined_place}
 pub use Rattle.htl_names.specs.Nth.{mode_in, nth_module}
-pub use Rattle.htl_names.specs.Order.{below, invokes_at, kids, mode_at, mode_kids, mode_order, modes_at, module_at, module_modes, modules_at, modules_in, order, ports_at, program_modules, switches_at, tasks_at}
-pub use Rattle.htl_names.specs.Parents.{IsOrphan, ParentUse, absent, invoke_parent, mode_parents, module_parents, orphan_at, orphan_token, parent_in, parents, program_parents}
-pub use Rattle.htl_names.specs.Programs.{Graph, IsMisplaced, Naming, Reached, below as beneath, level, level_by, levels, levels_by, links, mode_naming, module_naming, named_by, named_from, named_program, naming, naming_rows, namings, program_naming, refined_by, refined_in, root, targets}
+pub use Rattle.htl_names.specs.Order.{below, invokes_at, children, mode_at, mode_children, mode_order, modes_at, module_at, module_modes, modules_at, modules_in, order, ports_at, program_modules, switches_at, tasks_at}
+pub use Rattle.htl_names.specs.Parents.{IsUnmatchedParent, ParentUse, absent, invoke_parent, mode_parents, module_parents, unmatched_at, unmatched_token, parent_in, parents, program_parents}
+pub use Rattle.htl_names.specs.Programs.{Graph, IsMisplaced, Reached, below as beneath, level, level_by, levels, levels_by, edges, mode_refinement, module_refinements, edges_from, refinement, refinement_by, refining_program, refinements, refinement_rows, refined_count, program_refinements, refined_by, refined_in, root, edge_targets}
 pub use Rattle.htl_names.specs.Recorded.{AddsWith}
 pub use Rattle.htl_names.specs.Repeats.{AreApartTo, EntriesAreApart, IsRepeat}
 pub use Rattle.htl_names.specs.Rows.{Rows, out_rows, parent_use_of, program_rows, rows, rows_joined, using, wrong_tokens}
 pub use Rattle.htl_names.specs.SameKeys.{same_key_decides}
 pub use Rattle.htl_names.specs.Tallies.{IsTally, capped, chosen, no_modes, no_tally, placed, selected, with_mode, with_module, with_program}
 pub use Rattle.htl_names.specs.Told.{IsFirstOf, IsKept, IsRefusal, IsSearched, KeptBelow}
-pub use Rattle.htl_names.specs.Trees.{Abstract, CommNode, Concrete, ConstNode, EndNode, Entry, Formula, Fun, Id, InvokeNode, IsBounded, Key, ModeAt, ModuleAt, NameFault, Named, ParamNode, PlainMode, PlainModule, PlainOut, PlainOuts, PlainProgram, PlainSwitch, PlainTask, Space, Tables, Ty, Use, comms_of, greatest, invokes_of, list_to, mode_of, module_of, modules_of, names_of, out_of, out_params, out_values, ports_of, program_of, switch_of, switches_of, task_of, tasks_of, tree_nodes}
+pub use Rattle.htl_names.specs.Trees.{Abstract, CommNode, Concrete, ConstNode, EndNode, Entry, Formula, Fun, Id, InvokeNode, IsBounded, Key, ModeAt, ModuleAt, NameFault, RefinedModes, Refinement, ParamNode, PlainMode, PlainModule, PlainOut, PlainOuts, PlainProgram, PlainSwitch, PlainTask, Space, Tables, Ty, Use, comms_of, greatest, invokes_of, list_to, mode_of, module_of, modules_of, names_of, out_of, out_params, out_values, ports_of, program_of, switch_of, switches_of, task_of, tasks_of, tree_nodes}
 pub use Rattle.htl_names.specs.Uses.{IsUnknown, comm_use, end_use, input_use, invoke_uses, mode_uses, module_uses, output_uses, outputs_uses, program_use, program_uses, switch_uses, task_uses, unknown_by, unknown_token, usage, use_in, uses}
 pub use Rattle.htl_names.specs.declared.limits.ModeTally.{ModeTally}
 pub use Rattle.htl_names.specs.declared.limits.ModuleTally.{ModuleTally}

@@ -10,7 +10,7 @@ pub mod Narrow
 pub mod Order
 pub mod Parents
 pub mod Programs
-pub mod Named
+pub mod RefinedModes
 pub mod Repeats
 pub mod Recorded
 pub mod Rows

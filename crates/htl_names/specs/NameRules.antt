@@ -6,7 +6,7 @@ use Rattle.htl_names.specs.Entries.{entries, Repeats}
 use Rattle.htl_names.specs.Flat.{symbols_of, tables_of_tree}
 use Rattle.htl_names.specs.Kinds.{Judged, kinds, token_of, IsWrongKind}
 use Rattle.htl_names.specs.Limits.{counts, limits}
-use Rattle.htl_names.specs.Parents.{ParentUse, parents, IsOrphan}
+use Rattle.htl_names.specs.Parents.{ParentUse, parents, IsUnmatchedParent}
 use Rattle.htl_names.specs.Programs.{IsMisplaced}
 use Rattle.htl_names.specs.Uses.{uses, IsUnknown}
 
@@ -38,7 +38,7 @@ NameBroken ps WrongKind k f =
     (j : Judged) × (slice_get (kinds ps) k ≡ Some j) × IsWrongKind j × (f ≡ fault.Kind (token_of j))
 NameBroken ps ProgramTree k f = (k < length ps) × IsMisplaced (symbols_of ps) ps k × (f ≡ fault.NotATree k)
 NameBroken ps ParentName k f =
-    (u : ParentUse) × (slice_get (parents ps) k ≡ Some u) × IsOrphan (symbols_of ps) ps u.program u.id × (f ≡ fault.Unknown u.id.token)
+    (u : ParentUse) × (slice_get (parents ps) k ≡ Some u) × IsUnmatchedParent (symbols_of ps) ps u.program u.id × (f ≡ fault.Unknown u.id.token)
 NameBroken ps Limits k f =
     (count limit : ℕ) × (slice_get (counts (symbols_of ps) ps) k ≡ Some count) × (slice_get limits k ≡ Some limit) × (limit < count)
     × (f ≡ fault.Limit (suc k) (min count (2 ^ 32 - 1)))

@@ -4,7 +4,7 @@ use Rattle.std.specs.Prelude.{ℕ, zero, suc, List, [], ◌∷◌, length, slice
 use Rattle.std.specs.List.{flat_map}
 use Rattle.htl_names.specs.Trees.{list_to, PlainProgram, PlainModule, PlainMode, PlainTask, PlainSwitch, ParamNode, InvokeNode, Key, ModeAt, ModuleAt}
 use Rattle.htl_names.specs.Lists.{flat_map_at}
-use Rattle.htl_names.specs.Programs.{named_program}
+use Rattle.htl_names.specs.Programs.{refining_program}
 
 -- ---- what stands at a place, nothing where there is no such place
 
@@ -42,17 +42,17 @@ modules_in ps parent q = list_to (λ u. record { program = q; «module» = u; pa
 abbrev pub program_modules : List PlainProgram → Option ModeAt → Option ℕ → List ModuleAt
 program_modules ps parent o = elim o [ Some q ↦ modules_in ps parent q | None ↦ [] ]
 
-abbrev pub mode_kids : List (Key × ℕ) → List PlainProgram → ℕ → ℕ → ℕ → PlainMode → List ModuleAt
-mode_kids symbols ps p u m x = program_modules ps (Some (record { program = p; «module» = u; mode = m })) (named_program symbols x)
+abbrev pub mode_children : List (Key × ℕ) → List PlainProgram → ℕ → ℕ → ℕ → PlainMode → List ModuleAt
+mode_children symbols ps p u m x = program_modules ps (Some (record { program = p; «module» = u; mode = m })) (refining_program symbols x)
 
 -- the modules of the programs that refine the modes of a module
-abbrev pub kids : List (Key × ℕ) → List PlainProgram → ModuleAt → List ModuleAt
-kids symbols ps s = flat_map_at (mode_kids symbols ps s.program s.«module») 0 (modes_at ps s.program s.«module»)
+abbrev pub children : List (Key × ℕ) → List PlainProgram → ModuleAt → List ModuleAt
+children symbols ps s = flat_map_at (mode_children symbols ps s.program s.«module») 0 (modes_at ps s.program s.«module»)
 
 -- a module, and in order those below it, at most so many levels down
 abbrev pub below : ℕ → List (Key × ℕ) → List PlainProgram → ModuleAt → List ModuleAt
 below zero symbols ps s = s ∷ []
-below (suc n) symbols ps s = s ∷ flat_map (below n symbols ps) (kids symbols ps s)
+below (suc n) symbols ps s = s ∷ flat_map (below n symbols ps) (children symbols ps s)
 
 -- the modules of the source: no level is deeper than there are programs
 abbrev pub order : List (Key × ℕ) → List PlainProgram → List ModuleAt

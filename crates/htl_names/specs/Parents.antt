@@ -1,10 +1,10 @@
 -- The names after `parent`, in source order, and those that stand for nothing.
 use Rattle.std.specs.Prelude.{ℕ, zero, suc, ◌≡◌, ◌∷◌, List, [], Option, Some, None}
 use Rattle.std.specs.List.{flat_map}
-use Rattle.htl_names.specs.Trees.{PlainProgram, PlainModule, PlainMode, Id, InvokeNode, Key, ModeAt, Named}
+use Rattle.htl_names.specs.Trees.{PlainProgram, PlainModule, PlainMode, Id, InvokeNode, Key, ModeAt, RefinedModes}
 use Rattle.htl_names.specs.Keys.{look_up, invoke_key}
 use Rattle.htl_names.specs.Lists.{flat_map_at}
-use Rattle.htl_names.specs.Named.{refined_at}
+use Rattle.htl_names.specs.RefinedModes.{refined_at}
 use Rattle.htl_names.specs.Programs.{refined_by}
 
 -- a name after `parent`, in an invocation of program p
@@ -36,9 +36,9 @@ parent_in symbols None n = None
 parent_in symbols (Some a) n = parent_place symbols a n
 
 -- it stands in the root program, or is no invocation of the refined mode
-abbrev pub IsOrphan : List (Key × ℕ) → List PlainProgram → ℕ → Id → Type 0
-IsOrphan symbols ps zero id = Unit {0}
-IsOrphan symbols ps (suc p) id = parent_in symbols (refined_by symbols ps (suc p)) id.name ≡ None
+abbrev pub IsUnmatchedParent : List (Key × ℕ) → List PlainProgram → ℕ → Id → Type 0
+IsUnmatchedParent symbols ps zero id = Unit {0}
+IsUnmatchedParent symbols ps (suc p) id = parent_in symbols (refined_by symbols ps (suc p)) id.name ≡ None
 
 -- ---- names after `parent` that stand for nothing, as a test
 
@@ -47,9 +47,9 @@ absent None token = Some token
 absent (Some n) token = None
 
 -- the token, where the name in a program stands for nothing; by a table of the modes that programs refine
-abbrev pub orphan_at : List (Key × ℕ) → List Named → ℕ → Id → Option ℕ
-orphan_at symbols refined zero id = Some id.token
-orphan_at symbols refined (suc p) id = absent (parent_in symbols (refined_at refined (suc p)) id.name) id.token
+abbrev pub unmatched_at : List (Key × ℕ) → List RefinedModes → ℕ → Id → Option ℕ
+unmatched_at symbols refined zero id = Some id.token
+unmatched_at symbols refined (suc p) id = absent (parent_in symbols (refined_at refined (suc p)) id.name) id.token
 
-abbrev pub orphan_token : List (Key × ℕ) → List Named → ParentUse → Option ℕ
-orphan_token symbols refined u = orphan_at symbols refined u.program u.id
+abbrev pub unmatched_token : List (Key × ℕ) → List RefinedModes → ParentUse → Option ℕ
+unmatched_token symbols refined u = unmatched_at symbols refined u.program u.id

@@ -10,7 +10,8 @@ pub use Rattle.htl_names.specs.declared.key.Space.{Space}
 pub use Rattle.htl_names.specs.declared.key.Use.{Use}
 pub use Rattle.htl_names.specs.declared.place.ModeAt.{ModeAt}
 pub use Rattle.htl_names.specs.declared.place.ModuleAt.{ModuleAt}
-pub use Rattle.htl_names.specs.declared.programs.Named.{Named}
+pub use Rattle.htl_names.specs.declared.programs.RefinedModes.{RefinedModes}
+pub use Rattle.htl_names.specs.declared.programs.Refinement.{Refinement}
 pub use Rattle.htl_text.specs.Bounds.{IsBounded, comms_of, invokes_of, modes_of, modules_of, names_of, out_params, out_values, ports_of, switches_of, tasks_of, tree_nodes}
 pub use Rattle.htl_text.specs.Nodes.{Abstract, Concrete, PlainMode, PlainModule, PlainOut, PlainOuts, PlainProgram, PlainSwitch, PlainTask, mode_of, module_of, out_of, program_of, switch_of, task_of}
 pub use Rattle.htl_text.specs.declared.tree.CommNode.{CommNode}

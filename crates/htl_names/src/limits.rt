@@ -4,14 +4,14 @@ ghost use Rattle.htl_text.specs.Nodes.{mode_of, module_of, tree_of};
 ghost use Rattle.htl_names.specs.Flat.{symbols_of};
 ghost use Rattle.htl_names.specs.Limits.{counts, limits};
 ghost use Rattle.htl_names.specs.NameRules.{Limits};
-ghost use Rattle.htl_names.specs.Named.{refined_at, AreNamed};
+ghost use Rattle.htl_names.specs.RefinedModes.{refined_at, AreRefinedModes};
 ghost use Rattle.htl_names.specs.Programs.{level_by, levels_by};
 ghost use Rattle.htl_names.specs.Tallies.{capped, with_mode, with_module, with_program, no_tally, selected, placed, IsTally};
 ghost use Rattle.htl_names.specs.Told.{IsSearched};
 
 use crate::fault::NameFault;
 use crate::place::modules_at;
-use crate::programs::{Named, refined_at};
+use crate::programs::{RefinedModes, refined_at};
 use htl_base::limits::{
     MAX_COMMUNICATORS, MAX_INVOCATIONS, MAX_LEVELS, MAX_MODE_INVOCATIONS, MAX_MODES, MAX_MODULES,
     MAX_PORTS, MAX_POSITIONS, MAX_SELECTIONS, MAX_SWITCHES, MAX_TASKS,
@@ -114,26 +114,26 @@ fn positions(modules: &[ModuleNode]) -> usize
 // ---- levels of programs
 
 /// How many programs lead from the root to a program, both counted.
-fn level(named: &[Named], program: usize) -> usize
-    ensures { result ≡ level_by (refined_at named.now) (length named.now) program }
+fn level(refined: &[RefinedModes], program: usize) -> usize
+    ensures { result ≡ level_by (refined_at refined.now) (length refined.now) program }
 {
     let mut at = program;
-    for k in 0..named.len() {
-        match refined_at(at, named) {
+    for k in 0..refined.len() {
+        match refined_at(at, refined) {
             Some(mode) => at = mode.program,
             None => return k + 1,
         }
     }
-    named.len()
+    refined.len()
 }
 
 /// The greatest level of a program.
-fn levels(named: &[Named]) -> usize
-    ensures { result ≡ levels_by (refined_at named.now) (length named.now) }
+fn levels(refined: &[RefinedModes]) -> usize
+    ensures { result ≡ levels_by (refined_at refined.now) (length refined.now) }
 {
     let mut most = 0usize;
-    for p in 0..named.len() {
-        most = most.max(level(named, p));
+    for p in 0..refined.len() {
+        most = most.max(level(refined, p));
     }
     most
 }
@@ -141,9 +141,9 @@ fn levels(named: &[Named]) -> usize
 // ---- the limits
 
 /// What there is of the kind that a limit is set to, and the limit; the limits are counted from 0.
-fn count_and_limit(limit: u8, sum: &Tally, tree: &Tree, named: &[Named]) -> (usize, usize)
+fn count_and_limit(limit: u8, sum: &Tally, tree: &Tree, refined: &[RefinedModes]) -> (usize, usize)
     requires counted { IsTally (tree_of tree.now) sum.now }
-    requires refined { AreNamed (tree_of tree.now) named.now }
+    requires refined { AreRefinedModes (tree_of tree.now) refined.now }
     requires within { limit < 11 }
     ensures count { capped result.0 ≡ capped (get_or (counts (symbols_of (tree_of tree.now)) (tree_of tree.now)) limit 0) }
     ensures limit { result.1 ≡ get_or limits limit 0 }
@@ -158,21 +158,21 @@ fn count_and_limit(limit: u8, sum: &Tally, tree: &Tree, named: &[Named]) -> (usi
         5 => (sum.of_modules.of_modes.invokes, MAX_INVOCATIONS),
         6 => (sum.of_modules.of_modes.switches, MAX_SWITCHES),
         7 => (sum.of_modules.of_modes.most_invokes, MAX_MODE_INVOCATIONS),
-        8 => (levels(named), MAX_LEVELS),
+        8 => (levels(refined), MAX_LEVELS),
         9 => (selections(modules_at(tree, 0)), MAX_SELECTIONS as usize),
         _ => (positions(modules_at(tree, 0)), MAX_POSITIONS),
     }
 }
 
-/// The first limit that is exceeded. `named` has how modes name each program. Levels are counted only where the limits
+/// The first limit that is exceeded. `refined` has the modes that each program refines. Levels are counted only where the limits
 /// before theirs are kept, so that there are few programs from which to climb.
-pub(crate) fn first_exceeded(tree: &Tree, named: &[Named]) -> Option<NameFault>
-    requires { AreNamed (tree_of tree.now) named.now }
+pub(crate) fn first_exceeded(tree: &Tree, refined: &[RefinedModes]) -> Option<NameFault>
+    requires { AreRefinedModes (tree_of tree.now) refined.now }
     ensures { IsSearched (tree_of tree.now) Limits (λ f. f) result }
 {
     let sum = tally_of(tree);
     for k in 0..11u8 {
-        let (count, limit) = count_and_limit(k, &sum, tree, named);
+        let (count, limit) = count_and_limit(k, &sum, tree, refined);
         if limit < count {
             let count = count.min(u32::MAX as usize) as u32;
             return Some(NameFault::Limit {

@@ -7,7 +7,7 @@ ghost use Rattle.htl_names.specs.Order.{program_modules, below, order, mode_orde
 
 use crate::Done;
 use crate::place::{ModeAt, ModuleAt, modes_at, modules_at};
-use crate::programs::named_program;
+use crate::programs::refining_program;
 use crate::symbols::Symbols;
 use crate::tables::Layout;
 use htl_text::Tree;
@@ -66,7 +66,7 @@ fn put_module(
             module: module.module,
             mode: k,
         };
-        let program = named_program(&modes[k], symbols);
+        let program = refining_program(&modes[k], symbols);
         put_program(tree, symbols, Some(place), program, steps - 1, into)?;
     }
     Ok(())

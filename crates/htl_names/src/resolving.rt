@@ -12,9 +12,9 @@ ghost use Rattle.htl_names.specs.Told.{KeptBelow, IsRefusal, IsJudged};
 use crate::fault::NameFault;
 use crate::limits::first_exceeded;
 use crate::order::layout_of;
-use crate::programs::{first_misplaced, namings_of};
+use crate::programs::{first_misplaced, program_graph};
 use crate::rows::Rows;
-use crate::rules::{first_orphan, first_unknown};
+use crate::rules::{first_unknown, first_unmatched};
 use crate::symbols::{Symbols, declare};
 use crate::tables::parts_of;
 use crate::walk::rows_of;
@@ -73,13 +73,13 @@ fn check_rules(alloc: Global, tree: &Tree, rows: &Rows, symbols: &Symbols) -> Re
     if let Some(token) = rows.wrong.as_slice().first().copied() {
         return Err(NameFault::Kind { token });
     }
-    let namings = namings_of(alloc, tree, symbols)?;
-    let misplaced = first_misplaced(alloc, &namings)?;
+    let graph = program_graph(alloc, tree, symbols)?;
+    let misplaced = first_misplaced(alloc, &graph)?;
     if let Some(program) = misplaced {
         return Err(NameFault::NotATree { program });
     }
-    let table = namings.named.as_slice();
-    if let Some(token) = first_orphan(rows.parents.as_slice(), symbols, table) {
+    let table = graph.refined.as_slice();
+    if let Some(token) = first_unmatched(rows.parents.as_slice(), symbols, table) {
         return Err(NameFault::Unknown { token });
     }
     if let Some(fault) = first_exceeded(tree, table) {

@@ -1,12 +1,12 @@
 // The rules on single rows: each search is one loop over its rows.
 ghost use Rattle.std.specs.Prelude.{◌≡◌, map};
 ghost use Rattle.htl_model.specs.Lists.{first_some};
-ghost use Rattle.htl_names.specs.Parents.{orphan_at, orphan_token};
+ghost use Rattle.htl_names.specs.Parents.{unmatched_at, unmatched_token};
 ghost use Rattle.htl_names.specs.Rows.{parent_use_of};
 ghost use Rattle.htl_names.specs.Uses.{unknown_token};
 
 use crate::key::{Space, Use};
-use crate::programs::{Named, refined_at};
+use crate::programs::{RefinedModes, refined_at};
 use crate::rows::ParentName;
 use crate::symbols::Symbols;
 use htl_text::Id;
@@ -40,28 +40,28 @@ fn unknown(used: &Use, symbols: &Symbols) -> Option<u32>
 // ---- names after `parent`
 
 /// The token of the first name after `parent` that stands in the root program, or for no invocation of the mode that
-/// its program refines. `named` has how modes name each program.
-pub(crate) fn first_orphan(
+/// its program refines. `refined` has the modes that each program refines.
+pub(crate) fn first_unmatched(
     parents: &[ParentName],
     symbols: &Symbols,
-    named: &[Named],
+    refined: &[RefinedModes],
 ) -> Option<u32>
-    ensures { result ≡ first_some (orphan_token symbols.now named.now) (map parent_use_of parents.now) }
+    ensures { result ≡ first_some (unmatched_token symbols.now refined.now) (map parent_use_of parents.now) }
 {
     for k in 0..parents.len() {
         let parent = parents[k];
-        if let Some(token) = orphan(parent.program, &parent.id, symbols, named) {
+        if let Some(token) = unmatched(parent.program, &parent.id, symbols, refined) {
             return Some(token);
         }
     }
     None
 }
 
-fn orphan(p: usize, id: &Id, symbols: &Symbols, named: &[Named]) -> Option<u32>
-    ensures { result ≡ orphan_at symbols.now named.now p id.now }
+fn unmatched(p: usize, id: &Id, symbols: &Symbols, refined: &[RefinedModes]) -> Option<u32>
+    ensures { result ≡ unmatched_at symbols.now refined.now p id.now }
 {
-    let refined = if p == 0 { None } else { refined_at(p, named) };
-    if let Some(a) = refined {
+    let mode = if p == 0 { None } else { refined_at(p, refined) };
+    if let Some(a) = mode {
         let key = Space::Invokes.of(a.program, a.module, a.mode).key(id.name);
         if symbols.get(&key).is_some() {
             return None;

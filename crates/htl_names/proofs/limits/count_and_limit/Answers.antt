@@ -1,7 +1,7 @@
 use Rattle.std.proofs.Common.{◌≡◌, ◌∙◌, ℕ, arith, ap, sym, get_or, fold, List}
 use Rattle.htl_names.proofs.Words.{zero-add, PlainProgram, tree_of, symbols_of, counts, most_positions, plain_root_modules, capped, selected, placed}
 use Rattle.htl_names.proofs.LimitLaws.{selected_all, placed_all, root_modules_are}
-use Rattle.htl_names.proofs.Naming.{table-levels}
+use Rattle.htl_names.proofs.Refinements.{table-levels}
 use Rattle.htl_names.proofs.limits.count_and_limit.Goals as goal
 
 -- the count of this limit
@@ -11,7 +11,7 @@ count ps k = capped (get_or (counts (symbols_of ps) ps) k 0)
 pub returns-in-8-clause-count : goal.returns-in-8-clause-count
 returns-in-8-clause-count c =
     let ps = tree_of c.args.tree.now in
-    ap capped (c.levels.ensures ∙ table-levels ps c.args.named.now c.requires.refined) ∙ sym (ap (count ps) c.in-8.is)
+    ap capped (c.levels.ensures ∙ table-levels ps c.args.refined.now c.requires.refined) ∙ sym (ap (count ps) c.in-8.is)
 
 pub returns-in-9-clause-count : goal.returns-in-9-clause-count
 returns-in-9-clause-count c =

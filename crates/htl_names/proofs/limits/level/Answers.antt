@@ -4,7 +4,7 @@ use Rattle.htl_names.proofs.limits.level.Goals as goal
 
 pub loop-k-preserved : goal.loop-k-preserved
 loop-k-preserved c =
-    let n = length c.args.named.now in
+    let n = length c.args.refined.now in
     let left : n - c.loop-k.k ≡ suc (n - (c.loop-k.k + 1)) = omega arith in
-    let here = ap (λ (m : ℕ). level_by (refined_at c.args.named.now) m c.loop-k.at) left in
+    let here = ap (λ (m : ℕ). level_by (refined_at c.args.refined.now) m c.loop-k.at) left in
     grind arith

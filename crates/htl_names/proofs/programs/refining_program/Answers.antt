@@ -1,6 +1,6 @@
 use Rattle.std.proofs.Common.{◌∙◌, sym, ap, Option, Some, None}
 use Rattle.htl_names.proofs.Words.{Id, look_up, key_in, program_key}
-use Rattle.htl_names.proofs.programs.named_program.Goals as goal
+use Rattle.htl_names.proofs.programs.refining_program.Goals as goal
 
 pub returns : goal.returns
 returns c =
