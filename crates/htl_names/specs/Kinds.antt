@@ -3,6 +3,7 @@ use Rattle.std.specs.Prelude.{ℕ, ℤ, pos, negsuc, ◌≡◌, Bool, true, fals
 use Rattle.std.specs.List.{flat_map}
 use Rattle.htl_names.specs.Trees.{Ty, PlainProgram, PlainModule, PlainMode, PlainTask, CommNode, ConstNode, EndNode, InvokeNode}
 use Rattle.htl_base.specs.declared.Ty.TheVariants as ty
+use Rattle.htl_base.specs.declared.limits.TheConstants.{MAX_PERIOD}
 use Rattle.htl_text.specs.declared.tree.Num.{Num}
 use Rattle.htl_text.specs.declared.tree.ConstNode.TheVariants as const
 use Rattle.htl_text.specs.declared.tree.EndNode.TheVariants as end
@@ -24,12 +25,12 @@ token_of (Initial wanted c) = const_token c
 
 -- a number from 1 to 1,000,000
 abbrev pub is_span : ℤ → Bool
-is_span (pos n) = leb 1 n && leb n 1000000
+is_span (pos n) = leb 1 n && leb n MAX_PERIOD
 is_span (negsuc n) = false
 
 -- a number from 0 to 1,000,000
 abbrev pub is_instance : ℤ → Bool
-is_instance (pos n) = leb n 1000000
+is_instance (pos n) = leb n MAX_PERIOD
 is_instance (negsuc n) = false
 
 -- a constant of a type

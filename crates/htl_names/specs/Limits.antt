@@ -1,5 +1,6 @@
 -- How much of each kind a source has, and how much it may have.
 use Rattle.std.specs.Prelude.{ℕ, ◌*◌, List, [], ◌∷◌, length, map, sum}
+use Rattle.htl_base.specs.declared.limits.TheConstants.{MAX_COMMUNICATORS, MAX_MODULES, MAX_MODES, MAX_PORTS, MAX_TASKS, MAX_INVOCATIONS, MAX_SWITCHES, MAX_MODE_INVOCATIONS, MAX_LEVELS, MAX_SELECTIONS, MAX_POSITIONS}
 use Rattle.htl_names.specs.Trees.{greatest, comms_of, modules_of, modes_of, ports_of, tasks_of, invokes_of, switches_of, PlainProgram, PlainModule, PlainMode, Key}
 use Rattle.htl_names.specs.Programs.{levels}
 
@@ -44,4 +45,16 @@ counts symbols ps =
 
 -- the limits, in the same order
 abbrev pub limits : List ℕ
-limits = 1024 ∷ 64 ∷ 256 ∷ 4096 ∷ 4096 ∷ 2048 ∷ 4096 ∷ 128 ∷ 8 ∷ 1024 ∷ 128 ∷ []
+limits =
+    MAX_COMMUNICATORS
+    ∷ MAX_MODULES
+    ∷ MAX_MODES
+    ∷ MAX_PORTS
+    ∷ MAX_TASKS
+    ∷ MAX_INVOCATIONS
+    ∷ MAX_SWITCHES
+    ∷ MAX_MODE_INVOCATIONS
+    ∷ MAX_LEVELS
+    ∷ MAX_SELECTIONS
+    ∷ MAX_POSITIONS
+    ∷ []
