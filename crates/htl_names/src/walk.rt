@@ -20,7 +20,8 @@ use htl_text::{
 };
 use std::alloc::{AllocError, Global};
 
-/// A part of a source that stands in a list of its owner's.
+/// A part of a source. Its list is the one in which its name has to differ; an end, which has none, goes with the ports of
+/// its mode, a switch with the modes of its module.
 pub(crate) trait Part {
     ghost rows_of: { AScope → ℕ → List Self → Plain };
 
@@ -149,12 +150,13 @@ impl Part for ModeNode {
     fn add(&self, list: Scope, place: usize, into: &mut Recorder) {
         let modes = Space::Modes.of(list.program, list.module, 0);
         let ports = Space::Ports.of(list.program, list.module, place);
+        let invokes = Space::Invokes.of(list.program, list.module, place);
         into.declare_with(modes, place, &self.name, &self.period);
         if let Some(id) = &self.program {
             into.mention(Space::Programs.of(0, 0, 0), None, id);
         }
         add_all(ports, 0, self.ports.as_slice(), into);
-        add_all(ports, 0, self.invokes.as_slice(), into);
+        add_all(invokes, 0, self.invokes.as_slice(), into);
         add_all(modes, 0, self.switches.as_slice(), into);
     }
 }
