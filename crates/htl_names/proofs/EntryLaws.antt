@@ -1,11 +1,11 @@
 -- The names that a source declares: where they stand, what they mean, how their numbers are bounded.
-use Rattle.std.proofs.Common.{◌≡◌, ℕ, suc, ◌+◌, List, [], ◌∷◌, length, take, slice_get, Some, refl, ◌∙◌, ap, arith, length-append, zero, subst, map, sym, inl, inr, ◌≤◌, Option, None, All, ap₂, ◌++◌}
-use Rattle.htl_names.proofs.Words.{cond_both, cond-true, slice_get_within, none-some, same_Some, comms_of, modules_of, tasks_of, ports_of, invokes_of, out_params, PlainProgram, PlainModule, PlainMode, PlainTask, CommNode, ParamNode, InvokeNode, Entry, entry, params_of, param_entry, task_entries, port_entry, invoke_entry, mode_entries, module_entries, comm_entry, program_entries, entries_from, entries, program_key, module_key, task_key, mode_key, same_key, look_up, pair_of, flat_map_at, map_at, module_at, tasks_at, modes_at, mode_at, ports_at, invokes_at, ModeAt, Key, Space, symbols_of, layout, meaning, AreNamesRight, RepeatedName, MeetsTaskBounds, modes_of, same_key_decides, all_at, cases_less_more}
+use Rattle.std.proofs.Common.{◌≡◌, ℕ, suc, ◌+◌, List, [], ◌∷◌, length, take, slice_get, Some, refl, ◌∙◌, ap, arith, length-append, zero, subst, map, sym, inl, inr, Option, None, ap₂, ◌++◌}
+use Rattle.htl_names.proofs.Words.{cond_both, cond-true, none-some, same_Some, comms_of, PlainProgram, PlainModule, PlainMode, PlainTask, CommNode, ParamNode, InvokeNode, Entry, entry, params_of, param_entry, task_entries, port_entry, invoke_entry, mode_entries, module_entries, comm_entry, program_entries, entries_from, entries, program_key, module_key, task_key, mode_key, same_key, look_up, pair_of, flat_map_at, map_at, module_at, tasks_at, modes_at, mode_at, ports_at, invokes_at, ModeAt, Key, Space, symbols_of, layout, meaning, AreNamesRight, RepeatedName, same_key_decides, cases_less_more}
 use Rattle.htl_names.specs.declared.fault.NameFault.TheVariants as fault
 use Rattle.htl_names.specs.declared.key.Space.TheVariants as space
 use Rattle.htl_names.proofs.FlatMaps.{at_flat, flat_part}
 use Rattle.htl_names.proofs.Members.{at_place, Each, each_at, each_append, each_part, In, in_next, in_first, in_second, in_mapped_at, in_part_at}
-use Rattle.htl_names.proofs.Places.{part_is, part_there, module_there, tasks_there, modes_there, program_of_module, module_of_task, module_of_mode, module_in_source, item_in_source, part_in_source}
+use Rattle.htl_names.proofs.Places.{part_is, part_there, module_there, tasks_there, modes_there, program_of_module, module_of_task, module_of_mode}
 
 -- where an entry comes from
 pub data Origin (ps : List PlainProgram) : Entry → Type 0 where
@@ -177,43 +177,3 @@ means ps key n got =
     let f = found key (entries ps) n got in
     let is : f.0.number ≡ meaning (layout ps) key = f.3 ∙ ap (λ (o : Option ℕ). elim o as (λ _. ℕ) [ Some k ↦ k | None ↦ 0 ]) (sym got) in
     subst (Stands ps key.scope.space key) is (subst (λ (a : Key). Stands ps a.scope.space a f.0.number) f.2 (stands ps f.0 (origin ps f.1.0 f.0 f.1.1)))
-
--- ---- the numbers of declared names are small where the limits are kept
-
--- what the limits give
-pub record IsLowSource (ps : List PlainProgram) : Type 0 where
-  pub programs : length ps ≤ 4096
-  pub comms : length (comms_of ps) ≤ 4096
-  pub modules : length (modules_of ps) ≤ 4096
-  pub tasks : length (tasks_of (modules_of ps)) ≤ 4096
-  pub modes : length (modes_of (modules_of ps)) ≤ 4096
-  pub ports : length (ports_of (modes_of (modules_of ps))) ≤ 4096
-  pub invokes : length (invokes_of (modes_of (modules_of ps))) ≤ 4096
-  pub small : All MeetsTaskBounds (tasks_of (modules_of ps))
-
-low_at : {A : Type 0} (xs : List A) (k : ℕ) (y : A) → (n : ℕ) × (slice_get xs (n + k) ≡ Some y) → length xs ≤ 4096 → k ≤ 4096
-low_at xs k y at low = let within = slice_get_within xs (at.0 + k) y at.1 in omega (arith, within, low)
-
--- each name stands at its number in its list
-entry_low : (ps : List PlainProgram) → IsLowSource ps → (e : Entry) → Origin ps e → e.number ≤ 4096
-entry_low ps h e (of_program p x there) = let within = slice_get_within ps p x there in omega (arith, within, h.programs)
-entry_low ps h e (of_comm c x there) = let within = slice_get_within (comms_of ps) c x there in omega (arith, within, h.comms)
-entry_low ps h e (of_module p u x there) = low_at (modules_of ps) u x (module_in_source ps p u x there) h.modules
-entry_low ps h e (of_task p u k t there) = low_at (tasks_of (modules_of ps)) k t (item_in_source (λ (y : PlainModule). y.tasks) ps p u k t there) h.tasks
-entry_low ps h e (of_param p u k t there j x at) =
-    let n = item_in_source (λ (y : PlainModule). y.tasks) ps p u k t there in
-    let small = all_at MeetsTaskBounds (tasks_of (modules_of ps)) (n.0 + k) t h.small n.1 in
-    omega (arith, slice_get_within (params_of t) j x at, length-append t.inputs (out_params t.outputs), small.inputs, small.outputs)
-entry_low ps h e (of_mode p u m x there) = low_at (modes_of (modules_of ps)) m x (item_in_source (λ (y : PlainModule). y.modes) ps p u m x there) h.modes
-entry_low ps h e (of_port a j y at) = low_at (ports_of (modes_of (modules_of ps))) j y (part_in_source (λ (z : PlainMode). z.ports) ps a j y at) h.ports
-entry_low ps h e (of_invoke a j y at) = low_at (invokes_of (modes_of (modules_of ps))) j y (part_in_source (λ (z : PlainMode). z.invokes) ps a j y at) h.invokes
-
--- what a name means
-pub meaning_low : (ps : List PlainProgram) → IsLowSource ps → (key : Key) → meaning (layout ps) key ≤ 4096
-meaning_low ps h key = by (look_up key (symbols_of ps)) refl
-  where
-    by : (o : Option ℕ) → look_up key (symbols_of ps) ≡ o → (let n : ℕ = elim o [ Some n ↦ n | None ↦ 0 ] in n ≤ 4096)
-    by None is = omega arith
-    by (Some n) is =
-        let f = found key (entries ps) n is in
-        omega (arith, entry_low ps h f.0 (origin ps f.1.0 f.0 f.1.1), f.3)

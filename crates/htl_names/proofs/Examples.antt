@@ -1,6 +1,6 @@
 -- Small sources and the name rules that they break, worked out by the definitions.
-use Rattle.std.proofs.Common.{◌≡◌, ◌+◌, ◌∷◌, ◌<◌, ℕ, zero, suc, inl, inr, Bool, eqb, true, false, length, replicate, get_or, sym, ◌∙◌, List, [], Option, Some, None, pos, refl, arith, map}
-use Rattle.htl_names.proofs.Words.{first_some, Variable, Infix, Expr, PlainProgram, PlainModule, PlainMode, PlainTask, Concrete, Id, InvokeNode, ParamNode, CommNode, Key, ModeAt, ModuleAt, entry, symbols_of, module_key, NameBroken, RepeatedName, UnknownName, WrongKind, ProgramTree, ParentName, Limits, Span, unknown_token, uses, input_use, Num, map_at, list_to, layout, comms_in, names_of, distinct_count, bytes_eq, Graph, Reached, root, beneath, edges, edges_from, refined_count, levels, order, get_list_to, list_any, program_modules, nth_module, IsMisplaced}
+use Rattle.std.proofs.Common.{◌≡◌, ◌+◌, ◌∷◌, ◌<◌, ℕ, zero, suc, inl, inr, Bool, eqb, true, false, length, replicate, sym, ◌∙◌, List, [], Option, Some, None, pos, refl, arith, map}
+use Rattle.htl_names.proofs.Words.{first_some, Variable, Infix, Expr, PlainProgram, PlainModule, PlainMode, PlainTask, PlainOut, Concrete, Id, InvokeNode, ParamNode, CommNode, Key, ModeAt, entry, symbols_of, module_key, NameBroken, RepeatedName, UnknownName, WrongKind, ProgramTree, ParentName, Limits, Span, unknown_token, uses, input_use, Num, NameFault, IsFirstOf, map_at, list_to, layout, comms_in, names_of, distinct_count, bytes_eq, Graph, Reached, root, beneath, edges, edges_from, refined_count, levels, order, get_list_to, list_any, program_modules, nth_module, IsMisplaced}
 use Rattle.std.proofs.lemmas.List.{get_or-replicate}
 use Rattle.htl_names.proofs.TreeLevels.{IsTree}
 use Rattle.htl_base.specs.declared.Ty.TheVariants as ty
@@ -44,15 +44,12 @@ module_name_repeats =
 abbrev param : List ℕ → ℕ → ParamNode
 param n t = record { ty = ty.Int; name = id n t }
 
+abbrev output : PlainOut
+output = record { param = param b_name 17; first = 19; value = Variable (id b_name 19) }
+
 -- task a input (int a) output (int b = b) worst 1
 abbrev loose : PlainTask
-loose =
-    record {
-      name = id a_name 8;
-      inputs = param a_name 12 ∷ [];
-      outputs = Concrete (record { param = param b_name 17; first = 19; value = Variable (id b_name 19) } ∷ []);
-      worst = number 1 22;
-    }
+loose = record { name = id a_name 8; inputs = param a_name 12 ∷ []; outputs = Concrete (output ∷ []); worst = number 1 22 }
 
 abbrev output_used : List PlainProgram
 output_used = program a_name 1 (module_with 4 (loose ∷ []) (mode 25 1 [] ∷ []) ∷ []) ∷ []
@@ -84,28 +81,24 @@ no_period = (Span (number 0 27), refl, refl, refl)
 
 -- ---- trees of programs
 
--- 0 is a, 1 is b ..
-abbrev letter : ℕ → List ℕ
-letter k = (97 + k) ∷ []
-
--- mode m of a module; program q refines it
-abbrev refined_mode : ℕ → ℕ → PlainMode
-refined_mode m q = record (mode 0 1 []) { name = id (letter m) 0; program = Some (id (letter q) 0) }
+-- a, b ..
+abbrev letter : ℕ → Id
+letter k = id ((97 + k) ∷ []) 0
 
 -- the module of program p, if it has one
-abbrev own_module : ℕ → List ℕ → List PlainModule
-own_module p [] = []
-own_module p (q ∷ qs) = record (module_with 0 [] (map_at refined_mode 0 (q ∷ qs))) { name = id (letter p) 0 } ∷ []
+abbrev own_modules : ℕ → List ℕ → List PlainModule
+own_modules p [] = []
+own_modules p qs =
+    record (module_with 0 [] (map_at (λ m q. record (mode 0 1 []) { name = letter m; program = Some (letter q) }) 0 qs)) { name = letter p } ∷ []
 
--- Programs a, b .. with a module each. Its modes are refined by the programs of these numbers; a program without numbers
--- is empty.
+-- Programs a, b .. with a module each, whose modes are refined by the programs of these numbers; one without numbers is empty.
 abbrev source : List (List ℕ) → List PlainProgram
-source rows = map_at (λ p qs. program (letter p) 0 (own_module p qs)) 0 rows
+source rows = map_at (λ p qs. record (program [] 0 (own_modules p qs)) { name = letter p }) 0 rows
 
 abbrev symbols : List (List ℕ) → List (Key × ℕ)
 symbols rows = symbols_of (source rows)
 
--- of each program the programs that its modes name, and how many modes name it
+-- of each program those that refine its modes, and how many modes it refines
 abbrev graph : List (List ℕ) → Graph × List ℕ
 graph rows = (edges (symbols rows) (source rows), list_to (refined_count (symbols rows) (source rows)) (length rows))
 
@@ -117,24 +110,19 @@ root_alone : (g : Graph) → edges_from g 0 ≡ [] → (p : ℕ) → Reached g p
 root_alone g none _ root = refl
 root_alone g none _ (beneath q p r e) = let same = root_alone g none q r in grind arith
 
--- a program that one mode names, and that is reached, is in place
+-- a program that refines one mode, and that is reached, is in place
 in_place : (rows : List (List ℕ)) (p : ℕ) → refined_count (symbols rows) (source rows) (suc p) ≡ 1 → Reached (edges (symbols rows) (source rows)) (suc p)
     → IsMisplaced (symbols rows) (source rows) (suc p) → ⊥
 in_place rows p one reached (inl other) = other one
 in_place rows p one reached (inr not) = not reached
 
--- a.a is refined by b, a.b by c, b.a by d
+-- modes a and b of program a are refined by b and c, mode a of b by d
 abbrev tree : List (List ℕ)
 tree = (1 ∷ 2 ∷ []) ∷ (3 ∷ []) ∷ [] ∷ [] ∷ []
 
-tree_graph : graph tree ≡ (tree, 0 ∷ 1 ∷ 1 ∷ 1 ∷ [])
-tree_graph = refl
-
-tree_levels : levels (symbols tree) (source tree) ≡ 3
-tree_levels = refl
-
-tree_order : order (symbols tree) (source tree) ≡ nth_module 0 None 0 ∷ nth_module 1 (at 0 0) 0 ∷ []
-tree_order = refl
+tree_row : (graph tree ≡ (tree, 0 ∷ 1 ∷ 1 ∷ 1 ∷ [])) × (levels (symbols tree) (source tree) ≡ 3)
+    × (order (symbols tree) (source tree) ≡ nth_module 0 None 0 ∷ nth_module 1 (at 0 0) 0 ∷ [])
+tree_row = (refl, refl, refl)
 
 tree_in_place : IsTree (symbols tree) (source tree)
 tree_in_place zero lt wrong = omega (arith, wrong)
@@ -143,68 +131,13 @@ tree_in_place (suc (suc zero)) lt wrong = in_place tree 1 refl (beneath 0 2 root
 tree_in_place (suc (suc (suc zero))) lt wrong = in_place tree 2 refl (beneath 1 3 (beneath 0 1 root refl) refl) wrong
 tree_in_place (suc (suc (suc (suc p)))) lt wrong = omega (arith, lt)
 
--- a.a and a.b are refined by b
-abbrev named_twice : List (List ℕ)
-named_twice = (1 ∷ 1 ∷ []) ∷ [] ∷ []
-
-twice_graph : graph named_twice ≡ (named_twice, 0 ∷ 2 ∷ [])
-twice_graph = refl
-
-twice_misplaced : NameBroken (source named_twice) ProgramTree 1 (fault.NotATree 1)
-twice_misplaced = (omega arith, inl (λ e. omega (arith, e)), refl)
-
-twice_root : IsMisplaced (symbols named_twice) (source named_twice) 0 → ⊥
-twice_root wrong = omega (arith, wrong)
-
--- b.a is refined by b
-abbrev own_program : List (List ℕ)
-own_program = [] ∷ (1 ∷ []) ∷ []
-
-own_graph : graph own_program ≡ (own_program, 0 ∷ 1 ∷ [])
-own_graph = refl
-
-own_misplaced : NameBroken (source own_program) ProgramTree 1 (fault.NotATree 1)
-own_misplaced = (omega arith, inr (λ r. omega (arith, root_alone _ refl 1 r)), refl)
-
--- b.a is refined by c, c.a by b
-abbrev ring : List (List ℕ)
-ring = [] ∷ (2 ∷ []) ∷ (1 ∷ []) ∷ []
-
-ring_graph : graph ring ≡ (ring, 0 ∷ 1 ∷ 1 ∷ [])
-ring_graph = refl
-
-ring_misplaced : NameBroken (source ring) ProgramTree 1 (fault.NotATree 1)
-ring_misplaced = (omega arith, inr (λ r. omega (arith, root_alone _ refl 1 r)), refl)
-
--- a.a is refined by b, b.a by a
-abbrev root_named : List (List ℕ)
-root_named = (1 ∷ []) ∷ (0 ∷ []) ∷ []
-
-root_graph : graph root_named ≡ (root_named, 1 ∷ 1 ∷ [])
-root_graph = refl
-
-root_misplaced : NameBroken (source root_named) ProgramTree 0 (fault.NotATree 0)
-root_misplaced = (omega arith, omega arith, refl)
-
--- b refines no mode
-abbrev unnamed_program : List (List ℕ)
-unnamed_program = [] ∷ [] ∷ []
-
-unnamed_graph : graph unnamed_program ≡ (unnamed_program, 0 ∷ 0 ∷ [])
-unnamed_graph = refl
-
-unnamed_misplaced : NameBroken (source unnamed_program) ProgramTree 1 (fault.NotATree 1)
-unnamed_misplaced = (omega arith, inl (λ e. omega (arith, e)), refl)
-
--- nine programs, each but the last with a module whose mode the next refines
+-- nine programs, of which each but the last has a mode that the next refines
 abbrev chain : List (List ℕ)
 chain = (1 ∷ []) ∷ (2 ∷ []) ∷ (3 ∷ []) ∷ (4 ∷ []) ∷ (5 ∷ []) ∷ (6 ∷ []) ∷ (7 ∷ []) ∷ (8 ∷ []) ∷ [] ∷ []
 
-chain_graph : graph chain ≡ (chain, 0 ∷ replicate 8 1)
-chain_graph = refl
-
-chain_order : order (symbols chain) (source chain) ≡ nth_module 0 None 0 ∷ list_to (λ p. nth_module (suc p) (at p 0) 0) 7
-chain_order = refl
+chain_row : (graph chain ≡ (chain, 0 ∷ replicate 8 1)) × (order (symbols chain) (source chain) ≡ nth_module 0 None 0 ∷ list_to (λ p. nth_module (suc p) (at p 0) 0) 7)
+    × NameBroken (source chain) Limits 8 (fault.Limit 9 9)
+chain_row = (refl, refl, (9, 8, refl, refl, omega arith, refl))
 
 chain_in_place : IsTree (symbols chain) (source chain)
 chain_in_place zero lt wrong = omega (arith, wrong)
@@ -218,30 +151,54 @@ chain_in_place (suc p) lt wrong = in_place chain p (sym (get_list_to count 9 (su
 
     reached : (p : ℕ) → p < 9 → Reached (edges (symbols chain) (source chain)) p
     reached zero lt = root
-    reached (suc p) lt = beneath p (suc p) (reached p (omega (arith, lt))) (sym (get_list_to names_next 8 p false (omega (arith, lt))) ∙ get_or-replicate 8 p true false (omega (arith, lt)))
+    reached (suc p) lt =
+        beneath p (suc p) (reached p (omega (arith, lt)))
+        (sym (get_list_to names_next 8 p false (omega (arith, lt))) ∙ get_or-replicate 8 p true false (omega (arith, lt)))
 
-nine_levels : NameBroken (source chain) Limits 8 (fault.Limit 9 9)
-nine_levels = (9, 8, refl, refl, omega arith, refl)
+-- a source with this graph, whose first program out of place is this one
+abbrev IsRow : List (List ℕ) → List ℕ → ℕ → Type 0
+IsRow rows counts p = (graph rows ≡ (rows, counts)) × IsFirstOf (source rows) ProgramTree (fault.NotATree p)
 
--- ---- a condition that names a communicator twice
+-- a root that refines no mode is in place
+root_in_place : (rows : List (List ℕ)) → refined_count (symbols rows) (source rows) 0 ≡ 0 → (k : ℕ) (f : NameFault) → k < 1
+    → NameBroken (source rows) ProgramTree k f → ⊥
+root_in_place rows none zero f lt broken = let wrong = broken.1 in omega (arith, none, wrong)
+root_in_place rows none (suc k) f lt broken = omega (arith, lt)
 
-abbrev comm : List ℕ → CommNode
-comm n = record { sensor = true; ty = ty.Bool; name = id n 0; period = number 1 0; init = const.Bool 0 false }
+-- b refines both modes of a
+refines_both : IsRow ((1 ∷ 1 ∷ []) ∷ [] ∷ []) (0 ∷ 2 ∷ []) 1
+refines_both = (refl, (1, (omega arith, inl (λ e. omega (arith, e)), refl), root_in_place ((1 ∷ 1 ∷ []) ∷ [] ∷ []) refl))
 
--- communicators b and a, in this order
-abbrev two_comms : List PlainProgram
-two_comms = record (program a_name 0 []) { comms = comm b_name ∷ comm a_name ∷ [] } ∷ []
+-- b refines its own mode
+refines_itself : IsRow ([] ∷ (1 ∷ []) ∷ []) (0 ∷ 1 ∷ []) 1
+refines_itself = (refl, (1, (omega arith, inr (λ r. omega (arith, root_alone _ refl 1 r)), refl), root_in_place ([] ∷ (1 ∷ []) ∷ []) refl))
 
--- a && (a || b)
-abbrev condition : Expr
-condition = Infix 0 op.And (Variable (id a_name 0)) (Infix 0 op.Or (Variable (id a_name 0)) (Variable (id b_name 0)))
+-- b and c refine each other's mode
+ring_beside_root : IsRow ([] ∷ (2 ∷ []) ∷ (1 ∷ []) ∷ []) (0 ∷ 1 ∷ 1 ∷ []) 1
+ring_beside_root = (refl, (1, (omega arith, inr (λ r. omega (arith, root_alone _ refl 1 r)), refl), root_in_place ([] ∷ (2 ∷ []) ∷ (1 ∷ []) ∷ []) refl))
 
-two_names : distinct_count bytes_eq (map (λ (n : Id). n.name) (names_of condition)) ≡ 2
-two_names = refl
+-- the root refines b's mode
+root_refines : IsRow ((1 ∷ []) ∷ (0 ∷ []) ∷ []) (1 ∷ 1 ∷ []) 0
+root_refines = (refl, (0, (omega arith, omega arith, refl), λ k f lt broken. omega (arith, lt)))
 
-comms_once : comms_in (layout two_comms) condition ≡ 1 ∷ 0 ∷ []
-comms_once = refl
+-- b refines no mode
+refines_no_mode : IsRow ([] ∷ [] ∷ []) (0 ∷ 0 ∷ []) 1
+refines_no_mode = (refl, (1, (omega arith, inl (λ e. omega (arith, e)), refl), root_in_place ([] ∷ [] ∷ []) refl))
 
 -- of no program there are no modules
 no_modules : (ps : List PlainProgram) (parent : Option ModeAt) → program_modules ps parent None ≡ []
 no_modules ps parent = refl
+
+-- ---- a && (a || b), where communicator b is declared before a
+
+abbrev condition : Expr
+condition = Infix 0 op.And (Variable (letter 0)) (Infix 0 op.Or (Variable (letter 0)) (Variable (letter 1)))
+
+abbrev comm : Id → CommNode
+comm name = record { sensor = true; ty = ty.Bool; name = name; period = number 1 0; init = const.Bool 0 false }
+
+comms_once : comms_in (layout (record { name = letter 0; comms = comm (letter 1) ∷ comm (letter 0) ∷ []; modules = [] } ∷ [])) condition ≡ 1 ∷ 0 ∷ []
+comms_once = refl
+
+two_names : distinct_count bytes_eq (map (λ (n : Id). n.name) (names_of condition)) ≡ 2
+two_names = refl

@@ -2,8 +2,6 @@
 use Rattle.std.proofs.Common.{◌≡◌, ℕ, zero, suc, ◌+◌, ◌<◌, ◌≤◌, inl, inr, List, [], ◌∷◌, ◌++◌, length, take, slice_get, Some, refl, sym, ◌∙◌, ap, ap₂, subst, arith, length-append, take-append-drop, get_or, map, cond, Bool, eqb, leb, flat_map, count_by}
 use Rattle.htl_names.proofs.Words.{length-map, slice_get_within, same_Some, none-some, slice_get-get_or, flat_map-append, cases_lt, nat_tests, sum_by-cons, sum_by-append, list_to, length-list_to, get_list_to, get_mapped, flat_map_at, IsNonDecreasing, from_map, get_back, get_either, get_front}
 
--- ---- the front and the back of a list
-
 -- ---- lists by places
 
 pub list_to_at : {A : Type 0} (f : ℕ → A) (n k : ℕ) → k < n → slice_get (list_to f n) k ≡ Some (f k)
@@ -125,8 +123,6 @@ pub flat_part : {A B : Type 0} (f : A → List B) (xs : List A) (n : ℕ) (y : B
 flat_part f xs n y e =
     let p = part_of (λ k. f) xs n y (ap (λ ys. slice_get ys n) (flat_map_is f 0 xs) ∙ e) in
     record { part = p.part; owner = p.owner; there = p.there; place = p.place; item = p.item; number = p.number ∙ ap (λ ys. length ys + p.place) (flat_map_is f 0 (take p.part xs)) }
-
--- ---- mapped lists
 
 -- ---- how many items pass a test
 

@@ -1,6 +1,6 @@
 -- The root selections of a tree's tables are as many as the tree's, and have no more positions than the limit.
 use Rattle.std.proofs.Common.{◌≡◌, ◌<◌, ◌≤◌, ◌+◌, ◌*◌, cond, ℕ, suc, Bool, true, false, List, [], ◌∷◌, ◌++◌, map, length, slice_get, Option, Some, None, filter, sum, refl, sym, ◌∙◌, ap, subst, arith, length-append, flat_map}
-use Rattle.htl_names.proofs.Words.{AllZip, sum_by-cons, slice_get_within, same_Some, KeepsLimits, places_from, Tables, mode_module, Inv, Mode, PlainProgram, PlainModule, PlainMode, MeetsBounds, Layout, layout, symbols_of, mode_item, module_item, module_items_at, invoke_item, tables_of_tree, most_invokes, most_positions, selections, choices, plain_root_modules, flat_map_at, AreNamesRight, modules_at, invokes_at, nth_module, mode_in, ModeAt, ModuleAt, Module, mul-le, own_mode}
+use Rattle.htl_names.proofs.Words.{AllZip, sum_by-cons, slice_get_within, same_Some, KeepsLimits, places_from, Tables, mode_module, Inv, Mode, PlainProgram, PlainModule, PlainMode, MeetsBounds, Layout, layout, symbols_of, mode_item, module_item, module_items_at, invoke_item, tables_of_tree, most_invokes, most_positions, selections, choices, flat_map_at, AreNamesRight, modules_at, invokes_at, nth_module, mode_in, ModeAt, ModuleAt, Module, mul-le, own_mode}
 use Rattle.htl_model.specs.Selections.{is_root, root_modules, mode_of_module, inv_of_mode, modes_of, invs_of, choices_from, root_mode}
 use Rattle.htl_names.proofs.InRange.{names-in-range}
 use Rattle.htl_names.proofs.Numbered.{module_count, each_mode, mode_owner, one_module}
@@ -9,7 +9,6 @@ use Rattle.htl_names.proofs.FlatMaps.{few_owned}
 use Rattle.htl_names.proofs.Ordering.{kept_limit}
 use Rattle.htl_names.proofs.ListLaws.{invokes_most, map_places, length-places}
 use Rattle.htl_names.proofs.Places.{modes_in, modes_there, part_is}
-use Rattle.htl_names.proofs.LimitLaws.{root_modules_are}
 use Rattle.htl_names.proofs.Members.{at_place}
 
 -- root module u of the tables has no more modes, and in each selection no more positions than the most of one of these
@@ -100,13 +99,12 @@ module _ (ps : List PlainProgram) (small : MeetsBounds ps) (right : AreNamesRigh
       by x None ks ss here rest = (here, rest)
       by x (Some a) ks ss here rest = rest
 
-  roots_alike : AreAlike t (choices_from t 0 t.modules) (root_modules t) (plain_root_modules ps)
+  roots_alike : AreAlike t (choices_from t 0 t.modules) (root_modules t) (modules_at ps 0)
   roots_alike =
       let modes : PlainModule → List PlainMode = λ x. x.modes in
-      let roots : map (modes_in ps) (filter is_root_module l.modules) ≡ map modes (plain_root_modules ps) =
-      ap (map (modes_in ps)) (roots_of (symbols_of ps) ps) ∙ map_places (modes_in ps) (nth_module 0 None) modes (modules_at ps 0) (modes_there ps 0)
-      ∙ ap (map modes) (root_modules_are ps) in
-      alike t 0 t.modules (plain_root_modules ps) (subst (AllZip (IsRoot t) (root_modules t)) roots (roots_from 0 l.modules (at_place l.modules)))
+      let roots : map (modes_in ps) (filter is_root_module l.modules) ≡ map modes (modules_at ps 0) =
+      ap (map (modes_in ps)) (roots_of (symbols_of ps) ps) ∙ map_places (modes_in ps) (nth_module 0 None) modes (modules_at ps 0) (modes_there ps 0) in
+      alike t 0 t.modules (modules_at ps 0) (subst (AllZip (IsRoot t) (root_modules t)) roots (roots_from 0 l.modules (at_place l.modules)))
 
   pub names-keep-limits : KeepsLimits (tables_of_tree ps)
   names-keep-limits =

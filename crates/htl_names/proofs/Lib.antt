@@ -7,7 +7,6 @@ mod Examples
 mod LimitLaws
 mod RuleLaws
 mod FlatMaps
-mod Growing
 pub mod InRange
 pub mod KeepsLimits
 mod SymbolLaws

@@ -1,6 +1,6 @@
 -- A tally has the lengths of the lists of items, and the loop over the limits finds the first that is exceeded.
 use Rattle.std.proofs.Common.{◌≡◌, ◌+◌, ◌*◌, ◌-◌, ◌^◌, ℕ, min, List, [], ◌∷◌, length, map, fold, refl, sym, ◌∙◌, ap, ap₂, arith, mul_assoc, ◌≤◌, ◌<◌, suc, sum, get_or, length-append, flat_map}
-use Rattle.htl_names.proofs.Words.{one-mul, fold-append, sum_by-cons, get_or_from_slice_get, slice_get_within, slice_get-get_or, greatest, modules_of, PlainProgram, PlainModule, PlainMode, NameFault, Limits, NameBroken, IsKept, IsFirstOf, symbols_of, counts, most_invokes, limits, choices, plain_root_modules, modules_at, capped, no_modes, no_tally, with_mode, with_module, with_program, chosen, selected, placed, IsTally, product_capped, modes_of, ModeTally, ModuleTally, Tally}
+use Rattle.htl_names.proofs.Words.{one-mul, fold-append, sum_by-cons, get_or_from_slice_get, slice_get_within, slice_get-get_or, greatest, modules_of, PlainProgram, PlainModule, PlainMode, NameFault, Limits, NameBroken, IsKept, IsFirstOf, symbols_of, counts, most_invokes, limits, choices, capped, no_modes, no_tally, with_mode, with_module, with_program, chosen, selected, placed, IsTally, product_capped, modes_of, ModeTally, ModuleTally, Tally}
 use Rattle.htl_names.specs.declared.fault.NameFault.TheVariants as fault
 
 -- ---- folds
@@ -39,10 +39,6 @@ placed_all n [] = omega arith
 placed_all n (x ∷ xs) =
     let all = sum_by-cons (λ (m : ℕ). m) (most_invokes x.modes) (map (λ (y : PlainModule). most_invokes y.modes) xs) in
     omega (arith, placed_all (placed n x) xs, most_of_modes no_modes x.modes, all)
-
-pub root_modules_are : (ps : List PlainProgram) → modules_at ps 0 ≡ plain_root_modules ps
-root_modules_are [] = refl
-root_modules_are (p ∷ ps) = refl
 
 some_chosen : (xs : List PlainModule) → min (length xs) 1 * choices xs ≡ elim xs [ [] ↦ 0 | y ∷ ys ↦ choices (y ∷ ys) ]
 some_chosen [] = refl

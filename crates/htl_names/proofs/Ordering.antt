@@ -1,14 +1,14 @@
 -- Where the name rules are kept, the modules in order differ and are few, and their numbers fit the fields.
-use Rattle.std.proofs.Common.{◌≡◌, ℕ, suc, ◌≤◌, ◌<◌, min, ◌^◌, ◌-◌, List, length, slice_get, Some, refl, arith, le_trans, [], All, ap, ◌+◌, ◌∙◌, ◌∷◌, flat_map}
-use Rattle.htl_names.proofs.Words.{list_to, mode_in, PlainProgram, PlainModule, PlainMode, PlainTask, ModeAt, ModuleAt, symbols_of, layout, module_number, size_of, Layout, layout_by, tables_by, tables_of_tree, counts, limits, AreNamesRight, ProgramTree, Limits, order, mode_order, mode_at, modes_at, tasks_at, ports_at, invokes_at, switches_at, refinements, level, levels, length-map, flat_map_single, slice_get_within, comms_of, modules_of, CommNode, MeetsBounds, IsNarrow, IsNarrowParent, IsNarrowInvoke, Tables, Key, modes_of}
+use Rattle.std.proofs.Common.{◌≡◌, ℕ, suc, None, Option, length-append, ◌≤◌, ◌<◌, min, ◌^◌, ◌-◌, List, length, slice_get, Some, refl, arith, le_trans, [], All, ap, ◌+◌, ◌∙◌, ◌∷◌, flat_map}
+use Rattle.htl_names.proofs.Words.{list_to, mode_in, PlainProgram, PlainModule, PlainMode, PlainTask, ModeAt, ModuleAt, symbols_of, layout, module_number, size_of, Layout, layout_by, tables_by, tables_of_tree, counts, limits, AreNamesRight, ProgramTree, Limits, order, mode_order, mode_at, modes_at, tasks_at, ports_at, invokes_at, switches_at, refinements, level, levels, length-map, flat_map_single, slice_get_within, comms_of, modules_of, CommNode, MeetsBounds, IsNarrow, IsNarrowParent, IsNarrowInvoke, Tables, Key, modes_of, Entry, MeetsTaskBounds, all_at, params_of, out_params, tasks_of, ports_of, invokes_of, look_up, entries, meaning}
 use Rattle.htl_names.proofs.Apart.{order_number, few, few_in_modes}
-use Rattle.htl_names.proofs.Places.{part_is, part_there, modes_there, tasks_there, modes_in, tasks_in, mode_parts, item_in_source}
+use Rattle.htl_names.proofs.Places.{part_is, part_there, modes_there, tasks_there, modes_in, tasks_in, mode_parts, module_in_source, item_in_source, part_in_source}
 use Rattle.htl_names.proofs.FlatMaps.{list_to_at, take_length}
 use Rattle.htl_names.proofs.TreeLevels.{IsTree, few_programs}
 use Rattle.htl_names.proofs.Members.{All-from_places}
 use Rattle.htl_names.proofs.ModulePlaces.{Comes, top, under, child, comes, exist}
 use Rattle.htl_names.proofs.ListLaws.{greatest_at, invokes_most}
-use Rattle.htl_names.proofs.EntryLaws.{IsLowSource, meaning_low}
+use Rattle.htl_names.proofs.EntryLaws.{Origin, of_program, of_comm, of_module, of_task, of_param, of_mode, of_port, of_invoke, found, origin}
 use Rattle.htl_names.proofs.NameUses.{comm_period_span, mode_period_span, worst_span, narrow_invoke}
 use Rattle.htl_names.specs.declared.fault.NameFault.TheVariants as fault
 
@@ -62,18 +62,35 @@ few_in_mode ps right s m x its =
 
 -- ---- where the name rules are kept, the numbers of the layout fit the fields of the tables
 
-low_source : (ps : List PlainProgram) → MeetsBounds ps → AreNamesRight ps → IsLowSource ps
-low_source ps small right =
-    record {
-      programs = omega (arith, few_programs (symbols_of ps) ps (right_tree ps right), kept_limit ps right 2 _ 256 refl refl);
-      comms = omega (arith, kept_limit ps right 0 _ 1024 refl refl);
-      modules = omega (arith, kept_limit ps right 1 _ 64 refl refl);
-      tasks = kept_limit ps right 4 _ 4096 refl refl;
-      modes = omega (arith, kept_limit ps right 2 _ 256 refl refl);
-      ports = kept_limit ps right 3 _ 4096 refl refl;
-      invokes = omega (arith, kept_limit ps right 5 _ 2048 refl refl);
-      small = small.tasks;
-    }
+low_at : {A : Type 0} (xs : List A) (k : ℕ) (y : A) → (n : ℕ) × (slice_get xs (n + k) ≡ Some y) → length xs ≤ 4096 → k ≤ 4096
+low_at xs k y at low = let within = slice_get_within xs (at.0 + k) y at.1 in omega (arith, within, low)
+
+-- each name stands at its number in its list
+entry_low : (ps : List PlainProgram) → MeetsBounds ps → AreNamesRight ps → (e : Entry) → Origin ps e → e.number ≤ 4096
+entry_low ps small right e (of_program p x there) =
+    omega (arith, slice_get_within ps p x there, few_programs (symbols_of ps) ps (right_tree ps right), kept_limit ps right 2 _ 256 refl refl)
+entry_low ps small right e (of_comm c x there) = omega (arith, slice_get_within (comms_of ps) c x there, kept_limit ps right 0 _ 1024 refl refl)
+entry_low ps small right e (of_module p u x there) = low_at (modules_of ps) u x (module_in_source ps p u x there) (omega (arith, kept_limit ps right 1 _ 64 refl refl))
+entry_low ps small right e (of_task p u k t there) = low_at (tasks_of (modules_of ps)) k t (item_in_source (λ (y : PlainModule). y.tasks) ps p u k t there) (kept_limit ps right 4 _ 4096 refl refl)
+entry_low ps small right e (of_param p u k t there j x at) =
+    let n = item_in_source (λ (y : PlainModule). y.tasks) ps p u k t there in
+    let bounds = all_at MeetsTaskBounds (tasks_of (modules_of ps)) (n.0 + k) t small.tasks n.1 in
+    omega (arith, slice_get_within (params_of t) j x at, length-append t.inputs (out_params t.outputs), bounds.inputs, bounds.outputs)
+entry_low ps small right e (of_mode p u m x there) =
+    low_at (modes_of (modules_of ps)) m x (item_in_source (λ (y : PlainModule). y.modes) ps p u m x there) (omega (arith, kept_limit ps right 2 _ 256 refl refl))
+entry_low ps small right e (of_port a j y at) = low_at (ports_of (modes_of (modules_of ps))) j y (part_in_source (λ (z : PlainMode). z.ports) ps a j y at) (kept_limit ps right 3 _ 4096 refl refl)
+entry_low ps small right e (of_invoke a j y at) =
+    low_at (invokes_of (modes_of (modules_of ps))) j y (part_in_source (λ (z : PlainMode). z.invokes) ps a j y at) (omega (arith, kept_limit ps right 5 _ 2048 refl refl))
+
+-- what a name means
+meaning_low : (ps : List PlainProgram) → MeetsBounds ps → AreNamesRight ps → (key : Key) → meaning (layout ps) key ≤ 4096
+meaning_low ps small right key = by (look_up key (symbols_of ps)) refl
+  where
+    by : (o : Option ℕ) → look_up key (symbols_of ps) ≡ o → (let n : ℕ = elim o [ Some n ↦ n | None ↦ 0 ] in n ≤ 4096)
+    by None is = omega arith
+    by (Some n) is =
+        let f = found key (entries ps) n is in
+        omega (arith, entry_low ps small right f.0 (origin ps f.1.0 f.0 f.1.1), f.3)
 
 module _ (ps : List PlainProgram) (right : AreNamesRight ps) where
   pub instances : (a : ModeAt) → All IsNarrowInvoke (invokes_at ps a)
@@ -93,7 +110,7 @@ names-narrow ps small right =
     let modes = mode_order ps modules in
     let few = are_few ps right in
     record {
-      meanings = λ key. meaning_low ps (low_source ps small right) key;
+      meanings = meaning_low ps small right;
       modules = few.modules;
       modes = omega (arith, mode_parts ps modules, few.modes);
       modes_before = λ k. le_trans (take_length (modes_in ps) k modules) few.modes;

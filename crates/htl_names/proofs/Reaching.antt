@@ -1,5 +1,5 @@
 -- The search for the programs that are reached: which are marked, and which wait.
-use Rattle.std.proofs.Common.{◌≡◌, ◌<◌, ◌+◌, ◌⊎◌, ℕ, zero, suc, Bool, true, false, cond, List, [], ◌∷◌, ◌++◌, length, map, get_or, replicate, sym, ◌∙◌, ap, arith}
+use Rattle.std.proofs.Common.{◌≡◌, ◌<◌, ◌+◌, ◌⊎◌, ℕ, suc, Bool, true, false, cond, List, [], ◌∷◌, ◌++◌, length, map, get_or, replicate, sym, ◌∙◌, ap, arith}
 use Rattle.htl_names.proofs.Words.{nat_tests, common_steps, length-map, MarksReached, Graph, Refinement, edge_targets, edges_from, Reached, root, set}
 use Rattle.std.proofs.lemmas.List.{get_or-map}
 use Rattle.htl_names.proofs.ListLaws.{is_among}
@@ -40,10 +40,8 @@ search_start g seen waiting free alone =
 -- what a program that isn't marked names is owed no longer once it is
 owed-set : (seen : List Bool) (g : Graph) (p : ℕ) → p < length seen → length seen ≡ length g → get_or seen p false ≡ false
     → owed (set seen p true) g + length (edges_from g p) ≡ owed seen g
-owed-set [] g p small len free = grind arith
-owed-set (b ∷ seen) [] p small len free = grind arith
-owed-set (b ∷ seen) (r ∷ g) zero small len free = grind arith
 owed-set (b ∷ seen) (r ∷ g) (suc p) small len free = grind (arith, owed-set seen g p)
+owed-set _ _ _ small len free = grind arith
 
 -- the next that waits is not marked: it is, and what its row names waits, which is less to do
 pub search_asked : (rows : List (List Refinement)) (seen : List Bool) (old rest new : List ℕ) (p : ℕ) (row : List Refinement) → p < length seen → row ≡ get_or rows p row

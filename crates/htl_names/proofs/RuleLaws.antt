@@ -79,12 +79,8 @@ resolved_err ps f (inl memory) = subst (λ (g : NameFault). IsResolved ps (Err g
 resolved_err ps f (inr first) = by f first
   where
     by : (g : NameFault) → IsFirstNameFault ps g → IsResolved ps (Err g)
-    by (fault.Twice token) told = told
-    by (fault.Unknown token) told = told
-    by (fault.Kind token) told = told
-    by (fault.NotATree program) told = told
-    by (fault.Limit which count) told = told
     by fault.Memory told = tt
+    by _ told = told
 
 pub is_err : {A : Type 0} (r : Result A NameFault) (f : NameFault) → IsErrAnd r (λ e. e ≡ f) → r ≡ Err f
 is_err (Ok x) f h = absurd h

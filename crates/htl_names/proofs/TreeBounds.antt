@@ -6,12 +6,7 @@ use Rattle.htl_names.proofs.Members.{All-from_places}
 -- ---- the parts
 
 bounded_task : (t : PlainTask) → IsBoundedTask t → MeetsTaskBounds t
-bounded_task t b =
-    record {
-      inputs = b.few_inputs;
-      outputs = b.few_outputs;
-      values = λ k d below. (b.values k d below).few_nodes;
-    }
+bounded_task t b = record { inputs = b.few_inputs; outputs = b.few_outputs; values = λ k d below. (b.values k d below).few_nodes }
 
 bounded_invoke : (i : InvokeNode) → IsBoundedInvoke i → MeetsInvokeBounds i
 bounded_invoke i b = record { reads = b.few_reads; writes = b.few_writes }

@@ -20,21 +20,19 @@ pub use Rattle.htl_model.specs.declared.parts.Port.{Port}
 pub use Rattle.htl_model.specs.declared.parts.Switch.{Switch}
 pub use Rattle.htl_model.specs.declared.parts.Task.{Task}
 pub use Rattle.htl_names.specs.Conditions.{MeetsBounds, MeetsInvokeBounds, MeetsSwitchBounds, MeetsTaskBounds}
-pub use Rattle.htl_names.specs.Entries.{Repeats, comm_entry, entries, entries_from, entry, invoke_entry, mode_entries, module_entries, param_entry, params_of, port_entry, program_entries, task_entries}
+pub use Rattle.htl_names.specs.Entries.{AreApartTo, EntriesAreApart, IsRepeat, Repeats, comm_entry, entries, entries_from, entry, invoke_entry, mode_entries, module_entries, param_entry, params_of, port_entry, program_entries, task_entries}
 pub use Rattle.htl_names.specs.Flat.{Layout, comm_item, comm_items, comms_in, end_item, flat_output_function, flat_switch_function, function_items, input_place, invoke_item, invoke_items, invokes_before, is_abstract, is_module, layout, layout_by, meaning, mode_functions, mode_invoke_items, mode_item, mode_items, mode_number, mode_port_items, mode_switch_items, modes_before, module_functions, module_item, module_items, module_items_at, module_mode_items, module_number, module_task_items, outs_functions, parent_number, port_item, port_items, ports_before, read_place, refined_mode, size_of, switch_item, switch_items, symbols_of, tables_by, tables_of_tree, task_functions, task_item, task_items, tasks_before, term_by, types_of, value_of}
 pub use Rattle.htl_names.specs.Keys.{comm_key, invoke_key, key_in, look_up, mode_key, module_key, pair_of, port_key, program_key, same_key, task_key}
 pub use Rattle.htl_names.specs.Kinds.{Initial, Instance, IsWrongKind, Judged, Span, comm_kinds, end_kinds, has_type, invoke_kinds, is_instance, is_kind, is_span, kinds, mode_kinds, module_kinds, program_kinds, task_kind, token_of, wrong_token}
-pub use Rattle.htl_names.specs.Limits.{choices, counts, limits, most_invokes, most_positions, plain_root_modules, selections}
+pub use Rattle.htl_names.specs.Limits.{choices, counts, limits, most_invokes, most_positions, selections}
 pub use Rattle.htl_names.specs.Lists.{distinct, flat_map_at, map_at, place_in, with_new}
 pub use Rattle.htl_names.specs.NameRules.{AreNamesRight, IsFirstNameFault, IsResolved, Limits, NameBroken, NameRule, ParentName, ProgramTree, RepeatedName, TriedBefore, UnknownName, WrongKind, order_of}
 pub use Rattle.htl_names.specs.RefinedModes.{AreRefinedModes, MarksReached, is_misplaced, with_refined, with_refinement, refined_at, refines_none}
 pub use Rattle.htl_names.specs.Narrow.{IsNarrow, IsNarrowEnd, IsNarrowInvoke, IsNarrowParent, refined_place}
-pub use Rattle.htl_names.specs.Nth.{mode_in, nth_module}
-pub use Rattle.htl_names.specs.Order.{below, invokes_at, children, mode_at, mode_children, mode_order, modes_at, module_at, module_modes, modules_at, modules_in, order, ports_at, program_modules, switches_at, tasks_at}
+pub use Rattle.htl_names.specs.Order.{below, invokes_at, children, mode_at, mode_children, mode_in, mode_order, modes_at, module_at, module_modes, modules_at, modules_in, nth_module, order, ports_at, program_modules, switches_at, tasks_at}
 pub use Rattle.htl_names.specs.Parents.{IsUnmatchedParent, ParentUse, absent, invoke_parent, mode_parents, module_parents, unmatched_at, unmatched_token, parent_in, parents, program_parents}
 pub use Rattle.htl_names.specs.Programs.{Graph, IsMisplaced, Reached, below as beneath, level, level_by, levels, levels_by, edges, mode_refinement, module_refinements, edges_from, refinement, refinement_by, refining_program, refinements, refinement_rows, refined_count, program_refinements, refined_by, refined_in, root, edge_targets}
 pub use Rattle.htl_names.specs.Recorded.{AddsWith}
-pub use Rattle.htl_names.specs.Repeats.{AreApartTo, EntriesAreApart, IsRepeat}
 pub use Rattle.htl_names.specs.Rows.{Rows, out_rows, parent_use_of, program_rows, rows, rows_joined, using, wrong_tokens}
 pub use Rattle.htl_names.specs.SameKeys.{same_key_decides}
 pub use Rattle.htl_names.specs.Tallies.{IsTally, capped, chosen, no_modes, no_tally, placed, selected, with_mode, with_module, with_program}

@@ -1,6 +1,7 @@
 -- The names that a source declares, in source order.
-use Rattle.std.specs.Prelude.{ℕ, suc, ◌+◌, ◌≡◌, ◌<◌, ◌∷◌, ◌++◌, List, [], length, slice_get, Some}
-use Rattle.htl_names.specs.Trees.{out_params, PlainProgram, PlainModule, PlainMode, PlainTask, Id, CommNode, ParamNode, InvokeNode, Key, Entry}
+use Rattle.std.specs.Prelude.{ℕ, suc, ◌+◌, ◌≡◌, ◌<◌, ◌⊎◌, ◌∷◌, ◌++◌, List, [], length, slice_get, Some}
+use Rattle.htl_names.specs.Trees.{out_params, PlainProgram, PlainModule, PlainMode, PlainTask, Id, CommNode, ParamNode, InvokeNode, Key, Entry, NameFault}
+use Rattle.htl_names.specs.declared.fault.NameFault.TheVariants as fault
 use Rattle.htl_names.specs.Keys.{program_key, comm_key, module_key, task_key, mode_key, param_key, port_key, invoke_key}
 use Rattle.htl_names.specs.Lists.{flat_map_at, map_at}
 
@@ -51,3 +52,14 @@ entries ps = entries_from 0 0 ps
 -- the name at place k repeats an earlier one of its list
 abbrev pub Repeats : List Entry → ℕ → Entry → Type 0
 Repeats es k e = (j : ℕ) × (d : Entry) × (j < k) × (slice_get es j ≡ Some d) × (d.key ≡ e.key)
+
+-- no name at a place below k repeats
+abbrev pub AreApartTo : ℕ → List Entry → Type 0
+AreApartTo k es = (j : ℕ) (d : Entry) → j < k → slice_get es j ≡ Some d → Repeats es j d → ⊥
+
+abbrev pub EntriesAreApart : List Entry → Type 0
+EntriesAreApart es = AreApartTo (length es) es
+
+-- the refusal tells of the first name that repeats, or of want of memory
+abbrev pub IsRepeat : List Entry → NameFault → Type 0
+IsRepeat es f = (f ≡ fault.Memory) ⊎ ((k : ℕ) × (e : Entry) × (slice_get es k ≡ Some e) × Repeats es k e × (f ≡ fault.Twice e.token) × AreApartTo k es)

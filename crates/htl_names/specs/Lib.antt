@@ -11,13 +11,10 @@ pub mod Order
 pub mod Parents
 pub mod Programs
 pub mod RefinedModes
-pub mod Repeats
 pub mod Recorded
 pub mod Rows
 pub mod SameKeys
-pub mod Nth
 pub mod Tallies
 pub mod Told
 pub mod Uses
-pub mod Laws
 pub mod Trees

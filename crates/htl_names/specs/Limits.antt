@@ -2,12 +2,8 @@
 use Rattle.std.specs.Prelude.{ℕ, ◌*◌, List, [], ◌∷◌, length, map, sum}
 use Rattle.htl_base.specs.declared.limits.TheConstants.{MAX_COMMUNICATORS, MAX_MODULES, MAX_MODES, MAX_PORTS, MAX_TASKS, MAX_INVOCATIONS, MAX_SWITCHES, MAX_MODE_INVOCATIONS, MAX_LEVELS, MAX_SELECTIONS, MAX_POSITIONS}
 use Rattle.htl_names.specs.Trees.{greatest, comms_of, modules_of, modes_of, ports_of, tasks_of, invokes_of, switches_of, PlainProgram, PlainModule, PlainMode, Key}
+use Rattle.htl_names.specs.Order.{modules_at}
 use Rattle.htl_names.specs.Programs.{levels}
-
--- the modules of the root program
-abbrev pub plain_root_modules : List PlainProgram → List PlainModule
-plain_root_modules [] = []
-plain_root_modules (p ∷ ps) = p.modules
 
 -- how many choices of one mode for each module there are
 abbrev pub choices : List PlainModule → ℕ
@@ -16,7 +12,7 @@ choices (x ∷ xs) = length x.modes * choices xs
 
 -- how many root selections there are: none without root modules
 abbrev pub selections : List PlainProgram → ℕ
-selections ps = elim (plain_root_modules ps) [ [] ↦ 0 | x ∷ xs ↦ choices (x ∷ xs) ]
+selections ps = elim (modules_at ps 0) [ [] ↦ 0 | x ∷ xs ↦ choices (x ∷ xs) ]
 
 -- the most invocations that a mode of a module has
 abbrev pub most_invokes : List PlainMode → ℕ
@@ -24,7 +20,7 @@ most_invokes xs = greatest 0 (map (λ x. length x.invokes) xs)
 
 -- the most positions that a root selection has: of each root module the mode with the most invocations
 abbrev pub most_positions : List PlainProgram → ℕ
-most_positions ps = sum (map (λ x. most_invokes x.modes) (plain_root_modules ps))
+most_positions ps = sum (map (λ x. most_invokes x.modes) (modules_at ps 0))
 
 -- communicators, modules, modes, ports, tasks, invocations, switches, the most invocations in one mode, levels of
 -- programs, root selections, the most positions in one selection
@@ -46,15 +42,5 @@ counts symbols ps =
 -- the limits, in the same order
 abbrev pub limits : List ℕ
 limits =
-    MAX_COMMUNICATORS
-    ∷ MAX_MODULES
-    ∷ MAX_MODES
-    ∷ MAX_PORTS
-    ∷ MAX_TASKS
-    ∷ MAX_INVOCATIONS
-    ∷ MAX_SWITCHES
-    ∷ MAX_MODE_INVOCATIONS
-    ∷ MAX_LEVELS
-    ∷ MAX_SELECTIONS
-    ∷ MAX_POSITIONS
-    ∷ []
+    MAX_COMMUNICATORS ∷ MAX_MODULES ∷ MAX_MODES ∷ MAX_PORTS ∷ MAX_TASKS ∷ MAX_INVOCATIONS ∷ MAX_SWITCHES ∷ MAX_MODE_INVOCATIONS
+    ∷ MAX_LEVELS ∷ MAX_SELECTIONS ∷ MAX_POSITIONS ∷ []

@@ -54,6 +54,10 @@ pub record IsFirstNameFault (ps : List PlainProgram) (f : NameFault) : Type 0 wh
   pub broken : NameBroken ps rule place f
   pub first : (r : NameRule) (j : ℕ) (g : NameFault) → TriedBefore r j rule place → NameBroken ps r j g → ⊥
 
+-- the programs of a source have one first fault of names at most
+abbrev pub OneNameFault : Type 0
+OneNameFault = (ps : List PlainProgram) (f g : NameFault) → IsFirstNameFault ps f → IsFirstNameFault ps g → f ≡ g
+
 -- no name rule is broken
 abbrev pub AreNamesRight : List PlainProgram → Type 0
 AreNamesRight ps = (r : NameRule) (k : ℕ) (f : NameFault) → NameBroken ps r k f → ⊥

@@ -34,9 +34,15 @@ switches_at ps a = elim (mode_at ps a) [ Some x ↦ x.switches | None ↦ [] ]
 
 -- ---- the order of modules
 
+abbrev pub nth_module : ℕ → Option ModeAt → ℕ → ModuleAt
+nth_module program parent u = record { program = program; «module» = u; parent = parent }
+
+abbrev pub mode_in : ModuleAt → ℕ → ModeAt
+mode_in s m = record { program = s.program; «module» = s.«module»; mode = m }
+
 -- the modules of program q, which refines a mode
 abbrev pub modules_in : List PlainProgram → Option ModeAt → ℕ → List ModuleAt
-modules_in ps parent q = list_to (λ u. record { program = q; «module» = u; parent = parent }) (length (modules_at ps q))
+modules_in ps parent q = list_to (nth_module q parent) (length (modules_at ps q))
 
 -- those of no program where there is none
 abbrev pub program_modules : List PlainProgram → Option ModeAt → Option ℕ → List ModuleAt
@@ -60,7 +66,7 @@ order symbols ps = flat_map (below (length ps) symbols ps) (modules_in ps None 0
 
 -- the modes: by module, then in source order
 abbrev pub module_modes : List PlainProgram → ModuleAt → List ModeAt
-module_modes ps s = list_to (λ m. record { program = s.program; «module» = s.«module»; mode = m }) (length (modes_at ps s.program s.«module»))
+module_modes ps s = list_to (mode_in s) (length (modes_at ps s.program s.«module»))
 
 abbrev pub mode_order : List PlainProgram → List ModuleAt → List ModeAt
 mode_order ps modules = flat_map (module_modes ps) modules

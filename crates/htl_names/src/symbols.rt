@@ -1,7 +1,7 @@
 // What declared names mean: a table of symbols, which contracts see as the list of its entries.
 ghost use Rattle.std.specs.Prelude.{◌≡◌, ◌++◌, ◌∷◌, [], IfOk, MatchResult, None, map};
 ghost use Rattle.htl_names.specs.Keys.{look_up, pair_of};
-ghost use Rattle.htl_names.specs.Repeats.{EntriesAreApart, IsRepeat};
+ghost use Rattle.htl_names.specs.Entries.{EntriesAreApart, IsRepeat};
 
 use crate::fault::NameFault;
 use crate::key::{Entry, Key};

@@ -1,6 +1,6 @@
 use Rattle.std.proofs.Common.{◌≡◌, ◌∙◌, ℕ, arith, ap, sym, get_or, fold, List}
-use Rattle.htl_names.proofs.Words.{zero-add, PlainProgram, tree_of, symbols_of, counts, most_positions, plain_root_modules, capped, selected, placed}
-use Rattle.htl_names.proofs.LimitLaws.{selected_all, placed_all, root_modules_are}
+use Rattle.htl_names.proofs.Words.{zero-add, PlainProgram, tree_of, symbols_of, counts, most_positions, modules_at, capped, selected, placed}
+use Rattle.htl_names.proofs.LimitLaws.{selected_all, placed_all}
 use Rattle.htl_names.proofs.Refinements.{table-levels}
 use Rattle.htl_names.proofs.limits.count_and_limit.Goals as goal
 
@@ -16,11 +16,11 @@ returns-in-8-clause-count c =
 pub returns-in-9-clause-count : goal.returns-in-9-clause-count
 returns-in-9-clause-count c =
     let ps = tree_of c.args.tree.now in
-    ap capped (c.selections.ensures ∙ ap selected (c.modules_at.ensures ∙ root_modules_are ps)) ∙ selected_all (plain_root_modules ps) ∙ sym (ap (count ps) c.in-9.is)
+    ap capped (c.selections.ensures ∙ ap selected c.modules_at.ensures) ∙ selected_all (modules_at ps 0) ∙ sym (ap (count ps) c.in-9.is)
 
 pub returns-in_default-clause-count : goal.returns-in_default-clause-count
 returns-in_default-clause-count c =
     let ps = tree_of c.args.tree.now in
     let last : c.args.limit ≡ 10 = omega arith in
-    ap capped (c.positions.ensures ∙ ap (fold placed 0) (c.modules_at-in_default.ensures ∙ root_modules_are ps)) ∙ placed_all 0 (plain_root_modules ps)
+    ap capped (c.positions.ensures ∙ ap (fold placed 0) c.modules_at-in_default.ensures) ∙ placed_all 0 (modules_at ps 0)
     ∙ ap capped (zero-add (most_positions ps)) ∙ sym (ap (count ps) last)

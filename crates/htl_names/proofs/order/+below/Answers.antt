@@ -1,7 +1,7 @@
 use Rattle.std.proofs.Common.{arith, ◌≡◌, ◌-◌, ◌++◌, ℕ, List, Option, Some, map, sym, ap, ◌∙◌, flat_map}
 use Rattle.htl_names.proofs.Words.{common_steps, mode_of, tree_of, PlainMode, flat_map_at, mode_in, mode_children, program_modules, ModuleAt, below}
-use Rattle.htl_names.proofs.Growing.{flat_map_inside, next_item}
-use Rattle.htl_names.proofs.Walking.{kids_start}
+use Rattle.htl_names.proofs.Walking.{flat_map_inside, next_item}
+use Rattle.htl_names.proofs.Walking.{children_start}
 use Rattle.htl_names.proofs.order.+below.Goals as goal
 
 pub put_module-loop-k-preserved : goal.put_module-loop-k-preserved
@@ -20,4 +20,4 @@ put_module-returns t c =
     let start = c.push.new.self.items in
     let put : c.loop-k.into.items ≡ start ++ flat_map_at (λ (m : ℕ) (x : PlainMode). flat_map under (children m x)) 0 (map mode_of modes) = grind (arith, common_steps) in
     put ∙ ap (λ (xs : List ModuleAt). start ++ xs) (sym (flat_map_inside under children 0 (map mode_of modes)))
-    ∙ kids_start c.args.steps c.args.symbols.now (tree_of c.args.tree.now) s modes c.args.into.now.items start (omega (arith, c.if-steps-eq0.false)) c.modes_at-modes.ensures c.in_ok-push.ensures.items
+    ∙ children_start c.args.steps c.args.symbols.now (tree_of c.args.tree.now) s modes c.args.into.now.items start (omega (arith, c.if-steps-eq0.false)) c.modes_at-modes.ensures c.in_ok-push.ensures.items
