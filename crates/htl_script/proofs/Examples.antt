@@ -1,6 +1,7 @@
 -- Worked scripts.
-use Rattle.std.proofs.Common.{◌≡◌, ℕ, Bool, true, false, List, [], ◌∷◌, None, pos, negsuc, codes, replicate, refl}
-use Rattle.htl_script.proofs.Words.{IntTy, BoolTy, plain, sensor, mode, module_named, call, Task, Tables, is_past_limit, Whole, Bad, script_of}
+use Rattle.std.proofs.Common.{◌≡◌, ◌+◌, ◌<◌, ◌≤◌, ℕ, Bool, true, false, List, [], ◌∷◌, ◌++◌, length, length-append, Some, None, pos, negsuc, codes, replicate, refl, ap, subst, arith}
+use Rattle.htl_script.proofs.Words.{IntTy, BoolTy, plain, sensor, mode, module_named, call, Task, Tables, is_past_limit, Whole, Bad, script_of, StopsAtLine, feeds_of, same_Some}
+use Rattle.htl_script.proofs.Taken.{feeds_both}
 use Rattle.htl_model.specs.declared.event.Event.TheVariants as event
 use Rattle.htl_script.specs.declared.fault.ScriptKind.TheVariants as kind
 
@@ -124,3 +125,24 @@ past_limit = refl
 
 at_limit : is_past_limit 1073741823 (record { text = []; fed = true }) ≡ false
 at_limit = refl
+
+-- ---- how far a script is read
+
+-- the second line is the one that decides: of a script whose second line is faulty a piece is read that begins with its line feed
+read_to_second : StopsAtLine 2 (Some (codes "at 5\nat 5\nat 6\n")) (Some (codes "6\n"))
+read_to_second = let feeds : feeds_of (codes "at 5\nat 5") ≡ 1 = refl in record { lines = codes "at 5\nat 5"; piece = codes "\nat "; lost = refl; within = omega (arith, feeds); few = omega arith }
+
+-- the first line is empty: behind its line feed 255 bytes may be read, and no more
+read_piece : StopsAtLine 1 (Some (10 ∷ replicate 255 35)) (Some [])
+read_piece = record { lines = []; piece = 10 ∷ replicate 255 35; lost = refl; within = omega arith; few = omega arith }
+
+read_too_far : StopsAtLine 1 (Some (10 ∷ replicate 256 35)) (Some []) → ⊥
+read_too_far s = by s.lines s.piece (same_Some _ _ s.lost) s.within s.few
+  where
+    by : (lines piece : List ℕ) → (lines ++ piece) ++ [] ≡ 10 ∷ replicate 256 35 → feeds_of lines < 1 → length piece ≤ 256 → ⊥
+    by [] piece lost within few = let long : length (piece ++ []) ≡ 257 = ap length lost in omega (arith, few, long, length-append piece [])
+    by (b ∷ bs) piece lost within few =
+        let feed : b ≡ 10 = cc in
+        let more : feeds_of (10 ∷ bs) ≡ 1 + feeds_of bs = feeds_both (10 ∷ []) bs in
+        let less = subst (λ (x : ℕ). feeds_of (x ∷ bs) < 1) feed within in
+        omega (arith, more, less)

@@ -19,12 +19,12 @@ pub use Rattle.htl_model.specs.declared.parts.Task.{Task}
 pub use Rattle.htl_script.specs.Events.{AreEvents, EndWith, IsSensed, IsTaken}
 pub use Rattle.htl_script.specs.Judging.{as_some, at_first, event_of, event_unless, fault_of, invocation_of, is_above, is_below, is_invocation, is_out_of_order, is_out_of_range, is_sensor, is_unknown, is_value, judged, judged_statement, judged_text, number_with_sign, overrun_of, past_after, past_after_all, past_of, sensor_of, type_of, worst_of}
 pub use Rattle.htl_script.specs.Laws.{FunctionsDecideNoScript}
-pub use Rattle.htl_script.specs.Lines.{ScriptLine, is_line_feed, is_long, is_passed_over, is_past_limit, lines_of, lines_of_parts, size_of}
+pub use Rattle.htl_script.specs.Lines.{ScriptLine, feeds_of, is_line_feed, is_long, is_passed_over, is_past_limit, lines_of, lines_of_parts, size_of}
 pub use Rattle.htl_script.specs.Naming.{count_of, dotted, name_of, number_named, sensor_name, through}
 pub use Rattle.htl_script.specs.Numbers.{signed_of, with_digit}
 pub use Rattle.htl_script.specs.Orders.{AreOrdered, AreRising, IsPlace, compared}
 pub use Rattle.htl_script.specs.Readers.{Here, IsHere, next_line, rest_of}
-pub use Rattle.htl_script.specs.Reading.{LosesFront, OfScript, answered, behind, past_after_if, rest_at_end, rest_of_lines, with_digit_capped}
+pub use Rattle.htl_script.specs.Reading.{LosesFront, OfScript, StopsAtLine, answered, behind, past_after_if, rest_at_end, rest_of_lines, with_digit_capped}
 pub use Rattle.htl_script.specs.Script.{Bad, Script, Whole, ended, events_of, listed, script_of, script_of_lines}
 pub use Rattle.htl_script.specs.Statements.{At, End, Sense, Statement, Took, fields_of, is_space, statement_of, statement_of_fields}
 pub use Rattle.htl_script.specs.Streaming.{Ahead, Gives, GivesByte, IsAnswer, IsSame, LineFollows, LosesPiece, Pending, at_start, still, taken_of}

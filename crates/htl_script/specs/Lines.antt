@@ -1,6 +1,6 @@
 -- The lines of a script.
 use Rattle.std.specs.Prelude.{ℕ, ◌+◌, Bool, true, false, ◌&&◌, ◌||◌, List, [], ◌∷◌, length, slice_index, nat_lt, nat_le, ◌==◌, if◌then◌else◌, min}
-use Rattle.std.specs.List.{slice_split}
+use Rattle.std.specs.List.{slice_split, count_by}
 use Rattle.htl_base.specs.declared.limits.TheConstants.{MAX_LINE, MAX_SCRIPT}
 
 -- a line: its bytes, and whether a line feed ends it, as all but the last do
@@ -10,6 +10,10 @@ pub record ScriptLine : Type 0 where
 
 abbrev pub is_line_feed : ℕ → Bool
 is_line_feed b = b == 10
+
+-- how many line feeds bytes have
+abbrev pub feeds_of : List ℕ → ℕ
+feeds_of bytes = count_by is_line_feed bytes
 
 -- the lines, where these are the parts between line feeds: an empty last part is no line
 abbrev pub lines_of_parts : List (List ℕ) → List ScriptLine

@@ -1,12 +1,12 @@
 -- A script that is read in parts: what is still to come of it.
-use Rattle.std.specs.Prelude.{ℕ, min, ◌+◌, ◌-◌, ◌*◌, ◌^◌, ◌≡◌, List, [], ◌∷◌, ◌++◌, Option, Some, None, Ok, Err, IfSome, ◌≤◌, length}
+use Rattle.std.specs.Prelude.{ℕ, min, ◌+◌, ◌-◌, ◌*◌, ◌^◌, ◌≡◌, List, [], ◌∷◌, ◌++◌, Option, Some, None, Ok, Err, IfSome, ◌<◌, ◌≤◌, length}
 use Rattle.std.specs.declared.result.Result.{Result}
 use Rattle.std.specs.Io.KnownBytes.{prepend_known}
 use Rattle.htl_model.specs.declared.event.Event.{Event}
 use Rattle.htl_model.specs.Tables.{Tables}
 use Rattle.htl_script.specs.declared.fault.ScriptKind.{ScriptKind}
 use Rattle.htl_script.specs.declared.fault.ScriptKind.TheVariants as kind
-use Rattle.htl_script.specs.Lines.{ScriptLine, size_of}
+use Rattle.htl_script.specs.Lines.{ScriptLine, size_of, feeds_of}
 use Rattle.htl_script.specs.Judging.{past_after, judged}
 use Rattle.htl_script.specs.declared.judge.Past.{Past}
 use Rattle.htl_script.specs.Script.{Script, Whole, Bad, listed}
@@ -49,3 +49,11 @@ OfScript known fits = (script : List ℕ) × IfSome known (λ bytes. bytes ≡ s
 -- A source lost a front of what was left, of at most so many bytes, and whether that is told doesn't change.
 abbrev pub LosesFront : ℕ → Option (List ℕ) → Option (List ℕ) → Type 0
 LosesFront most old new = (front : List ℕ) × (length front ≤ most) × (prepend_known front new ≡ old)
+
+-- A source lost bytes that end in line number `line` or before it, so that they have fewer line feeds, and then at most one piece of 256.
+pub record StopsAtLine (line : ℕ) (old new : Option (List ℕ)) : Type 0 where
+  pub lines : List ℕ
+  pub piece : List ℕ
+  pub lost : prepend_known (lines ++ piece) new ≡ old
+  pub within : feeds_of lines < line
+  pub few : length piece ≤ 256

@@ -2,6 +2,7 @@
 ghost use Rattle.std.specs.Prelude.{◌≡◌, ◌≤◌, ◌<◌, ◌+◌, IfOk, IfSome, true, false, Err};
 ghost use Rattle.htl_base.specs.declared.limits.TheConstants as limit;
 ghost use Rattle.htl_edge.specs.Causes.{Rose};
+ghost use Rattle.htl_script.specs.declared.fault.ScriptFault.{ScriptFault as Fault};
 ghost use Rattle.htl_script.specs.declared.fault.ScriptStop.TheVariants as stop;
 ghost use Rattle.htl_script.specs.Orders.{IsIndex};
 ghost use Rattle.htl_script.specs.Streaming.{Gives, IsAnswer, Goes, LosesPiece, at_start};
@@ -48,7 +49,8 @@ impl Script {
     /// The next event; None exactly where the input has ended after an `end` line. `Script` comes exactly at the script's first
     /// fault, `Read` only where the source counted a fault. Each call is handed the tables of the first, and its source with what
     /// the call before left. After a stop or None it isn't used again. At most 1,073,741,825 events are given, and all
-    /// calls together take at most 1,073,742,080 bytes: those of the longest script, and one piece of 256.
+    /// calls together take at most 1,073,742,080 bytes: those of the longest script, and one piece of 256. By each answer no more was
+    /// taken than the lines up to the one where the reader then is, which a fault names, and one piece.
     ///
     /// The first call puts the names of the tables in order; then a line costs its own bytes.
     pub fn next<R: Source>(&mut self, src: &mut R, t: &Tables) -> Result<Option<Event>, ScriptStop>
@@ -60,6 +62,7 @@ impl Script {
         ensures event { Goes t.now self.old.stream.here.past self.new.stream.here.past result }
         ensures lines { IfOk result (λ o. IfSome o (λ e. self.old.stream.here.number < self.new.stream.here.number)) }
         ensures few { IfOk result (λ o. self.new.stream.here.number ≤ limit.MAX_SCRIPT + 1) }
+        ensures line { (fault : Fault) → result ≡ Err (stop.Script fault) → fault.line ≡ self.new.stream.here.number }
         ensures later { R.faults src.old ≤ R.faults src.new }
         ensures kept { (result ≡ Err stop.Read → ⊥) → R.faults src.new ≡ R.faults src.old }
         ensures read { result ≡ Err stop.Read → Rose (R.faults src.old) (R.faults src.new) }

@@ -1,8 +1,10 @@
 // The reader of a script, event by event, where the names are in order.
-ghost use Rattle.std.specs.Prelude.{◌≡◌, ◌≤◌, ◌<◌, ◌+◌, [], List, ℕ, length, IfOk, IfSome, OnOk, None, Some, Ok, Err};
+ghost use Rattle.std.specs.Prelude.{◌≡◌, ◌≤◌, ◌<◌, ◌+◌, ◌++◌, [], List, ℕ, length, IfOk, IfSome, OnOk, None, Some, Ok, Err};
 ghost use Rattle.htl_base.specs.declared.limits.TheConstants as limit;
 ghost use Rattle.htl_edge.specs.Causes.{Rose};
 ghost use Rattle.htl_model.specs.Tables.{Tables};
+ghost use Rattle.htl_script.specs.Lines.{feeds_of};
+ghost use Rattle.htl_script.specs.declared.fault.ScriptFault.{ScriptFault as Fault};
 ghost use Rattle.htl_script.specs.declared.fault.ScriptStop.TheVariants as stop;
 ghost use Rattle.htl_script.specs.Streaming.{Gives, IsAnswer, IsEnd, Goes, LosesPiece, at_start, taken_of, still};
 
@@ -59,6 +61,7 @@ impl Stream {
         ensures event { Goes names.now self.old.here.past self.new.here.past result }
         ensures lines { IfOk result (λ o. IfSome o (λ e. self.old.here.number < self.new.here.number)) }
         ensures few { IfOk result (λ o. self.new.here.number ≤ limit.MAX_SCRIPT + 1) }
+        ensures line { (fault : Fault) → result ≡ Err (stop.Script fault) → fault.line ≡ self.new.here.number }
         ensures later { R.faults src.old ≤ R.faults src.new }
         ensures kept { (result ≡ Err stop.Read → ⊥) → R.faults src.new ≡ R.faults src.old }
         ensures read { result ≡ Err stop.Read → Rose (R.faults src.old) (R.faults src.new) }
@@ -81,6 +84,7 @@ impl Stream {
     fn run_on(&mut self)
         ensures same { (t : Tables) (later : List ℕ) → still t self.old later ≡ still t self.new later }
         ensures taken { taken_of self.new ≡ taken_of self.old }
+        ensures moved { (run : List ℕ) × (self.old.ahead.bytes ≡ run ++ self.new.ahead.bytes) × (feeds_of run ≡ 0) }
         ensures more { self.old.here.start + length self.old.here.line ≤ self.new.here.start + length self.new.here.line }
         ensures past { self.new.here.past ≡ self.old.here.past }
         ensures number { self.new.here.number ≡ self.old.here.number }
@@ -100,6 +104,8 @@ impl Stream {
         ensures few { IfOk result (λ o. self.new.here.number ≤ limit.MAX_SCRIPT + 1) }
         ensures bytes { self.new.ahead ≡ self.old.ahead }
         ensures taken { IfOk result (λ o. taken_of self.new ≡ taken_of self.old) }
+        ensures forward { self.old.here.number ≤ self.new.here.number }
+        ensures line { (fault : Fault) → result ≡ Err (stop.Script fault) → fault.line ≡ self.new.here.number }
         ensures read { result ≡ Err stop.Read → ⊥ }
     {
         match self.reader.take_end(names) {

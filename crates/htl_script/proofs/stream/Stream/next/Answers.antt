@@ -1,11 +1,21 @@
-use Rattle.std.proofs.Common.{◌≡◌, ◌∷◌, ℕ, List, Option, Some, Ok, Err, arith, sym, ap, ◌∙◌, subst}
-use Rattle.htl_script.proofs.Words.{Failed, Event, answered, Here, rest_of, Ahead, LineFollows, Gives, GivesByte, IsAnswer, IsSame, LosesPiece, ScriptKind, ScriptStop}
+use Rattle.std.proofs.Common.{◌≡◌, [], ◌∷◌, ℕ, List, Option, Some, Ok, Err, arith, refl, sym, ap, ◌∙◌, subst}
+use Rattle.htl_script.proofs.Words.{Failed, Event, answered, Here, rest_of, Ahead, LineFollows, Gives, GivesByte, IsAnswer, IsSame, LosesPiece, ScriptKind, ScriptStop, prepend_known-nil}
 use Rattle.htl_script.specs.declared.fault.ScriptStop.TheVariants as stop
 use Rattle.htl_script.proofs.Streaming.{gives_byte, gives_none, gives_event, gives_fault, gives_on}
-use Rattle.htl_script.proofs.Taken.{taken_byte, taken_fault, taken_same}
+use Rattle.htl_script.proofs.Taken.{taken_none, taken_byte, taken_fault, taken_same}
 use Rattle.htl_script.proofs.stream.Stream.next.Given as given
 use Rattle.htl_script.proofs.stream.Stream.next.Goals as goal
 use Rattle.htl_script.proofs.stream.Stream.next.Goals.{In-Ok-Some}
+
+pub bytes-init : goal.bytes-init
+bytes-init g c =
+    let known = g.R.Source.rest c.args.src.now in (
+      record { front = []; lost = prepend_known-nil known; ends = λ was over. was over; kept = λ over. (refl, over); fact = λ later ok. refl },
+      refl,
+      omega arith,
+      refl,
+      taken_none c.args.self.now known tt,
+    )
 
 -- what the source gave
 byte_given : (g : given.Over) (c : In-Ok-Some g) → GivesByte {E = Failed} c.self.inside.chunk c.byte.new.self (g.R.Source.rest c.bytes.src) (g.R.Source.rest c.byte.new.src) (Ok (Some c.in-Ok-Some.b))
@@ -57,15 +67,16 @@ bytes-preserved g c =
       omega (arith, ap (λ (z : Ahead). z.here.number) c.self.view_is, c.bytes.invariant.2, c.in-Ok-None-take.ensures.lines, c.run_on.ensures.number),
       c.in-Ok-Some.ensures.cause.kept ∙ c.bytes.invariant.3,
       taken_same first moved c.run_on.new.self known left c.run_on.ensures.taken
-          (taken_byte (Unit {0}) Failed (Unit {0}) first here c.self.inside.chunk c.byte.new.self known (g.R.Source.rest c.bytes.src) left tt (taken_until_now g came) c.take.new.self c.in-Ok-Some.b tt (byte_given g came)
-          c.in-Ok-Some.ensures.few c.in-Ok-None-take.ensures.count c.in-Ok-None-take.ensures.bound),
+          c.run_on.ensures.moved c.run_on.ensures.number
+          (taken_byte (Unit {0}) Failed (Unit {0}) first here c.self.inside.chunk c.byte.new.self known (g.R.Source.rest c.bytes.src) left tt (taken_until_now g came) c.in-Ok-Some.b (byte_given g came)
+          c.in-Ok-Some.ensures.few c.take.new.self tt c.in-Ok-None-take.ensures.count c.in-Ok-None-take.ensures.bound c.in-Ok-None-take.ensures.feeds),
     )
 
 pub returns-in-Ok-Some-take-clause-taken : goal.returns-in-Ok-Some-take-clause-taken
 returns-in-Ok-Some-take-clause-taken g c =
     let came = (goal.at.returns-in-Ok-Some-take-clause-taken g c).In-Ok-Some in
     taken_byte (Unit {0}) Failed (Unit {0}) c.args.self.now c.self.inside.reader c.self.inside.chunk c.byte.new.self (g.R.Source.rest c.args.src.now) (g.R.Source.rest c.bytes.src) (g.R.Source.rest c.byte.new.src)
-    tt (taken_until_now g came) c.take.new.self c.in-Ok-Some.b (Some c.in-Ok-Some-take.event) (byte_given g came) c.in-Ok-Some.ensures.few c.in-Ok-Some-take.ensures.count c.in-Ok-Some-take.ensures.bound
+    tt (taken_until_now g came) c.in-Ok-Some.b (byte_given g came) c.in-Ok-Some.ensures.few c.take.new.self (Some c.in-Ok-Some-take.event) c.in-Ok-Some-take.ensures.count c.in-Ok-Some-take.ensures.bound c.in-Ok-Some-take.ensures.feeds
 
 pub returns-in-Err-take-clause-answer : goal.returns-in-Err-take-clause-answer
 returns-in-Err-take-clause-answer g c =
@@ -85,4 +96,4 @@ pub returns-in-Err-take-clause-taken : goal.returns-in-Err-take-clause-taken
 returns-in-Err-take-clause-taken g c =
     let came = (goal.at.returns-in-Err-take-clause-taken g c).In-Ok-Some in
     taken_fault (Unit {0}) Failed (Unit {0}) c.args.self.now c.self.inside.reader c.self.inside.chunk c.byte.new.self (g.R.Source.rest c.args.src.now) (g.R.Source.rest c.bytes.src) (g.R.Source.rest c.byte.new.src)
-    tt (taken_until_now g came) (record { here = c.take.new.self; ahead = c.byte.new.self }) c.in-Ok-Some.b c.fault.result (byte_given g came) c.in-Ok-Some.ensures.few c.in-Err-take.ensures.small
+    tt (taken_until_now g came) c.in-Ok-Some.b (byte_given g came) c.in-Ok-Some.ensures.few (record { here = c.take.new.self; ahead = c.byte.new.self }) c.fault.result c.in-Err-take.ensures.small c.in-Err-take.ensures.same
