@@ -1,6 +1,8 @@
 -- For each rule a smallest table that breaks it and no other, and one that just keeps it; and which of two faults is told.
-use Rattle.std.specs.Prelude.{◌≡◌, ℕ, Bool, true, false, List, [], ◌∷◌, ◌++◌, replicate, Option, Some, None, pos, refl, codes, map}
-use Rattle.htl_form.proofs.Words.{Ty, IntTy, BoolTy, FormFault, Comm, Mode, Module, Inv, End, Tables, plain, sensor, mode, module_named, task, call, switch, int_one, told, form_fault_of}
+use Rattle.std.specs.Prelude.{◌≡◌, ℕ, Bool, true, false, List, [], ◌∷◌, ◌++◌, replicate, Option, Some, None, pos, refl, codes, map, ◌≤◌}
+use Rattle.std.proofs.Common.{arith}
+use Rattle.htl_form.proofs.CommonMultiples.{multiple_is}
+use Rattle.htl_form.proofs.Words.{Ty, IntTy, BoolTy, FormFault, Comm, Mode, Module, Inv, End, Tables, plain, sensor, mode, module_named, task, call, switch, int_one, told, form_fault_of, IsLcmOf, le_of_dvd}
 use Rattle.htl_model.specs.declared.parts.End.TheVariants as E
 use Rattle.htl_form.specs.declared.rule.Rule.TheVariants as R
 
@@ -241,3 +243,10 @@ sensor_written = refl
 
 plain_written : judged (writes_to (plain (codes "s") 5 (pos 0))) ≡ nothing
 plain_written = refl
+
+-- 30 is the least common multiple of 10 and 15; 60 is a common one alone
+thirty : IsLcmOf 10 (15 ∷ []) 30
+thirty = multiple_is 10 (15 ∷ []) (omega arith, tt)
+
+sixty : IsLcmOf 10 (15 ∷ []) 60 → ⊥
+sixty lcm = let z : 60 ≤ 30 = le_of_dvd (omega arith) (lcm.least 30 thirty.first thirty.each) in omega (arith, z)

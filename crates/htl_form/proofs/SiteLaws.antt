@@ -1,6 +1,6 @@
 -- The first site at which a rule is broken, for any rule whose tests find exactly what breaks it.
 use Rattle.std.proofs.Common.{◌≡◌, ℕ, ◌<◌, ◌⊎◌, true, cond, eqb, Option, Some, None, refl, sym, ◌∙◌, ap, subst, inl, inr}
-use Rattle.htl_form.proofs.Words.{slice_get, Inv, Mode, FormFault, Tables, mode_module, FormRule, Part, Site, InvBefore, SiteBefore, Breach, breach, PartBreaks, BreaksAt, Broken, site_of, first_from, Found, Tests, at_inv, at_mode, told, inv_in_mode, in_mode, or_else_some, or_else_none, none_at, found_at, IsFirstAt, eqb-true, none-some}
+use Rattle.htl_form.proofs.Words.{slice_get, Inv, Mode, FormFault, Tables, mode_module, FormRule, Part, Site, InvBefore, SiteBefore, Breach, breach, PartBreaks, BreaksAt, Broken, site_of, first_from, Found, Tests, at_inv, at_mode, told, inv_in_mode, in_mode, or_else_some, or_else_none, none_at, found_at, IsFirstAt, eqb-true, none-some, module_is}
 use Rattle.htl_form.proofs.Judging.{Judges}
 use Rattle.htl_form.proofs.PartLaws.{eqb_is, taken, inv_none, inv_first, IsFirstPart, mode_none, mode_first, IsFirstOfMode}
 
@@ -116,9 +116,6 @@ in_mode_first t f b judge n m x at fault e =
 pub rule_none : (t : Tables) (f : Tests) (l : FormRule) → Judges t f (breach t l) → (n : ℕ) → first_from (in_mode f n t) 0 t.modes ≡ None
     → (s : Site) (h d : ℕ) → Broken t l s h d → ⊥
 rule_none t f l judge n none s h d y = in_mode_none t f (breach t l) judge n s.mode y.0 y.1 (none_at (in_mode f n t) t.modes none s.mode y.0 y.1) s.inv s.part h d y.2
-
-module_is : (t : Tables) (m : ℕ) (x : Mode) → slice_get t.modes m ≡ Some x → mode_module t m ≡ x.«module»
-module_is t m x e = ap (λ (o : Option Mode). elim o [ Some y ↦ y.«module» | None ↦ 0 ]) e
 
 -- the first of one rule
 pub record IsFirstOfRule (t : Tables) (l : FormRule) (n : ℕ) (fault : FormFault) : Type 0 where

@@ -34,8 +34,9 @@ pub use Rattle.htl_model.proofs.PortTableLaws.{one_writer, row_by_reads}
 pub use Rattle.htl_model.proofs.SelectionLaws.{places_below}
 pub use Rattle.htl_model.proofs.Sources.{call, int_one, mode, module_named, plain, sensor, switch, task}
 pub use Rattle.htl_model.proofs.StartLaws.{first_start}
+pub use Rattle.htl_model.proofs.Stays.{module_is}
 pub use Rattle.htl_model.proofs.TestLaws.{and_true}
-pub use Rattle.htl_model.proofs.Words.{AbstractRead, AllByRecursion, AreInRange, AreOnCycles, AreSameWrite, Breach, BreaksAt, Broken, Contains-from_any, EndNotDivided, FormRule, Formed, Found, FrameExceeds, InCycle, Input, IsDistinct, IsDistinct-cons, IsDistinct-from_apart, IsEndInRange, IsFirstBroken, IsInvInRange, IsStartOf, Itself, KeptTo, Leads, ModeBreaks, OnPath, Output, Part, PartBreaks, Precedes, ReadLate, Rewritten, SecondWriter, SensorWritten, Site, Tables, Test, Tests, TypeDiffers, Unwritten, WindowEmpty, WriteOutside, WritesBefore, above, and_parts, at_inv, at_read, at_switch, bit_at, bit_at-lt, bit_or, breach, cases_Bool, cases_below, cases_less_same, cases_lt, cell, comm_period, common_multiple, count_below, direct, dvd-mul_left, dvd_trans, eq-eqb, eqb-true, false_from_ne_true, feeds, feeds_at, first_from, first_mode, frame_limit, gcd_in, get_or-set_other, get_or-set_same, get_or_from_slice_get, has_bit, in_mode, input_types, inv_in_mode, is_concrete, is_from, is_port, is_root, is_within, itself, leads_below, length-map, list_any, list_any-from_Contains, list_any_more, mode_module, mode_of_module, mode_period, modes_of, mul_assoc, mul_comm, multiple_of, nat_eq_equiv, nat_tests, none-some, not-true, numbers_below, or_cases, or_else, or_left, or_right, output_types, parent_of, places_from, pos_of_dvd_of_pos, release, root_modules, site_of, slice_get, slice_get-get_or, slice_get_within, some_place, task_worst, through, told, true_not_false, unit_period, window_end, writes_to}
+pub use Rattle.htl_model.proofs.Words.{AbstractRead, AllByRecursion, AreInRange, AreOnCycles, AreSameWrite, Breach, BreaksAt, Broken, Contains-from_any, EndNotDivided, FormRule, Formed, Found, FrameExceeds, InCycle, Input, IsDistinct, IsDistinct-cons, IsDistinct-from_apart, IsEndInRange, IsFirstBroken, IsInvInRange, IsStartOf, Itself, KeptTo, Leads, ModeBreaks, OnPath, Output, Part, PartBreaks, Precedes, ReadLate, Rewritten, SecondWriter, SensorWritten, Site, Tables, Test, Tests, TypeDiffers, Unwritten, WindowEmpty, WriteOutside, WritesBefore, above, and_parts, at_inv, at_read, at_switch, bit_at, bit_at-lt, bit_or, breach, cases_Bool, cases_below, cases_less_same, cases_lt, cell, comm_period, common_multiple, count_below, direct, dvd-mul_left, dvd_trans, eq-eqb, eqb-true, false_from_ne_true, feeds, feeds_at, first_from, first_mode, frame_limit, gcd_in, get_or-set_other, get_or-set_same, get_or_from_slice_get, has_bit, in_mode, input_types, inv_in_mode, is_concrete, is_from, is_port, is_root, is_within, itself, leads_below, length-map, list_any, list_any-from_Contains, list_any_more, mode_module, mode_of_module, mode_period, modes_of, mul_assoc, mul_comm, multiple_of, nat_eq_equiv, nat_tests, none-some, not-true, numbers_below, or_cases, or_else, or_left, or_right, output_types, parent_of, places_from, pos_of_dvd_of_pos, release, root_modules, site_of, slice_get, slice_get-get_or, slice_get_within, some_place, task_worst, through, told, true_not_false, unit_period, window_end, writes_to, le_of_dvd}
 pub use Rattle.htl_model.specs.EndRules.{CountsDiffer, IsAbstractlyWritten, WorstLong, end_type, is_sensor, type_number}
 pub use Rattle.htl_model.specs.FormRules.{ComesBefore, InvBefore, PartBefore, SiteBefore, number_of}
 pub use Rattle.htl_model.specs.Found.{unless}
