@@ -12,6 +12,7 @@ pub use Rattle.htl_ecode.specs.Layout.{begin_code, begin_place, blocks_code, dec
 pub use Rattle.htl_ecode.specs.ModeInvs.{AreInvsOf}
 pub use Rattle.htl_ecode.specs.Offsets.{OffsetsFit, counted_in, counts, ends_in, holds, least_from, lesser, next_offset, offsets_in, phase_offsets, places_at, sooner}
 pub use Rattle.htl_ecode.specs.Paths.{Done, run_done}
+pub use Rattle.htl_ecode.specs.Phases.{number_of}
 pub use Rattle.htl_ecode.specs.Spelling.{HasPath, Spells, SpellsMode}
 pub use Rattle.htl_ecode.specs.Steps.{Met, Reached, Step, delayed, leaving, met_at, met_by, pass, passed_by, reach, reach_instr, reached, read, required, steps_of, target_of}
 pub use Rattle.htl_ecode.specs.declared.ecode.ECode.{ECode}

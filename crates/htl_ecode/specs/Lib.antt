@@ -9,5 +9,6 @@ pub mod Layout
 pub mod ModeInvs
 pub mod Offsets
 pub mod Paths
+pub mod Phases
 pub mod Spelling
 pub mod Steps

@@ -5,11 +5,12 @@ ghost use Rattle.htl_ecode.specs.Chains.{block_chain};
 ghost use Rattle.htl_ecode.specs.Layout.{block_code, phase_code as phase_code_of};
 ghost use Rattle.htl_ecode.specs.Generation.{trigger, IsLater, end_size};
 ghost use Rattle.htl_ecode.specs.ModeInvs.{AreInvsOf};
+ghost use Rattle.htl_ecode.specs.Phases.{number_of};
 
-use crate::EInstr;
 use crate::calls::{Moment, put_calls};
 use crate::mode_invs::ModeInvs;
 use crate::offsets::next_offset;
+use crate::{EInstr, Phase};
 use htl_base::Time;
 use htl_model::Tables;
 use std::alloc::{AllocError, Global};
@@ -26,17 +27,17 @@ pub fn address(instrs: &Vec<EInstr>) -> u32
 pub fn put_trigger(
     instrs: &mut Vec<EInstr>,
     from: Time,
-    phase: u8,
+    phase: Phase,
     next: Option<Time>,
     target: u32,
 ) -> Result<(), AllocError>
     requires { IsLater from next }
-    ensures { OnOk result (instrs.new.items ≡ instrs.old.items ++ trigger from phase target next) }
+    ensures { OnOk result (instrs.new.items ≡ instrs.old.items ++ trigger from (number_of phase) target next) }
 {
     if let Some(o) = next {
         instrs.push(EInstr::Future {
             delay: (o - from) as u32,
-            phase,
+            phase: phase.number(),
             target,
         })?;
     }
@@ -64,9 +65,9 @@ fn put_block(
 ) -> Result<(), AllocError>
     requires invs { AreInvsOf t.now run }
     requires later { IsLater at.offset next }
-    requires next { next ≡ next_offset_of t.now run.mode at.phase (at.offset + 1) }
-    requires room { base + length instrs.old.items + length (block_chain t.now run.mode at.phase at.offset) ≤ 4294967295 }
-    ensures { OnOk result (instrs.new.items ≡ instrs.old.items ++ block_code t.now run.mode at.phase (base + length instrs.old.items) at.offset) }
+    requires next { next ≡ next_offset_of t.now run.mode (number_of at.phase) (at.offset + 1) }
+    requires room { base + length instrs.old.items + length (block_chain t.now run.mode (number_of at.phase) at.offset) ≤ 4294967295 }
+    ensures { OnOk result (instrs.new.items ≡ instrs.old.items ++ block_code t.now run.mode (number_of at.phase) (base + length instrs.old.items) at.offset) }
 {
     put_calls(instrs, t, run, at.phase, at.offset)?;
     let behind = base + address(instrs) + size_of_end(next);
@@ -80,13 +81,13 @@ pub fn phase_code(
     alloc: Global,
     t: &Tables,
     run: ModeInvs,
-    phase: u8,
+    phase: Phase,
     base: u32,
 ) -> Result<Vec<EInstr>, AllocError>
     requires invs { AreInvsOf t.now run }
     requires offsets { OffsetsFit t.now }
-    requires room { base + length (phase_code_of t.now run.mode phase base) ≤ 4294967295 }
-    ensures { IfOk result (λ v. v.items ≡ phase_code_of t.now run.mode phase base) }
+    requires room { base + length (phase_code_of t.now run.mode (number_of phase) base) ≤ 4294967295 }
+    ensures { IfOk result (λ v. v.items ≡ phase_code_of t.now run.mode (number_of phase) base) }
 {
     let mut instrs = Vec::new(alloc);
     let mut at = next_offset(t, run, phase, 0);

@@ -12,8 +12,10 @@ mod layout;
 pub mod mode_invs;
 pub mod modes;
 pub mod offsets;
+mod phase;
 
 pub use ecode::ECode;
 pub use fault::{EFault, EKind};
 pub use instr::EInstr;
 pub use layout::generate_e;
+pub use phase::Phase;

@@ -8,11 +8,11 @@ ghost use Rattle.htl_ecode.specs.Layout.{laid, first_block, mode_code as mode_co
 ghost use Rattle.htl_ecode.specs.Generation.{IsModeCode};
 ghost use Rattle.htl_ecode.specs.ModeInvs.{AreInvsOf};
 
-use crate::EInstr;
 use crate::blocks::{address, phase_code, put_trigger, size_of_end};
 use crate::decisions::put_decide;
 use crate::mode_invs::ModeInvs;
-use crate::offsets::{READS, SWITCHES, WRITES, next_offset};
+use crate::offsets::next_offset;
+use crate::{EInstr, Phase};
 use htl_base::Time;
 use htl_model::lookup::mode_period;
 use htl_model::{Module, Tables};
@@ -63,11 +63,11 @@ fn put_begin(
     requires read { first_read ≡ next_offset_of t.now mode 3 0 }
     ensures { OnOk result (instrs.new.items ≡ instrs.old.items ++ laid (first_block starts.writes starts.reads) 0 (begin_chain t.now starts.decide mode)) }
 {
-    put_trigger(instrs, 0, WRITES, first_write, starts.writes)?;
-    put_trigger(instrs, 0, READS, first_read, starts.reads)?;
+    put_trigger(instrs, 0, Phase::Write, first_write, starts.writes)?;
+    put_trigger(instrs, 0, Phase::Read, first_read, starts.reads)?;
     instrs.push(EInstr::Future {
         delay: mode_period(t, mode),
-        phase: SWITCHES,
+        phase: Phase::Switch.number(),
         target: starts.decide,
     })?;
     instrs.push(EInstr::Return)?;
@@ -114,15 +114,15 @@ pub(crate) fn mode_code(
     ensures { IfOk result (λ x. IsModeCode t.now enters.now base run.mode x.begin x.decide x.instrs.items) }
 {
     let mode = run.mode;
-    let first_write = next_offset(t, run, WRITES, 0);
-    let first_read = next_offset(t, run, READS, 0);
+    let first_write = next_offset(t, run, Phase::Write, 0);
+    let first_read = next_offset(t, run, Phase::Read, 0);
     let mut instrs = Vec::new(alloc);
     put_enter(&mut instrs, t, mode)?;
     let begin = base + address(&instrs);
     let at_writes = begin + size_of_end(first_write) + size_of_end(first_read);
-    let writes = phase_code(alloc, t, run, WRITES, at_writes)?;
+    let writes = phase_code(alloc, t, run, Phase::Write, at_writes)?;
     let at_reads = at_writes + address(&writes);
-    let reads = phase_code(alloc, t, run, READS, at_reads)?;
+    let reads = phase_code(alloc, t, run, Phase::Read, at_reads)?;
     let decide = at_reads + address(&reads);
     let starts = PhaseStarts {
         writes: at_writes,

@@ -19,6 +19,7 @@ pub use Rattle.htl_espell.specs.Checks.{begin_read, block_of, block_read, decide
 pub use Rattle.htl_espell.specs.Parts.{call_wants, child_wants, end_wants, release_wants}
 pub use Rattle.htl_espell.specs.Slides.{AreSlides, jump_at, no_slide, slid}
 pub use Rattle.htl_espell.specs.declared.slides.Slide.{Slide}
+pub use Rattle.htl_ecode.specs.Phases.{number_of}
 pub use Rattle.htl_model.proofs.Words.{cases_at_most, ne_eqb, slice_get-get_or}
 pub use Rattle.htl_model.specs.declared.parts.End.{End}
 pub use Rattle.htl_model.specs.declared.parts.Inv.{Inv}

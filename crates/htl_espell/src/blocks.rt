@@ -3,6 +3,7 @@ ghost use Rattle.std.specs.Prelude.{◌≡◌, ◌≤◌, ◌+◌, length, IfSom
 ghost use Rattle.htl_ecode.specs.Offsets.{OffsetsFit};
 ghost use Rattle.htl_ecode.specs.Departure.{fault_of};
 ghost use Rattle.htl_ecode.specs.ModeInvs.{AreInvsOf};
+ghost use Rattle.htl_ecode.specs.Phases.{number_of};
 ghost use Rattle.htl_espell.specs.Checks.{block_of as block_of_both, block_read, begin_read, phase_departure};
 
 use crate::calls::{Block, need_calls};
@@ -10,8 +11,8 @@ use crate::needs::{need, turn, wait_for};
 use crate::slides::Instrs;
 use htl_base::Time;
 use htl_ecode::mode_invs::ModeInvs;
-use htl_ecode::offsets::{READS, WRITES, next_offset};
-use htl_ecode::{EFault, EInstr};
+use htl_ecode::offsets::next_offset;
+use htl_ecode::{EFault, EInstr, Phase};
 use htl_model::Tables;
 use htl_model::lookup::mode_period;
 
@@ -28,8 +29,20 @@ pub fn check_begin(
     ensures targets { result ≡ begin_read code.old t.now decide run.mode at }
     ensures same { code.new ≡ code.old }
 {
-    let (place, writes) = wait_for(code, at, 0, WRITES, next_offset(t, run, WRITES, 0))?;
-    let (place, reads) = wait_for(code, place, 0, READS, next_offset(t, run, READS, 0))?;
+    let (place, writes) = wait_for(
+        code,
+        at,
+        0,
+        Phase::Write,
+        next_offset(t, run, Phase::Write, 0),
+    )?;
+    let (place, reads) = wait_for(
+        code,
+        place,
+        0,
+        Phase::Read,
+        next_offset(t, run, Phase::Read, 0),
+    )?;
     let place = turn(code, place, mode_period(t, run.mode) as Time, decide)?;
     need(code, place, EInstr::Return)?;
     Ok((writes, reads))
@@ -45,7 +58,7 @@ fn check_block(
     requires invs { AreInvsOf block.now.t.now block.now.run }
     requires code { length code.old ≤ 4294967295 }
     requires later { IfSome next (λ o. block.now.offset ≤ o) }
-    ensures read { result ≡ block_read code.old block.now.t.now block.now.run.mode block.now.phase block.now.offset next at }
+    ensures read { result ≡ block_read code.old block.now.t.now block.now.run.mode (number_of block.now.phase) block.now.offset next at }
     ensures same { code.new ≡ code.old }
 {
     let place = need_calls(code, at, block)?;
@@ -69,13 +82,13 @@ pub fn check_phase(
     code: &mut Instrs<'_>,
     t: &Tables,
     run: ModeInvs,
-    phase: u8,
+    phase: Phase,
     first: Option<u32>,
 ) -> Result<(), EFault>
     requires invs { AreInvsOf t.now run }
     requires code { length code.old ≤ 4294967295 }
     requires offsets { OffsetsFit t.now }
-    ensures fault { fault_of result ≡ phase_departure t.now code.old run.mode phase first }
+    ensures fault { fault_of result ≡ phase_departure t.now code.old run.mode (number_of phase) first }
     ensures same { code.new ≡ code.old }
 {
     let mut block = block_of(next_offset(t, run, phase, 0), first);

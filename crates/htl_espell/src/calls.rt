@@ -3,6 +3,7 @@ ghost use Rattle.std.specs.Prelude.{◌≡◌, ◌≤◌, length};
 ghost use Rattle.htl_model.specs.Lists.{joined, numbered};
 ghost use Rattle.htl_ecode.specs.Chains.{all_do, calls_of, release_of, calls as calls_at};
 ghost use Rattle.htl_ecode.specs.ModeInvs.{AreInvsOf};
+ghost use Rattle.htl_ecode.specs.Phases.{number_of};
 ghost use Rattle.htl_espell.specs.Checks.{next_of};
 ghost use Rattle.htl_espell.specs.Parts.{end_wants, call_wants, release_wants};
 
@@ -11,8 +12,8 @@ use crate::slides::Instrs;
 use htl_base::Time;
 use htl_ecode::calls::call;
 use htl_ecode::mode_invs::ModeInvs;
-use htl_ecode::offsets::{WRITES, counts, ends_in, meets};
-use htl_ecode::{EFault, EInstr};
+use htl_ecode::offsets::{counts, ends_in, meets};
+use htl_ecode::{EFault, EInstr, Phase};
 use htl_model::window::release;
 use htl_model::{End, Inv, Tables};
 
@@ -22,7 +23,7 @@ pub struct Block<'a> {
     pub t: &'a Tables,
     /// The invocations of the mode.
     pub run: ModeInvs,
-    pub phase: u8,
+    pub phase: Phase,
     /// From the start of a round, in ticks.
     pub offset: Time,
 }
@@ -37,7 +38,7 @@ fn need_end(
     end: End,
 ) -> Result<u32, EFault>
     requires { length code.old ≤ 4294967295 }
-    ensures read { result ≡ next_of code.old at (end_wants block.now.t.now block.now.phase block.now.offset inv (k, end)) }
+    ensures read { result ≡ next_of code.old at (end_wants block.now.t.now (number_of block.now.phase) block.now.offset inv (k, end)) }
     ensures same { code.new ≡ code.old }
 {
     if meets(block.t, block.offset, end) {
@@ -57,7 +58,7 @@ fn need_ends(
 ) -> Result<u32, EFault>
     requires code { length code.old ≤ 4294967295 }
     requires few { length ends.now ≤ 256 }
-    ensures read { result ≡ next_of code.old at (joined (end_wants block.now.t.now block.now.phase block.now.offset inv) (numbered 0 ends.now)) }
+    ensures read { result ≡ next_of code.old at (joined (end_wants block.now.t.now (number_of block.now.phase) block.now.offset inv) (numbered 0 ends.now)) }
     ensures same { code.new ≡ code.old }
 {
     let mut place = at;
@@ -78,7 +79,7 @@ fn need_inv(
     requires code { length code.old ≤ 4294967295 }
     requires reads { length inv.now.reads ≤ 256 }
     requires writes { length inv.now.writes ≤ 256 }
-    ensures read { result ≡ next_of code.old at (call_wants block.now.t.now block.now.run.mode block.now.phase block.now.offset (k, inv.now)) }
+    ensures read { result ≡ next_of code.old at (call_wants block.now.t.now block.now.run.mode (number_of block.now.phase) block.now.offset (k, inv.now)) }
     ensures same { code.new ≡ code.old }
 {
     if !counts(block.t, block.run.mode, inv) {
@@ -91,7 +92,7 @@ fn need_inv(
 fn need_invs(code: &mut Instrs<'_>, at: u32, block: &Block<'_>) -> Result<u32, EFault>
     requires invs { AreInvsOf block.now.t.now block.now.run }
     requires code { length code.old ≤ 4294967295 }
-    ensures read { result ≡ next_of code.old at (joined (call_wants block.now.t.now block.now.run.mode block.now.phase block.now.offset) (numbered 0 block.now.t.now.invs)) }
+    ensures read { result ≡ next_of code.old at (joined (call_wants block.now.t.now block.now.run.mode (number_of block.now.phase) block.now.offset) (numbered 0 block.now.t.now.invs)) }
     ensures same { code.new ≡ code.old }
 {
     let invs = block.t.parts().invs.as_slice();
@@ -142,13 +143,12 @@ fn need_releases(code: &mut Instrs<'_>, at: u32, block: &Block<'_>) -> Result<u3
 pub fn need_calls(code: &mut Instrs<'_>, at: u32, block: &Block<'_>) -> Result<u32, EFault>
     requires invs { AreInvsOf block.now.t.now block.now.run }
     requires code { length code.old ≤ 4294967295 }
-    ensures read { result ≡ next_of code.old at (all_do (calls_at block.now.t.now block.now.run.mode block.now.phase block.now.offset)) }
+    ensures read { result ≡ next_of code.old at (all_do (calls_at block.now.t.now block.now.run.mode (number_of block.now.phase) block.now.offset)) }
     ensures same { code.new ≡ code.old }
 {
     let place = need_invs(code, at, block)?;
-    if block.phase == WRITES {
-        Ok(place)
-    } else {
-        need_releases(code, place, block)
+    match block.phase {
+        Phase::Write => Ok(place),
+        Phase::Switch | Phase::Read => need_releases(code, place, block),
     }
 }

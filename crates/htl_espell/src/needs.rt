@@ -4,13 +4,13 @@ ghost use Rattle.htl_ecode.specs.Chains.{Does, Waits, Turns, Tests, Asks};
 ghost use Rattle.htl_ecode.specs.Instructions.{target_in as target_in_of, delay_in as delay_in_of};
 ghost use Rattle.htl_ecode.specs.Steps.{reach, met_by, leaving};
 ghost use Rattle.htl_ecode.specs.Departure.{fault_of};
+ghost use Rattle.htl_ecode.specs.Phases.{number_of};
 ghost use Rattle.htl_espell.specs.Checks.{next_of, ends_of, waited, next_met, ends_met};
 
 use crate::landing::{arrive, land};
 use crate::slides::Instrs;
 use htl_base::Time;
-use htl_ecode::offsets::SWITCHES;
-use htl_ecode::{EFault, EInstr, EKind};
+use htl_ecode::{EFault, EInstr, EKind, Phase};
 
 // The address that a trigger or a conditional jump names.
 fn target_in(i: EInstr) -> u32
@@ -59,15 +59,15 @@ pub fn need(code: &mut Instrs<'_>, at: u32, want: EInstr) -> Result<u32, EFault>
 }
 
 // Whether the instruction at a place sets a trigger of the phase with this delay: the address after it, and its target.
-fn wait_at(place: u32, i: EInstr, delay: Time, phase: u8) -> Result<(u32, u32), EFault>
+fn wait_at(place: u32, i: EInstr, delay: Time, phase: Phase) -> Result<(u32, u32), EFault>
     requires { place < 4294967295 }
-    ensures { result ≡ ends_met (met_by [] (Waits delay phase) place i) }
+    ensures { result ≡ ends_met (met_by [] (Waits delay (number_of phase)) place i) }
 {
     let target = target_in(i);
     let set = delay_in(i);
     let want = EInstr::Future {
         delay: set,
-        phase,
+        phase: phase.number(),
         target,
     };
     let next = need_at(place, i, want)?;
@@ -81,9 +81,9 @@ fn wait_at(place: u32, i: EInstr, delay: Time, phase: u8) -> Result<(u32, u32), 
 }
 
 // Reads a trigger of a phase with a delay: the address after it, and its target.
-fn wait(code: &mut Instrs<'_>, at: u32, delay: Time, phase: u8) -> Result<(u32, u32), EFault>
+fn wait(code: &mut Instrs<'_>, at: u32, delay: Time, phase: Phase) -> Result<(u32, u32), EFault>
     requires { length code.old ≤ 4294967295 }
-    ensures read { result ≡ ends_of (reach code.old at (Waits delay phase)) }
+    ensures read { result ≡ ends_of (reach code.old at (Waits delay (number_of phase))) }
     ensures same { code.new ≡ code.old }
 {
     let place = land(code, at)?;
@@ -95,12 +95,12 @@ pub fn wait_for(
     code: &mut Instrs<'_>,
     at: u32,
     from: Time,
-    phase: u8,
+    phase: Phase,
     next: Option<Time>,
 ) -> Result<(u32, Option<u32>), EFault>
     requires code { length code.old ≤ 4294967295 }
     requires later { IfSome next (λ o. from ≤ o) }
-    ensures read { result ≡ waited code.old at from phase next }
+    ensures read { result ≡ waited code.old at from (number_of phase) next }
     ensures same { code.new ≡ code.old }
 {
     match next {
@@ -128,7 +128,7 @@ fn turn_at(
     let round = delay_in(i);
     let want = EInstr::Future {
         delay: round,
-        phase: SWITCHES,
+        phase: Phase::Switch.number(),
         target,
     };
     let next = need_at(place, i, want)?;

@@ -11,8 +11,7 @@ use crate::endings::{Rounds, check_decide};
 use crate::entries::check_enter;
 use crate::slides::Instrs;
 use htl_ecode::mode_invs::{ModeInvs, mode_invs};
-use htl_ecode::offsets::{READS, WRITES};
-use htl_ecode::{ECode, EFault};
+use htl_ecode::{ECode, EFault, Phase};
 use htl_model::Tables;
 
 // The addresses of a mode: what enters it, what begins its rounds, and what ends them.
@@ -43,8 +42,8 @@ fn check_mode(
 {
     check_enter(instrs, at.enter, t, run.mode, at.begin)?;
     let (writes, reads) = check_begin(instrs, at.begin, t, run, at.decide)?;
-    check_phase(instrs, t, run, WRITES, writes)?;
-    check_phase(instrs, t, run, READS, reads)?;
+    check_phase(instrs, t, run, Phase::Write, writes)?;
+    check_phase(instrs, t, run, Phase::Read, reads)?;
     let rounds = Rounds {
         mode: run.mode,
         begin: at.begin,

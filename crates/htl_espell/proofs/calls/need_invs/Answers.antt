@@ -1,11 +1,11 @@
 use Rattle.std.proofs.Common.{rules, refl, Err, List, ◌≡◌, ◌∙◌, ap}
-use Rattle.htl_espell.proofs.Words.{EInstr, call_wants, next_of, invs_are, is_within}
+use Rattle.htl_espell.proofs.Words.{number_of, EInstr, call_wants, next_of, invs_are, is_within}
 use Rattle.htl_espell.proofs.Chaining.{item_read, item_departs, read_from_start, all_read, calls_wanted_of_mode}
 use Rattle.htl_espell.proofs.calls.need_invs.Goals as goal
 
 pub loop-k-preserved : goal.loop-k-preserved
 loop-k-preserved c =
-    let wants = call_wants c.args.block.now.t.now c.args.block.now.run.mode c.args.block.now.phase c.args.block.now.offset in
+    let wants = call_wants c.args.block.now.t.now c.args.block.now.run.mode (number_of c.args.block.now.phase) c.args.block.now.offset in
     let k = c.loop-k.k in
     let are = invs_are c.args.block.now.t.now c.parts.result.now c.as_slice-invs.result.now c.parts.ensures.value c.as_slice-invs.ensures in
     record {
@@ -16,7 +16,7 @@ loop-k-preserved c =
 
 pub returns-in_err-place-clause-read : goal.returns-in_err-place-clause-read
 returns-in_err-place-clause-read c =
-    let wants = call_wants c.args.block.now.t.now c.args.block.now.run.mode c.args.block.now.phase c.args.block.now.offset in
+    let wants = call_wants c.args.block.now.t.now c.args.block.now.run.mode (number_of c.args.block.now.phase) c.args.block.now.offset in
     let k = c.loop-k.k in
     let are = invs_are c.args.block.now.t.now c.parts.result.now c.as_slice-invs.result.now c.parts.ensures.value c.as_slice-invs.ensures in
     let departs : c.from_residual.result ≡ Err c.in_err-place.field-0.0 = search rules in
@@ -30,12 +30,12 @@ loop-k-init c =
     let are = invs_are block.t.now c.parts.result.now c.as_slice-invs.result.now c.parts.ensures.value c.as_slice-invs.ensures in
     record {
       same = refl;
-      read = read_from_start c.args.code.now c.args.at block.t.now c.as_slice-invs.result.now block.run.mode block.run.start (call_wants block.t.now block.run.mode block.phase block.offset) are (calls_wanted_of_mode block.t.now block.run.mode block.phase block.offset) c.requires.invs.first;
+      read = read_from_start c.args.code.now c.args.at block.t.now c.as_slice-invs.result.now block.run.mode block.run.start (call_wants block.t.now block.run.mode (number_of block.phase) block.offset) are (calls_wanted_of_mode block.t.now block.run.mode (number_of block.phase) block.offset) c.requires.invs.first;
     }
 
 pub returns-clause-read : goal.returns-clause-read
 returns-clause-read c =
     let block = c.args.block.now in
     let are = invs_are block.t.now c.parts.result.now c.as_slice-invs.result.now c.parts.ensures.value c.as_slice-invs.ensures in
-    all_read c.args.code.now c.loop-k.place block.t.now c.as_slice-invs.result.now block.run.mode block.run.end c.loop-k.k (call_wants block.t.now block.run.mode block.phase block.offset) _ are (calls_wanted_of_mode block.t.now block.run.mode block.phase block.offset) c.requires.invs.behind
+    all_read c.args.code.now c.loop-k.place block.t.now c.as_slice-invs.result.now block.run.mode block.run.end c.loop-k.k (call_wants block.t.now block.run.mode (number_of block.phase) block.offset) _ are (calls_wanted_of_mode block.t.now block.run.mode (number_of block.phase) block.offset) c.requires.invs.behind
     c.loop-k-test.false c.loop-k.invariant.read
