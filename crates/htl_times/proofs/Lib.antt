@@ -1,0 +1,11 @@
+pub mod AcceptedRuns
+pub mod Best
+pub mod Examples
+pub mod Fitting
+pub mod Halfway
+pub mod Narrowed
+pub mod NoLater
+pub mod PathFinishes
+pub mod Reached
+pub mod Rising
+pub mod Words
