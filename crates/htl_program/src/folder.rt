@@ -1,5 +1,5 @@
 // Sources from the files of the machine.
-ghost use Rattle.std.specs.Prelude.{None, Some, ℕ, List, Option, IfOk, IfErr, IfSome, length, ◌≤◌, ◌≡◌, []};
+ghost use Rattle.std.specs.Prelude.{None, Some, ℕ, List, Option, IfOk, IfErr, IfSome, length, ◌≤◌, ◌<◌, ◌≡◌, []};
 ghost use Rattle.htl_edge.specs.Causes.{Rose};
 ghost use Rattle.htl_edge.specs.Holdings.{IsTooLong, IsKept};
 
@@ -43,7 +43,8 @@ impl<'a, F: Files> Open for Disk<'a, F> {
 }
 
 /// A shelf over files by name, with one count of faults for all names. A file that can't be opened or read is a
-/// fault. As a shelf it tells no content; where the files tell what they hold, a fetch gives that of the name.
+/// fault. As a shelf it tells no content; where the files tell what they hold, a fetch gives that of the name, and only
+/// a file that is longer than the limit is too long.
 #[derive(Drop)]
 pub struct Folder<F> {
     files: F,
@@ -72,6 +73,7 @@ impl<F: Open> Shelf for Folder<F> {
         ensures counts { self.old.faults ≤ self.new.faults }
         ensures kept { IsKept self.old.faults self.new.faults result }
         ensures whole { IfOk result (λ bytes. IfSome (F.held self.old.files name.now) (λ held. bytes.items ≡ held)) }
+        ensures longer { (seen : ℕ) → result ≡ Err (ShelfFault.TooLong seen) → IfSome (F.held self.old.files name.now) (λ held. limit < length held) }
         ensures files { self.new.files ≡ self.old.files }
     {
         match self.files.open(name) {
@@ -93,6 +95,7 @@ pub fn read_up_to<R: Read>(
 ) -> Result<Vec<u8>, ShelfFault>
     ensures short { IfOk result (λ bytes. length bytes.items ≤ limit) }
     ensures whole { IfOk result (λ bytes. IfSome (R.remaining file.old) (λ all. bytes.items ≡ all)) }
+    ensures longer { (seen : ℕ) → result ≡ Err (ShelfFault.TooLong seen) → IfSome (R.remaining file.old) (λ all. limit < length all) }
     ensures long { IfErr result (IsTooLong None [] limit) }
     ensures failed { result ≡ Err ShelfFault.Failed → Rose faults.old faults.new }
     ensures counts { faults.old ≤ faults.new }
