@@ -1,8 +1,8 @@
 -- Frames of two runs whose modes agree so far.
 use Rattle.std.proofs.Common.{◌≡◌, ◌<◌, ◌≤◌, ◌⊎◌, ℕ, zero, suc, ◌+◌, ◌*◌, Bool, false, ◌&&◌, eqb, leb, le-leb, List, [], ◌∷◌, ◌++◌, length, get_or, map, slice_get, take, Option, Some, None, refl, sym, ◌∙◌, ap, ap₂, subst, arith, inl, inr}
-use Rattle.htl_refine.proofs.Words.{cases_lt, ne_eqb, Event, Place, Round, Inv, followed, chosen, frame_of, starts, rounds, node, places_of, known_by, of_bool, list_to, AreInRange, Tables, Job, is_fed_by, mask, job_in, placed, placed_job, placed_jobs, next_of, legs_of, Leg, FramesAgree, running_invs, derived_place, standing_places, frame_modes, path_of, running_places, frame_places, frame_jobs, known_append, length-list_to, map_same, take_front}
+use Rattle.htl_refine.proofs.Words.{cases_lt, ne_eqb, Event, Place, Round, Inv, followed, chosen, frame_of, starts, rounds, node, places_of, known_by, of_bool, list_to, AreInRange, Tables, Job, is_fed_by, mask, job_in, placed, placed_job, placed_jobs, next_of, legs_of, Leg, FramesAgree, running_invs, derived_place, standing_places, frame_modes, path_of, running_places, frame_places, frame_jobs, known_append, length-list_to, map_same, take_front, list_same, take-map}
 use Rattle.htl_refine.proofs.AlongPath.{known_none}
-use Rattle.htl_refine.proofs.Fronts.{front_there, take_map}
+use Rattle.htl_refine.proofs.Fronts.{front_there}
 use Rattle.htl_refine.proofs.NodeRead.{nodes_read, nodes_agree}
 use Rattle.htl_refine.proofs.RoundOrder.{Sorted, RoundLess, ByStart, sorted_rounds, least_first, run_of, frame_by_start, standing_by_start, begun_known, known_begun, known_same}
 use Rattle.htl_refine.proofs.StateLaws.{states_are_selections}
@@ -86,7 +86,7 @@ job_front t ys m a (Some k) h = by (slice_get t.invs k)
 
 jobs_front : (t : Tables) (ys : List Place) (m d : ℕ) → Sorted ByStart ys → m ≡ known_by d ys → take m (placed_jobs t ys) ≡ placed_jobs t (take m ys)
 jobs_front t ys m d sorted is =
-    take_map (placed_job t ys) m ys
+    take-map (placed_job t ys) m ys
     ∙ map_same (placed_job t ys) (placed_job t (take m ys)) (take m ys) (λ q x e.
     let r = front_there m ys q x e in
     let begun : x.at ≤ d = known_begun d ys q x sorted r.0 (omega (arith, r.1, is)) in
@@ -101,16 +101,12 @@ legs_agree h xs ys (a ∷ later) zero e = refl
 legs_agree h xs ys (a ∷ later) (suc k) e =
     ap₂ (λ n gs. let g : Leg = record { from = a; to = next_of h later; known = n } in g ∷ gs) (e 0 (omega arith) (omega arith)) (legs_agree h xs ys later k (λ j l m. e (suc j) (omega (arith, l)) (omega (arith, m))))
 
-lists_same : {A : Type 0} (g h : ℕ → A) (n : ℕ) → ((j : ℕ) → j < n → g j ≡ h j) → list_to g n ≡ list_to h n
-lists_same g h zero e = refl
-lists_same g h (suc n) e = ap₂ (λ xs y. xs ++ y ∷ []) (lists_same g h n (λ j l. e j (omega (arith, l)))) (e n (omega arith))
-
 lists_agree : {A : Type 0} (g h : ℕ → A) (n k : ℕ) → ((j : ℕ) → j < k → g j ≡ h j) → take k (list_to g n) ≡ take k (list_to h n)
 lists_agree g h zero k e = refl
 lists_agree {A} g h (suc n) k e = by (cases_lt n k) (lists_agree g h n k e)
   where
     by : (n < k) ⊎ (k ≤ n) → take k (list_to g n) ≡ take k (list_to h n) → take k (list_to g (suc n)) ≡ take k (list_to h (suc n))
-    by (inl l) ih = ap (take k) (lists_same g h (suc n) (λ j m. e j (omega (arith, l, m))))
+    by (inl l) ih = ap (take k) (list_same g h (suc n) (λ j m. e j (omega (arith, l, m))))
     by (inr l) ih =
         take_front k (list_to g n) (g n ∷ []) (omega (arith, l, length-list_to g n)) ∙ ih ∙ sym (take_front k (list_to h n) (h n ∷ []) (omega (arith, l, length-list_to h n)))
 
@@ -138,7 +134,7 @@ module _ (t : Tables) (es fs : List Event) (f d : ℕ) (range : AreInRange t) (s
       let ys = frame_places t (frame_modes t fs f) in
       let one = derived_place t (frame_modes t es f) in
       let two = derived_place t (frame_modes t fs f) in
-      take_map one (known_by d xs) xs ∙ map_same one two (take (known_by d xs) xs) stands_same ∙ ap (map two) (agree_by d (omega arith)).front ∙ sym (take_map two (known_by d ys) ys)
+      take-map one (known_by d xs) xs ∙ map_same one two (take (known_by d xs) xs) stands_same ∙ ap (map two) (agree_by d (omega arith)).front ∙ sym (take-map two (known_by d ys) ys)
 
   pub jobs_agree : take (known_by d (frame_places t (frame_modes t es f))) (frame_jobs t (frame_modes t es f)) ≡ take (known_by d (frame_places t (frame_modes t es f))) (frame_jobs t (frame_modes t fs f))
   jobs_agree =

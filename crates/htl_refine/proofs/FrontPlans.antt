@@ -1,7 +1,7 @@
 -- Frames that agree in their first lists and positions, and in how long these take, plan and leave the same there.
 use Rattle.std.proofs.Common.{◌≡◌, ℕ, zero, suc, ◌≤◌, ◌<◌, List, [], ◌∷◌, length, get_or, take, refl, sym, ap, ap₂, ◌∙◌, arith}
-use Rattle.htl_refine.proofs.Words.{length-take, Job, SInstr, Leg, AgreeOn, AgreeAt, AreInForm, AreWithin, end_to_end, path_point, Point, job_at, last_point, first_point, work, same_length, AreSameSoFar, Frame, walks_of, ListPlan, no_leg, leg_at, front_of, list_start, list_plan, get_taken, work_length, same_number_lists}
-use Rattle.htl_refine.proofs.Fronts.{job_front, take_work}
+use Rattle.htl_refine.proofs.Words.{length-take, Job, SInstr, Leg, AgreeOn, AgreeAt, AreInForm, AreWithin, end_to_end, path_point, Point, job_at, last_point, first_point, work, same_length, AreSameSoFar, Frame, walks_of, ListPlan, no_leg, leg_at, front_of, list_start, list_plan, get_taken, work_length, same_number_lists, job_front}
+use Rattle.htl_refine.proofs.Fronts.{take_work}
 use Rattle.htl_refine.proofs.PointsAgree.{points_agree}
 use Rattle.htl_refine.proofs.WalksAgree.{fronts_alike}
 

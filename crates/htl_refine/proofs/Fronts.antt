@@ -9,17 +9,6 @@ front_there (suc m) [] p x e = not_some x e
 front_there (suc m) (y ∷ xs) zero x e = (e, omega arith)
 front_there (suc m) (y ∷ xs) (suc p) x e = let r = front_there m xs p x e in (r.0, omega (arith, r.1))
 
-pub take_map : {A B : Type 0} (f : A → B) (n : ℕ) (xs : List A) → take n (map f xs) ≡ map f (take n xs)
-take_map f zero xs = refl
-take_map f (suc n) [] = refl
-take_map f (suc n) (x ∷ xs) = ap (λ ys. f x ∷ ys) (take_map f n xs)
-
-pub job_front : (n : ℕ) (js : List Job) (p : ℕ) → p < n → job_at (take n js) p ≡ job_at js p
-job_front zero js p h = absurd (omega arith)
-job_front (suc n) [] p h = refl
-job_front (suc n) (j ∷ js) zero h = refl
-job_front (suc n) (j ∷ js) (suc p) h = job_front n js p (omega arith)
-
 pub take_work : (n : ℕ) (js : List Job) (ns : List ℕ) → work (take n js) (take n ns) ≡ take n (work js ns)
 take_work zero js ns = refl
 take_work (suc n) [] ns = refl

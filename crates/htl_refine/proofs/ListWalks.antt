@@ -1,7 +1,6 @@
 -- What is told of a list by the positions so far is what the walk of the frame tells.
 use Rattle.std.proofs.Common.{◌≡◌, ℕ, zero, suc, ◌<◌, List, [], ◌∷◌, length, take, get_or, slice_get, Some, refl, sym, ap, ◌∙◌, arith}
-use Rattle.htl_refine.proofs.Words.{Job, SInstr, Leg, list_point, walks_from, AreInForm, path_point, AgreeOn, AgreeAt, Point, walk_from, last_point, first_point, InForm, walk_alike, Frame, walks_of, ListWalks, no_leg, leg_at, front_of, list_start, list_plan, list_walk, get_taken, same_Some}
-use Rattle.htl_refine.proofs.Fronts.{job_front}
+use Rattle.htl_refine.proofs.Words.{Job, SInstr, Leg, list_point, walks_from, AreInForm, path_point, AgreeOn, AgreeAt, Point, walk_from, last_point, first_point, InForm, walk_alike, Frame, walks_of, ListWalks, leg_at, front_of, list_start, list_plan, list_walk, get_taken, same_Some, form_at, walk_at, job_front}
 
 pub front_agrees : (n : ℕ) (js : List Job) → AgreeOn n (take n js) js
 front_agrees n js = λ p h. job_front n js p h
@@ -10,21 +9,6 @@ pub point_agrees : (n : ℕ) (x : Point) → AgreeAt n (front_of n x) x
 point_agrees n x = record { time = refl; left = λ p h. get_taken n x.left p h }
 
 -- ---- list j of the walk of a path
-
-pub walk_at : (jobs : List Job) (ss : List (List SInstr)) (gs : List Leg) (j : ℕ) (x : Point) → AreInForm ss gs → j < length gs
-    → slice_get (walks_from jobs ss gs x) j ≡ Some (walk_from jobs (get_or ss j []) (path_point jobs ss gs j 0 x))
-walk_at jobs [] [] j x f h = absurd (omega arith)
-walk_at jobs [] (g ∷ gs) j x f h = absurd f
-walk_at jobs (s ∷ ss) [] j x f h = absurd f
-walk_at jobs (s ∷ ss) (g ∷ gs) zero x f h = refl
-walk_at jobs (s ∷ ss) (g ∷ gs) (suc j) x f h = walk_at jobs ss gs j (last_point jobs s (list_point g.from x)) f.1 (omega arith)
-
-pub form_at : (ss : List (List SInstr)) (gs : List Leg) (j : ℕ) → AreInForm ss gs → j < length gs → InForm (get_or gs j no_leg).known (get_or gs j no_leg).to (get_or ss j [])
-form_at [] [] j f h = absurd (omega arith)
-form_at [] (g ∷ gs) j f h = absurd f
-form_at (s ∷ ss) [] j f h = absurd f
-form_at (s ∷ ss) (g ∷ gs) zero f h = f.0
-form_at (s ∷ ss) (g ∷ gs) (suc j) f h = form_at ss gs j f.1 (omega arith)
 
 pub list_walks : ListWalks
 list_walks f j form h =

@@ -1,6 +1,6 @@
 -- Each module has a period of its own, that of its root module.
 use Rattle.std.proofs.Common.{◌≡◌, ◌≢◌, ℕ, zero, suc, ◌+◌, ◌<◌, Bool, true, false, cond, eqb, List, [], ◌∷◌, length, slice_get, Option, Some, None, option_map, refl, sym, ap, ◌∙◌, arith}
-use Rattle.htl_refine.proofs.Words.{eqb-true, eq-eqb, Mode, ModulePeriod, Itself, KeptApart, places_from, first_mode, asked_period, AreInRange, IsModeInRange, parent_of, mode_of_module, Tables, mode_period, mode_module, each_at, item_at, period_at, same_Some}
+use Rattle.htl_refine.proofs.Words.{eqb-true, eq-eqb, Mode, ModulePeriod, Itself, KeptApart, places_from, first_mode, asked_period, AreInRange, IsModeInRange, parent_of, mode_of_module, Tables, mode_period, mode_module, each_at, item_at, period_at, same_Some, module_is}
 use Rattle.htl_refine.proofs.RecordOrder.{not_some}
 
 -- the places of the items that pass a test
@@ -25,9 +25,6 @@ same_or a b h = by_test (eqb a b) refl
     by_test true e = eqb-true a b e
     by_test false e = absurd (h (λ f. let z : true ≡ false = sym (eq-eqb a b f) ∙ e in cc))
 
-unit_of : (t : Tables) (m : ℕ) (x : Mode) → slice_get t.modes m ≡ Some x → mode_module t m ≡ x.«module»
-unit_of t m x e = ap (λ (o : Option Mode). elim o [ Some x ↦ x.«module» | None ↦ 0 ]) e
-
 module _ (t : Tables) (range : AreInRange t) (kept : KeptApart t 12) where
   -- a mode has the period that is asked of its module
   as_asked : (m p : ℕ) (x : Mode) → slice_get t.modes m ≡ Some x → asked_period t x.«module» ≡ Some p → x.period ≡ p
@@ -42,7 +39,7 @@ module _ (t : Tables) (range : AreInRange t) (kept : KeptApart t 12) where
       by_mode x at = by_parent (parent_of t k) refl
         where
           unit : x.«module» ≡ k
-          unit = sym (unit_of t m x at) ∙ own
+          unit = sym (module_is t m x at) ∙ own
 
           told : (p : ℕ) → asked_period t k ≡ Some p → asked_period t k ≡ Some (mode_period t m)
           told p asked = asked ∙ ap (λ z. Some z) (sym (period_at t m x at ∙ as_asked m p x at (ap (asked_period t) unit ∙ asked)))

@@ -1,16 +1,9 @@
 -- When a module's rounds begin, and how long they stand.
 use Rattle.std.proofs.Common.{◌≡◌, ◌≢◌, ℕ, zero, suc, ◌+◌, ◌*◌, ◌/◌, ◌%◌, ◌≤◌, ◌<◌, ◌⊎◌, Bool, true, false, eqb, List, [], length, slice_get, Option, Some, None, ℤ, refl, sym, ap, ◌∙◌, arith, inl, inr}
-use Rattle.htl_refine.proofs.Words.{eqb-true, eq-eqb, ne_eqb, slice_get_within, div-add-mod, mod-lt, add-mul-div_left, div-eq_of_lt, mul-div_cancel_left, Event, Module, Stay, KeptApart, state, stay_of, stays_at, stays_to, next_stay, go_on_or_begin, runs, target, AreInRange, parent_of, Tables, mode_period, mode_module, stay_at, OwnStarts, StaysSince, StaysUntil, item_at, cases_up_to, zero_down}
+use Rattle.htl_refine.proofs.Words.{eqb-true, eq-eqb, ne_eqb, slice_get_within, div-add-mod, mod-lt, add-mul-div_left, div-eq_of_lt, mul-div_cancel_left, Event, Module, Stay, KeptApart, state, stay_of, stays_at, stays_to, next_stay, go_on_or_begin, runs, target, AreInRange, parent_of, Tables, mode_period, mode_module, stay_at, OwnStarts, StaysSince, StaysUntil, item_at, cases_up_to, zero_down, runs_is}
 use Rattle.htl_refine.proofs.OwnPeriods.{same_period, parent_period, some_time}
 use Rattle.htl_refine.proofs.RecordOrder.{not_some}
 use Rattle.htl_refine.proofs.Standing.{Came, began, turned, stayed, is_there, IsStanding, parent_lower, lower_is, standing_at, stood}
-
-pub runs_is : (t : Tables) (stays : List (Option Stay)) (m : ℕ) → runs t stays m ≡ true → (y : Stay) × (stay_of stays (mode_module t m) ≡ Some y) × (y.mode ≡ m)
-runs_is t stays m e = by_stay (stay_of stays (mode_module t m)) refl e
-  where
-    by_stay : (o : Option Stay) → stay_of stays (mode_module t m) ≡ o → elim o [ Some x ↦ eqb x.mode m | None ↦ false ] ≡ true → (y : Stay) × (stay_of stays (mode_module t m) ≡ Some y) × (y.mode ≡ m)
-    by_stay None is f = absurd (let z : ⊥ = cc in z)
-    by_stay (Some y) is f = (y, is, eqb-true y.mode m f)
 
 -- ---- when rounds begin
 

@@ -1,10 +1,10 @@
 -- The records of an instant are those of the list that ran up to it, and of the list that begins at it.
 use Rattle.std.proofs.Common.{◌≡◌, ◌≢◌, ℕ, zero, suc, ◌+◌, ◌-◌, ◌*◌, ◌/◌, ◌≤◌, ◌<◌, ◌⊎◌, Bool, true, false, cond, eqb, ltb, List, [], ◌∷◌, ◌++◌, length, get_or, map, slice_get, Option, Some, None, refl, sym, ap, ap₂, ◌∙◌, subst, arith, append-nil, inl, inr}
-use Rattle.htl_refine.proofs.Words.{filter, eqb-true, eq-eqb, ne_eqb, lt-ltb, ltb-true, slice_get-get_or, same_Some, add-mul-div_left, div-eq_of_lt, Event, hyper, frame_of, root_periods, starts, node, joined, numbered, up_to, Tables, Job, SInstr, Leg, list_point, walks_from, AreInForm, AreChained, path_point, Point, Left, walk_from, last_point, first_point, RunningList, lists_from, lists_at, left_in, begun_before, begins_at, in_frame, old_records_by, new_records_by, frame_modes, path_of, frame_places, frame_at, walks_of, no_leg, leg_at, list_start, list_at, ListsRun, OldRecords, NoOldRecords, NewRecords, NoNewRecords, shifted, rounds_before, IsServing, IsFeasibleRun, past_legs, starts_order, cases_less_same}
+use Rattle.htl_refine.proofs.Words.{filter, eqb-true, eq-eqb, ne_eqb, lt-ltb, ltb-true, slice_get-get_or, same_Some, add-mul-div_left, div-eq_of_lt, Event, hyper, frame_of, root_periods, starts, node, joined, numbered, up_to, Tables, Job, SInstr, Leg, list_point, walks_from, AreInForm, AreChained, path_point, Point, Left, walk_from, last_point, first_point, RunningList, lists_from, lists_at, left_in, begun_before, begins_at, in_frame, old_records_by, new_records_by, frame_modes, path_of, frame_places, frame_at, walks_of, no_leg, leg_at, list_start, list_at, ListsRun, OldRecords, NoOldRecords, NewRecords, NoNewRecords, shifted, rounds_before, IsServing, IsFeasibleRun, past_legs, starts_order, cases_less_same, form_at}
 use Rattle.htl_walk.proofs.Starts.{Rises, starts_rise}
 use Rattle.htl_refine.proofs.BegunTimes.{start_below}
 use Rattle.htl_refine.proofs.ListCounts.{chain_to}
-use Rattle.htl_refine.proofs.ListWalks.{form_at, list_is}
+use Rattle.htl_refine.proofs.ListWalks.{list_is}
 use Rattle.htl_refine.proofs.ListsFollow.{rises_next, legs_many, leg_from}
 use Rattle.htl_refine.proofs.RecordOrder.{not_some, times_within}
 use Rattle.htl_refine.proofs.ServedFrames.{frames_are_served}

@@ -1,9 +1,9 @@
 -- The records of a frame serve the jobs that it has so far.
 use Rattle.std.proofs.Common.{◌≡◌, ℕ, zero, suc, ◌≤◌, true, List, [], ◌∷◌, length, slice_get, take, sym, ap, ◌∙◌, arith}
-use Rattle.htl_refine.proofs.Words.{length-take, Job, Left, job_at, first_point, walk, IsMet, work_some, walk_of, leg_at, FrontServed, ListServed}
+use Rattle.htl_refine.proofs.Words.{length-take, Job, Left, job_at, first_point, walk, IsMet, work_some, walk_of, leg_at, FrontServed, ListServed, job_front}
 use Rattle.htl_walk.proofs.Joining.{joined, show_joined}
 use Rattle.htl_refine.proofs.FinishingRecords.{last_is, finish_record, finishing}
-use Rattle.htl_refine.proofs.Fronts.{front_there, job_front}
+use Rattle.htl_refine.proofs.Fronts.{front_there}
 use Rattle.htl_refine.proofs.RecordOrder.{path_rises}
 
 front_present : (n : ℕ) (js : List Job) (p : ℕ) → (job_at (take n js) p).present ≡ true → (job_at js p).present ≡ true

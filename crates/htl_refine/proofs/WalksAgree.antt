@@ -1,9 +1,9 @@
 -- Where the modes of two runs agree so far, and the jobs take the same, so do the records of their lists.
 use Rattle.std.proofs.Common.{◌≡◌, ◌+◌, get_or, map, take, refl, sym, ◌∙◌, ap, ap₂, arith}
-use Rattle.htl_refine.proofs.Words.{get_or_from_slice_get, frame_of, starts, known_by, Job, walks_from, job_at, first_point, work, locality, take_walks, take_forms, FrontsAlike, WalksAgree, frame_modes, frame_places, frame_jobs, frame_at, took, lengths_of, get_taken, map_same, known_rises}
+use Rattle.htl_refine.proofs.Words.{get_or_from_slice_get, frame_of, starts, known_by, Job, walks_from, job_at, first_point, work, locality, take_walks, take_forms, FrontsAlike, WalksAgree, frame_modes, frame_places, frame_jobs, frame_at, took, lengths_of, get_taken, map_same, known_rises, job_front, take-map}
 use Rattle.htl_refine.proofs.AlongPath.{legs_within}
 use Rattle.htl_refine.proofs.FramesAgree.{frames_agree}
-use Rattle.htl_refine.proofs.Fronts.{front_there, take_map, job_front, take_work}
+use Rattle.htl_refine.proofs.Fronts.{front_there, take_work}
 
 -- ---- the first lists
 
@@ -28,10 +28,10 @@ walks_agree t lists es fs f d k range alike form takes =
     let qs = frame_jobs t two in
     let is = frames_agree t lists es fs f d k range alike in
     let lengths : take m (lengths_of t es f ps) ≡ take m (lengths_of t fs f qs) =
-    take_map (λ (j : Job). took t es j.inv (f + j.release)) m ps
+    take-map (λ (j : Job). took t es j.inv (f + j.release)) m ps
     ∙ map_same (λ (j : Job). took t es j.inv (f + j.release)) (λ (j : Job). took t fs j.inv (f + j.release)) (take m ps) (λ q j e. let r = front_there m ps q j e in takes q j r.1 r.0)
     ∙ ap (map (λ (j : Job). took t fs j.inv (f + j.release))) is.jobs
-    ∙ sym (take_map (λ (j : Job). took t fs j.inv (f + j.release)) m qs) in
+    ∙ sym (take-map (λ (j : Job). took t fs j.inv (f + j.release)) m qs) in
     let left : take m (work ps (lengths_of t es f ps)) ≡ take m (work qs (lengths_of t fs f qs)) =
     sym (take_work m ps (lengths_of t es f ps)) ∙ ap₂ work is.jobs lengths ∙ take_work m qs (lengths_of t fs f qs) in
     fronts_alike (frame_at t lists es f) (frame_at t lists fs f) k m

@@ -17,12 +17,12 @@ pub use Rattle.htl_form.proofs.Words.{AreSteps, BreaksAt, Broken, ComesBefore, F
 pub use Rattle.htl_model.proofs.ChosenLaws.{chosen_here, chosen_next}
 pub use Rattle.htl_model.proofs.FirstLaws.{to_found, to_none}
 pub use Rattle.htl_model.proofs.FrameLimits.{radix_few, roots_have}
-pub use Rattle.htl_model.proofs.Listed.{length-list_to}
+pub use Rattle.htl_model.proofs.Listed.{length-list_to, list_same}
 pub use Rattle.htl_model.proofs.Locality.{up_to_same}
 pub use Rattle.htl_model.proofs.SelectionLaws.{no_modules}
 pub use Rattle.htl_model.proofs.Sources.{reentered, refined, two_periods}
 pub use Rattle.htl_model.proofs.StartLaws.{modes_rise}
-pub use Rattle.htl_model.proofs.Stays.{length-stays_to, stay_at}
+pub use Rattle.htl_model.proofs.Stays.{length-stays_to, module_is, runs_is, stay_at}
 pub use Rattle.htl_model.proofs.Words.{AsksMore, Exceeds, Inheritance, IsAbstractIn, IsModeThat, IsRefined, IsWriterOf, ParentFault, Parents, PortWriters, SecondChild, SharedParents, SharesParent, StandsUnrefined, Unordered, before, cases_up_to, child, child_from, chosen, chosen_in, div-eq_of_lt, entry, first_to, followed, get_back, get_front, get_mapped, go_on_or_begin, is_at, is_child, is_read_from, is_running, is_selection, itself_or, next_stay, runs, state, stay_of, stays_at, stays_to, switch_holds, target_from, up_to, within_front}
 pub use Rattle.htl_model.specs.Chosen.{IsChosen, StandsFor, below, itself}
 pub use Rattle.htl_model.specs.Lists.{joined, numbered}
@@ -51,7 +51,7 @@ pub use Rattle.htl_refine.specs.FramePlaces.{AreOrdered, PlacesOrdered, place, s
 pub use Rattle.htl_refine.specs.FrameRecords.{RunningList, begins_at, begun_before, in_frame, left_in, lists_at, lists_from, new_records, new_records_by, old_records, old_records_by, records}
 pub use Rattle.htl_refine.specs.FrameRuns.{Frame, choice_at, frame_at, frame_jobs, frame_modes, frame_places, node_read, nodes_below, path_in, path_of, running_places, walk_of, walks_of}
 pub use Rattle.htl_refine.specs.ListLaws.{CountSplit, DoneSplit, LengthsLater, ListWalks, ListsFollow, WorkDone}
-pub use Rattle.htl_refine.specs.ListPlans.{ListPlan, front_of, leg_at, list_plan, list_start, list_walk, no_leg, records_before}
+pub use Rattle.htl_refine.specs.ListPlans.{ListPlan, front_of, leg_at, list_plan, list_start, list_walk, records_before}
 pub use Rattle.htl_refine.specs.Orders.{ArePlaces, AreRowsBelow, IsPut}
 pub use Rattle.htl_refine.specs.OwnRounds.{BeginningsEnd, OwnStarts, RoundEnds, StaysSince, StaysUntil}
 pub use Rattle.htl_refine.specs.RecordCounts.{Rises, count_left_before, done_by}
@@ -78,6 +78,7 @@ pub use Rattle.htl_walk.proofs.Locality.{locality, path_inheritance, take_forms,
 pub use Rattle.htl_walk.proofs.NodeWalks.{known_rises, starts_order}
 pub use Rattle.htl_walk.proofs.Nodes.{known_append, map_append, some_root}
 pub use Rattle.htl_walk.proofs.OnePeriod.{job_at_start, one_period, places_join}
+pub use Rattle.htl_walk.proofs.PathLists.{form_at, walk_at, walk_take, job_front}
 pub use Rattle.htl_walk.proofs.PathReady.{period_at, window_small}
 pub use Rattle.htl_walk.proofs.Starts.{Stands, job_is, known_few, later_stands, legs_follow, mask_bit, no_place, path_later, placed_is, starts_rise}
 pub use Rattle.htl_walk.proofs.Steps.{left_falls, left_other, left_same, time_rises}
@@ -86,12 +87,12 @@ pub use Rattle.htl_walk.proofs.Waiting.{time_rises_to}
 pub use Rattle.htl_walk.proofs.Words.{AgreeAt, AgreeBefore, AgreeOn, All, All-from_get_or, AreChained, AreInForm, AreInRange, AreWithinWorst, HasOnePeriod, HasTimes, HasWork, HaveLengths, InForm, IsInvInRange, IsMet, IsModeInRange, IsPathAccepted, IsTaskInRange, Itself, KeepsLimits, KeptApart, KeptTo, LeadsTo, Left, Leg, Meets, ModulePeriod, None, Output, Part, Point, Refines, RefinesJob, ScheduleIsAccepted, Site, Tables, absent_job, abstract_jobs, and_from, and_none, and_parts, arith, asked_period, begins, cases_eq, cases_lt, cell, choices, choices_append, choices_from, choices_starts, direct, dispatch_begins, div-add-mod, div-mul-add, each_at, earlier, end_to_end, eq-eqb, feeds_at, finish, finishes_by, first_mode, first_point, flat_map, frame_limit, frame_of, frame_some, get_or, get_or-map, get_or_from_slice_get, get_taken, grow_times, has_bit, hyper, inv_of_mode, invs_of, is_fed_by, is_position, is_root, job_at, job_in, job_of, jobs_standing, kept_apart, known_by, last_point, le-ltb, left_by, legs, legs_of, length-append, length-map, limits_kept, list_any, list_point, list_to, lists_of, lt-ltb, ltb-true, map-append, mask, mod-eq_of_lt, mode_from, mode_in, mode_of_module, mode_period, modes_of, modes_some, most_invs, most_positions, mul_comm, nat_tests, ne_eqb, next_of, next_point, node, node_of, nodes_of, of_bool, one_more_time, parent_of, path_jobs, path_mode, path_places, path_point, paths, placed, placed_job, placed_jobs, places_from, places_in, places_of, positions, precedes, release, root_mode, root_modules, root_period, root_periods, rounds, rounds_at, rounds_of, rules, same_Some, same_number_lists, selection_count, slice_between, slice_get, slice_get-get_or, slice_get_past, slice_get_within, slice_onto, slices, starts, starts_below, task_worst, through, time_after, unit_period, unit_start, walk, walk_from, walks_from, ways, window_end, work, work_after}
 pub use Rattle.htl_walk.proofs.Work.{job_there, present_or_idle, work_present, work_some}
 pub use Rattle.htl_walk.specs.PathLaws.{RefinesFront}
-pub use Rattle.htl_walk.specs.Paths.{AreWithin, path_point_at}
+pub use Rattle.htl_walk.specs.Paths.{AreWithin, no_leg, path_point_at}
 pub use Rattle.htl_walk.specs.Walk.{slice_of}
 pub use Rattle.htl_walk.specs.declared.job.Job.{Job}
 pub use Rattle.htl_walk.specs.declared.schedule.SInstr.{SInstr}
 pub use Rattle.htl_walk.specs.declared.schedule.SInstr.TheVariants.{Dispatch, End, End as Stop, Idle}
 pub use Rattle.std.proofs.lemmas.Bool.{eq-eqb as equal, eqb-true as same_number}
 pub use Rattle.std.proofs.lemmas.Bool.Decides.{Decides-and, Decides-not}
-pub use Rattle.std.proofs.lemmas.List.{length-take-le}
+pub use Rattle.std.proofs.lemmas.List.{length-take-le, take-map}
 pub use Rattle.std.proofs.lemmas.Slice.{drop-put_mid}

@@ -1,6 +1,6 @@
 -- Who has no work left is done by a record so far.
 use Rattle.std.proofs.Common.{◌≡◌, ℕ, zero, suc, ◌+◌, ◌≤◌, ◌<◌, ◌⊎◌, Bool, true, false, cond, ◌&&◌, is_some, List, [], ◌∷◌, ◌++◌, length, get_or, slice_get, take, Option, Some, None, refl, sym, ap, ◌∙◌, arith, inl, inr, append_assoc}
-use Rattle.htl_refine.proofs.Words.{Job, SInstr, Leg, list_point, walks_from, end_to_end, AreInForm, path_point, Point, Left, next_point, left_by, walk_from, last_point, first_point, is_position, finish, ends, finish_now, finish_later, walks_of, WorkDone, leg_at, list_start, list_plan, list_walk, records_before, done_by, get_taken, same_Some}
+use Rattle.htl_refine.proofs.Words.{Job, SInstr, Leg, list_point, walks_from, end_to_end, AreInForm, path_point, Point, Left, next_point, left_by, walk_from, last_point, first_point, is_position, finish, ends, finish_now, finish_later, walks_of, WorkDone, leg_at, list_start, list_plan, list_walk, records_before, done_by, get_taken, same_Some, walk_take}
 use Rattle.htl_refine.proofs.FinishingRecords.{done_past}
 use Rattle.htl_refine.proofs.ListCounts.{done_front}
 use Rattle.htl_refine.proofs.ListWalks.{list_walks}
@@ -20,12 +20,6 @@ done_there jobs (i ∷ is) x p some none =
         | inr more ↦ let r = done_there jobs is y p more none in (r.0, finish_later jobs i is x p (inr more) ∙ r.1)
       ]
     ]
-
--- the records of the first instructions
-walk_take : (jobs : List Job) (is : List SInstr) (x : Point) (k : ℕ) → take k (walk_from jobs is x) ≡ walk_from jobs (take k is) x
-walk_take jobs is x zero = refl
-walk_take jobs [] x (suc k) = refl
-walk_take jobs (i ∷ is) x (suc k) = ap (λ z. left_by jobs i x (next_point jobs i x) ∷ z) (walk_take jobs is (next_point jobs i x) k)
 
 -- ---- lists of records
 

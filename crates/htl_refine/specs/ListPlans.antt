@@ -1,12 +1,8 @@
 -- One list of a frame: the positions so far, and the point at which the list begins.
 use Rattle.htl_refine.specs.Common.{ℕ, List, [], length, take, get_or, Job, SInstr}
-use Rattle.htl_walk.specs.Paths.{Leg, end_to_end, path_point_at}
+use Rattle.htl_walk.specs.Paths.{Leg, no_leg, end_to_end, path_point_at}
 use Rattle.htl_walk.specs.Walk.{Point, Left, walk_from}
 use Rattle.htl_refine.specs.FrameRuns.{Frame, walks_of}
-
--- where there is no leg
-abbrev pub no_leg : Leg
-no_leg = record { from = 0; to = 0; known = 0 }
 
 -- the leg of list j
 abbrev pub leg_at : Frame → ℕ → Leg
