@@ -1,12 +1,12 @@
 -- The lists of an object in range are in range, each item by those before it.
 use Rattle.std.proofs.Common.{◌≡◌, ◌≤◌, ◌<◌, ℕ, zero, suc, Bool, true, false, not, cond, ◌&&◌, eqb, List, [], ◌∷◌, ◌++◌, length, map, take, drop, get_or, slice_get, Option, Some, None, All, IfSome, ℤ, pos, refl, sym, ◌∙◌, ap, subst, arith, inl, inr, take-append-drop}
-use Rattle.htl_object.proofs.Words.{nat_le, nat_lt, FitsSigned, w64, list_any, count_by, int_eq, bytes_eq, nat_tests, Decides-int_eq, length-map, sum_by-append, sum_by-cons, slice_get-get_or, slice_get_within, slice_get_cases, bytes_eq-Decides, is_name, Ty, EInstr, apart_names, apart_owned, apart_pairs, apart_numbers, length-list_to, get_list_to, AreApart, list_to, FitsType, IsSpan, IsModeThat, parent_of, is_within, IsEndInRange, IsFunInRange, AreInRange, IsCommInRange, IsModeInRange, IsPortInRange, IsInvInRange, IsSwitchInRange, IsTaskInRange, Tables, Fun, Compiled, mode_module, Code, Comm, End, Inv, Mode, Module, Port, Switch, Task, is_named_comm, is_span, is_owner, is_of, AreAnchors, IsFrontInRange, IsFileInRange, is_node_count, is_parent, is_read, last_inv_mode, last_switch_mode, Each, Fits16, IsComm, IsMode, IsOption, IsModule, IsPort, AreTypes, IsTask, IsEnd, AreEnds, IsInv, IsSwitch, IsCode, IsEInstr, IsSInstr, IsFInstr, codes_of, anchors_of, lists_of, tables_of_lists, is_named_mode, last_module, is_named_module, is_mode_of, is_within_before, HasWidths, KeepsFunction, IsObject, is_named_port, is_named_task, last_mode, last_owner, IsPhased, IsShort, IsSchedule, Anchors, Object, Schedule, all_at, and_from, eq-eqb, eqb-true, not_from_false, or_left, or_right, and_first}
+use Rattle.htl_object.proofs.Words.{nat_le, nat_lt, FitsSigned, w64, list_any, count_by, int_eq, bytes_eq, nat_tests, Decides-int_eq, length-map, sum_by-append, sum_by-cons, slice_get-get_or, slice_get_within, slice_get_cases, bytes_eq-Decides, is_name, Ty, EInstr, apart_names, apart_owned, apart_pairs, apart_numbers, length-list_to, get_list_to, AreApart, list_to, FitsType, IsSpan, IsModeThat, parent_of, is_within, IsEndInRange, IsFunInRange, AreInRange, IsCommInRange, IsModeInRange, IsPortInRange, IsInvInRange, IsSwitchInRange, IsTaskInRange, Tables, Fun, Compiled, mode_module, Code, Comm, End, Inv, Mode, Module, Port, Switch, Task, is_named_comm, is_span, is_owner, is_of, AreAnchors, IsFrontInRange, IsFileInRange, is_node_count, is_parent, is_read, last_inv_mode, last_switch_mode, Each, Fits16, IsComm, IsMode, IsOption, IsModule, IsPort, AreTypes, IsTask, IsEnd, AreEnds, IsInv, IsSwitch, IsCode, IsEInstr, IsSInstr, IsFInstr, codes_of, anchors_of, lists_of, tables_of_lists, is_named_mode, last_module, is_named_module, is_mode_of, is_within_before, HasWidths, KeepsFunction, IsObject, is_named_port, is_named_task, last_mode, last_owner, IsPhased, IsShort, IsSchedule, Anchors, Object, Schedule, all_at, and_from, eq-eqb, eqb-true, not_from_false, or_left, or_right, and_first, module_is}
 use Rattle.htl_base.specs.declared.Ty.TheVariants as ty
 use Rattle.htl_ecode.specs.declared.instr.EInstr.TheVariants as I
 use Rattle.htl_model.specs.declared.parts.End.TheVariants as E
 use Rattle.htl_object.proofs.Each.{each_of, every, none_before, last_least, length_take, get_take}
 use Rattle.htl_object.proofs.NodeCounts.{nodes_few, node_count_so, small as le_test}
-use Rattle.htl_object.proofs.ListRanges.{counted, itself, module_of_mode, right}
+use Rattle.htl_object.proofs.ListRanges.{counted, itself, right}
 use Rattle.htl_object.proofs.Listed.{all_codes, object_again}
 
 -- ---- tests
@@ -49,7 +49,7 @@ mode_test modes k n m e same = ap (λ (o : Option Mode). elim o as (λ _. Bool) 
 -- a mode of the module of the mode
 same_module_test : (t : Tables) (mode k : ℕ) → mode < length t.modes → k ≡ mode_module t mode → is_mode_of t.modes k mode ≡ true
 same_module_test t mode k less e = elim (slice_get_cases t.modes mode).1 [
-  | inl c ↦ mode_test t.modes k mode c.0 c.2 (sym (module_of_mode t mode c.0 c.2) ∙ sym e)
+  | inl c ↦ mode_test t.modes k mode c.0 c.2 (sym (module_is t mode c.0 c.2) ∙ sym e)
   | inr c ↦ absurd (omega (arith, c.0, less))
 ]
 
@@ -62,7 +62,7 @@ levels t r k (suc n) (Some q) p h = elim (slice_get_cases t.modules p.0.«module
   | inl c ↦
       let m = p.0 in
       let x = c.0 in
-      let parent : parent_of t (mode_module t q) ≡ x.parent = ap (parent_of t) (module_of_mode t q m p.1) ∙ ap (λ (o : Option Module). elim o as (λ _. Option ℕ) [ Some y ↦ y.parent | None ↦ None ]) c.2 in
+      let parent : parent_of t (mode_module t q) ≡ x.parent = ap (parent_of t) (module_is t q m p.1) ∙ ap (λ (o : Option Module). elim o as (λ _. Option ℕ) [ Some y ↦ y.parent | None ↦ None ]) c.2 in
       let above : IfSome x.parent (IsModeThat t (λ owner. owner < k)) = lower x.parent m.«module» p.2 (r.modules m.«module» x c.2).parent in
       let further = levels t r k n x.parent above (ap (is_within n t) (sym parent) ∙ h) in
       ap (λ (o : Option Mode). elim o as (λ _. Bool) [ Some y ↦ elim (slice_get (take k t.modules) y.«module») as (λ _. Bool) [ Some z ↦ is_within_before n t.modes (take k t.modules) z.parent | None ↦ false ] | None ↦ false ]) p.1

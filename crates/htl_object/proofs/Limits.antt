@@ -1,20 +1,10 @@
 -- What is read of a file keeps the limits on selections and positions.
 use Rattle.std.proofs.Common.{◌≡◌, ◌≤◌, ◌<◌, ◌+◌, ◌*◌, ◌/◌, ◌%◌, ℕ, zero, suc, Bool, true, false, cond, ◌&&◌, eqb, List, [], ◌∷◌, ◌++◌, length, drop, slice_get, Option, Some, None, refl, sym, ◌∙◌, ap, arith, inl, inr, length-append}
-use Rattle.htl_object.proofs.Words.{nat_le, is_none, flat_map, count_by, mul_comm, mul_assoc, nat_tests, sum_by-cons, slice_get-get_or, slice_get_within, is_mode_of, IsFileInRange, is_root_at, selections_to, selections_of, widest_to, positions_to, is_node_count, Lists, modes_some, no_modules, KeepsLimits, frame_limit, nodes, places_from, AreInRange, is_root, root_modules, mode_of_module, inv_of_mode, modes_of, invs_of, choices_from, selection_count, root_mode, positions, Tables, Inv, Mode, Module, tables_of_lists, eqb-true, cases_below}
+use Rattle.htl_object.proofs.Words.{nat_le, is_none, flat_map, count_by, mul_comm, mul_assoc, nat_tests, sum_by-cons, slice_get-get_or, slice_get_within, is_mode_of, IsFileInRange, is_root_at, selections_to, selections_of, widest_to, positions_to, is_node_count, Lists, modes_some, no_modules, KeepsLimits, frame_limit, nodes, places_from, AreInRange, is_root, root_modules, mode_of_module, inv_of_mode, modes_of, invs_of, choices_from, selection_count, root_mode, positions, Tables, Inv, Mode, Module, tables_of_lists, eqb-true, cases_below, count_places}
 pub use Rattle.htl_model.proofs.SelectionLaws.{place_passes}
 use Rattle.htl_object.proofs.ListRanges.{at_most, lists_in_range}
 
 -- ---- places that pass, and how many
-
-pub count_places : {A : Type 0} (test : A → Bool) (k : ℕ) (xs : List A) → length (places_from test k xs) ≡ count_by test xs
-count_places test k [] = refl
-count_places test k (x ∷ xs) =
-    let e = sum_by-cons (λ y. cond (test y) 1 0) x xs in
-    omega (arith, e, by (test x) (count_places test (suc k) xs))
-  where
-    by : (b : Bool) → length (places_from test (suc k) xs) ≡ count_by test xs → length (cond b (k ∷ places_from test (suc k) xs) (places_from test (suc k) xs)) ≡ cond b 1 0 + count_by test xs
-    by true h = omega (arith, h)
-    by false h = omega (arith, h)
 
 pub dropped : {A : Type 0} (xs ys : List A) (k : ℕ) (y : A) → drop k xs ≡ y ∷ ys → (slice_get xs k ≡ Some y) × (drop (suc k) xs ≡ ys)
 dropped [] ys zero y e = cc

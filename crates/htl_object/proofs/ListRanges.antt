@@ -1,6 +1,6 @@
 -- What is read of a file is tables in range.
 use Rattle.std.proofs.Common.{◌≡◌, ◌≤◌, ◌<◌, ◌+◌, ℕ, zero, suc, Bool, true, false, not, cond, ◌&&◌, eqb, List, [], ◌∷◌, length, map, take, slice_get, Option, Some, None, All, IfSome, ℤ, pos, refl, sym, ◌∙◌, ap, subst, arith, inl, inr}
-use Rattle.htl_object.proofs.Words.{nat_le, nat_lt, int_eq, bytes_eq, nat_tests, Decides-int_eq, length-map, All-map, sum_by-cons, slice_get_within, bytes_eq-Decides, Ty, is_span, is_owner, is_of, is_named_comm, is_named_mode, last_module, is_named_module, is_mode_of, is_within_before, is_named_port, is_named_task, last_mode, last_owner, is_port_of, is_inv_task, is_parent, is_target, is_read, last_inv_mode, last_switch_mode, is_body, IsFrontInRange, Each, Fits16, IsComm, IsMode, IsModule, IsPort, IsTask, IsEnd, AreEnds, IsInv, IsSwitch, IsCode, Lists, are_different_numbers, FitsType, IsSpan, IsCommInRange, IsModeInRange, IsModeThat, parent_of, is_within, IsPortInRange, IsTaskInRange, IsEndInRange, IsInvInRange, IsSwitchInRange, IsFunInRange, AreInRange, Tables, Compiled, mode_module, task_count, count_before, Code, Comm, End, Inv, Mode, Module, Port, Switch, Task, different, different_owned, different_pairs, different_numbers, AreApart, tables_of_lists, and_from, eq-eqb, eqb-true, not-true, or_cases, and_first, from_take, list_any, count_by, sum_by}
+use Rattle.htl_object.proofs.Words.{nat_le, nat_lt, int_eq, bytes_eq, nat_tests, Decides-int_eq, length-map, All-map, sum_by-cons, slice_get_within, bytes_eq-Decides, Ty, is_span, is_owner, is_of, is_named_comm, is_named_mode, last_module, is_named_module, is_mode_of, is_within_before, is_named_port, is_named_task, last_mode, last_owner, is_port_of, is_inv_task, is_parent, is_target, is_read, last_inv_mode, last_switch_mode, is_body, IsFrontInRange, Each, Fits16, IsComm, IsMode, IsModule, IsPort, IsTask, IsEnd, AreEnds, IsInv, IsSwitch, IsCode, Lists, are_different_numbers, FitsType, IsSpan, IsCommInRange, IsModeInRange, IsModeThat, parent_of, is_within, IsPortInRange, IsTaskInRange, IsEndInRange, IsInvInRange, IsSwitchInRange, IsFunInRange, AreInRange, Tables, Compiled, mode_module, task_count, count_before, Code, Comm, End, Inv, Mode, Module, Port, Switch, Task, different, different_owned, different_pairs, different_numbers, AreApart, tables_of_lists, and_from, eq-eqb, eqb-true, not-true, or_cases, and_first, from_take, list_any, count_by, sum_by, count_more, module_is}
 use Rattle.htl_base.specs.declared.Ty.TheVariants as ty
 use Rattle.htl_model.specs.declared.parts.End.TheVariants as E
 use Rattle.htl_object.proofs.Each.{at_place, all_of, length_take, apart, rising, few_from}
@@ -50,9 +50,6 @@ mode_of modes k n h = by (slice_get modes n) refl h
     by (Some m) e h = (m, e, eqb-true m.«module» k h)
     by None e h = cc
 
-pub module_of_mode : (t : Tables) (n : ℕ) (m : Mode) → slice_get t.modes n ≡ Some m → mode_module t n ≡ m.«module»
-module_of_mode t n m e = ap (λ (o : Option Mode). elim o as (λ _. ℕ) [ Some x ↦ x.«module» | None ↦ 0 ]) e
-
 -- levels over the modules before are levels over all
 levels : (t : Tables) (k n : ℕ) (o : Option ℕ) → is_within_before n t.modes (take k t.modules) o ≡ true → is_within n t o ≡ true
 levels t k zero None h = refl
@@ -67,7 +64,7 @@ levels t k (suc n) (Some q) h = by (slice_get t.modes q) refl (λ p g. levels t 
     above m e (Some x) f go h =
         let there : slice_get t.modules m.«module» ≡ Some x = (from_take t.modules k m.«module» x f).1 in
         let parent : parent_of t (mode_module t q) ≡ x.parent =
-        ap (parent_of t) (module_of_mode t q m e) ∙ ap (λ (o : Option Module). elim o as (λ _. Option ℕ) [ Some y ↦ y.parent | None ↦ None ]) there in
+        ap (parent_of t) (module_is t q m e) ∙ ap (λ (o : Option Module). elim o as (λ _. Option ℕ) [ Some y ↦ y.parent | None ↦ None ]) there in
         ap (is_within n t) parent ∙ go x.parent h
 
     by : (o : Option Mode) → slice_get t.modes q ≡ o → ((p : Option ℕ) → is_within_before n t.modes (take k t.modules) p ≡ true → is_within n t p ≡ true)
@@ -118,7 +115,7 @@ task_there t before mode n h = by (slice_get t.tasks n) refl (and_first (elim (s
   where
     by : (o : Option Task) → slice_get t.tasks n ≡ o → elim o as (λ _. Bool) [ Some k ↦ is_mode_of t.modes k.«module» mode | None ↦ false ] ≡ true
         → (k : Task) × (slice_get t.tasks n ≡ Some k) × (k.«module» ≡ mode_module t mode)
-    by (Some k) e h = let m = mode_of t.modes k.«module» mode h in (k, e, sym (module_of_mode t mode m.0 m.1 ∙ m.2))
+    by (Some k) e h = let m = mode_of t.modes k.«module» mode h in (k, e, sym (module_is t mode m.0 m.1 ∙ m.2))
     by None e h = cc
 
 not_invoked : (t : Tables) (before : List Inv) (mode n : ℕ) → is_inv_task t.modes t.tasks before mode n ≡ true → list_any (λ i. eqb i.mode mode && eqb i.task n) before ≡ false
@@ -155,7 +152,7 @@ target_there : (t : Tables) (mode n : ℕ) → is_target t.modes mode n ≡ true
 target_there t mode n h = by (slice_get t.modes n) refl h
   where
     by : (o : Option Mode) → slice_get t.modes n ≡ o → elim o as (λ _. Bool) [ Some m ↦ is_mode_of t.modes m.«module» mode | None ↦ false ] ≡ true → IsModeThat t (λ owner. owner ≡ mode_module t mode) n
-    by (Some m) e h = let q = mode_of t.modes m.«module» mode h in (m, e, sym (module_of_mode t mode q.0 q.1 ∙ q.2))
+    by (Some m) e h = let q = mode_of t.modes m.«module» mode h in (m, e, sym (module_is t mode q.0 q.1 ∙ q.2))
     by None e h = cc
 
 reads_apart : (comms : ℕ) (rs : List ℕ) → Each (λ before. Fits16 (is_read comms before)) [] rs → are_different_numbers rs ≡ true
@@ -182,10 +179,6 @@ body n h = (at_most 1 n (and_first (nat_le 1 n) (nat_le n 512) h), at_most n 512
 
 code_there : (c : Code) → IsCode c → IsFunInRange (Compiled c)
 code_there c h = let b = body (length c.instrs) h.instr_count.1 in (b.0, b.1, at_most (length c.args) 256 h.arg_count.1)
-
-count_more : (k : Task) (ts : List Task) (n : ℕ) → count_before (suc n) (k ∷ ts) ≡ task_count k + count_before n ts
-count_more k ts zero = omega arith
-count_more k ts (suc n) = let e : count_before (suc n) (k ∷ ts) ≡ task_count k + count_before n ts = count_more k ts n in omega (arith, e)
 
 pub counted : (ts : List Task) → sum_by (λ t. cond t.is_abstract 0 (length t.outputs)) ts ≡ count_before (length ts) ts
 counted [] = refl

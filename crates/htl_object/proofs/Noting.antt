@@ -1,20 +1,11 @@
 -- What is noted of the items before, with one item more.
 use Rattle.std.proofs.Common.{◌≡◌, ◌<◌, ◌≤◌, ◌&&◌, ◌||◌, ◌+◌, ◌-◌, ℕ, zero, suc, Bool, true, false, cond, List, [], ◌∷◌, ◌++◌, length, get_or, replicate, Option, Some, None, refl, sym, ◌∙◌, ap, subst, arith}
 use Rattle.std.specs.Prelude.{◌==◌, slice_get, count_by}
-use Rattle.htl_object.proofs.Words.{list_any, nat_tests, sum_by-cons, Inv, CountsMode, IsNoted, IsAdded, InvNotes, none_marked}
+use Rattle.htl_object.proofs.Words.{list_any, list_any-append, or-false, nat_tests, sum_by-cons, Inv, CountsMode, IsNoted, IsAdded, InvNotes, none_marked}
 
 -- one item more of which a test is asked
 pub any_more : {A : Type 0} (p : A → Bool) (xs : List A) (x : A) → list_any p (xs ++ x ∷ []) ≡ (list_any p xs || p x)
-any_more p [] x = by (p x)
-  where
-    by : (b : Bool) → (b || false) ≡ b
-    by true = refl
-    by false = refl
-any_more p (y ∷ ys) x = ap (λ b. p y || b) (any_more p ys x) ∙ by (p y) (list_any p ys) (p x)
-  where
-    by : (a b c : Bool) → (a || (b || c)) ≡ ((a || b) || c)
-    by true b c = refl
-    by false b c = refl
+any_more p xs x = list_any-append p xs (x ∷ []) ∙ ap (λ b. list_any p xs || b) (or-false (p x))
 
 count_step : {A : Type 0} (p : A → Bool) (x : A) (xs : List A) → count_by p (x ∷ xs) ≡ cond (p x) 1 0 + count_by p xs
 count_step p x xs = sum_by-cons (λ y. cond (p y) 1 0) x xs

@@ -1,7 +1,7 @@
 -- The words that several proofs cite, of this crate and of those below it, passed on from one place. Declares nothing.
 pub use Rattle.htl_base.proofs.Places.{all_at, from_map, from_take, none_marked, take_all}
 pub use Rattle.htl_base.proofs.Tests.{and_first}
-pub use Rattle.htl_base.proofs.Words.{All, IfOk, IfOk-weaker, [], ap, append_known, codes, count_by, drop_more, eqb-false, err_from_is_err_and, false≢true, flat_map-cons, flat_map-map, is_none, le-leb, leb-true, length-take, ltb-false, map, map_more, nat_le, nat_lt, not, on_ok_weaker, slice_eq-Decides, sum_by, sum_by-append, sum_by-cons, take, take_more, ℤ}
+pub use Rattle.htl_base.proofs.Words.{All, IfOk, IfOk-weaker, [], ap, append_known, codes, count_by, drop_more, eqb-false, err_from_is_err_and, false≢true, flat_map-cons, flat_map-map, is_none, le-leb, leb-true, length-take, ltb-false, map, map_more, nat_le, nat_lt, not, on_ok_weaker, slice_eq-Decides, sum_by, sum_by-append, sum_by-cons, take, take_more, ℤ, list_any-append, or-false}
 pub use Rattle.htl_base.specs.Names.{is_name}
 pub use Rattle.htl_base.specs.declared.Ty.{Ty}
 pub use Rattle.htl_base.specs.declared.Ty.TheVariants.{Bool as BoolTy, Bool as Truth, Int}
@@ -13,8 +13,9 @@ pub use Rattle.htl_model.proofs.Apart.{apart_names, apart_numbers, apart_owned, 
 pub use Rattle.htl_model.proofs.FrameLimits.{choices_some}
 pub use Rattle.htl_model.proofs.FrameSteps.{nodes_small}
 pub use Rattle.htl_model.proofs.Listed.{length-list_to}
-pub use Rattle.htl_model.proofs.PlaceLaws.{output_types_at, switch_types_at}
-pub use Rattle.htl_model.proofs.SelectionLaws.{no_modules, output_within}
+pub use Rattle.htl_model.proofs.PlaceLaws.{count_more, output_types_at, switch_types_at}
+pub use Rattle.htl_model.proofs.SelectionLaws.{no_modules, output_within, count_places}
+pub use Rattle.htl_model.proofs.Stays.{module_is}
 pub use Rattle.htl_model.proofs.Words.{All-append, AllByRecursion, AreApart, Formula, IsEndInRange, IsFunInRange, IsModeThat, IsNonDecreasing, append-nil, are_different_numbers, bytes_eq, bytes_eq-Decides, cases_at_most, comm_type, count_at, count_before, fun_of, function_count, function_types, get_mapped, is_within, nil_from_length, not-true, or_left, or_second, output_type, true_not_false}
 pub use Rattle.htl_model.specs.Ranges.{FitsType, IsCommInRange, IsPortInRange, IsSwitchInRange}
 pub use Rattle.htl_model.specs.Tables.{Compiled, function_count as task_count}

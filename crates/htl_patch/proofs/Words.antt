@@ -33,7 +33,7 @@ pub use Rattle.htl_model.specs.declared.parts.Port.{Port}
 pub use Rattle.htl_model.specs.declared.parts.Switch.{Switch}
 pub use Rattle.htl_model.specs.declared.parts.Task.{Task}
 pub use Rattle.htl_object.proofs.FunctionPlaces.{task_there}
-pub use Rattle.htl_object.proofs.Limits.{count_places}
+pub use Rattle.htl_model.proofs.SelectionLaws.{count_places}
 pub use Rattle.htl_object.proofs.PhaseLaws.{layout_phased}
 pub use Rattle.htl_object.proofs.Words.{AreApart, IsCommInRange, IsFunInRange, IsFunctionCode, IsNonDecreasing, IsPortInRange, IsSpan, [], and_first, ap, apart_names, apart_owned, apart_pairs, are_different_numbers, begin_place, bytes_eq, bytes_eq-Decides, count_by, decide_place, different, different_owned, different_pairs, enter_places, get_list_to, is_within, layout, length, mode_place, nodes, radices}
 pub use Rattle.htl_object.specs.declared.object.Object.{Object}
