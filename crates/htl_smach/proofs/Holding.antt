@@ -1,8 +1,8 @@
 -- The fields of a machine and its round.
 use Rattle.std.proofs.Common.{◌≡◌, ℕ, zero, suc, ◌+◌, ◌-◌, ◌≤◌, ◌<◌, Bool, true, false, cond, not, List, [], ◌∷◌, ◌++◌, length, get_or, set, take, replicate, Option, Some, None, IfSome, refl, sym, ap, ap₂, ◌∙◌, arith, inl, inr, ltb, eqb, add-one, get_or-set_same, get_or-set_other}
-use Rattle.htl_smach.proofs.Words.{cases_lt, cases_eq, nat_tests, length-take, ext_get_or, get_or-take, job_there, work_present, length-set, take-set-lt, take-append_seam, has_bit, Job, job_at, work, HaveLengths, Inside, Step, inside_round, Round, added_from, state_by, state_of, IsEven, flags, IsPut, state_in, HaveBegun, AreStates, PositionStates, put_work, point_of, work_length}
+use Rattle.htl_smach.proofs.Words.{cases_lt, cases_eq, nat_tests, length-take, ext_get_or, get_or-take, job_there, work_present, length-set, take-set-lt, take-append_seam, has_bit, Job, job_at, work, HaveLengths, Inside, Step, inside_round, Round, added_from, state_by, state_of, IsEven, flags, IsPut, state_in, HaveBegun, AreStates, PositionStates, put_work, point_of, work_length, job_front}
 use Rattle.htl_smach.proofs.Flags.{flag_at, length-flags, flags_put, flags_more}
-use Rattle.htl_smach.proofs.Joined.{job_left, job_right, get_left, get_right, behind, job_taken}
+use Rattle.htl_smach.proofs.Joined.{job_left, job_right, get_left, get_right, behind}
 use Rattle.htl_smach.proofs.RoundRecords.{with_length, with_release, absent_idle}
 use Rattle.htl_smach.proofs.Finishing.{none_left}
 
@@ -74,7 +74,7 @@ some_work n h = grind (arith, nat_tests)
 pub holds_state : (m : Inside) (p : ℕ) → AreStates m.states m.count m.jobs m.left → p < m.count → state_in m.states p ≡ state_of (inside_round m) p
 holds_state m p are below =
     ap₂ (λ (a b : Bool). state_by a b (has_bit m.states.released p))
-    (are.present p below ∙ ap (λ (j : Job). j.present) (sym (job_taken m.count m.jobs p below)))
+    (are.present p below ∙ ap (λ (j : Job). j.present) (sym (job_front m.count m.jobs p below)))
     (are.done p below ∙ ap (λ w. eqb w 0) (sym (get_or-take m.count m.left p 0 below)))
     ∙ ap (λ b. state_by (job_at (take m.count m.jobs) p).present (eqb (get_or (take m.count m.left) p 0) 0) b) (sym (flag_at m.count m.states.released p below))
 
@@ -138,7 +138,7 @@ module _ (m : Inside) (x : PositionStates) (jobs js more_jobs : List Job) (lengt
       present p h = elim (cases_lt p m.count) [
         | inl l ↦
             begun.before_present p l ∙ are.present p l
-            ∙ ap (λ (j : Job). j.present) (sym (job_left (take m.count m.jobs) (js ++ more_jobs) p (omega (arith, jobs_long)) ∙ job_taken m.count m.jobs p l))
+            ∙ ap (λ (j : Job). j.present) (sym (job_left (take m.count m.jobs) (js ++ more_jobs) p (omega (arith, jobs_long)) ∙ job_front m.count m.jobs p l))
         | inr l ↦
             let k = p - m.count in
             let is : m.count + k ≡ p = omega arith in

@@ -55,12 +55,5 @@ behind n k xs js rest zs h e l =
 pub front : {X : Type 0} (n : ℕ) (xs ys zs : List X) → xs ≡ zs → length zs ≡ n → take n (xs ++ ys) ≡ zs
 front n xs ys zs e l = ap (λ a. take n (a ++ ys)) e ∙ ap (λ k. take k (zs ++ ys)) (sym l) ∙ take-append_seam zs ys
 
--- a job of the front of an array
-pub job_taken : (n : ℕ) (js : List Job) (p : ℕ) → p < n → job_at (take n js) p ≡ job_at js p
-job_taken zero js p h = absurd (omega arith)
-job_taken (suc n) [] p h = refl
-job_taken (suc n) (j ∷ js) zero h = refl
-job_taken (suc n) (j ∷ js) (suc p) h = job_taken n js p (omega arith)
-
 pub job_at_is : (js : List Job) (p : ℕ) (d : Job) → p < length js → job_at js p ≡ get_or js p d
 job_at_is js p d h = job_is js p (get_or js p d) (slice_get-get_or js p d h)

@@ -1,6 +1,7 @@
 pub mod Adding
 pub mod Answering
 pub mod Begun
+mod Examples
 pub mod Finishing
 pub mod Flags
 pub mod Going

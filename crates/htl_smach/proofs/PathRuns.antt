@@ -1,10 +1,10 @@
 -- The answers of a machine that goes through the lists of a path are the records of the path's walk.
 use Rattle.std.proofs.Common.{◌≡◌, ℕ, zero, suc, ◌+◌, ◌-◌, ◌≤◌, ◌<◌, Bool, true, false, cond, ◌&&◌, eqb, List, [], ◌∷◌, ◌++◌, length, get_or, take, drop, map, Option, Some, None, is_some, refl, sym, ap, ◌∙◌, subst, arith, inl, inr, append_assoc, append-nil}
-use Rattle.htl_smach.proofs.Words.{cases_lt, ltb-false, length-append, length-drop, length-map, length-take-le, take_all, Job, SInstr, Leg, list_point, walks_from, walk_path, end_to_end, AreInForm, AreChained, path_point, AgreeAt, Point, job_at, walk_from, last_point, first_point, work, finish, is_position, InForm, left_falls_to, untouched, same_length, walk_alike, job_there, work_present, Left, after_all, PathRun, no_leg, leg_at, list_at, untils_at, list_begun, list_answers, answers_before, IsOver, told_path, IsPath, PathRecords, FinishedBefore, Round, told_from, walk_records, next_left, after, front_more, work_length, eqb_some}
+use Rattle.htl_smach.proofs.Words.{cases_lt, ltb-false, length-append, length-drop, length-map, length-take-le, take_all, Job, SInstr, Leg, list_point, walks_from, walk_path, end_to_end, AreInForm, AreChained, path_point, AgreeAt, Point, job_at, walk_from, last_point, first_point, work, finish, is_position, InForm, left_falls_to, untouched, same_length, walk_alike, job_there, work_present, Left, after_all, PathRun, no_leg, leg_at, list_at, untils_at, list_begun, list_answers, answers_before, IsOver, told_path, IsPath, PathRecords, FinishedBefore, Round, told_from, walk_records, next_left, after, front_more, work_length, eqb_some, form_at, point_first, point_next, walk_at, get_or_from_slice_get, job_front}
 use Rattle.htl_walk.specs.Walk as walks
 use Rattle.htl_smach.proofs.Answering.{records_in_order}
 use Rattle.htl_smach.proofs.Finishing.{finished_where_none, never_finished, none_left}
-use Rattle.htl_smach.proofs.Joined.{get_left, get_right, job_taken}
+use Rattle.htl_smach.proofs.Joined.{get_left, get_right}
 use Rattle.htl_smach.proofs.RoundRecords.{absent_idle}
 
 -- ---- lists
@@ -35,13 +35,6 @@ work_part (suc n) (suc m) q (j ∷ js) (k ∷ ns) e h =
 
 -- ---- the lists of a path
 
-form_at : (ss : List (List SInstr)) (gs : List Leg) (j : ℕ) → AreInForm ss gs → j < length gs → InForm (get_or gs j no_leg).known (get_or gs j no_leg).to (get_or ss j [])
-form_at [] [] j f h = absurd (omega arith)
-form_at [] (g ∷ gs) j f h = absurd f
-form_at (s ∷ ss) [] j f h = absurd f
-form_at (s ∷ ss) (g ∷ gs) zero f h = f.0
-form_at (s ∷ ss) (g ∷ gs) (suc j) f h = form_at ss gs j f.1 (omega arith)
-
 knows_at : (a h n : ℕ) (gs : List Leg) (j : ℕ) → AreChained a h n gs → j < length gs → (get_or gs j no_leg).known ≤ n
 knows_at a h n [] j c l = absurd (omega arith)
 knows_at a h n (g ∷ gs) zero c l = c.2
@@ -51,31 +44,10 @@ first_from : (a h n : ℕ) (gs : List Leg) → AreChained a h n gs → 0 < lengt
 first_from a h n [] c l = absurd (omega arith)
 first_from a h n (g ∷ gs) c l = c.0
 
-module _ (jobs : List Job) where
-  walk_at : (ss : List (List SInstr)) (gs : List Leg) (j : ℕ) (x : Point) → AreInForm ss gs → j < length gs → get_or (walks_from jobs ss gs x) j [] ≡ walk_from jobs (get_or ss j []) (path_point jobs ss gs j 0 x)
-  walk_at [] [] j x f h = absurd (omega arith)
-  walk_at [] (g ∷ gs) j x f h = absurd f
-  walk_at (s ∷ ss) [] j x f h = absurd f
-  walk_at (s ∷ ss) (g ∷ gs) zero x f h = refl
-  walk_at (s ∷ ss) (g ∷ gs) (suc j) x f h = walk_at ss gs j (last_point jobs s (list_point g.from x)) f.1 (omega arith)
-
-  as_many : (ss : List (List SInstr)) (gs : List Leg) (x : Point) → AreInForm ss gs → length (walks_from jobs ss gs x) ≡ length gs
-  as_many [] [] x f = refl
-  as_many (s ∷ ss) (g ∷ gs) x f = ap suc (as_many ss gs (last_point jobs s (list_point g.from x)) f.1)
-  as_many _ _ x f = absurd f
-
-  point_first : (ss : List (List SInstr)) (gs : List Leg) (x : Point) → AreInForm ss gs → 0 < length gs → path_point jobs ss gs 0 0 x ≡ list_point (get_or gs 0 no_leg).from x
-  point_first [] [] x f h = absurd (omega arith)
-  point_first (s ∷ ss) (g ∷ gs) x f h = refl
-  point_first _ _ x f h = absurd f
-
-  point_next : (ss : List (List SInstr)) (gs : List Leg) (j : ℕ) (x : Point) → AreInForm ss gs → suc j < length gs
-      → path_point jobs ss gs (suc j) 0 x ≡ list_point (get_or gs (suc j) no_leg).from (last_point jobs (get_or ss j []) (path_point jobs ss gs j 0 x))
-  point_next [] [] j x f h = absurd (omega arith)
-  point_next [] (g ∷ gs) j x f h = absurd f
-  point_next (s ∷ ss) [] j x f h = absurd f
-  point_next (s ∷ ss) (g ∷ gs) zero x f h = point_first ss gs (last_point jobs s (list_point g.from x)) f.1 (omega arith)
-  point_next (s ∷ ss) (g ∷ gs) (suc j) x f h = point_next ss gs j (last_point jobs s (list_point g.from x)) f.1 (omega arith)
+as_many : (jobs : List Job) (ss : List (List SInstr)) (gs : List Leg) (x : Point) → AreInForm ss gs → length (walks_from jobs ss gs x) ≡ length gs
+as_many jobs [] [] x f = refl
+as_many jobs (s ∷ ss) (g ∷ gs) x f = ap suc (as_many jobs ss gs (last_point jobs s (list_point g.from x)) f.1)
+as_many jobs _ _ x f = absurd f
 
 -- ---- a machine that is asked in one list
 
@@ -134,6 +106,9 @@ module _ (u : PathRun) (is : IsPath u) where
   first_is : 0 < length u.legs → x_at 0 ≡ list_point (leg_at u 0).from (first_point u.jobs u.lengths)
   first_is l = point_first u.jobs u.lists u.legs (first_point u.jobs u.lengths) is.forms l
 
+  walk_is : (j : ℕ) → j < length u.legs → get_or walks_of j [] ≡ walk_from u.jobs (list_at u j) (x_at j)
+  walk_is j l = get_or_from_slice_get walks_of j (walk_from u.jobs (list_at u j) (x_at j)) [] (walk_at u.jobs u.lists u.legs j (first_point u.jobs u.lengths) is.forms l)
+
   form : (j : ℕ) → j < length u.legs → InForm (leg_at u j).known (leg_at u j).to (list_at u j)
   form j l = form_at u.lists u.legs j is.forms l
 
@@ -169,7 +144,7 @@ module _ (u : PathRun) (is : IsPath u) where
       → (walk_from b.jobs (list_at u j) b.first ≡ walk_from u.jobs (list_at u j) (x_at j)) × AgreeAt (leg_at u j).known (last_point b.jobs (list_at u j) b.first) (last_point u.jobs (list_at u j) (x_at j))
   alike j b w l =
       walk_alike (leg_at u j).known b.jobs u.jobs (leg_at u j).known (leg_at u j).to (list_at u j) b.first (x_at j)
-      (λ p k. ap (λ js. job_at js p) w.jobs ∙ job_taken (leg_at u j).known u.jobs p k) w.first (form j l) (omega arith)
+      (λ p k. ap (λ js. job_at js p) w.jobs ∙ job_front (leg_at u j).known u.jobs p k) w.first (form j l) (omega arith)
 
   begins : (j : ℕ) → j < length u.legs → ((i : ℕ) → i < j → IsOver u i) → Begins j (list_begun u j)
   begins zero l over =
@@ -233,7 +208,7 @@ module _ (u : PathRun) (is : IsPath u) where
       let b = list_begun u j in
       let w = begins j l over in
       ap (λ n. told_from n 0 (walk_from b.jobs (list_at u j) b.first)) w.start
-      ∙ ap (told_from u.start 0) ((alike j b w l).0 ∙ sym (walk_at u.jobs u.lists u.legs j (first_point u.jobs u.lengths) is.forms l))
+      ∙ ap (told_from u.start 0) ((alike j b w l).0 ∙ sym (walk_is j l))
       ∙ sym (told_get u.start walks_of j)
 
   whole_is : (j : ℕ) → j < length u.legs → ((i : ℕ) → i < j → IsOver u i) → IsOver u j → list_answers u j ≡ get_or (told_path u) j []
@@ -296,7 +271,7 @@ module _ (u : PathRun) (is : IsPath u) (p : ℕ) where
       → end_to_end (take (suc j) (walk_path u.jobs u.lengths u.lists u.legs)) ≡ end_to_end (take j (walk_path u.jobs u.lengths u.lists u.legs)) ++ walk_from u.jobs (list_at u j) (x_at u is j)
   in_next j l =
       more_joined (walk_path u.jobs u.lengths u.lists u.legs) j (omega (arith, l, as_many u.jobs u.lists u.legs (first_point u.jobs u.lengths) is.forms))
-      ∙ ap (λ ls. end_to_end (take j (walk_path u.jobs u.lengths u.lists u.legs)) ++ ls) (walk_at u.jobs u.lists u.legs j (first_point u.jobs u.lengths) is.forms (omega (arith, l)))
+      ∙ ap (λ ls. end_to_end (take j (walk_path u.jobs u.lengths u.lists u.legs)) ++ ls) (walk_is u is j (omega (arith, l)))
 
   left_next : (j : ℕ) → suc j < length u.legs → get_or (x_at u is (suc j)).left p 0 ≡ get_or (last_point u.jobs (list_at u j) (x_at u is j)).left p 0
   left_next j l = ap (λ (x : Point). get_or x.left p 0) (next_is u is j l)
@@ -333,7 +308,7 @@ pub finished_before : FinishedBefore
 finished_before u j p is least l over known =
     let b = list_begun u j in
     let w = begins u is j l over in
-    ap (λ (k : Job). k.present && eqb (get_or b.first.left p 0) 0) (ap (λ js. job_at js p) w.jobs ∙ job_taken (leg_at u j).known u.jobs p known)
+    ap (λ (k : Job). k.present && eqb (get_or b.first.left p 0) 0) (ap (λ js. job_at js p) w.jobs ∙ job_front (leg_at u j).known u.jobs p known)
     ∙ ap (λ n. (job_at u.jobs p).present && eqb n 0) (w.first.left p known)
     ∙ by (job_at u.jobs p).present refl
   where

@@ -1,9 +1,9 @@
 -- The records of a round, one by one.
 use Rattle.std.proofs.Common.{◌≡◌, ℕ, zero, suc, ◌+◌, ◌≤◌, ◌<◌, ◌⊎◌, Bool, true, false, cond, ◌&&◌, eqb, ltb, List, [], ◌∷◌, ◌++◌, length, get_or, slice_get, set, take, Option, Some, None, is_some, IsSome, ◌↔◌, refl, sym, ap, ap₂, ◌∙◌, subst, arith, inl, inr, get_or-set_same, get_or-set_other}
-use Rattle.htl_smach.proofs.Words.{nat_tests, Job, SInstr, Point, job_at, next_point, left_by, walk_from, last_point, first_point, work, finish, HaveLengths, AreWithinWorst, left_falls, point_step, left_falls_to, job_there, job_is, work_present, work_some, Left, Pending, Ready, Done, Round, round_begun, told, told_from, walk_records, given, left_until, next_left, moved, state_by, state_of, finish_so_far, was_finished, IsFinishedSoFar, Stands, IsTold, cases_eq, cases_lt, le-leb, lt-leb, same_Some, eqb_some}
+use Rattle.htl_smach.proofs.Words.{nat_tests, Job, SInstr, Point, job_at, next_point, left_by, walk_from, last_point, first_point, work, finish, HaveLengths, AreWithinWorst, left_falls, point_step, left_falls_to, job_there, job_is, work_present, work_some, Left, Pending, Ready, Done, Round, round_begun, told, told_from, walk_records, given, left_until, next_left, moved, state_by, state_of, finish_so_far, was_finished, IsFinishedSoFar, Stands, IsTold, cases_eq, cases_lt, le-leb, lt-leb, same_Some, eqb_some, walk_take}
 use Rattle.htl_walk.specs.Walk as walks
 use Rattle.htl_smach.proofs.Lengths.{with_work, SameWalk, same_walk, some_below}
-use Rattle.htl_smach.proofs.Finishing.{walk-take, finished_where_none, never_finished}
+use Rattle.htl_smach.proofs.Finishing.{finished_where_none, never_finished}
 
 -- ---- the records as a list
 
@@ -158,7 +158,7 @@ module _ (r : Round) (s : List SInstr) (p n : ℕ) (st : Stands r s) (pending : 
   pub given_stays : given (with_length r p n) s ≡ given r s
   given_stays =
       told_from-take r.start 0 (walk_from r.jobs s (with_work p n r.first)) r.place
-      ∙ ap (told_from r.start 0) (walk-take r.jobs s (with_work p n r.first) r.place ∙ same.told ∙ sym (walk-take r.jobs s r.first r.place))
+      ∙ ap (told_from r.start 0) (walk_take r.jobs s (with_work p n r.first) r.place ∙ same.told ∙ sym (walk_take r.jobs s r.first r.place))
       ∙ sym (told_from-take r.start 0 (walk_from r.jobs s r.first) r.place)
 
   pub stands_set : Stands (with_length r p n) s
@@ -239,7 +239,7 @@ done_is r s p st =
     told_so = get_or r.released p false
 
     front : finish (walk_from r.jobs (take r.place s) r.first) p ≡ finish_so_far r s p
-    front = ap (λ (z : List walks.Left). finish z p) (sym (walk-take r.jobs s r.first r.place))
+    front = ap (λ (z : List walks.Left). finish z p) (sym (walk_take r.jobs s r.first r.place))
 
     no_work : (n : ℕ) → n ≡ 0 → eqb n 0 ≡ true
     no_work n h = grind (arith, nat_tests)

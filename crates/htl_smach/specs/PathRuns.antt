@@ -3,7 +3,7 @@
 use Rattle.std.specs.Prelude.{◌≡◌, ℕ, zero, suc, ◌+◌, ◌≤◌, ◌<◌, false, List, [], ◌++◌, length, get_or, take, drop, map, is_some}
 use Rattle.htl_walk.specs.declared.job.Job.{Job}
 use Rattle.htl_walk.specs.declared.schedule.SInstr.{SInstr}
-use Rattle.htl_walk.specs.Paths.{Leg, walk_path, end_to_end, AreInForm, AreChained}
+use Rattle.htl_walk.specs.Paths.{Leg, no_leg, walk_path, end_to_end, AreInForm, AreChained}
 use Rattle.htl_walk.specs.Refinement.{HaveLengths}
 use Rattle.htl_walk.specs.Walk.{finish}
 use Rattle.htl_smach.specs.declared.left.Left.{Left}
@@ -21,9 +21,6 @@ pub record PathRun : Type 0 where
   pub legs : List Leg
   -- for each list the instants until which it is asked to go on
   pub untils : List (List ℕ)
-
-abbrev pub no_leg : Leg
-no_leg = record { from = 0; to = 0; known = 0 }
 
 abbrev pub leg_at : PathRun → ℕ → Leg
 leg_at u j = get_or u.legs j no_leg
