@@ -19,7 +19,7 @@ pub use Rattle.htl_audit.specs.declared.slice.LogFault.{LogFault}
 pub use Rattle.htl_audit.specs.declared.slice.LogKind.{LogKind}
 pub use Rattle.htl_audit.specs.declared.slice.Slice.{Slice}
 pub use Rattle.htl_base.proofs.Numbers.{cases_below as order}
-pub use Rattle.htl_base.proofs.Places.{get_either}
+pub use Rattle.htl_base.proofs.Places.{get_either, get_mapped as mapped_at}
 pub use Rattle.htl_base.proofs.Words.{drop, inl, suc, take-length}
 pub use Rattle.htl_console.specs.declared.shown.Shown.{Shown}
 pub use Rattle.htl_console.specs.declared.shown.Shown.TheVariants.{Values}
@@ -51,7 +51,7 @@ pub use Rattle.htl_machine.proofs.TextSoFar.{later_leave}
 pub use Rattle.htl_machine.proofs.Tops.{climb, down}
 pub use Rattle.htl_machine.proofs.Turning.{done_exactly}
 pub use Rattle.htl_machine.proofs.Waking.{triggers_alike}
-pub use Rattle.htl_machine.proofs.Words.{AllWithin, AreCarried, AreFrames, AreInForm, AreInRange, AreJobsSoFar, AreOrdered, AreTookWithin, Calendar, ChangeLine, Content, DoneLine, Entry, Follows, Frame, GoesBy, HasPlaces, HasReadInputs, InstrLine, InvStands, IsAccepted, IsDue, IsEntry, IsFeasibleRun, IsFinished, IsInvInRange, IsJob, IsLength, IsLoaded, IsModeInRange, IsPast, IsSelection, IsServing, IsTookWithin, KeptApart, Left, Leg, Orders, Point, Puts, Puts-failed, Puts-second, Ready, Rises, Round, RunLine, RunningList, Runs, SMachineFollows, SMachineStands, Seen, SliceLine, StandsFor, StepLine, Tables, TotalsLine, Turn, ValuesFollow, absent_job, all_reads, all_writes, and_also, and_from, and_none, and_parts, append-nil, append_assoc, append_known, append_known-start, arith, at_place, before, before_of, begins, begins_as_job, begins_at, begins_by, begun_before, begun_by, below, capped, cases_below, cases_eq, cases_less_more, cases_lt, chosen, chosen_exact_apart, closed_slice_line, completed, count_by, count_left_before, derived_place, dispatch_begins, div-add-mod, done_some, e_done, e_path, each_at, effects, end_to_end, entry, eq-eqb, eqb-false, eqb-true, ext_get_or, feeds, feeds_at, filter, finish, finished_before, first_content, first_point, flat_map, frame_at, frame_divided, frame_job_lines, frame_jobs, frame_modes, frame_of, frame_places, frame_some, frame_start, frames_are_served, front_there, get_front, get_list_to, get_mapped, get_or-set_other, get_or-set_same, get_or_from_slice_get, history_local, hyper, in_flat, in_frame, in_round, instant_path, into_back, inv_at, inv_of_mode, inv_worst, invs_of, is_concrete, is_fed_by, is_job_line, is_position, is_read_from, is_root, item_at, itself, job_at, job_in, job_is, job_lines_at, job_lines_of, job_lines_to, job_there, joined, kept_all, kept_apart, known_by, last_point, le-leb, le-ltb, leb-false, leb-true, left_before, left_by, left_falls, left_in, legs_of, length-drop, length-list_to, length-set, length_mapped, lengths_of, lines_of, list_all, list_any, list_at, list_job_lines, list_point, list_to, lists_at, lists_from, lists_of, lt-leb, lt-ltb, ltb-false, ltb-true, map-append, map_at, map_same, mapped, mask, mask_bit, mod-lt, mode_module, mode_of, mode_period, modes_at, mul-div_cancel_left, mul-mod_right, multiple_of, nat_tests, ne_eqb, new_records_by, newest, next_point, no_place, node, none-some, not_some, now_of, numbered, of_bool, of_flat, of_places, old_records_by, option_map, or_left, or_parts, or_right, or_with_false, own_starts, parent_mode, path_of, place, placed_job, placed_present, places_ordered, ports, precedes, preempted, printed, rank, reading_of, records, refined, release, root_modules, root_periods, rounds, rounds_at, rounds_before, rounds_of, run_of, running_invs, same_Some, schedules_of, sense, shifted, shown_as, since, slice_between, slice_get, slice_get-get_or, slice_get_within, slice_inside, slice_onto, slices, some_time, spent, standing_at, standing_places, starts, starts_below, state, states_are_selections, stay_of, subst, sym, take-append_seam, taken_as, task_worst, text_between, text_lines, text_of, time_after, time_rises, times_grow, times_within, took, turn_at, turn_finished_by, turn_list, unit_period, unit_start, up_to, up_to_none, up_to_same, walk_from, walk_rises, walks_from, walks_of, window_end, window_within, with_sensors, work_present, work_some, writer_from}
+pub use Rattle.htl_machine.proofs.Words.{AllWithin, AreCarried, AreFrames, AreInForm, AreInRange, AreJobsSoFar, AreOrdered, AreTookWithin, Calendar, ChangeLine, Content, DoneLine, Entry, Follows, Frame, GoesBy, HasPlaces, HasReadInputs, InstrLine, InvStands, IsAccepted, IsDue, IsEntry, IsFeasibleRun, IsFinished, IsInvInRange, IsJob, IsLength, IsLoaded, IsModeInRange, IsPast, IsSelection, IsServing, IsTookWithin, KeptApart, Left, Leg, Orders, Point, Puts, Puts-failed, Puts-second, Ready, Rises, Round, RunLine, RunningList, Runs, SMachineFollows, SMachineStands, Seen, SliceLine, StandsFor, StepLine, Tables, TotalsLine, Turn, ValuesFollow, absent_job, add-mul-mod_self_left, all_reads, all_writes, and_also, and_from, and_none, and_parts, append-nil, append_assoc, append_known, append_known-start, arith, at_place, before, before_of, begins, begins_as_job, begins_at, begins_by, begun_before, begun_by, below, capped, cases_below, cases_eq, cases_less_more, cases_lt, chosen, chosen_exact_apart, closed_slice_line, completed, count_by, count_left_before, derived_place, dispatch_begins, div-add-mod, done_some, e_done, e_path, each_at, effects, end_to_end, entry, eq-eqb, eqb-false, eqb-true, ext_get_or, feeds, feeds_at, filter, finish, finished_before, first_content, first_point, flat_map, frame_at, frame_divided, frame_job_lines, frame_jobs, frame_modes, frame_of, frame_places, frame_some, frame_start, frames_are_served, front_there, get_front, get_list_to, get_mapped, get_or-set_other, get_or-set_same, get_or_from_slice_get, history_local, hyper, in_flat, in_frame, in_round, instant_path, into_back, inv_at, inv_of_mode, inv_worst, invs_of, is_concrete, is_fed_by, is_job_line, is_position, is_read_from, is_root, item_at, itself, job_at, job_in, job_is, job_lines_at, job_lines_of, job_lines_to, job_there, joined, kept_all, kept_apart, known_by, last_point, le-leb, le-ltb, leb-false, leb-true, left_before, left_by, left_falls, left_in, legs_of, length-drop, length-list_to, length-set, length_mapped, lengths_of, lines_of, list_all, list_any, list_at, list_job_lines, list_point, list_to, lists_at, lists_from, lists_of, lt-leb, lt-ltb, ltb-false, ltb-true, map-append, map_at, map_same, mapped, mask, mask_bit, mod-lt, mode_module, mode_of, mode_period, modes_at, mul-div_cancel_left, mul-mod_right, multiple_of, nat_tests, ne_eqb, new_records_by, newest, next_point, no_place, node, none-some, not_some, now_of, numbered, of_bool, of_flat, of_places, old_records_by, option_map, or_left, or_parts, or_right, or_with_false, own_starts, parent_mode, path_of, place, placed_job, placed_present, places_ordered, ports, precedes, preempted, printed, rank, reading_of, records, refined, release, root_modules, root_periods, rounds, rounds_at, rounds_before, rounds_of, run_of, running_invs, same_Some, schedules_of, sense, shifted, shown_as, since, slice_between, slice_get, slice_get-get_or, slice_get_within, slice_inside, slice_onto, slices, some_time, spent, standing_at, standing_places, starts, starts_below, state, states_are_selections, stay_of, subst, sym, take-append_seam, taken_as, task_worst, text_between, text_lines, text_of, time_after, time_rises, times_grow, times_within, took, turn_at, turn_finished_by, turn_list, unit_period, unit_start, up_to, up_to_none, up_to_same, walk_from, walk_rises, walks_from, walks_of, window_end, window_within, with_sensors, work_present, work_some, writer_from, mul_assoc}
 pub use Rattle.htl_machine.specs.Lines.{all_records}
 pub use Rattle.htl_machine.specs.declared.numbering.ListAt.{ListAt}
 pub use Rattle.htl_model.proofs.SelectionLaws.{all_places_below}
@@ -70,6 +70,8 @@ pub use Rattle.htl_model.specs.declared.state.Stay.{Stay}
 pub use Rattle.htl_object.proofs.Words.{map, none_marked, take}
 pub use Rattle.htl_object.specs.declared.object.Object.{Object}
 pub use Rattle.htl_refine.proofs.Chains.{Under, no_parent, one_top, same, under_more}
+pub use Rattle.htl_refine.proofs.ListsFollow.{leg_from, leg_knows, rises_next}
+pub use Rattle.htl_refine.proofs.NewJobs.{first_jobs, next_jobs}
 pub use Rattle.htl_refine.proofs.RisingPositions.{AreRising, running_rise}
 pub use Rattle.htl_refine.proofs.RoundLaws.{took_within, worst_some}
 pub use Rattle.htl_refine.proofs.SliceOrder.{slices_apart}
@@ -82,9 +84,12 @@ pub use Rattle.htl_smach.proofs.Words.{take_all}
 pub use Rattle.htl_walk.proofs.Accepted.{form_joined, met_same}
 pub use Rattle.htl_walk.proofs.JobLaws.{preds_of}
 pub use Rattle.htl_walk.proofs.Joining.{begun_idle, body}
+pub use Rattle.htl_walk.proofs.NodeWalks.{starts_order}
+pub use Rattle.htl_walk.proofs.Starts.{starts_rise}
 pub use Rattle.htl_walk.proofs.Words.{marked_within}
 pub use Rattle.htl_walk.specs.Walk.{position_of}
 pub use Rattle.htl_walk.specs.declared.job.Job.{Job}
 pub use Rattle.htl_walk.specs.declared.schedule.SInstr.{SInstr}
 pub use Rattle.htl_walk.specs.declared.schedule.SInstr.TheVariants.{Dispatch, End, Idle}
-pub use Rattle.std.proofs.lemmas.List.{append_cancel_left, take-append-le}
+pub use Rattle.std.proofs.Math.Nat.{two-pow-succ}
+pub use Rattle.std.proofs.lemmas.List.{append_cancel_left, drop-map, take-append-le, take-map}
