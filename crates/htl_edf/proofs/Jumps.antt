@@ -1,8 +1,9 @@
 -- The event scheduler's steps over lists.
-use Rattle.std.proofs.Common.{arith, ◌≡◌, ℕ, ◌+◌, ◌-◌, ◌<◌, ◌≤◌, length, get_or, set, List, leb, ltb, eqb, ◌&&◌, cond, true, false, sym, ap, ◌∙◌, refl, Option, Some, None, subst, IfSome, get_or-set_same, get_or-set_other, eq-eqb, ne_eqb, ◌⊎◌, inl, inr}
-use Rattle.htl_edf.proofs.Words.{cases_eq, absent_job, Tight, jobs_of, HoldsAfter, AreTightened, LeftAt, QuietFrom, Job}
+use Rattle.std.proofs.Common.{arith, ◌≡◌, ℕ, zero, suc, pos, ◌-ℤ◌, ◌+◌, ◌-◌, ◌<◌, ◌≤◌, length, get_or, set, List, leb, ltb, eqb, ◌&&◌, cond, true, false, sym, ap, ◌∙◌, refl, Option, Some, None, subst, IfSome, get_or-set_same, get_or-set_other, eq-eqb, ne_eqb, ◌⊎◌, inl, inr}
+use Rattle.htl_edf.proofs.Words.{cases_eq, has_bit, has_no_bit, absent_job, Tight, jobs_of, HoldsAfter, AreTightened, LeftAt, QuietFrom, Job}
 use Rattle.htl_edf.specs.Tight.{release_at, end_at, tight}
 use Rattle.htl_edf.specs.Edf.{earliest, edf, left}
+use Rattle.htl_edf.proofs.Tightening.{greatest_skipped, least_skipped}
 use Rattle.htl_edf.proofs.Ticks.{earliest-same, jump, jump_runs, wait, wait_idles, chosen, Quiet, left_start}
 
 pub edf_from_list : (js : List Job) (ls : List ℕ) (t : ℕ) → LeftAt js ls t → earliest (λ q. leb (release_at (jobs_of js) (length js) q) t && ltb 0 (get_or ls q 0)) (end_at (jobs_of js) (length js)) (length js) ≡ edf (tight (jobs_of js)) t
@@ -54,6 +55,30 @@ left_at_start js ls h = record { lefts = λ q l. h q l ∙ sym (left_start (tigh
 pub are_tightened : (js : List Job) (ts : List Tight) → HoldsAfter js ts (length js) → AreTightened js ts
 unfolding tight
 are_tightened js ts h = record { releases = h.releases; ends = h.ends }
+
+-- where no position waits for another the windows are the jobs' own
+module _ (js : List Job) (none : (q : ℕ) → q < length js → (get_or js q absent_job).preds ≡ 0) where
+  free : (p q : ℕ) → q < length js → (jobs_of js).before p q ≡ false
+  free p q l = ap (λ n. has_bit n p) (none q l) ∙ has_no_bit p
+
+  free_release : (k q : ℕ) → q < length js → release_at (jobs_of js) k q ≡ (jobs_of js).release q
+  free_release zero q l = refl
+  free_release (suc k) q l =
+      let j = jobs_of js in
+      greatest_skipped (λ p. j.before p q) (λ p. release_at j k p + j.worst p) (j.release q) 0 (length js) (omega arith) (λ p a b. free p q l)
+
+  free_end : (k p : ℕ) → p < length js → end_at (jobs_of js) k p ≡ pos ((jobs_of js).end p)
+  free_end zero p l = refl
+  free_end (suc k) p l =
+      let j = jobs_of js in
+      least_skipped (λ q. j.before p q) (λ q. end_at j k q -ℤ pos (j.worst q)) (pos (j.end p)) 0 (length js) (omega arith) (λ q a b. free p q b)
+
+  pub holds_free : (ts : List Tight) → HoldsAfter js ts 0 → AreTightened js ts
+  holds_free ts h =
+      are_tightened js ts (record {
+        releases = λ q l. h.releases q l ∙ ap pos (sym (free_release (length js) q l));
+        ends = λ q l. h.ends q l ∙ sym (free_end (length js) q l);
+      })
 
 pub holds_all : (js : List Job) (ts : List Tight) → AreTightened js ts → HoldsAfter js ts (length js)
 unfolding tight

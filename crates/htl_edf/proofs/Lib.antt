@@ -10,6 +10,7 @@ pub mod FrameTasks
 pub mod Fronts
 pub mod Greatest
 pub mod GreatestRows
+pub mod InTime
 pub mod Jumps
 pub mod Kept
 pub mod MoreWork

@@ -4,10 +4,11 @@ pub use Rattle.htl_base.proofs.Words.{All-cons, All-nil, Any-from_list_any, IfOk
 pub use Rattle.htl_base.specs.declared.Ty.{Ty}
 pub use Rattle.htl_edf.specs.Code.{closed_of, dispatches_of, edf_schedule, open_of}
 pub use Rattle.htl_edf.specs.Edf.{Slice, earliest, edf, edf_on, left, longer, maximal_slices, run_for}
+pub use Rattle.htl_edf.specs.Faults.{IsReport}
 pub use Rattle.htl_edf.specs.FrameSamples.{IsFramed, frame_comm, frame_comms, frame_inv, frame_invs, frame_mode, frame_modes, frame_modules, frame_sample, frame_sample_of, frame_task, frame_tasks}
 pub use Rattle.htl_edf.specs.Greatest.{FewerFit, Fits, FrameWithWorst, GreatestByOneMore, LimitsWithWorst, OneGreatest, OwnWorst, ReadyWithWorst, with_worst, worst_in}
 pub use Rattle.htl_edf.specs.Laws.{Acceptance, FunctionsDecideNoPlan, HaveWork, IsFrontOf, OneReport, TightWindows, Tightening}
-pub use Rattle.htl_edf.specs.Lists.{AgreeBelow, AreTightened, HoldsAfter, LeftAt, QuietFrom, jobs_of, no_window, tightened}
+pub use Rattle.htl_edf.specs.Lists.{AgreeBelow, AreInTime, AreTightened, HoldsAfter, LeftAt, QuietFrom, jobs_of, no_window, tightened}
 pub use Rattle.htl_edf.specs.MoreWork.{AreLonger, AsksMore, IsLonger, LongerOverload, MoreWork, ShorterFit, StaysOverloaded}
 pub use Rattle.htl_edf.specs.NodePlans.{AreNodeLists, ArePlannedTo, AreReady, ExplainsNodes, HasPart, HaveParts, IsPathReady, NodesAccepted, NodesRefused, OneListOfNode}
 pub use Rattle.htl_edf.specs.PartLaws.{OneNodePart, OnePart, PathAcceptance, PathRefusal}

@@ -1,12 +1,17 @@
 -- What a fault of the scheduler says.
-use Rattle.std.specs.Prelude.{ℕ, List, pos}
+use Rattle.std.specs.Prelude.{ℕ, List, Option, MatchOption, pos}
 use Rattle.htl_walk.specs.declared.job.Job.{Job}
 use Rattle.htl_walk.specs.declared.schedule.SInstr.{SInstr}
 use Rattle.htl_walk.specs.Walk.{ScheduleIsAccepted}
+use Rattle.htl_edf.specs.declared.overload.Overload.{Overload as Interval}
 use Rattle.htl_edf.specs.declared.scheduler.EdfFault.{EdfFault}
 use Rattle.htl_edf.specs.declared.scheduler.EdfFault.TheVariants.{Overload, Memory}
-use Rattle.htl_edf.specs.Windows.{Reported, NoOverload}
+use Rattle.htl_edf.specs.Windows.{Windows, Reported, NoOverload}
 use Rattle.htl_edf.specs.Lists.{tightened}
+
+-- the interval that is reported for windows; None where none is overloaded
+abbrev pub IsReport : Windows → Option Interval → Type 0
+IsReport v o = MatchOption o (NoOverload v) (λ i. Reported v i.from (pos i.to) i.demand)
 
 -- no S code whatever is accepted for the jobs
 abbrev pub NoneIsAccepted : List Job → ℕ → Type 0

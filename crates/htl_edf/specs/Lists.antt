@@ -1,12 +1,12 @@
 -- Jobs of a list, by position, and what is asked of them.
-use Rattle.std.specs.Prelude.{◌≡◌, ℕ, ◌<◌, ◌≤◌, List, length, get_or, pos}
+use Rattle.std.specs.Prelude.{◌≡◌, ℕ, ◌<◌, ◌≤◌, List, length, get_or, Some, pos, ◌<ℤ◌}
 use Rattle.htl_model.specs.Bits.{cell}
 use Rattle.htl_walk.specs.declared.job.Job.{Job}
 use Rattle.htl_walk.specs.Jobs.{absent_job, precedes}
 use Rattle.htl_edf.specs.declared.rounds.Tight.{Tight}
 use Rattle.htl_edf.specs.Tight.{Jobs, tight, release_at, end_at}
 use Rattle.htl_edf.specs.Windows.{Windows}
-use Rattle.htl_edf.specs.Edf.{left}
+use Rattle.htl_edf.specs.Edf.{edf, left}
 
 abbrev pub jobs_of : List Job → Jobs
 jobs_of js = record {
@@ -45,6 +45,10 @@ pub record AreTightened (js : List Job) (ts : List Tight) : Type 0 where
 -- the numbers are the ticks that the positions have left at t
 pub record LeftAt (js : List Job) (ls : List ℕ) (t : ℕ) : Type 0 where
   pub lefts : (q : ℕ) → q < length js → get_or ls q 0 ≡ left (tightened js) t q
+
+-- each tick from a to b that earliest deadline first gives to a position is before its tightened end
+abbrev pub AreInTime : List Job → ℕ → ℕ → Type 0
+AreInTime js a b = (x q : ℕ) → a ≤ x → x < b → edf (tightened js) x ≡ Some q → pos x <ℤ (tightened js).due q
 
 -- no position is released after t and before h
 pub record QuietFrom (js : List Job) (t h : ℕ) : Type 0 where

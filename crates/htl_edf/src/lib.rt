@@ -2,7 +2,6 @@
 #![tactic(auto)]
 
 mod bits;
-mod dispatches;
 mod events;
 mod in_order;
 pub mod laws;

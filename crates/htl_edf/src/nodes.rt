@@ -1,5 +1,5 @@
 // A schedule for each node of a frame.
-ghost use Rattle.std.specs.Prelude.{◌≡◌, ◌≤◌, ◌<◌, ℕ, length, pos, None, IfOk, OnOk, IfErr, MatchOption};
+ghost use Rattle.std.specs.Prelude.{◌≡◌, ◌≤◌, ◌<◌, ℕ, true, length, pos, None, IfOk, OnOk, IfErr, MatchOption};
 ghost use Rattle.htl_model.specs.Frames.{frame_limit, starts as starts_of, paths as paths_of, nodes as nodes_of_frame};
 ghost use Rattle.htl_model.specs.FrameRules.{KeptApart};
 ghost use Rattle.htl_model.specs.FrameTables.{IsFrame};
@@ -8,15 +8,18 @@ ghost use Rattle.htl_walk.specs.WellFormed.{AreWellFormed};
 ghost use Rattle.htl_walk.specs.Feasible.{AreFeasible};
 ghost use Rattle.htl_walk.specs.NodeWalks.{instrs_of as lists_in};
 ghost use Rattle.htl_edf.specs.Windows.{NoOverload, Reported};
-ghost use Rattle.htl_edf.specs.Lists.{tightened, LeftAt};
+ghost use Rattle.htl_edf.specs.Lists.{tightened, LeftAt, HoldsAfter};
 ghost use Rattle.htl_edf.specs.Ranks.{AreRanked};
 ghost use Rattle.htl_edf.specs.NodePlans.{AreReady, ArePlannedTo, AreNodeLists, ExplainsNodes};
+ghost use Rattle.htl_edf.specs.Faults.{IsReport};
 
-use crate::events::{Ahead, advance, horizon, start};
+use crate::events::start;
 pub use crate::overload::Overload;
-use crate::parts::run_part;
-use crate::ranks::{Ranks, rank};
-use crate::{EdfFault, PlanFault, Tight, edf, tighten};
+use crate::overload::find_overload;
+use crate::parts::{are_done, run_part, run_until};
+use crate::ranks::{Ranks, rank_jobs};
+use crate::scheduler::overload_of;
+use crate::{PlanFault, Tight};
 use htl_base::limits::MAX_POSITIONS;
 use htl_base::{Seq, Time};
 use htl_model::Tables;
@@ -25,124 +28,99 @@ use htl_walk::node_walk::{fork, node};
 use htl_walk::{Job, Schedule, frame_jobs};
 use std::alloc::{AllocError, Global};
 
-// Runs from one instant to another.
-fn run_until(ranks: Ranks<'_>, left: &mut [Time], from: Time, to: Time)
-    requires ranked { AreRanked ranks.jobs.now ranks.by_end.now ranks.by_release.now }
-    requires left_same { length left.old ≡ length ranks.jobs.now }
-    requires lefts { LeftAt ranks.jobs.now left.old from }
-    requires order { from ≤ to }
-    requires to { to ≤ 1000000 }
-    ensures left_same { length left.new ≡ length left.old }
-    ensures lefts { LeftAt ranks.entry.jobs.now left.new to }
-{
-    let mut t = from;
-    let mut ahead = Ahead::START;
-    while t < to {
-        ahead = horizon(ranks, left, t, ahead, to);
-        let (_, event) = advance(ranks, left, &mut ahead, t);
-        t = event;
-    }
-}
-
-// The overloaded interval of a path. It is searched for only where the schedule of earliest deadline first misses.
-fn path_overload(alloc: Global, t: &Tables, f: &Frame, path: u32) -> Option<Overload>
+// The interval that is reported for a path, if one is overloaded.
+fn path_overload(t: &Tables, f: &Frame, path: u32) -> Option<Overload>
     requires frame { IsFrame t.now f.now }
     requires ready { AreReady t.now }
     requires path { path < paths_of t.now }
-    ensures { MatchOption result (NoOverload (tightened (path_jobs_of t.now path))) (λ i. Reported (tightened (path_jobs_of t.now path)) i.from (pos i.to) i.demand) }
+    ensures { IsReport (tightened (path_jobs_of t.now path)) result }
 {
     let mut jobs = [Job::ABSENT; MAX_POSITIONS];
     let count = frame_jobs(t, f, path, &mut jobs);
-    match edf(alloc, &jobs[..count], f.starts[f.count]) {
-        Ok(_) => None,
-        Err(EdfFault::Memory) => None,
-        Err(EdfFault::Overload { from, to, demand }) => Some(Overload { from, to, demand }),
-    }
+    overload_of(&jobs[..count], f.starts[f.count])
 }
 
-// A path of a frame.
+// A path of a frame, and the first of its lists that it doesn't share with the path before it.
 #[derive(Clone, Copy)]
 struct Path<'a> {
     tables: &'a Tables,
     frame: &'a Frame,
     number: u32,
+    first: usize,
 }
 
-// Makes the lists of a path, whose jobs these are and have their worst cases left, from list `first` on.
+// Makes the lists of a path that it doesn't share, from its jobs with their worst cases left: whether all work is done in time.
 fn plan_lists(
     alloc: Global,
     path: Path<'_>,
-    first: usize,
     ranks: Ranks<'_>,
     left: &mut [Time],
     v: &mut Vec<Schedule>,
-) -> Result<(), AllocError>
+) -> Result<bool, AllocError>
     requires frame { IsFrame path.tables.now path.frame.now }
     requires ready { AreReady path.tables.now }
     requires path { path.number < paths_of path.tables.now }
-    requires first { first ≤ length (starts_of path.tables.now) }
-    requires planned { ArePlannedTo path.tables.now v.old.items path.number first }
+    requires first { path.first ≤ length (starts_of path.tables.now) }
+    requires planned { ArePlannedTo path.tables.now v.old.items path.number path.first }
     requires jobs { ranks.jobs.now ≡ path_jobs_of path.tables.now path.number }
     requires ranked { AreRanked ranks.jobs.now ranks.by_end.now ranks.by_release.now }
+    requires windows { HoldsAfter ranks.jobs.now ranks.windows.now (length ranks.jobs.now) }
+    requires windows_same { length ranks.windows.now ≡ length ranks.jobs.now }
     requires left_same { length left.old ≡ length ranks.jobs.now }
     requires lefts { LeftAt ranks.jobs.now left.old 0 }
-    ensures { OnOk result (ArePlannedTo path.entry.tables.now v.new.items path.entry.number (length (starts_of path.entry.tables.now))) }
+    ensures planned { OnOk result (ArePlannedTo path.entry.tables.now v.new.items path.entry.number (length (starts_of path.entry.tables.now))) }
+    ensures fits { IfOk result (λ b. b ≡ true → NoOverload (tightened (path_jobs_of path.entry.tables.now path.entry.number))) }
 {
     let starts = path.frame.starts;
-    run_until(ranks, left, 0, starts[first]);
-    for j in first..path.frame.count {
-        let instrs = run_part(alloc, ranks, left, starts[j], starts[j + 1], 0)?;
+    let mut is_in_time = run_until(ranks, left, 0, starts[path.first]);
+    for j in path.first..path.frame.count {
+        let part = run_part(alloc, ranks, left, starts[j], starts[j + 1], is_in_time)?;
+        is_in_time = part.is_in_time;
         v[node(path.tables, path.frame, path.number, j) as usize] = Schedule {
-            instrs: Seq::new(instrs),
+            instrs: Seq::new(part.instrs),
         };
     }
-    Ok(())
+    let is_done = are_done(left);
+    Ok(is_in_time && is_done)
 }
 
-// Writes the positions by end and the ranks by release of these jobs' tightened windows, as `Ranks` has them.
-fn rank_jobs(jobs: &[Job], by_end: &mut [u64], by_release: &mut [u64])
-    requires jobs { AreWellFormed jobs.now }
-    requires ends_same { length by_end.old ≡ length jobs.now }
-    requires releases_same { length by_release.old ≡ length jobs.now }
-    ensures { AreRanked jobs.now by_end.new by_release.new }
-{
-    let mut windows = [Tight { release: 0, end: 0 }; MAX_POSITIONS];
-    let tight = &mut windows[..jobs.len()];
-    tighten(jobs, tight);
-    rank(jobs, tight, by_end, by_release);
-}
-
-// Makes the lists of a path from list `first` on.
+// Makes the lists of a path that it doesn't share, and finds the interval that is reported for it, if one is overloaded.
 fn plan_path(
     alloc: Global,
     path: Path<'_>,
-    first: usize,
     v: &mut Vec<Schedule>,
-) -> Result<(), AllocError>
+) -> Result<Option<Overload>, AllocError>
     requires frame { IsFrame path.tables.now path.frame.now }
     requires ready { AreReady path.tables.now }
     requires path { path.number < paths_of path.tables.now }
-    requires first { first ≤ length (starts_of path.tables.now) }
-    requires planned { ArePlannedTo path.tables.now v.old.items path.number first }
-    ensures { OnOk result (ArePlannedTo path.entry.tables.now v.new.items path.entry.number (length (starts_of path.entry.tables.now))) }
+    requires first { path.first ≤ length (starts_of path.tables.now) }
+    requires planned { ArePlannedTo path.tables.now v.old.items path.number path.first }
+    ensures planned { OnOk result (ArePlannedTo path.entry.tables.now v.new.items path.entry.number (length (starts_of path.entry.tables.now))) }
+    ensures overload { IfOk result (IsReport (tightened (path_jobs_of path.entry.tables.now path.entry.number))) }
 {
     let mut room = [Job::ABSENT; MAX_POSITIONS];
     let count = frame_jobs(path.tables, path.frame, path.number, &mut room);
     let jobs = &room[..count];
-    let mut left = [0; MAX_POSITIONS];
+    let mut windows = [Tight { release: 0, end: 0 }; MAX_POSITIONS];
     let mut ends = [0; MAX_POSITIONS];
     let mut releases = [0; MAX_POSITIONS];
-    let left = &mut left[..count];
+    let mut left = [0; MAX_POSITIONS];
+    let windows = &mut windows[..count];
     let by_end = &mut ends[..count];
     let by_release = &mut releases[..count];
-    rank_jobs(jobs, by_end, by_release);
+    let left = &mut left[..count];
+    rank_jobs(jobs, windows, by_end, by_release);
     start(jobs, left);
     let ranks = Ranks {
         jobs,
+        windows,
         by_end,
         by_release,
     };
-    plan_lists(alloc, path, first, ranks, left, v)
+    if plan_lists(alloc, path, ranks, left, v)? {
+        return Ok(None);
+    }
+    Ok(find_overload(jobs, windows))
 }
 
 // As many empty schedules.
@@ -166,20 +144,43 @@ fn empty_lists(alloc: Global, n: u32) -> Result<Vec<Schedule>, AllocError>
 /// within the frame, small numbers, and predecessors without a cycle. So they are where the form rules are kept, by the law
 /// `ready`, and then with any worst case of a task, by the law `ready_with_worst`.
 ///
-/// For each path up to the one that is found it makes the jobs and one schedule of the whole frame as `edf` does. Want of
-/// memory for that schedule doesn't change the answer.
-pub fn first_overload(alloc: Global, t: &Tables, f: &Frame) -> Option<(u32, Overload)>
+/// Each path up to the one that is found is run through the whole frame, as `edf` does; no list is made and no memory taken.
+pub fn first_overload(t: &Tables, f: &Frame) -> Option<(u32, Overload)>
     requires frame { IsFrame t.now f.now }
     requires ready { AreReady t.now }
     ensures { MatchOption result ((k : ℕ) → k < paths_of t.now → NoOverload (tightened (path_jobs_of t.now k)))
         (λ o. (o.0 < paths_of t.now) × ((k : ℕ) → k < o.0 → NoOverload (tightened (path_jobs_of t.now k))) × Reported (tightened (path_jobs_of t.now o.0)) o.1.from (pos o.1.to) o.1.demand) }
 {
     for path in 0..f.paths {
-        if let Some(interval) = path_overload(alloc, t, f, path) {
+        if let Some(interval) = path_overload(t, f, path) {
             return Some((path, interval));
         }
     }
     None
+}
+
+// The fault where memory is short: the first path that is overloaded, and else want of memory.
+fn without_memory(t: &Tables, f: &Frame) -> PlanFault
+    requires frame { IsFrame t.now f.now }
+    requires ready { AreReady t.now }
+    ensures { ExplainsNodes t.now result }
+{
+    match first_overload(t, f) {
+        Some((path, interval)) => overloaded(path, interval),
+        None => PlanFault::Memory,
+    }
+}
+
+// The fault of an overloaded path.
+fn overloaded(path: u32, interval: Overload) -> PlanFault
+    ensures { result ≡ PlanFault.Overload path interval.from interval.to interval.demand }
+{
+    PlanFault::Overload {
+        selection: path,
+        from: interval.from,
+        to: interval.to,
+        demand: interval.demand,
+    }
 }
 
 /// The schedules of earliest deadline first for the nodes, as `edf_nodes` gives them, of tables that keep the limits of
@@ -194,26 +195,25 @@ pub fn plan_nodes(alloc: Global, t: &Tables) -> Result<Vec<Schedule>, PlanFault>
     ensures fault { IfErr result (λ e. ExplainsNodes t.now e) }
 {
     let f = Frame::survey(t);
-    if let Some((selection, i)) = first_overload(alloc, t, &f) {
-        return Err(PlanFault::Overload {
-            selection,
-            from: i.from,
-            to: i.to,
-            demand: i.demand,
-        });
-    }
     let Ok(mut v) = empty_lists(alloc, f.nodes) else {
-        return Err(PlanFault::Memory);
+        return Err(without_memory(t, &f));
     };
-    for path in 0..f.paths {
-        let first = if path == 0 { 0 } else { fork(t, &f, path - 1) };
+    for number in 0..f.paths {
+        let first = if number == 0 {
+            0
+        } else {
+            fork(t, &f, number - 1)
+        };
         let path = Path {
             tables: t,
             frame: &f,
-            number: path,
+            number,
+            first,
         };
-        if plan_path(alloc, path, first, &mut v).is_err() {
-            return Err(PlanFault::Memory);
+        match plan_path(alloc, path, &mut v) {
+            Ok(None) => {}
+            Ok(Some(interval)) => return Err(overloaded(number, interval)),
+            Err(_) => return Err(without_memory(t, &f)),
         }
     }
     Ok(v)
@@ -227,9 +227,10 @@ pub fn plan_nodes(alloc: Global, t: &Tables) -> Result<Vec<Schedule>, PlanFault>
 /// nodes. `Overload` comes exactly where a path is overloaded, and names the first; then no lists whatever are accepted.
 /// Want of memory comes only where none is.
 ///
-/// For each path it makes the jobs and one schedule of the whole frame as `edf` does, which tells whether the path is
-/// overloaded; the interval is searched for at one path at most. Then each path is run up to where it leaves the path
-/// before it, and the list of each of its further nodes is made once. Memory is taken for lists alone.
+/// Each path is run once through the whole frame, as `edf` does: up to where it leaves the path before it without a list, and
+/// from there on with a list for each of its further nodes. The run tells whether the path is overloaded, and the interval is
+/// searched for at one path at most. Memory is taken for lists alone; where it is short, the paths are gone over once more
+/// without lists, for the first that is overloaded.
 pub fn edf_nodes(alloc: Global, t: &Tables) -> Result<Vec<Schedule>, PlanFault>
     requires limits { frame_limit t.now ≡ None }
     requires formed { KeptApart t.now 12 }

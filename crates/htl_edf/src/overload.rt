@@ -1,6 +1,6 @@
 // The search for an overloaded interval (the processor demand test: Baruah, Rosier and Howell 1990).
-ghost use Rattle.std.specs.Prelude.{◌≡◌, ◌≤◌, ◌<◌, length, pos, IfSome, MatchOption};
-ghost use Rattle.htl_edf.specs.Windows.{NoOverload, Reported};
+ghost use Rattle.std.specs.Prelude.{◌≡◌, ◌≤◌, ◌<◌, length, IfSome};
+ghost use Rattle.htl_edf.specs.Faults.{IsReport};
 ghost use Rattle.htl_edf.specs.Tight.{NoCycle};
 ghost use Rattle.htl_walk.specs.WellFormed.{AreWellFormed};
 ghost use Rattle.htl_edf.specs.Lists.{jobs_of, tightened, HoldsAfter};
@@ -121,7 +121,7 @@ pub fn find_overload(jobs: &[Job], windows: &[Tight]) -> Option<Overload>
     requires order { NoCycle (jobs_of jobs.now) }
     requires at { HoldsAfter jobs.now windows.now (length jobs.now) }
     requires same { length windows.now ≡ length jobs.now }
-    ensures { MatchOption result (NoOverload (tightened jobs.now)) (λ i. Reported (tightened jobs.now) i.from (pos i.to) i.demand) }
+    ensures { IsReport (tightened jobs.now) result }
 {
     let q = last_end(jobs, windows)?;
     let p = first_release(jobs, windows, q)?;

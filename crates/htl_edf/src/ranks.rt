@@ -1,22 +1,26 @@
 // The positions by rank: that with the least tightened end first, of those that end together the lower.
-ghost use Rattle.std.specs.Prelude.{◌≡◌, ℕ, ◌+◌, ◌<◌, ◌≤◌, ◌^◌, length, get_or, pos, nat_abs, ◌+ℤ◌, ◌≤ℤ◌};
+ghost use Rattle.std.specs.Prelude.{◌≡◌, ℕ, ◌+◌, ◌<◌, ◌≤◌, ◌^◌, true, length, get_or, pos, nat_abs, ◌+ℤ◌, ◌≤ℤ◌, IfSome};
 ghost use Rattle.htl_walk.specs.WellFormed.{AreWellFormed};
-ghost use Rattle.htl_edf.specs.Lists.{HoldsAfter};
+ghost use Rattle.htl_edf.specs.Tight.{end_at};
+ghost use Rattle.htl_edf.specs.Lists.{HoldsAfter, jobs_of};
 ghost use Rattle.htl_edf.specs.Ranks.{item as item_of, number_of, time_of, end_time as end_time_of, release_time, AreInOrder, AreRanked};
 
-use crate::Tight;
+use crate::{Tight, tighten};
 use htl_base::Time;
 use htl_walk::Job;
 
 // More than the work of a chain of jobs takes from an end.
 const OFFSET: i64 = 1 << 28;
 
-/// Jobs with their positions in the order of the tightened ends, and the ranks in that order in the order of the tightened
-/// releases. An item is a time and a number below 128 in one: a position with its end, or a rank with its release.
+/// Jobs with their tightened windows, their positions in the order of the tightened ends, and the ranks in that order in the
+/// order of the tightened releases. An item is a time and a number below 128 in one: a position with its end, or a rank with
+/// its release.
 #[derive(Clone, Copy)]
 pub struct Ranks<'a> {
     /// The jobs, by position.
     pub jobs: &'a [Job],
+    /// Their tightened windows, by position.
+    pub windows: &'a [Tight],
     /// The positions with their ends, by end.
     pub by_end: &'a [u64],
     /// The ranks with their releases, by release.
@@ -51,6 +55,20 @@ impl Ranks<'_> {
         ensures { result ≡ time_of self.entry.by_release.now n }
     {
         self.by_release[n] / 128
+    }
+
+    /// Whether all ran in time so far, and what ran up to an event, if anything did, ran within its tightened window.
+    pub fn stays_in_time(self, so_far: bool, runs: Option<usize>, event: Time) -> bool
+        requires windows { HoldsAfter self.jobs.now self.windows.now (length self.jobs.now) }
+        requires windows_same { length self.windows.now ≡ length self.jobs.now }
+        requires within { IfSome runs (λ p. p < length self.jobs.now) }
+        requires early { event ≤ 1000000 }
+        ensures { result ≡ true → (so_far ≡ true) × IfSome runs (λ p. pos event ≤ℤ end_at (jobs_of self.entry.jobs.now) (length self.entry.jobs.now) p) }
+    {
+        match runs {
+            Some(p) => so_far && event as i64 <= self.windows[p].end,
+            None => so_far,
+        }
     }
 }
 
@@ -101,8 +119,8 @@ fn fill_releases(jobs: &[Job], windows: &[Tight], by_end: &[u64], items: &mut [u
     }
 }
 
-/// Writes the positions by end and the ranks by release, as `Ranks` has them, in the time of a sort each.
-pub fn rank(jobs: &[Job], windows: &[Tight], by_end: &mut [u64], by_release: &mut [u64])
+// Writes the positions by end and the ranks by release, as `Ranks` has them.
+fn rank(jobs: &[Job], windows: &[Tight], by_end: &mut [u64], by_release: &mut [u64])
     requires jobs { AreWellFormed jobs.now }
     requires at { HoldsAfter jobs.now windows.now (length jobs.now) }
     requires same { length windows.now ≡ length jobs.now }
@@ -114,4 +132,18 @@ pub fn rank(jobs: &[Job], windows: &[Tight], by_end: &mut [u64], by_release: &mu
     by_end.sort_unstable();
     fill_releases(jobs, windows, by_end, by_release);
     by_release.sort_unstable();
+}
+
+/// Writes the tightened windows of jobs, and their positions by end and their ranks by release, as `Ranks` has them. Beside
+/// the cost of `tighten` it takes the time of two sorts.
+pub fn rank_jobs(jobs: &[Job], windows: &mut [Tight], by_end: &mut [u64], by_release: &mut [u64])
+    requires jobs { AreWellFormed jobs.now }
+    requires same { length windows.old ≡ length jobs.now }
+    requires ends_same { length by_end.old ≡ length jobs.now }
+    requires releases_same { length by_release.old ≡ length jobs.now }
+    ensures windows { HoldsAfter jobs.now windows.new (length jobs.now) }
+    ensures ranked { AreRanked jobs.now by_end.new by_release.new }
+{
+    tighten(jobs, windows);
+    rank(jobs, windows, by_end, by_release);
 }

@@ -3,6 +3,7 @@ ghost use Rattle.std.specs.Prelude.{◌≡◌, ◌≤◌, ◌<◌, ℕ, suc, tru
 ghost use Rattle.htl_model.specs.Bits.{cell};
 ghost use Rattle.htl_edf.specs.Tight.{release_at, end_at};
 ghost use Rattle.htl_edf.specs.Lists.{jobs_of, AreSuccessors, HoldsAfter, AgreeBelow, AreTightened, no_window};
+ghost use Rattle.htl_walk.specs.Jobs.{absent_job};
 ghost use Rattle.htl_walk.specs.WellFormed.{AreWellFormed};
 
 use crate::bits::{next_bit, note_in_rows};
@@ -137,6 +138,13 @@ fn tighten_in_rounds(jobs: &[Job], successors: &[u128], out: &mut [Tight])
     }
 }
 
+// Whether no position waits for another.
+fn are_free(jobs: &[Job]) -> bool
+    ensures { result ≡ true → (q : ℕ) → q < length jobs.now → (get_or jobs.now q absent_job).preds ≡ 0 }
+{
+    jobs.iter().all(|job| job.preds == 0)
+}
+
 /// Writes the tightened windows of at most 128 jobs to `out`, which is as long as `jobs`. A release is the greatest of the
 /// job's own and, over its direct predecessors, their tightened releases and worst cases together; an end is the least of
 /// the job's own and, over its direct successors, their tightened ends less their worst cases (Blazewicz 1976; Chetto,
@@ -147,13 +155,17 @@ fn tighten_in_rounds(jobs: &[Job], successors: &[u128], out: &mut [Tight])
 /// have no tightened windows; what is written then means nothing. A bit of `preds` at the number of jobs or above names no
 /// position and is passed over.
 ///
-/// Each way one pass over the positions and over the pairs of a position and a direct predecessor. Only with a cycle there
-/// are such passes up to the number of jobs.
+/// Each way one pass over the positions and over the pairs of a position and a direct predecessor; where there is no such pair,
+/// one pass over the positions. Only with a cycle there are such passes up to the number of jobs.
 pub fn tighten(jobs: &[Job], out: &mut [Tight])
     requires jobs { AreWellFormed jobs.now }
     requires same { length out.old ≡ length jobs.now }
     ensures { AreTightened jobs.now out.new }
 {
+    if are_free(jobs) {
+        fill(jobs, out);
+        return;
+    }
     let mut predecessors = [0u128; MAX_POSITIONS];
     let mut successors = [0u128; MAX_POSITIONS];
     fill_predecessors(jobs, &mut predecessors);

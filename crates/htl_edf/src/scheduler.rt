@@ -6,16 +6,16 @@ ghost use Rattle.htl_edf.specs.Tight.{NoCycle};
 ghost use Rattle.htl_walk.specs.WellFormed.{AreWellFormed, EndWithin};
 ghost use Rattle.htl_edf.specs.Lists.{jobs_of, tightened, HoldsAfter};
 ghost use Rattle.htl_edf.specs.Code.{edf_schedule};
-ghost use Rattle.htl_edf.specs.Faults.{Explains};
+ghost use Rattle.htl_edf.specs.Faults.{Explains, IsReport};
 
-use crate::dispatches::run_all;
+use crate::Tight;
 use crate::events::start;
-use crate::overload::find_overload;
-use crate::ranks::{Ranks, rank};
-use crate::{Tight, tighten};
+use crate::overload::{Overload, find_overload};
+use crate::parts::{are_done, run_part, run_until};
+use crate::ranks::{Ranks, rank_jobs};
 use htl_base::limits::MAX_POSITIONS;
 use htl_base::{Seq, Time};
-use htl_walk::{Job, Schedule, worst};
+use htl_walk::{Job, Schedule};
 use std::alloc::Global;
 
 /// Why there is no schedule.
@@ -30,8 +30,8 @@ pub enum EdfFault {
     Memory,
 }
 
-// Why there is no schedule, where the walk of earliest deadline first misses or memory was short: the overloaded interval, and
-// else want of memory.
+// Why there is no schedule, where earliest deadline first is late or memory was short: the overloaded interval, and else want of
+// memory.
 fn refusal(jobs: &[Job], windows: &[Tight]) -> EdfFault
     requires jobs { AreWellFormed jobs.now }
     requires order { NoCycle (jobs_of jobs.now) }
@@ -49,8 +49,8 @@ fn refusal(jobs: &[Job], windows: &[Tight]) -> EdfFault
     }
 }
 
-// The schedule, with room for the windows and the work left. An interval is overloaded exactly where the walk misses, so the
-// search for it is made only then.
+// The schedule, with room for the windows and the work left. An interval is overloaded exactly where a position is late, so
+// the search for it is made only then.
 fn schedule(
     alloc: Global,
     jobs: &[Job],
@@ -70,28 +70,60 @@ fn schedule(
     ensures fits { OnOk result (NoOverload (tightened jobs.now)) }
     ensures fault { IfErr result (λ e. Explains jobs.now period e) }
 {
-    tighten(jobs, windows);
-    start(jobs, left);
     let mut ends = [0; MAX_POSITIONS];
     let mut releases = [0; MAX_POSITIONS];
     let by_end = &mut ends[..jobs.len()];
     let by_release = &mut releases[..jobs.len()];
-    rank(jobs, windows, by_end, by_release);
+    rank_jobs(jobs, windows, by_end, by_release);
+    start(jobs, left);
     let ranks = Ranks {
         jobs,
+        windows,
         by_end,
         by_release,
     };
-    let Ok(instrs) = run_all(alloc, ranks, left, period) else {
+    let Ok(part) = run_part(alloc, ranks, left, 0, period, true) else {
         return Err(refusal(jobs, windows));
     };
-    let s = Schedule {
-        instrs: Seq::new(instrs),
-    };
-    match worst(jobs, &s, period, left) {
-        Ok(()) => Ok(s),
-        Err(_) => Err(refusal(jobs, windows)),
+    let is_done = are_done(left);
+    if part.is_in_time && is_done {
+        return Ok(Schedule {
+            instrs: Seq::new(part.instrs),
+        });
     }
+    Err(refusal(jobs, windows))
+}
+
+/// The interval that `edf` reports for such jobs, whose windows may end after the period; None where none is overloaded. No
+/// memory is taken. The cost is that of `edf`.
+pub fn overload_of(jobs: &[Job], period: Time) -> Option<Overload>
+    requires jobs { AreWellFormed jobs.now }
+    requires order { NoCycle (jobs_of jobs.now) }
+    requires period { period ≤ 1000000 }
+    ensures { IsReport (tightened jobs.now) result }
+{
+    let mut windows = [Tight { release: 0, end: 0 }; MAX_POSITIONS];
+    let mut ends = [0; MAX_POSITIONS];
+    let mut releases = [0; MAX_POSITIONS];
+    let mut left = [0; MAX_POSITIONS];
+    let windows = &mut windows[..jobs.len()];
+    let by_end = &mut ends[..jobs.len()];
+    let by_release = &mut releases[..jobs.len()];
+    let left = &mut left[..jobs.len()];
+    rank_jobs(jobs, windows, by_end, by_release);
+    start(jobs, left);
+    let ranks = Ranks {
+        jobs,
+        windows,
+        by_end,
+        by_release,
+    };
+    let is_in_time = run_until(ranks, left, 0, period);
+    let is_done = are_done(left);
+    if is_in_time && is_done {
+        return None;
+    }
+    find_overload(jobs, windows)
 }
 
 /// The schedule of earliest deadline first (Dertouzos 1974, Horn 1974) over the tightened windows: at each tick the released
@@ -105,9 +137,8 @@ fn schedule(
 /// code whatever is accepted for these jobs; want of memory comes only where there is a schedule.
 ///
 /// Beside the cost of `tighten` it sorts the positions by end and by release. Then it goes from event to event, an event
-/// being a release or the end of a position's work, at a cost that doesn't depend on the number of jobs. The walk takes as
-/// long as there are dispatches. Only where there is no schedule is the interval searched for, in up to the cube of the
-/// number of jobs.
+/// being a release or the end of a position's work, at a cost that doesn't depend on the number of jobs. Only where there is
+/// no schedule is the interval searched for, in up to the cube of the number of jobs.
 pub fn edf(alloc: Global, jobs: &[Job], period: Time) -> Result<Schedule, EdfFault>
     requires jobs { AreWellFormed jobs.now }
     requires order { NoCycle (jobs_of jobs.now) }

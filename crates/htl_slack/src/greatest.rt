@@ -13,7 +13,7 @@ ghost use Rattle.htl_slack.specs.Slack.{NoneOverloaded, StandsAbove};
 use crate::SlackReport;
 use crate::search::search;
 use crate::tasks::module_period;
-use htl_base::Memory;
+use htl_base::{Memory, Seq};
 use htl_edf::{PlanFault, plan_nodes};
 use htl_model::Tables;
 use htl_model::frame::Frame;
@@ -31,7 +31,7 @@ use std::alloc::Global;
 /// `Memory`.
 ///
 /// More work keeps every overload, so the number is searched for by halves: at most 20 tries on one copy of the tables, each
-/// with a schedule of the whole frame for each path. The lists are made once, at the end.
+/// with a run of each path through the whole frame. The lists are made once, at the end.
 pub fn slack(alloc: Global, t: &Tables, task: u16) -> Result<SlackReport, Memory>
     requires code { AreCode t.now }
     requires formed { KeptApart t.now 12 }
@@ -40,19 +40,19 @@ pub fn slack(alloc: Global, t: &Tables, task: u16) -> Result<SlackReport, Memory
     requires invoked { IsRootTask t.now task }
     ensures greatest { IfOk result (λ r. IsGreatest t.now task (limit_of t.now task) r.greatest) }
     ensures above { IfOk result (λ r. StandsAbove t.now task (limit_of t.now task) r.greatest r.above) }
-    ensures count { IfOk result (λ r. length r.lists.items ≡ nodes t.now) }
-    ensures lists { IfOk result (λ r. AreNodeLists (with_worst t.now task r.greatest) (lists_in r.lists.items)) }
-    ensures accepted { IfOk result (λ r. AreFeasible (with_worst t.now task r.greatest) (lists_in r.lists.items)) }
+    ensures count { IfOk result (λ r. length r.lists ≡ nodes t.now) }
+    ensures lists { IfOk result (λ r. AreNodeLists (with_worst t.now task r.greatest) (lists_in r.lists)) }
+    ensures accepted { IfOk result (λ r. AreFeasible (with_worst t.now task r.greatest) (lists_in r.lists)) }
 {
     t.keeps_ranges();
     let copy = t.copy(alloc)?;
     let frame = Frame::survey(t);
     let limit = module_period(t, task);
-    let found = search(alloc, copy, &frame, task, limit);
+    let found = search(copy, &frame, task, limit);
     match plan_nodes(alloc, &found.tables) {
         Ok(lists) => Ok(SlackReport {
             greatest: found.greatest,
-            lists,
+            lists: Seq::new(lists),
             above: found.above,
         }),
         Err(PlanFault::Memory) => Err(Memory),

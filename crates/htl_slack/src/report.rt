@@ -1,5 +1,5 @@
 // What is told of a task.
-use htl_base::Time;
+use htl_base::{Seq, Time};
 use htl_walk::Schedule;
 
 /// The first path that a worst case of one tick more overloads.
@@ -21,7 +21,7 @@ pub struct SlackReport {
     /// The greatest worst case, in ticks, up to the period of the task's module, for which no path is overloaded.
     pub greatest: u32,
     /// The schedules of earliest deadline first with this worst case, one for each node.
-    pub lists: Vec<Schedule>,
+    pub lists: Seq<Schedule>,
     /// What stands in the way of one tick more; None where the greatest is the period of the task's module.
     pub above: Option<Above>,
 }

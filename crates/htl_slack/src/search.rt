@@ -12,7 +12,6 @@ use htl_edf::first_overload;
 use htl_model::Tables;
 use htl_model::frame::Frame;
 use htl_model::lookup::task_worst;
-use std::alloc::Global;
 
 /// What the search found.
 pub struct Found {
@@ -33,27 +32,25 @@ impl Drop for Found {
 }
 
 // The first path of the tables that is overloaded.
-fn overload_in(alloc: Global, t: &Tables, frame: &Frame) -> Option<Above>
+fn overload_in(t: &Tables, frame: &Frame) -> Option<Above>
     requires frame { IsFrame t.now frame.now }
     requires ready { AreReady t.now }
     ensures { MatchOption result (NoneOverloaded t.now) (λ a. IsFirstOverload t.now a) }
 {
-    match first_overload(alloc, t, frame) {
-        None => None,
-        Some((selection, interval)) => Some(Above {
-            selection,
-            from: interval.from,
-            to: interval.to,
-            demand: interval.demand,
-        }),
-    }
+    let (selection, interval) = first_overload(t, frame)?;
+    Some(Above {
+        selection,
+        from: interval.from,
+        to: interval.to,
+        demand: interval.demand,
+    })
 }
 
 /// The greatest worst case of a task up to a limit for which no path is overloaded, on tables whose own one is such.
 ///
-/// It is searched for by halves between the own one and the limit: at most 20 tries, each with a schedule of the whole frame
-/// for each path.
-pub fn search(alloc: Global, t: Tables, frame: &Frame, task: u16, limit: u32) -> Found
+/// It is searched for by halves between the own one and the limit: at most 20 tries, each with a run of each path through the
+/// whole frame. No memory is taken.
+pub fn search(t: Tables, frame: &Frame, task: u16, limit: u32) -> Found
     requires frame { IsFrame t frame.now }
     requires ready { AreReady t }
     requires fits { NoneOverloaded t }
@@ -73,7 +70,7 @@ pub fn search(alloc: Global, t: Tables, frame: &Frame, task: u16, limit: u32) ->
     while low + 1 < high {
         let worst = low + (high - low) / 2;
         tables = with_worst(tables, task, worst);
-        match overload_in(alloc, &tables, frame) {
+        match overload_in(&tables, frame) {
             None => low = worst,
             Some(found) => {
                 high = worst;

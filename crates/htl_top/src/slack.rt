@@ -57,7 +57,7 @@ fn find_task(t: &Tables, owner: &Name, name: &Name) -> Option<u16>
 // The slack of a task of an accepted object.
 fn slack_in(alloc: Global, l: &Loaded, task: u16) -> Result<SlackReport, Memory>
     requires { IsRootTask l.now.tables task }
-    ensures { IfOk result (λ r. IsSlack l.now.tables task r.greatest r.above r.lists.items) }
+    ensures { IfOk result (λ r. IsSlack l.now.tables task r.greatest r.above r.lists) }
 {
     slack(alloc, l.tables(), task)
 }
@@ -131,7 +131,7 @@ fn write_slack<W: Sink>(
 ) -> Result<(), Failed>
     requires { task < length t.now.tasks }
     ensures { Puts (W.written out.old) (W.written out.new) (W.faults out.old) (W.faults out.new)
-        (slack_text t.now owner.now name.now task report.now.greatest report.now.above report.now.lists.items) result }
+        (slack_text t.now owner.now name.now task report.now.greatest report.now.above report.now.lists) result }
 {
     let first = slack_line(owner, name, task_worst(t, task), report.greatest);
     if let Err(failed) = put_all(out, first.as_bytes()) {

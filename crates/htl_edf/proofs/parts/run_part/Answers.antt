@@ -1,5 +1,6 @@
 use Rattle.std.proofs.Common.{arith, rules, ◌∙◌, ◌-◌, refl}
 use Rattle.htl_edf.proofs.Words.{jobs_of, tight, edf, slices_from}
+use Rattle.htl_edf.proofs.InTime.{in_time_none, in_time_more}
 use Rattle.htl_edf.proofs.PartRuns.{part_some, part_idle, part_none}
 use Rattle.htl_edf.proofs.ReadyRanks.{ahead_start}
 use Rattle.htl_edf.proofs.parts.run_part.Goals as goal
@@ -14,6 +15,7 @@ loop-t-init c =
       within = c.requires.order;
       until = omega arith;
       ahead = ahead_start c.args.ranks.jobs.now c.args.ranks.by_end.now c.args.ranks.by_release.now c.requires.ranked c.args.left.now c.args.from;
+      in_time = λ h. (h, in_time_none c.args.ranks.jobs.now c.args.from);
       closed = rw e search rules;
       last = rw e refl;
     }
@@ -30,6 +32,10 @@ loop-t-preserved c =
       within = omega (arith, m.within, c.horizon-ahead.ensures.within);
       until = omega (arith, m.until, c.horizon-ahead.ensures.within);
       ahead = m.ahead;
+      in_time = λ h.
+          let both = c.stays_in_time-is_in_time.ensures h in
+          let before = c.loop-t.invariant.in_time both.0 in
+          (before.0, in_time_more c.args.ranks.jobs.now c.args.from c.loop-t.t c.advance-runs.result.1 c.advance-runs.result.0 before.1 m.runs both.1);
       closed = rw e c.loop-t.invariant.closed;
       last = rw e c.loop-t.invariant.last;
     }
@@ -47,6 +53,10 @@ loop-t-preserved-in_ok-last c =
       within = omega (arith, m.within, c.horizon-ahead.ensures.within);
       until = omega (arith, m.until, c.horizon-ahead.ensures.within);
       ahead = m.ahead;
+      in_time = λ h.
+          let both = c.stays_in_time-is_in_time.ensures h in
+          let before = c.loop-t.invariant.in_time both.0 in
+          (before.0, in_time_more c.args.ranks.jobs.now c.args.from c.loop-t.t c.advance-runs.result.1 c.advance-runs.result.0 before.1 m.runs both.1);
       closed = rw e r.1;
       last = rw e r.0;
     }

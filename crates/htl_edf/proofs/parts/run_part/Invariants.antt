@@ -1,5 +1,5 @@
-use Rattle.std.proofs.Common.{◌≡◌, ◌≤◌, ◌-◌, length}
-use Rattle.htl_edf.proofs.Words.{jobs_of, LeftAt, tight, edf, closed_of, open_of, slices_from, IsAhead}
+use Rattle.std.proofs.Common.{◌≡◌, ◌≤◌, ◌-◌, true, length}
+use Rattle.htl_edf.proofs.Words.{jobs_of, LeftAt, AreInTime, tight, edf, closed_of, open_of, slices_from, IsAhead}
 use Rattle.htl_edf.proofs.parts.run_part.Given as goal
 
 abbrev pub invariant-loop-t : goal.invariant-loop-t
@@ -10,6 +10,7 @@ invariant-loop-t l = record {
   within : l.t ≤ l.to;
   until : l.ahead.until ≤ l.to;
   ahead : IsAhead l.ranks.jobs.now l.ranks.by_end.now l.ranks.by_release.now l.left l.t l.ahead.until l.ahead.ready l.ahead.released;
+  in_time : l.is_in_time ≡ true → (l.was_in_time ≡ true) × AreInTime l.ranks.jobs.now l.from l.t;
   closed : l.instrs.items ≡ closed_of (slices_from (edf (tight (jobs_of l.ranks.jobs.now))) l.from (l.t - l.from));
   last : l.last ≡ open_of (slices_from (edf (tight (jobs_of l.ranks.jobs.now))) l.from (l.t - l.from));
 }

@@ -1,32 +1,34 @@
-use Rattle.std.proofs.Common.{◌≤◌, ◌+◌, ◌∙◌, sym, subst, length, arith}
-use Rattle.htl_edf.proofs.Jumps.{holds_all}
-use Rattle.htl_edf.proofs.Walking.{schedule_short}
-use Rattle.htl_edf.proofs.Walks.{no_schedule}
+use Rattle.std.proofs.Common.{◌≡◌, ◌≤◌, ◌+◌, ◌∙◌, List, length, sym, subst}
+use Rattle.htl_edf.proofs.Words.{NoOverload, SInstr, ScheduleIsAccepted, edf_schedule, tightened}
+use Rattle.htl_edf.proofs.Cutting.{whole_part}
+use Rattle.htl_edf.proofs.InTime.{none_overloaded}
+use Rattle.htl_edf.proofs.Walking.{meets_and_accepted, schedule_short}
 use Rattle.htl_edf.proofs.scheduler.schedule.Goals as goal
 
-pub rank-requires-clause-at : goal.rank-requires-clause-at
-rank-requires-clause-at c = holds_all c.args.jobs.now _ c.tighten.ensures
+is_edf : (c : goal.After-new) → c.in-Ok.part.instrs.items ≡ edf_schedule c.args.jobs.now c.args.period
+is_edf c = c.in-Ok.ensures.part ∙ whole_part c.args.jobs.now c.args.period
 
-pub refusal-requires-clause-at : goal.refusal-requires-clause-at
-refusal-requires-clause-at c = holds_all c.args.jobs.now _ c.tighten.ensures
+fits : (c : goal.After-new) → NoOverload (tightened c.args.jobs.now)
+fits c =
+    let e = c.in-Ok.ensures in
+    none_overloaded c.args.jobs.now c.requires.jobs c.args.period c.run_part.new.left (e.in_time c.if-part.true).1 e.lefts e.left_same (c.are_done-is_done.ensures c.if-is_done.true)
 
-pub refusal-requires-in-Err-clause-at : goal.refusal-requires-in-Err-clause-at
-refusal-requires-in-Err-clause-at c = holds_all c.args.jobs.now _ c.tighten.ensures
+pub returns-then-is_done-clause-schedule : goal.returns-then-is_done-clause-schedule
+returns-then-is_done-clause-schedule c = c.new.ensures ∙ is_edf c
+
+pub returns-then-is_done-clause-accepted : goal.returns-then-is_done-clause-accepted
+returns-then-is_done-clause-accepted c =
+    subst (ScheduleIsAccepted c.args.jobs.now c.args.period) (sym (c.new.ensures ∙ is_edf c)) (meets_and_accepted c.args.jobs.now c.requires.jobs c.requires.order c.args.period c.requires.ends (fits c)).1
+
+pub returns-then-is_done-clause-short : goal.returns-then-is_done-clause-short
+returns-then-is_done-clause-short c =
+    subst (λ (s : List SInstr). length s ≤ c.args.period + 1) (sym (c.new.ensures ∙ is_edf c)) (schedule_short c.args.jobs.now c.args.period)
+
+pub returns-then-is_done-clause-fits : goal.returns-then-is_done-clause-fits
+returns-then-is_done-clause-fits c = fits c
+
+pub returns-clause-fault : goal.returns-clause-fault
+returns-clause-fault c = c.refusal-2.ensures c.args.period
 
 pub returns-in_default-clause-fault : goal.returns-in_default-clause-fault
 returns-in_default-clause-fault c = c.refusal.ensures c.args.period
-
-pub returns-in-Err-clause-fault : goal.returns-in-Err-clause-fault
-returns-in-Err-clause-fault c = c.refusal-in-Err.ensures c.args.period
-
-pub worst-requires-clause-instrs : goal.worst-requires-clause-instrs
-worst-requires-clause-instrs c =
-    let js = c.args.jobs.now in
-    let is : length c.new.result ≤ c.args.period + 1 = subst (λ s. length s ≤ c.args.period + 1) (sym (c.new.ensures ∙ c.in-Ok.ensures)) (schedule_short js c.args.period) in
-    omega (arith, is, c.requires.period)
-
-pub returns-in-Ok-worst-clause-short : goal.returns-in-Ok-worst-clause-short
-returns-in-Ok-worst-clause-short c = subst (λ s. length s ≤ c.args.period + 1) (sym (c.new.ensures ∙ c.in-Ok.ensures)) (schedule_short c.args.jobs.now c.args.period)
-
-pub returns-in-Ok-worst-clause-fits : goal.returns-in-Ok-worst-clause-fits
-returns-in-Ok-worst-clause-fits c = λ a b m o. no_schedule c.args.jobs.now c.requires.jobs c.requires.order a b m o c.args.period c.new.result c.in-Ok-worst.ensures.accepted

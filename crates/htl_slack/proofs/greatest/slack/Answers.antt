@@ -51,7 +51,7 @@ pub returns-in-Ok-clause-count : goal.returns-in-Ok-clause-count
 returns-in-Ok-clause-count c =
     let g = c.search-found.result.greatest in
     let e : c.search-found.result.tables ≡ with_worst c.args.t.now c.args.task g = c.search-found.ensures.tables ∙ ap (λ (u : Tables). with_worst u c.args.task g) c.in_ok-copy.ensures in
-    c.in-Ok.ensures.count ∙ ap nodes e ∙ nodes_same c.args.t.now c.survey-frame.result c.args.task g c.survey-frame.ensures
+    ap length c.new.ensures ∙ c.in-Ok.ensures.count ∙ ap nodes e ∙ nodes_same c.args.t.now c.survey-frame.result c.args.task g c.survey-frame.ensures
 
 pub unreachable-requires : goal.unreachable-requires
 unreachable-requires c =
