@@ -1,6 +1,6 @@
 -- No communicator is written twice at once, where the rule on concrete writers is kept.
-use Rattle.std.proofs.Common.{◌≡◌, ◌≢◌, ℕ, zero, suc, ◌<◌, true, false, eqb, List, [], Option, Some, None, refl, sym, ap, ◌∙◌, arith, ◌⊎◌, inl, inr}
-use Rattle.htl_machine.proofs.Words.{eqb-true, eq-eqb, cases_eq, Comm, Stay, Tables, comm_period, mode_module, AreInRange, IsInvInRange, IsEndInRange, IsCommInRange, ConcreteWriters, Output, OutputBefore, KeptApart, stay_of, runs, IsDue, AreDistinct, IsStanding, each_at, item_at, same_Some, times_same, cases_less_more}
+use Rattle.std.proofs.Common.{◌≡◌, ◌≢◌, ℕ, zero, suc, ◌<◌, true, false, eqb, List, Option, Some, None, refl, sym, ap, ◌∙◌, arith, ◌⊎◌, inl, inr}
+use Rattle.htl_machine.proofs.Words.{eq-eqb, cases_eq, Comm, Stay, Tables, comm_period, mode_module, AreInRange, IsInvInRange, IsEndInRange, IsCommInRange, ConcreteWriters, Output, OutputBefore, KeptApart, stay_of, runs, IsDue, AreDistinct, IsStanding, each_at, item_at, same_Some, times_same, cases_less_more, runs_is}
 use Rattle.htl_model.specs.declared.parts.End.TheVariants as E
 use Rattle.htl_model.specs.SecondWriters.{OnPath, itself, above, StandTogether, AreSameWrite, WritesBefore}
 
@@ -13,13 +13,6 @@ no_least P f l p = by_bound (suc l) l (omega arith) p
     by_bound (suc b) l h p = f l p (λ m g q. by_bound b m (omega arith) q)
 
 -- ---- the modes of a path run together
-
-pub runs_is : (t : Tables) (stays : List (Option Stay)) (m : ℕ) → runs t stays m ≡ true → (y : Stay) × (stay_of stays (mode_module t m) ≡ Some y) × (y.mode ≡ m)
-runs_is t stays m e = by_stay (stay_of stays (mode_module t m)) refl e
-  where
-    by_stay : (o : Option Stay) → stay_of stays (mode_module t m) ≡ o → elim o [ Some x ↦ eqb x.mode m | None ↦ false ] ≡ true → (y : Stay) × (stay_of stays (mode_module t m) ≡ Some y) × (y.mode ≡ m)
-    by_stay None is f = absurd (let z : ⊥ = cc in z)
-    by_stay (Some y) is f = (y, is, eqb-true y.mode m f)
 
 pub stay_runs : (t : Tables) (stays : List (Option Stay)) (m s : ℕ) → stay_of stays (mode_module t m) ≡ Some (record { mode = m; start = s }) → runs t stays m ≡ true
 stay_runs t stays m s e = ap (λ (o : Option Stay). elim o [ Some x ↦ eqb x.mode m | None ↦ false ]) e ∙ eq-eqb m m refl

@@ -1,6 +1,6 @@
 -- The jobs of who stands at the positions of a frame stand.
 use Rattle.std.proofs.Common.{◌≡◌, ℕ, zero, suc, ◌+◌, ◌≤◌, Bool, true, false, ◌&&◌, cond, eqb, List, [], ◌∷◌, slice_get, map, take, Option, Some, None, option_map, refl, sym, ap, ap₂, ◌∙◌, subst, arith, inl, inr}
-use Rattle.htl_machine.proofs.Words.{eq-eqb, cases_lt, and_from, slice_get-map, get_or_from_slice_get, same_Some, Inv, Stay, Tables, release, window_end, task_worst, no_place, writer_from, feeds, Job, is_fed_by, mask, precedes, absent_job, job_at, mask_bit, get_mapped, Place, job_in, placed, placed_job, placed_jobs, later_or, position_from, InvStands, IsJob, AreJobsSoFar, place, front_there, take_map, IsFramePlacing, JobsOfPlacing, not_some, job_is, and_none}
+use Rattle.htl_machine.proofs.Words.{eq-eqb, cases_lt, and_from, slice_get-map, get_or_from_slice_get, same_Some, Inv, Stay, Tables, release, window_end, task_worst, no_place, writer_from, feeds, Job, is_fed_by, mask, precedes, absent_job, job_at, mask_bit, get_mapped, Place, job_in, placed, placed_job, placed_jobs, later_or, position_from, InvStands, IsJob, AreJobsSoFar, place, front_there, take-map, IsFramePlacing, JobsOfPlacing, not_some, job_is, and_none}
 use Rattle.htl_model.specs.declared.parts.End.TheVariants as E
 use Rattle.htl_machine.proofs.Outs.{writer_is}
 use Rattle.htl_machine.proofs.JobWindows.{position_some, position_none}
@@ -155,7 +155,7 @@ module _ (t : Tables) (stays : List (Option Stay)) (frame n m : ℕ) (all : List
       }
 
   pub jobs_of : AreJobsSoFar t stays frame n (take m (placed_jobs t all))
-  jobs_of = subst (AreJobsSoFar t stays frame n) (sym (take_map (placed_job t all) m all)) jobs_so
+  jobs_of = subst (AreJobsSoFar t stays frame n) (sym (take-map (placed_job t all) m all)) jobs_so
 
 pub jobs_of_placing : JobsOfPlacing
 jobs_of_placing t stays frame n m all placing = jobs_of t stays frame n m all placing

@@ -1,6 +1,6 @@
 -- The S machine as a list begins behind a frame's start.
 use Rattle.std.proofs.Common.{◌≡◌, ◌≢◌, ℕ, zero, suc, ◌+◌, ◌-◌, ◌%◌, ◌≤◌, ◌<◌, Bool, true, false, cond, List, [], ◌∷◌, ◌++◌, length, get_or, map, slice_get, take, drop, Some, refl, sym, ap, ap₂, ◌∙◌, subst, arith, inl, inr, length-append}
-use Rattle.htl_machine.proofs.Words.{ne_eqb, cases_eq, length-map, Event, frame_of, starts, known_by, Tables, Job, SInstr, HaveLengths, AreWithinWorst, Point, work, CanBegin, Round, round_begun, added, stands_added, new_jobs, Frame, frame_modes, frame_places, frame_at, IsFollowed, leg_at, list_plan, modes_at, took, IsFeasibleRun, take_map, lists_follow, leg_from, leg_knows, next_jobs, have_lengths, within_worst, frame_start, SMachineAt, list_begun, CanStart, IsAtEnd, ListsAreBegun, Turn, more_jobs, more_lengths, turn_of, list_turn, kept_lengths}
+use Rattle.htl_machine.proofs.Words.{ne_eqb, cases_eq, length-map, Event, frame_of, starts, known_by, Tables, Job, SInstr, HaveLengths, AreWithinWorst, Point, work, CanBegin, Round, round_begun, added, stands_added, new_jobs, Frame, frame_modes, frame_places, frame_at, IsFollowed, leg_at, list_plan, modes_at, took, IsFeasibleRun, take-map, lists_follow, leg_from, leg_knows, next_jobs, have_lengths, within_worst, frame_start, SMachineAt, list_begun, CanStart, IsAtEnd, ListsAreBegun, Turn, more_jobs, more_lengths, turn_of, list_turn, kept_lengths, drop-map}
 use Rattle.htl_machine.proofs.JobWindows.{get_map}
 use Rattle.htl_machine.proofs.ListBegun.{first_can, first_s_machine}
 use Rattle.htl_machine.proofs.NextSMachines.{s_machines_go_on, even}
@@ -18,11 +18,6 @@ same_work (j ∷ js) (n ∷ ns) (m ∷ ms) e h =
     by true f = h 0 j refl f
     by false f = refl
 same_work (j ∷ js) _ _ e h = absurd (omega (arith, e))
-
-drop_map : {A B : Type 0} (g : A → B) (n : ℕ) (xs : List A) → drop n (map g xs) ≡ map g (drop n xs)
-drop_map g zero xs = refl
-drop_map g (suc n) [] = refl
-drop_map g (suc n) (x ∷ xs) = drop_map g n xs
 
 module _ (t : Tables) (lists : List (List SInstr)) (es : List Event) (run : IsFeasibleRun t lists es) (n : ℕ) (here : (list_turn t lists es (suc n)).frame + (list_turn t lists es (suc n)).from ≡ suc n) (more : suc n % frame_of t ≢ 0)
     (takes : List ℕ) (takes_are : (i u : ℕ) → suc n ≤ u → get_or takes i 0 ≡ took t es i u) (r : Round)
@@ -90,7 +85,7 @@ module _ (t : Tables) (lists : List (List SInstr)) (es : List Event) (run : IsFe
   lengths_are : more_lengths (frame_at t lists es (frame_start t n)) (list_turn t lists es n).list ≡ map (λ (k : Job). took t es k.inv (frame_start t n + k.release)) (more_jobs (frame_at t lists es (frame_start t n)) (list_turn t lists es n).list)
   lengths_are =
       let g : Job → ℕ = λ k. took t es k.inv (f + k.release) in
-      ap (drop (leg_at p j).known) (take_map g (leg_at p (suc j)).known p.jobs) ∙ drop_map g (leg_at p j).known (take (leg_at p (suc j)).known p.jobs)
+      ap (drop (leg_at p j).known) (take-map g (leg_at p (suc j)).known p.jobs) ∙ drop-map g (leg_at p j).known (take (leg_at p (suc j)).known p.jobs)
 
   gone : CanBegin r (suc n - r.start) (more_jobs (frame_at t lists es (frame_start t n)) (list_turn t lists es n).list) (more_lengths (frame_at t lists es (frame_start t n)) (list_turn t lists es n).list)
       × SMachineAt (list_plan (frame_at t lists es (frame_start t n)) (suc (list_turn t lists es n).list)) (frame_start t n) 0 (leg_at (frame_at t lists es (frame_start t n)) (suc (list_turn t lists es n).list)).from

@@ -1,6 +1,6 @@
 -- The S machine as a list of a run begins.
 use Rattle.std.proofs.Common.{◌≡◌, ℕ, ◌+◌, ◌-◌, ◌%◌, ◌≤◌, ◌<◌, cond, List, [], ◌∷◌, length, get_or, map, take, refl, sym, ap, ap₂, ◌∙◌, subst, arith}
-use Rattle.htl_machine.proofs.Words.{eq-eqb, lt-ltb, length-map, Event, Place, frame_of, starts, known_by, Tables, Job, SInstr, Leg, AreInForm, path_point, HaveLengths, AreWithinWorst, Point, InForm, first_point, Round, round_begun, added, stands_begun, new_jobs, Frame, frame_modes, frame_places, frame_at, no_leg, leg_at, front_of, list_start, lengths_of, modes_at, took, IsFeasibleRun, take_map, take_work, first_jobs, frame_start, SMachineAt, list_begun, Turn, IsListed, list_turn, kept_lengths, leg_knows}
+use Rattle.htl_machine.proofs.Words.{eq-eqb, lt-ltb, length-map, Event, Place, frame_of, starts, known_by, Tables, Job, SInstr, Leg, AreInForm, path_point, HaveLengths, AreWithinWorst, Point, InForm, first_point, Round, round_begun, added, stands_begun, new_jobs, Frame, frame_modes, frame_places, frame_at, no_leg, leg_at, front_of, list_start, lengths_of, modes_at, took, IsFeasibleRun, take-map, take_work, first_jobs, frame_start, SMachineAt, list_begun, Turn, IsListed, list_turn, kept_lengths, leg_knows}
 use Rattle.htl_walk.specs.Paths as paths
 use Rattle.htl_machine.proofs.SMachineInstants.{none_released}
 use Rattle.htl_machine.proofs.NextLists.{offset, first_next}
@@ -41,7 +41,7 @@ module _ (t : Tables) (lists : List (List SInstr)) (es : List Event) (run : IsFe
 
   -- the lengths of the list's jobs
   lengths_are : (list_turn t lists es at).plan.lengths ≡ lengths_of t es (frame_start t at) (list_turn t lists es at).plan.jobs
-  lengths_are = take_map (λ (j : Job). took t es j.inv (f + j.release)) (leg_at p u.list).known p.jobs
+  lengths_are = take-map (λ (j : Job). took t es j.inv (f + j.release)) (leg_at p u.list).known p.jobs
 
   module _ (zero_is : at % frame_of t ≡ 0) (takes : List ℕ) (takes_are : (i u : ℕ) → at ≤ u → get_or takes i 0 ≡ took t es i u) where
     starts_at : frame_start t at ≡ at

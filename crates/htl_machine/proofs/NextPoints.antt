@@ -17,18 +17,6 @@ get_behind zero xs p = let z : p ≡ 0 + p = omega arith in ap (λ k. get_or xs 
 get_behind (suc n) [] p = refl
 get_behind (suc n) (x ∷ xs) p = get_behind n xs p ∙ (let z : suc (n + p) ≡ suc n + p = omega arith in ap (λ k. get_or (x ∷ xs) k 0) z)
 
--- with the work that the list before it left
-pub point_next : (jobs : List Job) (ss : List (List SInstr)) (gs : List Leg) (j : ℕ) (x : Point) → AreInForm ss gs → suc j < length gs
-    → path_point jobs ss gs (suc j) 0 x ≡ list_point (get_or gs (suc j) no_leg).from (last_point jobs (get_or ss j []) (path_point jobs ss gs j 0 x))
-point_next jobs [] [] j x f h = absurd (omega arith)
-point_next jobs [] (g ∷ gs) j x f h = absurd f
-point_next jobs (s ∷ ss) [] j x f h = absurd f
-point_next jobs (s ∷ []) (g ∷ []) zero x f h = absurd (omega arith)
-point_next jobs (s ∷ []) (g ∷ k ∷ gs) zero x f h = absurd f.1
-point_next jobs (s ∷ u ∷ ss) (g ∷ []) zero x f h = absurd (omega arith)
-point_next jobs (s ∷ u ∷ ss) (g ∷ k ∷ gs) zero x f h = refl
-point_next jobs (s ∷ ss) (g ∷ gs) (suc j) x f h = point_next jobs ss gs j (last_point jobs s (list_point g.from x)) f.1 (omega arith)
-
 -- what the lists before it don't know is as it was
 pub point_untouched : (jobs : List Job) (ss : List (List SInstr)) (gs : List Leg) (j : ℕ) (x : Point) (p : ℕ) → AreInForm ss gs → j < length gs → ((i : ℕ) → i < j → (get_or gs i no_leg).known ≤ p)
     → get_or (path_point jobs ss gs j 0 x).left p 0 ≡ get_or x.left p 0

@@ -1,7 +1,7 @@
 -- A list ends, and the S machine goes on with the next.
 use Rattle.std.proofs.Common.{◌≡◌, ℕ, zero, suc, ◌+◌, ◌-◌, ◌≤◌, ◌<◌, Bool, true, false, ◌&&◌, ltb, List, [], ◌∷◌, ◌++◌, length, take, drop, get_or, slice_get, replicate, Some, refl, sym, ap, ap₂, ◌∙◌, subst, arith, length-append, ⊎_elim}
-use Rattle.htl_machine.proofs.Words.{cases_lt, lt-ltb, le-ltb, length-take, length-drop, length-map, Job, Point, job_at, last_point, first_point, work, list_point, AgreeAt, HaveLengths, AreWithinWorst, onward_lists, same_length, job_there, CanBegin, IsEven, Pending, Round, added, state_of, stands_added, pending_is, Frame, IsFollowed, leg_at, front_of, list_start, list_plan, point_long, take_work, front_agrees, point_agrees, form_at, released_before, SMachineAt, more_jobs, more_lengths, SMachinesGoOn, front_more, get_taken, take_all, work_length, same_number_lists}
-use Rattle.htl_machine.proofs.NextPoints.{drop_work, get_behind, point_next, point_untouched}
+use Rattle.htl_machine.proofs.Words.{cases_lt, lt-ltb, le-ltb, length-take, length-drop, length-map, Job, Point, job_at, last_point, first_point, work, list_point, AgreeAt, HaveLengths, AreWithinWorst, onward_lists, same_length, job_there, CanBegin, IsEven, Pending, Round, added, state_of, stands_added, pending_is, Frame, IsFollowed, leg_at, front_of, list_start, list_plan, point_long, take_work, front_agrees, point_agrees, form_at, released_before, SMachineAt, more_jobs, more_lengths, SMachinesGoOn, front_more, get_taken, take_all, work_length, same_number_lists, point_next}
+use Rattle.htl_machine.proofs.NextPoints.{drop_work, get_behind, point_untouched}
 use Rattle.htl_machine.proofs.Releasing.{flag_at}
 
 -- ---- releases

@@ -1,7 +1,7 @@
 -- Lists of two runs whose sensors and lengths agree before an instant are the same before it.
 use Rattle.std.proofs.Common.{◌≡◌, ℕ, suc, ◌+◌, ◌-◌, ◌≤◌, ◌<◌, List, length, get_or, map, take, Option, sym, ap, ap₂, ◌∙◌, arith, option_map}
 use mathlib.Core.Path.{fun_ext}
-use Rattle.htl_machine.proofs.Words.{get_or_from_slice_get, Event, State, Stay, frame_of, starts, node, root_periods, Tables, Job, SInstr, Leg, AreWithin, end_to_end, Left, AreAlike, AreSameSoFar, begun_by_offset, Frame, frame_modes, frame_places, frame_at, path_of, walks_of, ListPlan, leg_at, list_plan, took, IsFeasibleRun, legs_within, frames_agree, leg_same, front_plan, front_walks, take_map, nodes_read, nodes_agree, states_are_selections, frame_start, Turn, list_number, list_turn, known_rises, starts_order}
+use Rattle.htl_machine.proofs.Words.{get_or_from_slice_get, Event, State, Stay, frame_of, starts, node, root_periods, Tables, Job, SInstr, Leg, AreWithin, end_to_end, Left, AreAlike, AreSameSoFar, begun_by_offset, Frame, frame_modes, frame_places, frame_at, path_of, walks_of, ListPlan, leg_at, list_plan, took, IsFeasibleRun, legs_within, frames_agree, leg_same, front_plan, front_walks, take-map, nodes_read, nodes_agree, states_are_selections, frame_start, Turn, list_number, list_turn, known_rises, starts_order}
 use Rattle.htl_machine.proofs.Events.{Alike, state_same}
 use Rattle.htl_machine.proofs.RunLists.{rise, past, serving, stands, known_is, few}
 
@@ -47,7 +47,7 @@ module _ (t : Tables) (lists : List (List SInstr)) (es fs : List Event) (now : �
         let m = begun_by_offset t es f (n - frame_start t n) in
         let long : ℕ → Job → ℕ = λ z k. took t fs k.inv (z + k.release) in
         ap (take m) (ap (λ g. map g p.jobs) (fun_ext (λ (k : Job). tooks k.inv (f + k.release))))
-        ∙ take_map (long f) m p.jobs ∙ ap (map (long f)) so_far.jobs ∙ sym (take_map (long f) m q.jobs)
+        ∙ take-map (long f) m p.jobs ∙ ap (map (long f)) so_far.jobs ∙ sym (take-map (long f) m q.jobs)
 
     known_within : AreWithin (begun_by_offset t es (frame_start t n) (n - frame_start t n)) (take (suc (list_number (n - frame_start t n) (starts t))) (frame_at t lists es (frame_start t n)).legs)
     known_within =

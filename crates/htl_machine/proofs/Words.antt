@@ -99,6 +99,7 @@ pub use Rattle.htl_model.proofs.FrameSteps.{node_step}
 pub use Rattle.htl_model.proofs.Laws.{seen_before, state_step}
 pub use Rattle.htl_model.proofs.Locality.{history_local}
 pub use Rattle.htl_model.proofs.Sources.{empty_mode}
+pub use Rattle.htl_model.proofs.Stays.{runs_is}
 pub use Rattle.htl_model.proofs.Words.{AbstractPorts, ConcreteWriters, changes, end_to, first_value, first_values, input_value, line_text, lines_text, mul-le-mul_left, newest, next_value, next_values, out, out_by, round_down, round_start, val, value_lines, with_start, write_from, write_in, written, written_by}
 pub use Rattle.htl_model.specs.Frames.{no_place}
 pub use Rattle.htl_model.specs.Functions.{same}
@@ -132,13 +133,13 @@ pub use Rattle.htl_refine.proofs.Exact.{chosen_exact_apart}
 pub use Rattle.htl_refine.proofs.FinishingRecords.{finish_more, last_is}
 pub use Rattle.htl_refine.proofs.FramesAgree.{frames_agree}
 pub use Rattle.htl_refine.proofs.FrontPlans.{front_plan, front_walks, leg_same, point_long}
-pub use Rattle.htl_refine.proofs.Fronts.{front_there, job_front, take_map, take_work}
+pub use Rattle.htl_refine.proofs.Fronts.{front_there, take_work}
 pub use Rattle.htl_refine.proofs.Inherit.{map_at, mapped}
 pub use Rattle.htl_refine.proofs.Kept.{kept_apart}
 pub use Rattle.htl_refine.proofs.LaterPoints.{later_released, later_time, later_unreleased, later_walks}
 pub use Rattle.htl_refine.proofs.LengthsLater.{lengths_later}
 pub use Rattle.htl_refine.proofs.ListCounts.{count_all, count_split, done_split}
-pub use Rattle.htl_refine.proofs.ListWalks.{form_at, front_agrees, list_walks, point_agrees}
+pub use Rattle.htl_refine.proofs.ListWalks.{front_agrees, list_walks, point_agrees}
 pub use Rattle.htl_refine.proofs.ListsFollow.{begins_by, leg_from, leg_knows, legs_many, lists_follow}
 pub use Rattle.htl_refine.proofs.Members.{at_place, in_flat, of_flat, of_places}
 pub use Rattle.htl_refine.proofs.NewJobs.{first_jobs, next_jobs}
@@ -180,6 +181,7 @@ pub use Rattle.htl_walk.proofs.Clean.{passes}
 pub use Rattle.htl_walk.proofs.GoingOn.{onward_lists}
 pub use Rattle.htl_walk.proofs.Masks.{get_mapped, mask_bit}
 pub use Rattle.htl_walk.proofs.Nodes.{nodes_within}
+pub use Rattle.htl_walk.proofs.PathLists.{form_at, point_next, walk_take, job_front}
 pub use Rattle.htl_walk.proofs.PathReady.{IsRootAt, as_unit, window_within}
 pub use Rattle.htl_walk.proofs.Steps.{time_passes}
 pub use Rattle.htl_walk.proofs.Words.{AllWithin, DoneBy, List, and_right, bit_at, bit_at-trailing_zeros, bit_at-zero, flat_map-append, frame_divided, has_no_bit, least_or, list_all, mul-le-mul_right, multiple_of, place_passes_0, times_same, w128}
@@ -190,6 +192,6 @@ pub use Rattle.htl_walk.specs.declared.schedule.Schedule.{Schedule}
 pub use Rattle.std.proofs.Math.Bool.{or-true}
 pub use Rattle.std.proofs.Math.Seq.{get_or-append_seam}
 pub use Rattle.std.proofs.lemmas.Grind.{get_or-set_at}
-pub use Rattle.std.proofs.lemmas.List.{append_assoc, drop-map, drop-take, set-get_or, take-take}
+pub use Rattle.std.proofs.lemmas.List.{append_assoc, drop-map, drop-take, set-get_or, take-take, take-map}
 pub use Rattle.std.proofs.lemmas.List.Folds.{list_all-append}
 pub use Rattle.std.proofs.lemmas.Nat.{shr-shr}
