@@ -3,8 +3,6 @@ use Rattle.std.proofs.Common.{◌≡◌, ℕ, zero, suc, ◌+◌, ◌-◌, ◌�
 use Rattle.htl_audit.proofs.Words.{flat_map, append-nil, get_or_from_slice_get, none-some, Event, Inv, Stay, State, chosen, root_periods, begins, starts_below, sense, newest, Tables, release, task_worst, window_end, history_local, Job, absent_job, is_fed_by, job_of, mask, running_invs, took, lengths_of, modes_at, mapped, map_at, BeginningJobs, beginning, jobs_from, round_of, starts_before, all_rounds, Matches, HasMatch, IsMatched, Agree, AgreeBefore, HaveRounds, get_either, map_same, below_start, cases_lt, slice_get, option_map}
 use mathlib.Core.Path.{fun_ext}
 
--- ---- items of lists that are put together
-
 -- ---- the instants at which rounds begin
 
 pub start_is : (ps : List ℕ) (n m s : ℕ) → slice_get (starts_below ps n) m ≡ Some s → (s < n) × (begins ps s ≡ true)

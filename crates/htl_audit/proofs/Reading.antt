@@ -40,8 +40,6 @@ pub is_last : (bytes rest : List ℕ) → position_from is_line_feed 0 bytes ≡
 is_last bytes [] e some none = record { fed = false; lines = last_line bytes e some }
 is_last bytes (b ∷ rest) e some none = absurd (omega (arith, none))
 
--- ---- reading on
-
 -- ---- names that are known
 
 pub invocation_below : (t : Tables) (name : List ℕ) (i : ℕ) → invocation_of t name ≡ Some i → i < length t.invs

@@ -2,8 +2,6 @@
 use Rattle.std.proofs.Common.{◌≡◌, ◌<◌, ℕ, zero, suc, ◌+◌, Bool, true, false, cond, List, [], ◌∷◌, ◌++◌, length, map, take, drop, set, get_or, slice_get, Some, refl, sym, ◌∙◌, ap, add-one, arith, length-append}
 use Rattle.htl_model.proofs.Words.{take-suc, take-suc-set, drop-set-lt, length-map, flat_map, Ty, Switch, Task, AreInRange, Tables, function_count, count_before, output_function, switch_function, FunctionType, output_type, task_types, switch_type, function_types, get_back, get_front, get_mapped}
 
--- ---- look-ups in lists that are joined
-
 -- ---- tasks
 
 pub count_types : (k : Task) → length (task_types k) ≡ function_count k

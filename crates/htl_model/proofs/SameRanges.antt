@@ -92,4 +92,3 @@ module _ (t : Tables) (fs : List Fun) where
         selections = subst (λ (n : ℕ). n ≤ 1024) selection_count_same h.selections;
         positions = λ sel less. subst (λ (ps : List ℕ). length ps ≤ 128) (positions_same sel) (h.positions sel (subst (λ (n : ℕ). sel < n) (sym selection_count_same) less));
       }
-  -- ---- what stands for an invocation

@@ -35,8 +35,6 @@ output_there t k j x r at concrete less =
     task_within : (t : Tables) (k : ℕ) (x : Task) → slice_get t.tasks k ≡ Some x → k < length t.tasks
     task_within t k x at = elim (slice_get_cases t.tasks k).1 [ inl c ↦ c.1 | inr c ↦ absurd (let no : Some x ≡ None = sym at ∙ c.1 in cc) ]
 
--- ---- one after the other
-
 -- ---- the outputs of one task
 
 pub task_there : (t : Tables) (ts : List Task) (k : ℕ) (x : Task) → ts ≡ t.tasks → k < length t.tasks → x ≡ get_or ts k x → slice_get t.tasks k ≡ Some x

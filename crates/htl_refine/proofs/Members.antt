@@ -27,8 +27,6 @@ in_flat f (y ∷ ys) (suc j) r x a at e =
     let m = in_flat f ys j r x a at e in
     (length (f y) + m.0, into_back (f y) (flat_map f ys) m.0 a m.1)
 
--- ---- from_map lists
-
 -- ---- places that pass a test
 
 abbrev ArePlaces : {A : Type 0} → (A → Bool) → ℕ → List A → Type 0

@@ -42,8 +42,6 @@ path_rises jobs (s ∷ ss) (g ∷ gs) a h n x f c =
     (λ k l e. times_within jobs g.known g.to s y f.0 c.1 k l e) (path_rises jobs ss gs g.to h n (last_point jobs s y) f.1 c.3))
 path_rises jobs _ _ a h n x f c = absurd f
 
--- ---- one record among those of all lists
-
 -- ---- nothing is left after the frame
 
 pub path_within : (jobs : List Job) (ss : List (List SInstr)) (gs : List Leg) (a h n : ℕ) (x : Point) (m : ℕ) (b : Left) → AreInForm ss gs → AreChained a h n gs

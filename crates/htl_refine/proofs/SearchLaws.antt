@@ -5,8 +5,6 @@ use Rattle.htl_refine.specs.declared.rule.Rule.TheVariants as R
 use Rattle.htl_refine.proofs.RefiningLaws.{place_is, parent_is, shared_is, exceeds_is, order_is}
 use Rattle.htl_refine.proofs.RuleOrder.{place_of, number_at}
 
--- ---- what isn't judged
-
 -- ---- each rule's tests find exactly what breaks it
 
 pub judges : (t : Tables) → AreInRange t → KeptTo t 12 → (r : Rule) → Judges t (tests t r) (breach t (refinement_law_of r))
