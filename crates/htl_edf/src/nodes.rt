@@ -231,6 +231,7 @@ pub fn plan_nodes(alloc: Global, t: &Tables) -> Result<Vec<Schedule>, PlanFault>
 /// from there on with a list for each of its further nodes. The run tells whether the path is overloaded, and the interval is
 /// searched for at one path at most. Memory is taken for lists alone; where it is short, the paths are gone over once more
 /// without lists, for the first that is overloaded.
+#[tactic(auto, using(crate::proofs::PathOrder::ready))]
 pub fn edf_nodes(alloc: Global, t: &Tables) -> Result<Vec<Schedule>, PlanFault>
     requires limits { frame_limit t.now ≡ None }
     requires formed { KeptApart t.now 12 }

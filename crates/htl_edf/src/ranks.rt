@@ -136,6 +136,7 @@ fn rank(jobs: &[Job], windows: &[Tight], by_end: &mut [u64], by_release: &mut [u
 
 /// Writes the tightened windows of jobs, and their positions by end and their ranks by release, as `Ranks` has them. Beside
 /// the cost of `tighten` it takes the time of two sorts.
+#[tactic(auto, using(crate::proofs::Jumps::holds_all))]
 pub fn rank_jobs(jobs: &[Job], windows: &mut [Tight], by_end: &mut [u64], by_release: &mut [u64])
     requires jobs { AreWellFormed jobs.now }
     requires same { length windows.old ≡ length jobs.now }

@@ -96,6 +96,7 @@ fn schedule(
 
 /// The interval that `edf` reports for such jobs, whose windows may end after the period; None where none is overloaded. No
 /// memory is taken. The cost is that of `edf`.
+#[tactic(auto, using(crate::proofs::InTime::none_overloaded))]
 pub fn overload_of(jobs: &[Job], period: Time) -> Option<Overload>
     requires jobs { AreWellFormed jobs.now }
     requires order { NoCycle (jobs_of jobs.now) }
