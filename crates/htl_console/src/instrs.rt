@@ -1,11 +1,12 @@
 // The texts of instructions in a line.
 ghost use Rattle.std.specs.Prelude.{◌≡◌, ◌≤◌, ◌+◌, ◌++◌, length, decimal, codes};
 ghost use Rattle.htl_base.specs.declared.limits.TheConstants as limit;
+ghost use Rattle.htl_ecode.specs.Phases.{number_of};
 ghost use Rattle.htl_console.specs.Names.{inv_name, mode_text, module_text};
 ghost use Rattle.htl_console.specs.Instrs.{phase_word as phase_word_of, instr_text, step_text};
 
 use crate::names::{put_inv, put_mode, put_module};
-use htl_ecode::EInstr;
+use htl_ecode::{EInstr, Phase};
 use htl_edge::LineBuffer;
 use htl_model::Tables;
 use htl_walk::SInstr;
@@ -23,20 +24,20 @@ fn put_call(line: &mut LineBuffer, t: &Tables, word: &[u8], inv: u16, place: u16
     line.number(place as u64);
 }
 
-fn phase_word(phase: u8) -> &'static [u8]
-    ensures word { result.now ≡ phase_word_of phase }
+fn phase_word(phase: Phase) -> &'static [u8]
+    ensures word { result.now ≡ phase_word_of (number_of phase) }
     ensures short { length result.now ≤ 6 }
 {
     match phase {
-        1 => b"write",
-        2 => b"switch",
-        _ => b"read",
+        Phase::Write => b"write",
+        Phase::Switch => b"switch",
+        Phase::Read => b"read",
     }
 }
 
-fn put_future(line: &mut LineBuffer, delay: u32, phase: u8, target: u32)
+fn put_future(line: &mut LineBuffer, delay: u32, phase: Phase, target: u32)
     requires room { length line.old + 178 ≤ limit.MAX_LINE }
-    ensures bytes { line.new ≡ line.old ++ (codes "future " ++ (decimal delay ++ (codes " " ++ (phase_word_of phase ++ (codes " " ++ decimal target))))) }
+    ensures bytes { line.new ≡ line.old ++ (codes "future " ++ (decimal delay ++ (codes " " ++ (phase_word_of (number_of phase) ++ (codes " " ++ decimal target))))) }
     ensures len { length line.new ≤ length line.old + 178 }
 {
     line.text(b"future ");
@@ -88,7 +89,7 @@ pub fn put_instr(line: &mut LineBuffer, t: &Tables, instr: &EInstr)
             delay,
             phase,
             target,
-        } => put_future(line, delay, phase, target),
+        } => put_future(line, delay, Phase::of(phase), target),
         EInstr::JumpIf { switch, target } => put_jump_if(line, switch, target),
         EInstr::Jump { target } => {
             line.text(b"jump ");
