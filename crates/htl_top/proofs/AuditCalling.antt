@@ -45,7 +45,7 @@ module _ (shelf : Files) (old new : Streams) where
   audited command outcome call name log is done = ran_as command outcome Done call name log is done (λ t bytes r. r, λ n l s r. r)
 
   pub audit_script : (command : Option Command) (outcome : Outcome) → IsCall command shelf old new outcome → (name log : List ℕ) → command ≡ Some (Audit name log) → (f : ScriptFault) → outcome ≡ Faulty f
-      → IsAcceptedFile (Some name) shelf.holds (λ o. HasLog log shelf.holds o.tables (λ slices. IsFaultyRun Values o.tables o old.rest old.written new.written f))
+      → IsAcceptedFile (Some name) shelf.holds (λ o. HasLog log shelf.holds o.tables (λ slices. IsFaultyRun Values o.tables o old.rest new.rest old.written new.written f))
   audit_script command outcome call name log is f bad = ran_as command outcome (Faulty f) call name log is bad (λ t bytes r. r, λ n l s r. r)
 
   pub audit_read : (command : Option Command) (outcome : Outcome) → IsCall command shelf old new outcome → (name log : List ℕ) → command ≡ Some (Audit name log) → outcome ≡ Read

@@ -1,6 +1,6 @@
 -- From event to event of a script that an auditor is told, and the end of its audit.
 use Rattle.std.proofs.Common.{◌≡◌, Bool, true, false, ℕ, suc, List, [], ◌∷◌, ◌++◌, Option, Some, None, Result, Ok, Err, is_some, refl, sym, ap, ◌∙◌, subst, length}
-use Rattle.htl_top.proofs.Vocabulary.{append_known, append-nil, first_fault_found, legal_without_fault, rounds_same, BeginningJobs, all_rounds, LogFault, Slice, Shown, Values, append_known-more, AppendsPrefix-more, AppendsPrefix, Puts, sense_end, took_end, text_between, before_of, Tables, Event, IsAccepted, Object, EndWith, at_first, past_after, past_of, behind, Ahead, Gives, still, at_start, IsAnswer, Goes, ScriptFault, Past, Streams, IsAuditBehind, IsAuditPlaying, IsAuditTold, IsConcluded, IsAuditRun, IsCutAudit, audit_text, audited_line, audited_text, verdict_text, HaveNoEnd, IsBehind, IsPlaying, text_more, IsFaultyRun, text_before_fault, Outcome, Done, Log, Write}
+use Rattle.htl_top.proofs.Vocabulary.{StopsAtLine, append_known, append-nil, first_fault_found, legal_without_fault, rounds_same, BeginningJobs, all_rounds, LogFault, Slice, Shown, Values, append_known-more, AppendsPrefix-more, AppendsPrefix, Puts, sense_end, took_end, text_between, before_of, Tables, Event, IsAccepted, Object, EndWith, at_first, past_after, past_of, behind, Ahead, Gives, still, at_start, IsAnswer, Goes, ScriptFault, Past, Streams, IsAuditBehind, IsAuditPlaying, IsAuditTold, IsConcluded, IsAuditRun, IsCutAudit, audit_text, audited_line, audited_text, verdict_text, HaveNoEnd, IsBehind, IsPlaying, text_more, IsFaultyRun, text_before_fault, Outcome, Done, Log, Write}
 use Rattle.htl_audit.specs.Auditing.{Audit, AuditFollows, IsAudited, IsSameAudit}
 use Rattle.htl_audit.specs.Legal.{first_fault, first_fault_in, jobs_done}
 use Rattle.htl_model.specs.declared.event.Event.TheVariants as event
@@ -86,10 +86,10 @@ module _ (t : Tables) (a0 a : Audit) (accepted : IsAccepted a0.machine.object) (
 
   -- a line of the script has a fault
   pub audit_faulty : (fault : ScriptFault) → a0.machine.show ≡ Values → IsAuditPlaying t a0 a s known rest w0 w → Gives s.ahead.over b.ahead.over rest left (IsAnswer t s b (Err (stop.Script fault)))
-      → IsFaultyRun Values a0.machine.object.tables a0.machine.object known w0 w fault
-  audit_faulty fault shown p answer =
-      subst (λ (x : Shown). IsFaultyRun x a0.machine.object.tables a0.machine.object known w0 w fault) shown
-      (streaming.faulty t a0.machine a.machine accepted tables s b known rest left w0 w fault p.run answer)
+      → StopsAtLine fault.line known left → IsFaultyRun Values a0.machine.object.tables a0.machine.object known left w0 w fault
+  audit_faulty fault shown p answer stops =
+      subst (λ (x : Shown). IsFaultyRun x a0.machine.object.tables a0.machine.object known left w0 w fault) shown
+      (streaming.faulty t a0.machine a.machine accepted tables s b known rest left w0 w fault p.run answer stops)
 
   -- the input failed
   pub audit_read_cut : a0.machine.show ≡ Values → IsAuditPlaying t a0 a s known rest w0 w → IsCutAudit a0.machine.object a0.log known w0 w

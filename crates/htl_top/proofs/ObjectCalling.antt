@@ -63,7 +63,7 @@ module _ (shelf : Files) (old new : Streams) where
   ran command outcome call show name is same = ran_as command outcome Done call show name is same tt done_memory
 
   pub run_fault : (command : Option Command) (outcome : Outcome) → IsCall command shelf old new outcome → (show : Shown) (name : List ℕ) → command ≡ Some (Run show name) → (f : ScriptFault) → outcome ≡ Script f
-      → IsAcceptedFile (Some name) shelf.holds (λ o. IsFaultyRun show o.tables o old.rest old.written new.written f)
+      → IsAcceptedFile (Some name) shelf.holds (λ o. IsFaultyRun show o.tables o old.rest new.rest old.written new.written f)
   run_fault command outcome call show name is f same = ran_as command outcome (Script f) call show name is same tt (script_memory f)
 
   pub run_read : (command : Option Command) (outcome : Outcome) → IsCall command shelf old new outcome → (show : Shown) (name : List ℕ) → command ≡ Some (Run show name) → outcome ≡ Read

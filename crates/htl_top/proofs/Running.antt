@@ -35,6 +35,7 @@ IsRun-source show t o old new Done run = record {
 IsRun-source show t o old new (Faulty fault) run = record {
   events = run.events;
   script = told_alike old.rest (λ s. IsBad (coded t) s fault run.events) (λ s. IsBad t s fault run.events) (λ s h. script_same t (codes t) s ∙ h) run.script;
+  read = run.read;
   written = run.written;
 }
 IsRun-source show t o old new Read run = (run.0, cut_source show t o old new run.1)

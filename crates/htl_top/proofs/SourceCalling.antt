@@ -45,7 +45,7 @@ module _ (shelf : Files) (old new : Streams) where
   done command outcome call name is same = went command outcome Done call name is same tt done_memory
 
   pub script : (command : Option Command) (outcome : Outcome) → IsCall command shelf old new outcome → (name : List ℕ) → command ≡ Some (Go name) → (f : ScriptFault) → outcome ≡ Script f
-      → IsProgram (Some name) shelf.holds (λ t. IsFaultyRun Jobs t (built t) old.rest old.written new.written f)
+      → IsProgram (Some name) shelf.holds (λ t. IsFaultyRun Jobs t (built t) old.rest new.rest old.written new.written f)
   script command outcome call name is f same = went command outcome (Script f) call name is same tt (script_memory f)
 
   pub read : (command : Option Command) (outcome : Outcome) → IsCall command shelf old new outcome → (name : List ℕ) → command ≡ Some (Go name) → outcome ≡ Read

@@ -1,6 +1,6 @@
 -- From event to event of a script that is read as the run goes: what the machine follows, what is written, and what is still to come.
 use Rattle.std.proofs.Common.{◌≡◌, Bool, false, ℕ, suc, List, [], ◌∷◌, ◌++◌, Option, Some, None, Result, Ok, Err, refl, sym, ap, ◌∙◌, subst}
-use Rattle.htl_top.proofs.Vocabulary.{append_known, Shown, Rose, AppendsPrefix, Puts, append_known-start, append_known-more, AppendsPrefix-more, Seen, Follows, IsSameRun, text_between, reading_of, before_of, Tables, Event, IsAccepted, Object, AreEvents, EndWith, at_first, past_after, past_after_all, past_of, OfScript, behind, Ahead, Gives, still, at_start, IsAnswer, Goes, ScriptFault, Past, behind-nil, behind-append, events_of-behind, script_of-rest, script-events, whole-script, AreEvents-front, gives_more, given_script, told_of, totals_text, HaveNoEnd, IsBehind, IsNext, IsPlaying, IsTold, text_more, IsCutRun, IsFaultyRun, text_before_fault, text_of_script, prepend_known-nil, append_assoc, append-nil}
+use Rattle.htl_top.proofs.Vocabulary.{StopsAtLine, append_known, Shown, Rose, AppendsPrefix, Puts, append_known-start, append_known-more, AppendsPrefix-more, Seen, Follows, IsSameRun, text_between, reading_of, before_of, Tables, Event, IsAccepted, Object, AreEvents, EndWith, at_first, past_after, past_after_all, past_of, OfScript, behind, Ahead, Gives, still, at_start, IsAnswer, Goes, ScriptFault, Past, behind-nil, behind-append, events_of-behind, script_of-rest, script-events, whole-script, AreEvents-front, gives_more, given_script, told_of, totals_text, HaveNoEnd, IsBehind, IsNext, IsPlaying, IsTold, text_more, IsCutRun, IsFaultyRun, text_before_fault, text_of_script, prepend_known-nil, append_assoc, append-nil}
 use Rattle.htl_model.specs.declared.event.Event.TheVariants as event
 use Rattle.htl_script.specs.Script.{Script, Whole, Bad, events_of, script_of}
 use Rattle.htl_script.specs.declared.fault.ScriptStop.TheVariants as stop
@@ -227,8 +227,8 @@ module _ (t : Tables) (m0 m : Seen) (accepted : IsAccepted m0.object) (tables : 
 
   -- a line has a fault
   pub faulty : (fault : ScriptFault) → IsPlaying t m0 m a known rest w0 w → Gives a.ahead.over b.ahead.over rest left (IsAnswer t a b (Err (stop.Script fault)))
-      → IsFaultyRun m0.show m0.object.tables m0.object known w0 w fault
-  faulty fault p answer =
+      → StopsAtLine fault.line known left → IsFaultyRun m0.show m0.object.tables m0.object known left w0 w fault
+  faulty fault p answer stops =
       let Says : List ℕ → List ℕ → Type 0 = λ bytes later. script_of t bytes ≡ Bad fault.line fault.kind p.told in
       let all : Gives false b.ahead.over known left Says =
       gives_more false a.ahead.over b.ahead.over known rest left (λ bytes later. script_of t bytes ≡ behind p.told (still t a later)) (IsAnswer t a b (Err (stop.Script fault))) Says
@@ -236,6 +236,7 @@ module _ (t : Tables) (m0 m : Seen) (accepted : IsAccepted m0.object) (tables : 
       record {
         events = p.told;
         script = subst (λ (z : Tables). OfScript known (λ script. script_of z script ≡ Bad fault.line fault.kind p.told)) tables (given_script b.ahead.over known left Says all);
+        read = stops;
         written = p.text;
       }
 

@@ -88,8 +88,8 @@ pub use Rattle.htl_script.proofs.Fitting.{AreEvents-front, script-events, whole-
 pub use Rattle.htl_script.proofs.SameScript.{script_same}
 pub use Rattle.htl_script.proofs.Splitting.{lines_of-begun, lines_of-fed, size_at_least, within_limit}
 pub use Rattle.htl_script.proofs.Streaming.{given_all, given_script, gives_more, told_of}
-pub use Rattle.htl_script.proofs.Taken.{taken_all, taken_more, taken_none, taken_on}
-pub use Rattle.htl_script.proofs.Words.{Ahead, AreEvents, EndWith, Gives, IfSome, IsAnswer, IsAtEnd, LosesFront, LosesPiece, OfScript, Whole, at_first, at_start, behind, none_left, past_after, past_after_all, past_of, prepend_known, prepend_known-append, prepend_known-nil, script_of, still, true≢false, unwrap_or}
+pub use Rattle.htl_script.proofs.Taken.{taken_all, taken_more, taken_none, taken_on, taken_to_line}
+pub use Rattle.htl_script.proofs.Words.{Ahead, AreEvents, EndWith, Gives, IfSome, IsAnswer, IsAtEnd, LosesFront, LosesPiece, OfScript, StopsAtLine, Whole, at_first, at_start, behind, none_left, past_after, past_after_all, past_of, prepend_known, prepend_known-append, prepend_known-nil, script_of, still, true≢false, unwrap_or}
 pub use Rattle.htl_script.specs.Orders.{IsIndex}
 pub use Rattle.htl_script.specs.Streaming.{Goes}
 pub use Rattle.htl_script.specs.declared.fault.ScriptFault.{ScriptFault}

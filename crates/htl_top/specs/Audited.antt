@@ -79,7 +79,7 @@ pub record IsCutAudit (o : Object) (log : List Slice) (rest old new : Option (Li
 abbrev pub IsAuditRun : List Slice → Object → Streams → Streams → Outcome → Type 0
 IsAuditRun log o old new Done = IsWholeAudit o log old.rest new.rest old.written new.written
 IsAuditRun log o old new (Log f) = IsIllegalAudit o log old.rest new.rest old.written new.written f
-IsAuditRun log o old new (Faulty f) = IsFaultyRun Values o.tables o old.rest old.written new.written f
+IsAuditRun log o old new (Faulty f) = IsFaultyRun Values o.tables o old.rest new.rest old.written new.written f
 IsAuditRun log o old new Read = Rose old.read_faults new.read_faults × IsCutAudit o log old.rest old.written new.written
 IsAuditRun log o old new Write = Rose old.write_faults new.write_faults × IsCutAudit o log old.rest old.written new.written
 IsAuditRun log o old new Memory = IsUntouched old new

@@ -33,7 +33,7 @@ pub fn play<R: Source, W: Sink>(
     ensures answer { IsRun machine.old.show machine.old.object.tables machine.old.object
         (streams R.rest R.faults W.written W.faults input.old out.old) (streams R.rest R.faults W.written W.faults input.new out.new)
         result }
-    ensures taken { LosesFront (limit.MAX_SCRIPT + 4096) (R.rest input.old) (R.rest input.new) }
+    ensures taken { LosesFront (limit.MAX_SCRIPT + 256) (R.rest input.old) (R.rest input.new) }
     ensures read_count { (result ≡ Outcome.Read → ⊥) → R.faults input.new ≡ R.faults input.old }
     ensures write_count { (result ≡ Outcome.Write → ⊥) → W.faults out.new ≡ W.faults out.old }
 {

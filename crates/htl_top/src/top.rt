@@ -159,7 +159,7 @@ pub fn htl<S: Shelf, R: Source, W: Sink, E: Sink>(
 
     // `go`: each other answer and its cause. `done` is the headline: the text is that of the object of the source's tables.
     ensures script { (name : List ℕ) → command_in words.now ≡ Some (Go name) → (fault : ScriptFault) → result ≡ Outcome.Script fault →
-        IsProgram (Some name) (S.holds shelf.old) (λ t. IsFaultyRun shown.Jobs t (built t) (R.rest input.old) (W.written out.old) (W.written out.new) fault) }
+        IsProgram (Some name) (S.holds shelf.old) (λ t. IsFaultyRun shown.Jobs t (built t) (R.rest input.old) (R.rest input.new) (W.written out.old) (W.written out.new) fault) }
     ensures read { (name : List ℕ) → command_in words.now ≡ Some (Go name) → result ≡ Outcome.Read → Rose (R.faults input.old) (R.faults input.new)
         × IsProgram (Some name) (S.holds shelf.old) (λ t. IsCutRun shown.Jobs t (built t) (R.rest input.old) (W.written out.old) (W.written out.new)) }
     ensures write { (name : List ℕ) → command_in words.now ≡ Some (Go name) → result ≡ Outcome.Write → Rose (W.faults out.old) (W.faults out.new)
@@ -227,7 +227,7 @@ pub fn htl<S: Shelf, R: Source, W: Sink, E: Sink>(
     ensures ran { (show : Shown) (name : List ℕ) → command_in words.now ≡ Some (Run show name) → result ≡ Outcome.Done →
         IsAcceptedFile (Some name) (S.holds shelf.old) (λ o. IsWholeRun show o.tables o (R.rest input.old) (R.rest input.new) (W.written out.old) (W.written out.new)) }
     ensures run_fault { (show : Shown) (name : List ℕ) → command_in words.now ≡ Some (Run show name) → (fault : ScriptFault) → result ≡ Outcome.Script fault →
-        IsAcceptedFile (Some name) (S.holds shelf.old) (λ o. IsFaultyRun show o.tables o (R.rest input.old) (W.written out.old) (W.written out.new) fault) }
+        IsAcceptedFile (Some name) (S.holds shelf.old) (λ o. IsFaultyRun show o.tables o (R.rest input.old) (R.rest input.new) (W.written out.old) (W.written out.new) fault) }
     ensures run_read { (show : Shown) (name : List ℕ) → command_in words.now ≡ Some (Run show name) → result ≡ Outcome.Read → Rose (R.faults input.old) (R.faults input.new)
         × IsAcceptedFile (Some name) (S.holds shelf.old) (λ o. IsCutRun show o.tables o (R.rest input.old) (W.written out.old) (W.written out.new)) }
     ensures run_cut { (show : Shown) (name : List ℕ) → command_in words.now ≡ Some (Run show name) → result ≡ Outcome.Write → Rose (W.faults out.old) (W.faults out.new)
@@ -290,7 +290,7 @@ pub fn htl<S: Shelf, R: Source, W: Sink, E: Sink>(
     ensures audit_fault { (fault : LogFault) → result ≡ Outcome.Log fault → IsLogCause (command_in words.now) (S.holds shelf.old)
         (streams R.rest R.faults W.written W.faults input.old out.old) (streams R.rest R.faults W.written W.faults input.new out.new) fault }
     ensures audit_script { (name log : List ℕ) → command_in words.now ≡ Some (Audit name log) → (fault : ScriptFault) → result ≡ Outcome.Script fault →
-        IsAcceptedFile (Some name) (S.holds shelf.old) (λ o. HasLog log (S.holds shelf.old) o.tables (λ slices. IsFaultyRun shown.Values o.tables o (R.rest input.old) (W.written out.old) (W.written out.new) fault)) }
+        IsAcceptedFile (Some name) (S.holds shelf.old) (λ o. HasLog log (S.holds shelf.old) o.tables (λ slices. IsFaultyRun shown.Values o.tables o (R.rest input.old) (R.rest input.new) (W.written out.old) (W.written out.new) fault)) }
     ensures audit_read { (name log : List ℕ) → command_in words.now ≡ Some (Audit name log) → result ≡ Outcome.Read → Rose (R.faults input.old) (R.faults input.new)
         × IsAcceptedFile (Some name) (S.holds shelf.old) (λ o. HasLog log (S.holds shelf.old) o.tables (λ slices. IsCutAudit o slices (R.rest input.old) (W.written out.old) (W.written out.new))) }
     ensures audit_cut { (name log : List ℕ) → command_in words.now ≡ Some (Audit name log) → result ≡ Outcome.Write → Rose (W.faults out.old) (W.faults out.new)

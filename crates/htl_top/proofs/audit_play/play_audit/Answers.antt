@@ -1,5 +1,5 @@
 use Rattle.std.proofs.Common.{Option, Ok, Err, refl, sym, ap, ◌∙◌, arith, subst}
-use Rattle.htl_top.proofs.Vocabulary.{IsAudited, Values, Event, taken_none, taken_on, taken_more, taken_all, LosesFront, Gives, Goes, IsAnswer, LosesPiece, at_start, ScriptFault, ScriptStop, streams, IsFaultyRun}
+use Rattle.htl_top.proofs.Vocabulary.{IsAudited, Values, Event, taken_none, taken_on, taken_more, taken_all, taken_to_line, LosesFront, Gives, Goes, IsAnswer, LosesPiece, at_start, ScriptFault, ScriptStop, streams, IsFaultyRun}
 use Rattle.htl_top.proofs.AuditStreaming.{IsAuditHeard, IsAuditOver, audit_start, audit_heard, audit_told_on, audit_told_cut, audit_read_cut, audit_over, audit_faulty, concluded}
 use Rattle.htl_top.proofs.Streaming.{rose_since}
 use Rattle.htl_top.proofs.audit_play.play_audit.Given as given
@@ -37,10 +37,12 @@ script_over_for g c =
     (subst (λ (o : Option Event). Goes t a.here.past b.here.past (Ok o)) c.in-Ok-None.field-0-is c.in-Ok-None.ensures.event)
 
 -- what the input lost so far
-input_lost : (g : given.Over) (c : After-next g) → LosesFront 1073745920 (g.R.Source.rest c.args.input.now) (g.R.Source.rest c.next.new.src)
-input_lost g c =
-    taken_all 1073745920 c.next.new.self.stream (g.R.Source.rest c.args.input.now) (g.R.Source.rest c.next.new.src) c.next.result (omega arith)
-    (taken_more at_start c.events.script.stream c.next.new.self.stream (g.R.Source.rest c.args.input.now) (g.R.Source.rest c.events.input) (g.R.Source.rest c.next.new.src) tt c.next.result c.events.invariant.3 c.next.ensures.taken)
+piece_lost : (g : given.Over) (c : After-next g) → LosesPiece at_start c.next.new.self.stream (g.R.Source.rest c.args.input.now) (g.R.Source.rest c.next.new.src) c.next.result
+piece_lost g c =
+    taken_more at_start c.events.script.stream c.next.new.self.stream (g.R.Source.rest c.args.input.now) (g.R.Source.rest c.events.input) (g.R.Source.rest c.next.new.src) tt c.next.result c.events.invariant.3 c.next.ensures.taken
+
+input_lost : (g : given.Over) (c : After-next g) → LosesFront 1073742080 (g.R.Source.rest c.args.input.now) (g.R.Source.rest c.next.new.src)
+input_lost g c = taken_all c.next.new.self.stream (g.R.Source.rest c.args.input.now) (g.R.Source.rest c.next.new.src) c.next.result (piece_lost g c) 1073742080 (omega arith)
 
 pub tell-requires : goal.tell-requires
 tell-requires g c = let h = event_heard_by g (goal.at.tell-requires g c).In-Ok-Some in (h.heard.told, h.follows, h.heard.may)
@@ -84,9 +86,11 @@ returns-in-Err-Script-clause-answer g c =
     let a0 = c.args.auditor.now in
     let a = c.events.script.stream in
     let b = c.next.new.self.stream in
-    subst (λ (f : ScriptFault). IsFaultyRun Values a0.machine.object.tables a0.machine.object (g.R.Source.rest c.args.input.now) (g.W.Sink.written c.args.out.now) (g.W.Sink.written c.events.out) f) (sym c.in-Err-Script.fault-is)
+    subst (λ (f : ScriptFault). IsFaultyRun Values a0.machine.object.tables a0.machine.object (g.R.Source.rest c.args.input.now) (g.R.Source.rest c.next.new.src) (g.W.Sink.written c.args.out.now) (g.W.Sink.written c.events.out) f) (sym c.in-Err-Script.fault-is)
     (audit_faulty c.args.t.now a0 c.events.auditor c.requires.accepted c.requires.tables a b (g.R.Source.rest c.args.input.now) (g.R.Source.rest c.events.input) (g.R.Source.rest c.next.new.src) (g.W.Sink.written c.args.out.now) (g.W.Sink.written c.events.out) c.in-Err-Script.fault c.requires.follows.shown c.events.invariant.0
-    (subst (λ (s : ScriptStop). Gives a.ahead.over b.ahead.over (g.R.Source.rest c.events.input) (g.R.Source.rest c.next.new.src) (IsAnswer c.args.t.now a b (Err s))) c.in-Err-Script.field-0-is c.in-Err-Script.ensures.answer))
+    (subst (λ (s : ScriptStop). Gives a.ahead.over b.ahead.over (g.R.Source.rest c.events.input) (g.R.Source.rest c.next.new.src) (IsAnswer c.args.t.now a b (Err s))) c.in-Err-Script.field-0-is c.in-Err-Script.ensures.answer)
+    (taken_to_line b (g.R.Source.rest c.args.input.now) (g.R.Source.rest c.next.new.src) c.next.result (piece_lost g (goal.at.returns-in-Err-Script-clause-answer g c).After-next) c.in-Err-Script.fault.line
+    (c.in-Err-Script.ensures.line c.in-Err-Script.fault (ap (λ (s : ScriptStop). Err s) c.in-Err-Script.field-0-is))))
 
 pub returns-in-Err-Read-clause-answer : goal.returns-in-Err-Read-clause-answer
 returns-in-Err-Read-clause-answer g c = (

@@ -10,4 +10,4 @@ returns-clause-answer g c =
     c.in-Ok.ensures.object c.play.ensures.answer
 
 pub returns-in_default-clause-taken : goal.returns-in_default-clause-taken
-returns-in_default-clause-taken g c = taken_none 1073745920 (g.R.Source.rest c.args.input.now)
+returns-in_default-clause-taken g c = taken_none 1073742080 (g.R.Source.rest c.args.input.now)

@@ -29,4 +29,4 @@ returns-in-Err-clause-tables g c =
     (SpeaksOf-stop (λ fact. ⊥) c.args.bytes.now c.in-Err.stop c.in-Err.ensures.fault)
 
 pub returns-in-Err-clause-taken : goal.returns-in-Err-clause-taken
-returns-in-Err-clause-taken g c = taken_none 1073745920 (g.R.Source.rest c.args.input.now)
+returns-in-Err-clause-taken g c = taken_none 1073742080 (g.R.Source.rest c.args.input.now)

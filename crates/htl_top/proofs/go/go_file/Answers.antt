@@ -13,13 +13,13 @@ returns-in-Ok-clause-answer g c =
     (subst (λ (bs : List ℕ). IsBytesGoing bs old new c.go.result.outcome) c.as_slice.ensures.value c.go.ensures.answer)
 
 pub returns-in-Err-Failed-clause-taken : goal.returns-in-Err-Failed-clause-taken
-returns-in-Err-Failed-clause-taken g c = taken_none 1073745920 (g.R.Source.rest c.args.input.now)
+returns-in-Err-Failed-clause-taken g c = taken_none 1073742080 (g.R.Source.rest c.args.input.now)
 
 pub returns-in-Err-TooLong-clause-taken : goal.returns-in-Err-TooLong-clause-taken
-returns-in-Err-TooLong-clause-taken g c = taken_none 1073745920 (g.R.Source.rest c.args.input.now)
+returns-in-Err-TooLong-clause-taken g c = taken_none 1073742080 (g.R.Source.rest c.args.input.now)
 
 pub returns-in-Err-Memory-clause-taken : goal.returns-in-Err-Memory-clause-taken
-returns-in-Err-Memory-clause-taken g c = taken_none 1073745920 (g.R.Source.rest c.args.input.now)
+returns-in-Err-Memory-clause-taken g c = taken_none 1073742080 (g.R.Source.rest c.args.input.now)
 
 pub returns-in-Err-TooLong-clause-shelf_count : goal.returns-in-Err-TooLong-clause-shelf_count
 returns-in-Err-TooLong-clause-shelf_count g c = λ long. rw c.in-Err-TooLong.field-0-is at c.in-Err-TooLong.ensures.kept

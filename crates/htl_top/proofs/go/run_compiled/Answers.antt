@@ -13,4 +13,4 @@ returns-in-Ok-clause-answer g c =
     run_made c.args.object.now c.in-Ok.loaded (side c.args.input.now c.args.out.now) (side c.execute.new.input c.execute.new.out) c.execute.result c.in-Ok.ensures.only c.execute.ensures.answer
 
 pub returns-in-Err-Memory-clause-taken : goal.returns-in-Err-Memory-clause-taken
-returns-in-Err-Memory-clause-taken g c = taken_none 1073745920 (g.R.Source.rest c.args.input.now)
+returns-in-Err-Memory-clause-taken g c = taken_none 1073742080 (g.R.Source.rest c.args.input.now)
