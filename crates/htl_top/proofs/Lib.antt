@@ -21,6 +21,8 @@ mod LineExamples
 pub mod ErrorLineNames
 pub mod ListByList
 pub mod Meaning
+pub mod NamesApart
+pub mod ValueLines
 pub mod ObjectAnswering
 pub mod ObjectCalling
 mod PlanExamples

@@ -9,6 +9,7 @@ pub mod Compiling
 pub mod CompilingOn
 pub mod Fetching
 pub mod Files
+pub mod FoundLaws
 pub mod Going
 pub mod JobLaws
 pub mod Laws

@@ -1,5 +1,6 @@
 // What the values and lines of a run depend on, and what `go` shows of a source. Each law is a statement that the check has
 // proved; there is nothing to run.
+ghost use Rattle.htl_top.specs.FoundLaws.{GoValueLinesAreFound, NamesTellApart};
 ghost use Rattle.htl_top.specs.JobLaws.{GoShowsJobLines, GoTellsJobsInTime, GoJobLinesAreFound};
 ghost use Rattle.htl_top.specs.Laws.{SensorsDecideLines, EarlierReadingsDecideValues, EarlierReadingsDecideTexts, GoShowsTheMeaning, GoKeepsDeadlines};
 
@@ -49,4 +50,16 @@ pub fn go_tells_jobs_in_time()
 /// each job that a record finishes.
 pub fn go_job_lines_are_found()
     ensures { GoJobLinesAreFound }
+{}
+
+/// So too the lines that begin with `v` or `m`: the reader finds those of the values and modes that change by the meaning of the source's
+/// own tables, and no others.
+pub fn go_value_lines_are_found()
+    ensures { GoValueLinesAreFound }
+{}
+
+/// In tables in range, whose names are identifiers, two communicators have different names, and so have two modules; and lines name
+/// no two modes and no two invocations alike, as `MODULE.MODE` and `MODULE.MODE.TASK`.
+pub fn names_tell_apart()
+    ensures { NamesTellApart }
 {}

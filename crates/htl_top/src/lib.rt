@@ -46,7 +46,7 @@ pub use htl_platform::PlatformFault;
 pub use laws::{
     earlier_readings_decide_texts, earlier_readings_decide_values, go_job_lines_are_found,
     go_keeps_deadlines, go_shows_job_lines, go_shows_the_meaning, go_tells_jobs_in_time,
-    sensors_decide_lines,
+    go_value_lines_are_found, names_tell_apart, sensors_decide_lines,
 };
 pub use outcome::{Outcome, ShelfCause, status};
 pub use selection::{ScriptStop, read_selection};
