@@ -1,5 +1,6 @@
 -- The functions of what is taken, by where they stand in their own program.
 use Rattle.std.proofs.Common.{◌≡◌, ◌≤◌, ◌<◌, ◌+◌, ◌-◌, ℕ, zero, suc, List, [], ◌∷◌, ◌++◌, length, length-append, length-drop, append_assoc, map, take, drop, get_or, slice_get, Option, Some, refl, sym, ◌∙◌, ap, arith, take-append-drop, pos}
+use Rattle.std.proofs.lemmas.List.{get_or-drop}
 use Rattle.htl_patch.proofs.Words.{length-map, AreInRange, Number, Tables, Fun, Formula, function_count, count_at, count_before, switch_function, Task, functions_of, function_of_switch, Graft, united, donor_task, output_count, output_functions, switch_functions, get_back, get_front, get_mapped, take_front}
 use Rattle.htl_patch.proofs.Members.{none}
 use Rattle.htl_patch.proofs.Counting.{count_within, take_length}
@@ -131,11 +132,6 @@ module _ (g : Graft) (host : AreInRange g.host) (donor : AreInRange g.donor) whe
   get_before (x ∷ xs) ys zero d less = refl
   get_before (x ∷ xs) ys (suc k) d less = get_before xs ys k d (omega (arith, less))
 
-  get_dropped : {A : Type 0} (n : ℕ) (xs : List A) (k : ℕ) (d : A) → get_or (drop n xs) k d ≡ get_or xs (n + k) d
-  get_dropped zero xs k d = let same : k ≡ 0 + k = omega arith in ap (λ (m : ℕ). get_or xs m d) same
-  get_dropped (suc n) [] k d = refl
-  get_dropped (suc n) (x ∷ xs) k d = let same : suc (n + k) ≡ suc n + k = omega arith in get_dropped n xs k d ∙ ap (λ (m : ℕ). get_or (x ∷ xs) m d) same
-
   outputs_sum : output_count u ≡ length (output_functions g.host ++ output_functions g.donor)
   outputs_sum =
       let sum = length-append g.host.tasks (map (donor_task g) g.donor.tasks) ∙ ap (λ (n : ℕ). length g.host.tasks + n) (length-map g.donor.tasks (donor_task g)) in
@@ -158,7 +154,7 @@ module _ (g : Graft) (host : AreInRange g.host) (donor : AreInRange g.donor) whe
   switch_front k less =
       let d = Formula 0 (Number 0 (pos 0)) in
       let size = switches_length g.host host in
-      sym (switch_at_place k ∙ get_before (switch_functions g.host) (switch_functions g.donor) k d (omega (arith, less, size)) ∙ get_dropped (output_count g.host) g.host.functions k d)
+      sym (switch_at_place k ∙ get_before (switch_functions g.host) (switch_functions g.donor) k d (omega (arith, less, size)) ∙ get_or-drop (output_count g.host) g.host.functions k d)
 
   pub switch_back : (k : ℕ) → length g.host.switches ≤ k → function_of_switch g.donor (k - length g.host.switches) ≡ function_of_switch u k
   switch_back k le =
@@ -168,7 +164,7 @@ module _ (g : Graft) (host : AreInRange g.host) (donor : AreInRange g.donor) whe
       sym (switch_at_place k
       ∙ ap (λ (n : ℕ). get_or (switch_functions g.host ++ switch_functions g.donor) n d) place
       ∙ get_behind (switch_functions g.host) (switch_functions g.donor) (k - length g.host.switches) d
-      ∙ get_dropped (output_count g.donor) g.donor.functions (k - length g.host.switches) d)
+      ∙ get_or-drop (output_count g.donor) g.donor.functions (k - length g.host.switches) d)
 
 -- the function of a switch in its own program
 pub switch_place : (t : Tables) (k first : ℕ) → AreInRange t → k < length t.switches → first ≡ (length t.functions - length t.switches) + k

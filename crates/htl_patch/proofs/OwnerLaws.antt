@@ -1,7 +1,7 @@
 -- What one owner owns stands in one run of the list, where owners don't fall.
-use Rattle.std.proofs.Common.{◌≡◌, ◌≤◌, ◌<◌, ◌⊎◌, inl, inr, ℕ, zero, suc, ◌+◌, Bool, true, false, cond, eqb, List, [], ◌∷◌, ◌++◌, length, map, drop, get_or, slice_get, Some, refl, sym, ◌∙◌, ap, subst, arith, append-nil}
+use Rattle.std.proofs.Common.{◌≡◌, ◌≤◌, ◌<◌, ◌⊎◌, inl, inr, ℕ, zero, suc, ◌+◌, Bool, true, false, cond, eqb, List, [], ◌∷◌, ◌++◌, length, map, drop, get_or, slice_get, Some, refl, sym, ◌∙◌, ap, subst, arith, append-nil, length-drop}
+use Rattle.std.proofs.lemmas.List.{get_or-drop}
 use Rattle.htl_patch.proofs.Words.{IsNonDecreasing, slice_get_within, slice_get-get_or, get_or_from_slice_get, places_from, is_owner, owned_by, place_among, ne_eqb, from_map}
-use Rattle.htl_patch.proofs.Grafting.{get_drop}
 use Rattle.htl_patch.proofs.KidLaws.{places_end}
 use Rattle.htl_patch.proofs.Members.{Has, same_or, place_get, places_nothing}
 
@@ -42,9 +42,10 @@ has_among m (x ∷ xs) less = by (same_or x m) less (has_among m xs)
 -- behind the run nothing follows
 pub owned_past : (m k : ℕ) (xs : List ℕ) → IsNonDecreasing xs → place_among m xs ≤ k → k < length xs → (get_or xs k 0 ≡ m → ⊥) → places_from (is_owner m) k (drop k xs) ≡ []
 owned_past m k xs rises least less other =
-    places_nothing (is_owner m) k (drop k xs) (λ x h. (let at = get_drop k xs h.0 x h.1 in
-    let is = get_or_from_slice_get xs (k + h.0) x 0 at in
-    let within = slice_get_within xs (k + h.0) x at in
+    places_nothing (is_owner m) k (drop k xs) (λ x h. (let is : get_or xs (k + h.0) 0 ≡ x = sym (get_or-drop k xs h.0 0) ∙ get_or_from_slice_get (drop k xs) h.0 x 0 h.1 in
+    let size = length-drop k xs in
+    let inside = slice_get_within (drop k xs) h.0 x h.1 in
+    let within : k + h.0 < length xs = omega (arith, size, inside) in
     let first = get_or_from_slice_get xs (place_among m xs) m 0 (place_get xs m (has_among m xs (omega (arith, least, less)))) in
     let one = rises (place_among m xs) k 0 least less in
     let two = rises k (k + h.0) 0 (omega arith) within in

@@ -1,9 +1,11 @@
 -- What holds of replaced refinements.
 use Rattle.std.specs.Prelude.{◌≡◌, ℕ, List}
+use Rattle.htl_load.specs.Alike.{AskTheSame}
 use Rattle.htl_object.specs.Accepted.{IsAccepted}
 use Rattle.htl_object.specs.Ranges.{IsInRange}
 use Rattle.htl_object.specs.declared.object.Object.{Object}
 use Rattle.htl_patch.specs.Object.{patched_object, CanPatch}
+use Rattle.htl_patch.specs.Patched.{patched}
 use Rattle.htl_patch.specs.Stops.{IsPatchFault}
 use Rattle.htl_patch.specs.United.{Graft}
 use Rattle.htl_patch.specs.declared.fault.PatchFault.{PatchFault}
@@ -11,6 +13,12 @@ use Rattle.htl_patch.specs.declared.fault.PatchFault.{PatchFault}
 -- an accepted object whose refinement is replaced by one that keeps the form rules and has right functions is accepted
 abbrev pub PatchedIsAccepted : Type 0
 PatchedIsAccepted = (o donor : Object) (unit mode : List ℕ) (g : Graft) → IsAccepted o → IsInRange donor → CanPatch o donor unit mode g → IsAccepted (patched_object o g)
+
+-- patched tables ask the processor for what those of the host ask for: along each path the same jobs of root modules, with their windows
+-- and worst cases, at the same positions; nodes and starts stay
+abbrev pub PatchedAsksTheSame : Type 0
+PatchedAsksTheSame =
+    (o donor : Object) (unit mode : List ℕ) (g : Graft) → IsAccepted o → IsInRange donor → CanPatch o donor unit mode g → AskTheSame (patched g) o.tables
 
 -- what can be patched has no fault
 abbrev pub PatchableIsNotRefused : Type 0

@@ -1,6 +1,6 @@
 -- How much the patched tables have of what is limited, by the numbers that are taken.
 use Rattle.std.specs.Prelude.{◌≤◌, ℕ, List, [], ◌∷◌, length}
-use Rattle.htl_base.specs.declared.limits.TheConstants.{MAX_MODULES, MAX_MODES, MAX_PORTS, MAX_TASKS, MAX_INVOCATIONS, MAX_SWITCHES, MAX_MODE_INVOCATIONS}
+use Rattle.htl_base.specs.declared.limits.TheConstants.{MAX_MODULES, MAX_MODES, MAX_PORTS, MAX_TASKS, MAX_INVOCATIONS, MAX_SWITCHES, MAX_MODE_INVOCATIONS, MAX_LEVELS}
 use Rattle.htl_model.specs.declared.parts.Mode.{Mode}
 use Rattle.htl_model.specs.declared.parts.Module.{Module}
 use Rattle.htl_model.specs.Tables.{Tables}
@@ -14,7 +14,7 @@ upright units modes = record { comms = []; modes = modes; modules = units; ports
 abbrev pub sizes_of : Numbering → ℕ → List (ℕ × ℕ)
 sizes_of n levels =
     (length n.modules, MAX_MODULES) ∷ (length n.modes, MAX_MODES) ∷ (length n.ports, MAX_PORTS) ∷ (length n.tasks, MAX_TASKS)
-    ∷ (length n.invs, MAX_INVOCATIONS) ∷ (length n.switches, MAX_SWITCHES) ∷ (0, MAX_MODE_INVOCATIONS) ∷ (levels, 8) ∷ []
+    ∷ (length n.invs, MAX_INVOCATIONS) ∷ (length n.switches, MAX_SWITCHES) ∷ (0, MAX_MODE_INVOCATIONS) ∷ (levels, MAX_LEVELS) ∷ []
 
 -- numbers of two programs are not too many
 pub record AreFewNumbers (n : Numbering) : Type 0 where

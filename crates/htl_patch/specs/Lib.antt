@@ -4,7 +4,6 @@ pub mod Firsts
 pub mod Joining
 pub mod Laws
 pub mod Levels
-pub mod Numbers
 pub mod Object
 pub mod Owners
 pub mod Patched

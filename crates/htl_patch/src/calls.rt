@@ -3,7 +3,7 @@ ghost use Rattle.std.specs.Prelude.{◌≡◌, ◌<◌, length, IfOk};
 ghost use Rattle.std.specs.Str.{bytes_eq};
 ghost use Rattle.htl_patch.specs.Calls.{call_for as call_for_of, calls_for as calls_for_of};
 ghost use Rattle.htl_patch.specs.Joining.{first};
-ghost use Rattle.htl_patch.specs.United.{graft, is_call as is_call_of, calls_named, task_name};
+ghost use Rattle.htl_patch.specs.United.{is_call as is_call_of, calls_named, task_name};
 
 use crate::graft::Graft;
 use crate::lists::{invs, tasks};
@@ -46,8 +46,8 @@ fn call_named(t: &Tables, mode: u16, name: &Name) -> Option<u16>
 
 // The host's invocation that stands for one of the donor's.
 fn call_for(g: &Graft<'_>, p: usize) -> Option<u16>
-    requires { p < length g.now.donor.now.invs }
-    ensures { result ≡ call_for_of (graft g.now.host.now g.now.donor.now g.now.into g.now.from) p }
+    requires { p < length g.now.donor.invs }
+    ensures { result ≡ call_for_of g.now p }
 {
     let x = &invs(g.donor)[p];
     if x.mode != g.from {
@@ -59,7 +59,7 @@ fn call_for(g: &Graft<'_>, p: usize) -> Option<u16>
 /// For each invocation of the donor the host's that stands for it. One pass over the host's invocations for each invocation of the
 /// donor's mode, of which there are at most 128.
 pub(crate) fn calls_for(alloc: Global, g: &Graft<'_>) -> Result<Vec<Option<u16>>, AllocError>
-    ensures { IfOk result (λ v. v.items ≡ calls_for_of (graft g.now.host.now g.now.donor.now g.now.into g.now.from)) }
+    ensures { IfOk result (λ v. v.items ≡ calls_for_of g.now) }
 {
     let count = invs(g.donor).len();
     let mut found = Vec::new(alloc);

@@ -4,10 +4,9 @@ ghost use Rattle.std.specs.List.{flat_map};
 ghost use Rattle.htl_model.specs.Tables.{fun_of, count_at};
 ghost use Rattle.htl_object.specs.Ranges.{IsFunctionCode};
 ghost use Rattle.htl_patch.specs.Firsts.{firsts_of};
-ghost use Rattle.htl_patch.specs.Numbers.{numbering_of};
 ghost use Rattle.htl_patch.specs.Patched.{new_numbers, patched};
 ghost use Rattle.htl_patch.specs.Renumbered.{functions_of, function_of_switch};
-ghost use Rattle.htl_patch.specs.United.{graft, united};
+ghost use Rattle.htl_patch.specs.United.{united};
 
 use crate::graft::Graft;
 use crate::lists::{switches, tasks};
@@ -120,15 +119,14 @@ fn push_output(
     k: usize,
     into: &mut Vec<Function>,
 ) -> Result<(), AllocError>
-    requires coded { All IsFunctionCode g.now.host.now.functions }
-    requires donor_coded { All IsFunctionCode g.now.donor.now.functions }
-    requires firsts { firsts.now.host.now ≡ firsts_of g.now.host.now }
-    requires donor_firsts { firsts.now.donor.now ≡ firsts_of g.now.donor.now }
-    requires within { k < length (united (graft g.now.host.now g.now.donor.now g.now.into g.now.from)).tasks }
-    ensures { OnOk result (map fun_of into.new.items ≡ map fun_of into.old.items ++ functions_of (united (graft g.now.host.now g.now.donor.now g.now.into g.now.from)) k) }
+    requires coded { All IsFunctionCode g.now.host.functions }
+    requires donor_coded { All IsFunctionCode g.now.donor.functions }
+    requires firsts { firsts.now.host.now ≡ firsts_of g.now.host }
+    requires donor_firsts { firsts.now.donor.now ≡ firsts_of g.now.donor }
+    requires within { k < length (united g.now).tasks }
+    ensures { OnOk result (map fun_of into.new.items ≡ map fun_of into.old.items ++ functions_of (united g.now) k) }
 {
-    g.host.keeps_ranges();
-    g.donor.keeps_ranges();
+    g.keeps_ranges();
     let front = tasks(g.host);
     if k < front.len() {
         push_of_task(alloc, g.host, firsts.host, k, into)
@@ -145,12 +143,12 @@ fn push_outputs(
     keys: &[u16],
     into: &mut Vec<Function>,
 ) -> Result<(), AllocError>
-    requires coded { All IsFunctionCode g.now.host.now.functions }
-    requires donor_coded { All IsFunctionCode g.now.donor.now.functions }
-    requires firsts { firsts.now.host.now ≡ firsts_of g.now.host.now }
-    requires donor_firsts { firsts.now.donor.now ≡ firsts_of g.now.donor.now }
-    requires within { All (λ x. x < length (united (graft g.now.host.now g.now.donor.now g.now.into g.now.from)).tasks) keys.now }
-    ensures { OnOk result (map fun_of into.new.items ≡ map fun_of into.old.items ++ flat_map (functions_of (united (graft g.now.host.now g.now.donor.now g.now.into g.now.from))) keys.now) }
+    requires coded { All IsFunctionCode g.now.host.functions }
+    requires donor_coded { All IsFunctionCode g.now.donor.functions }
+    requires firsts { firsts.now.host.now ≡ firsts_of g.now.host }
+    requires donor_firsts { firsts.now.donor.now ≡ firsts_of g.now.donor }
+    requires within { All (λ x. x < length (united g.now).tasks) keys.now }
+    ensures { OnOk result (map fun_of into.new.items ≡ map fun_of into.old.items ++ flat_map (functions_of (united g.now)) keys.now) }
 {
     for k in 0..keys.len() {
         push_output(alloc, g, firsts, keys[k] as usize, into)?;
@@ -191,13 +189,12 @@ fn push_switch(
     k: usize,
     into: &mut Vec<Function>,
 ) -> Result<(), AllocError>
-    requires coded { All IsFunctionCode g.now.host.now.functions }
-    requires donor_coded { All IsFunctionCode g.now.donor.now.functions }
-    requires within { k < length (united (graft g.now.host.now g.now.donor.now g.now.into g.now.from)).switches }
-    ensures { OnOk result (map fun_of into.new.items ≡ map fun_of into.old.items ++ function_of_switch (united (graft g.now.host.now g.now.donor.now g.now.into g.now.from)) k ∷ []) }
+    requires coded { All IsFunctionCode g.now.host.functions }
+    requires donor_coded { All IsFunctionCode g.now.donor.functions }
+    requires within { k < length (united g.now).switches }
+    ensures { OnOk result (map fun_of into.new.items ≡ map fun_of into.old.items ++ function_of_switch (united g.now) k ∷ []) }
 {
-    g.host.keeps_ranges();
-    g.donor.keeps_ranges();
+    g.keeps_ranges();
     let front = switches(g.host);
     if k < front.len() {
         push_of_switch(alloc, g.host, k, into)
@@ -213,10 +210,10 @@ fn push_switches(
     keys: &[u16],
     into: &mut Vec<Function>,
 ) -> Result<(), AllocError>
-    requires coded { All IsFunctionCode g.now.host.now.functions }
-    requires donor_coded { All IsFunctionCode g.now.donor.now.functions }
-    requires within { All (λ x. x < length (united (graft g.now.host.now g.now.donor.now g.now.into g.now.from)).switches) keys.now }
-    ensures { OnOk result (map fun_of into.new.items ≡ map fun_of into.old.items ++ map (function_of_switch (united (graft g.now.host.now g.now.donor.now g.now.into g.now.from))) keys.now) }
+    requires coded { All IsFunctionCode g.now.host.functions }
+    requires donor_coded { All IsFunctionCode g.now.donor.functions }
+    requires within { All (λ x. x < length (united g.now).switches) keys.now }
+    ensures { OnOk result (map fun_of into.new.items ≡ map fun_of into.old.items ++ map (function_of_switch (united g.now)) keys.now) }
 {
     for k in 0..keys.len() {
         push_switch(alloc, g, keys[k] as usize, into)?;
@@ -230,10 +227,10 @@ pub(crate) fn new_functions(
     g: &Graft<'_>,
     n: &OldNumbers,
 ) -> Result<Vec<Function>, AllocError>
-    requires coded { All IsFunctionCode g.now.host.now.functions }
-    requires donor_coded { All IsFunctionCode g.now.donor.now.functions }
-    requires numbers { numbering_of n.now ≡ new_numbers (graft g.now.host.now g.now.donor.now g.now.into g.now.from) }
-    ensures { IfOk result (λ v. map fun_of v.items ≡ (patched (graft g.now.host.now g.now.donor.now g.now.into g.now.from)).functions) }
+    requires coded { All IsFunctionCode g.now.host.functions }
+    requires donor_coded { All IsFunctionCode g.now.donor.functions }
+    requires numbers { n.now ≡ new_numbers g.now }
+    ensures { IfOk result (λ v. map fun_of v.items ≡ (patched g.now).functions) }
 {
     let host = firsts(alloc, g.host)?;
     let donor = firsts(alloc, g.donor)?;

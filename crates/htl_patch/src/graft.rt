@@ -3,13 +3,15 @@ ghost use Rattle.std.specs.Prelude.{◌≡◌, ◌<◌, ◌≤◌, length, optio
 ghost use Rattle.htl_model.specs.Selected.{is_at};
 ghost use Rattle.htl_patch.specs.Patched.{refines as refines_of};
 ghost use Rattle.htl_patch.specs.Renumbered.{module_at, mode_at};
+ghost use Rattle.htl_model.specs.Ranges.{AreInRange};
 ghost use Rattle.htl_model.specs.Selections.{mode_of_module};
-ghost use Rattle.htl_patch.specs.United.{graft, united, refined_mode};
+ghost use Rattle.htl_patch.specs.United.{united, refined_mode};
 
 use htl_model::Tables;
+use std::marker::Model;
 
 /// The mode of the host whose refinement is replaced, and the mode of the donor whose refinement takes its place.
-#[derive(Clone, Copy)]
+#[derive(Drop)]
 pub(crate) struct Graft<'a> {
     pub host: &'a Tables,
     pub donor: &'a Tables,
@@ -17,29 +19,50 @@ pub(crate) struct Graft<'a> {
     pub from: u16,
 }
 
+impl<'a> Model for Graft<'a> {
+    ghost use Rattle.htl_model.specs.contracts.tables.Tables as tables_row;
+    ghost use Rattle.htl_patch.specs.United.{Graft};
+    ghost use Rattle.std.specs.Coded.{codes};
+
+    ghost Value = { Graft };
+
+    ghost coded = { Prim.hlevel (codes, tables_row.the_row.coded) };
+
+    ghost view = { λ g. record { host = g.host.now; donor = g.donor.now; into = g.into; from = g.from } };
+}
+
+impl<'a> Graft<'a> {
+    /// Both programs are in range; there is nothing to do.
+    pub(crate) fn keeps_ranges(&self)
+        ensures host { AreInRange self.now.host }
+        ensures donor { AreInRange self.now.donor }
+    {
+        self.host.keeps_ranges();
+        self.donor.keeps_ranges();
+    }
+}
+
 /// How many modules there are in both.
 pub(crate) fn module_count(g: &Graft<'_>) -> usize
-    ensures count { result ≡ length (united (graft g.now.host.now g.now.donor.now g.now.into g.now.from)).modules }
+    ensures count { result ≡ length (united g.now).modules }
     ensures few { result ≤ 128 }
 {
-    g.host.keeps_ranges();
-    g.donor.keeps_ranges();
+    g.keeps_ranges();
     g.host.parts().modules.as_slice().len() + g.donor.parts().modules.as_slice().len()
 }
 
 /// How many modes there are in both.
 pub(crate) fn mode_count(g: &Graft<'_>) -> usize
-    ensures count { result ≡ length (united (graft g.now.host.now g.now.donor.now g.now.into g.now.from)).modes }
+    ensures count { result ≡ length (united g.now).modes }
     ensures few { result ≤ 512 }
 {
-    g.host.keeps_ranges();
-    g.donor.keeps_ranges();
+    g.keeps_ranges();
     g.host.parts().modes.as_slice().len() + g.donor.parts().modes.as_slice().len()
 }
 
 /// The mode that a module of the donor refines, by the mode that it refines there.
 pub(crate) fn refined(g: &Graft<'_>, p: u16) -> usize
-    ensures { result ≡ refined_mode (graft g.now.host.now g.now.donor.now g.now.into g.now.from) p }
+    ensures { result ≡ refined_mode g.now p }
 {
     if p == g.from {
         g.into as usize
@@ -49,7 +72,7 @@ pub(crate) fn refined(g: &Graft<'_>, p: u16) -> usize
 }
 
 fn is_refined(g: &Graft<'_>, parent: Option<u16>, m: usize) -> bool
-    ensures { result ≡ is_at (option_map (refined_mode (graft g.now.host.now g.now.donor.now g.now.into g.now.from)) parent) m }
+    ensures { result ≡ is_at (option_map (refined_mode g.now) parent) m }
 {
     match parent {
         Some(p) => refined(g, p) == m,
@@ -68,8 +91,8 @@ fn is_parent(parent: Option<u16>, m: usize) -> bool
 
 /// Whether a module is of the refinement of a mode.
 pub(crate) fn refines(g: &Graft<'_>, x: usize, m: usize) -> bool
-    requires { x < length (united (graft g.now.host.now g.now.donor.now g.now.into g.now.from)).modules }
-    ensures { result ≡ refines_of m (module_at (united (graft g.now.host.now g.now.donor.now g.now.into g.now.from)) x) }
+    requires { x < length (united g.now).modules }
+    ensures { result ≡ refines_of m (module_at (united g.now) x) }
 {
     let modules = g.host.parts().modules.as_slice();
     if x < modules.len() {
@@ -81,8 +104,8 @@ pub(crate) fn refines(g: &Graft<'_>, x: usize, m: usize) -> bool
 
 /// Whether a mode is one of a module.
 pub(crate) fn is_mode_of(g: &Graft<'_>, m: usize, u: u16) -> bool
-    requires { m < length (united (graft g.now.host.now g.now.donor.now g.now.into g.now.from)).modes }
-    ensures { result ≡ mode_of_module u (mode_at (united (graft g.now.host.now g.now.donor.now g.now.into g.now.from)) m) }
+    requires { m < length (united g.now).modes }
+    ensures { result ≡ mode_of_module u (mode_at (united g.now) m) }
 {
     let modes = g.host.parts().modes.as_slice();
     if m < modes.len() {

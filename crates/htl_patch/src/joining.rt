@@ -7,7 +7,7 @@ ghost use Rattle.htl_patch.specs.Joining.{is_taken as is_taken_of, is_stray_pare
 ghost use Rattle.htl_patch.specs.Patched.{order};
 ghost use Rattle.htl_patch.specs.Placed.{ArePlacesOf};
 ghost use Rattle.htl_patch.specs.Stops.{AreMet, IsJoinFault};
-ghost use Rattle.htl_patch.specs.United.{graft, united};
+ghost use Rattle.htl_patch.specs.United.{united};
 
 use crate::fault::PatchFault;
 use crate::finding::first_difference;
@@ -26,10 +26,10 @@ pub(crate) struct Taken<'a> {
 
 // Whether a module of the donor is taken over.
 fn is_taken(g: &Graft<'_>, taken: &Taken<'_>, unit: usize) -> bool
-    requires units { taken.now.units.now ≡ order (graft g.now.host.now g.now.donor.now g.now.into g.now.from) }
-    requires places { ArePlacesOf (length (united (graft g.now.host.now g.now.donor.now g.now.into g.now.from)).modules) (order (graft g.now.host.now g.now.donor.now g.now.into g.now.from)) taken.now.places.now }
-    requires unit { unit < length g.now.donor.now.modules }
-    ensures { result ≡ is_taken_of (graft g.now.host.now g.now.donor.now g.now.into g.now.from) unit }
+    requires units { taken.now.units.now ≡ order g.now }
+    requires places { ArePlacesOf (length (united g.now).modules) (order g.now) taken.now.places.now }
+    requires unit { unit < length g.now.donor.modules }
+    ensures { result ≡ is_taken_of g.now unit }
 {
     let place = taken.places[modules(g.host).len() + unit] as usize;
     place < taken.units.len()
@@ -37,11 +37,11 @@ fn is_taken(g: &Graft<'_>, taken: &Taken<'_>, unit: usize) -> bool
 
 // Whether a parent in the donor isn't taken over, and none of the host's mode stands for it.
 fn is_stray_parent(g: &Graft<'_>, taken: &Taken<'_>, calls: &[Option<u16>], p: usize) -> bool
-    requires units { taken.now.units.now ≡ order (graft g.now.host.now g.now.donor.now g.now.into g.now.from) }
-    requires places { ArePlacesOf (length (united (graft g.now.host.now g.now.donor.now g.now.into g.now.from)).modules) (order (graft g.now.host.now g.now.donor.now g.now.into g.now.from)) taken.now.places.now }
-    requires calls { calls.now ≡ calls_for (graft g.now.host.now g.now.donor.now g.now.into g.now.from) }
-    requires p { p < length g.now.donor.now.invs }
-    ensures { result ≡ is_stray_parent_of (graft g.now.host.now g.now.donor.now g.now.into g.now.from) (Some p) }
+    requires units { taken.now.units.now ≡ order g.now }
+    requires places { ArePlacesOf (length (united g.now).modules) (order g.now) taken.now.places.now }
+    requires calls { calls.now ≡ calls_for g.now }
+    requires p { p < length g.now.donor.invs }
+    ensures { result ≡ is_stray_parent_of g.now (Some p) }
 {
     let unit = mode_module(g.donor, invs(g.donor)[p].mode) as usize;
     match calls[p] {
@@ -52,13 +52,13 @@ fn is_stray_parent(g: &Graft<'_>, taken: &Taken<'_>, calls: &[Option<u16>], p: u
 
 // Whether an invocation of the donor is taken over, and its parent strays.
 fn is_stray(g: &Graft<'_>, taken: &Taken<'_>, calls: &[Option<u16>], x: &Inv) -> bool
-    requires units { taken.now.units.now ≡ order (graft g.now.host.now g.now.donor.now g.now.into g.now.from) }
-    requires places { ArePlacesOf (length (united (graft g.now.host.now g.now.donor.now g.now.into g.now.from)).modules) (order (graft g.now.host.now g.now.donor.now g.now.into g.now.from)) taken.now.places.now }
-    requires calls { calls.now ≡ calls_for (graft g.now.host.now g.now.donor.now g.now.into g.now.from) }
-    requires range { IsInvInRange g.now.donor.now x.now }
-    ensures { result ≡ is_stray_of (graft g.now.host.now g.now.donor.now g.now.into g.now.from) x.now }
+    requires units { taken.now.units.now ≡ order g.now }
+    requires places { ArePlacesOf (length (united g.now).modules) (order g.now) taken.now.places.now }
+    requires calls { calls.now ≡ calls_for g.now }
+    requires range { IsInvInRange g.now.donor x.now }
+    ensures { result ≡ is_stray_of g.now x.now }
 {
-    g.donor.keeps_ranges();
+    g.keeps_ranges();
     let unit = mode_module(g.donor, x.mode) as usize;
     match x.parent {
         Some(p) => is_taken(g, taken, unit) && is_stray_parent(g, taken, calls, p as usize),
@@ -68,10 +68,10 @@ fn is_stray(g: &Graft<'_>, taken: &Taken<'_>, calls: &[Option<u16>], x: &Inv) ->
 
 /// The first invocation of the donor that is taken over, and whose parent neither is nor has one of the host's mode that stands for it.
 pub(crate) fn first_stray(g: &Graft<'_>, taken: &Taken<'_>, calls: &[Option<u16>]) -> Option<u16>
-    requires units { taken.now.units.now ≡ order (graft g.now.host.now g.now.donor.now g.now.into g.now.from) }
-    requires places { ArePlacesOf (length (united (graft g.now.host.now g.now.donor.now g.now.into g.now.from)).modules) (order (graft g.now.host.now g.now.donor.now g.now.into g.now.from)) taken.now.places.now }
-    requires calls { calls.now ≡ calls_for (graft g.now.host.now g.now.donor.now g.now.into g.now.from) }
-    ensures { result ≡ first_stray_of (graft g.now.host.now g.now.donor.now g.now.into g.now.from) }
+    requires units { taken.now.units.now ≡ order g.now }
+    requires places { ArePlacesOf (length (united g.now).modules) (order g.now) taken.now.places.now }
+    requires calls { calls.now ≡ calls_for g.now }
+    ensures { result ≡ first_stray_of g.now }
 {
     let all = invs(g.donor);
     for k in 0..all.len() {
@@ -92,7 +92,7 @@ fn has_name(t: &Tables, unit: usize, name: &Name) -> bool
 
 // Whether a module of both is one of the host's, and has the name.
 fn has_host_name(g: &Graft<'_>, unit: u16, name: &Name) -> bool
-    ensures { result ≡ (ltb unit (length g.now.host.now.modules) && bytes_eq (module_name g.now.host.now unit) name.now) }
+    ensures { result ≡ (ltb unit (length g.now.host.modules) && bytes_eq (module_name g.now.host unit) name.now) }
 {
     if (unit as usize) < modules(g.host).len() {
         has_name(g.host, unit as usize, name)
@@ -103,18 +103,18 @@ fn has_host_name(g: &Graft<'_>, unit: u16, name: &Name) -> bool
 
 // Whether a module of the host that stays has the name.
 fn is_kept_name(g: &Graft<'_>, units: &[u16], name: &Name) -> bool
-    requires { units.now ≡ order (graft g.now.host.now g.now.donor.now g.now.into g.now.from) }
-    ensures { result ≡ is_kept_name_of (graft g.now.host.now g.now.donor.now g.now.into g.now.from) name.now }
+    requires { units.now ≡ order g.now }
+    ensures { result ≡ is_kept_name_of g.now name.now }
 {
     units.iter().any(|unit| has_host_name(g, *unit, name))
 }
 
 // Whether a module of the donor is taken over, and has the name of one of the host's that stays.
 fn is_twice(g: &Graft<'_>, taken: &Taken<'_>, unit: usize) -> bool
-    requires units { taken.now.units.now ≡ order (graft g.now.host.now g.now.donor.now g.now.into g.now.from) }
-    requires places { ArePlacesOf (length (united (graft g.now.host.now g.now.donor.now g.now.into g.now.from)).modules) (order (graft g.now.host.now g.now.donor.now g.now.into g.now.from)) taken.now.places.now }
-    requires unit { unit < length g.now.donor.now.modules }
-    ensures { result ≡ (is_taken_of (graft g.now.host.now g.now.donor.now g.now.into g.now.from) unit && is_kept_name_of (graft g.now.host.now g.now.donor.now g.now.into g.now.from) (module_name g.now.donor.now unit)) }
+    requires units { taken.now.units.now ≡ order g.now }
+    requires places { ArePlacesOf (length (united g.now).modules) (order g.now) taken.now.places.now }
+    requires unit { unit < length g.now.donor.modules }
+    ensures { result ≡ (is_taken_of g.now unit && is_kept_name_of g.now (module_name g.now.donor unit)) }
 {
     if is_taken(g, taken, unit) {
         is_kept_name(g, taken.units, &modules(g.donor)[unit].name)
@@ -125,9 +125,9 @@ fn is_twice(g: &Graft<'_>, taken: &Taken<'_>, unit: usize) -> bool
 
 /// The first module of the donor that is taken over, and has the name of one of the host's that stays.
 pub(crate) fn first_twice(g: &Graft<'_>, taken: &Taken<'_>) -> Option<u16>
-    requires units { taken.now.units.now ≡ order (graft g.now.host.now g.now.donor.now g.now.into g.now.from) }
-    requires places { ArePlacesOf (length (united (graft g.now.host.now g.now.donor.now g.now.into g.now.from)).modules) (order (graft g.now.host.now g.now.donor.now g.now.into g.now.from)) taken.now.places.now }
-    ensures { result ≡ first_twice_of (graft g.now.host.now g.now.donor.now g.now.into g.now.from) }
+    requires units { taken.now.units.now ≡ order g.now }
+    requires places { ArePlacesOf (length (united g.now).modules) (order g.now) taken.now.places.now }
+    ensures { result ≡ first_twice_of g.now }
 {
     let all = modules(g.donor);
     for k in 0..all.len() {
@@ -144,10 +144,10 @@ pub(crate) fn join_fault(
     taken: &Taken<'_>,
     calls: &[Option<u16>],
 ) -> Option<PatchFault>
-    requires units { taken.now.units.now ≡ order (graft g.now.host.now g.now.donor.now g.now.into g.now.from) }
-    requires places { ArePlacesOf (length (united (graft g.now.host.now g.now.donor.now g.now.into g.now.from)).modules) (order (graft g.now.host.now g.now.donor.now g.now.into g.now.from)) taken.now.places.now }
-    requires calls { calls.now ≡ calls_for (graft g.now.host.now g.now.donor.now g.now.into g.now.from) }
-    ensures { MatchOption result (AreMet (graft g.now.host.now g.now.donor.now g.now.into g.now.from)) (IsJoinFault (graft g.now.host.now g.now.donor.now g.now.into g.now.from)) }
+    requires units { taken.now.units.now ≡ order g.now }
+    requires places { ArePlacesOf (length (united g.now).modules) (order g.now) taken.now.places.now }
+    requires calls { calls.now ≡ calls_for g.now }
+    ensures { MatchOption result (AreMet g.now) (IsJoinFault g.now) }
 {
     if let Some(place) = first_difference(comms(g.host), comms(g.donor)) {
         return Some(PatchFault::Comms { place });

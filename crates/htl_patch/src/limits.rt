@@ -5,7 +5,6 @@ ghost use Rattle.htl_model.specs.Ranges.{parent_of};
 ghost use Rattle.htl_model.specs.Tables.{mode_module, greatest};
 ghost use Rattle.htl_patch.specs.Joining.{level as level_of, exceeded as exceeded_of};
 ghost use Rattle.htl_patch.specs.Levels.{upright, sizes_of, AreFewNumbers};
-ghost use Rattle.htl_patch.specs.Numbers.{numbering_of};
 
 use crate::numbers::OldNumbers;
 use htl_base::limits::{
@@ -81,8 +80,8 @@ pub(crate) fn exceeded(sizes: &[(u32, u32)]) -> Option<(u8, u32)>
 
 /// The first limit that the patched tables exceed, by their number of levels.
 pub(crate) fn first_limit(n: &OldNumbers, levels: u32) -> Option<(u8, u32)>
-    requires { AreFewNumbers (numbering_of n.now) }
-    ensures { result ≡ exceeded_of 2 (sizes_of (numbering_of n.now) levels) }
+    requires { AreFewNumbers n.now }
+    ensures { result ≡ exceeded_of 2 (sizes_of n.now levels) }
 {
     let sizes = [
         (n.units.len() as u32, MAX_MODULES as u32),

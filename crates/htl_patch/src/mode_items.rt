@@ -4,7 +4,7 @@ ghost use Rattle.htl_patch.specs.Patched.{new_numbers};
 ghost use Rattle.htl_patch.specs.Calls.{calls_for};
 ghost use Rattle.htl_patch.specs.Placed.{ArePlaces, HasPlace, HasPlaces, placed_end, placed_inv, placed_port, placed_switch};
 ghost use Rattle.htl_patch.specs.Renumbered.{inv_at, port_at, switch_at, new_inv as new_inv_of, new_port as new_port_of, new_switch as new_switch_of};
-ghost use Rattle.htl_patch.specs.United.{graft, united, donor_parent, belongs_to_mode as is_of_mode_of};
+ghost use Rattle.htl_patch.specs.United.{united, donor_parent, belongs_to_mode as is_of_mode_of};
 
 use crate::graft::Graft;
 use crate::lists::{invs, modes, ports, switches, tasks};
@@ -27,12 +27,11 @@ fn copied_port(x: &Port, modes: &[u16], before: usize) -> Port
 }
 
 fn new_port(g: &Graft<'_>, p: &NewNumbers, k: usize) -> Port
-    requires places { ArePlaces (united (graft g.now.host.now g.now.donor.now g.now.into g.now.from)) (new_numbers (graft g.now.host.now g.now.donor.now g.now.into g.now.from)) p.now }
-    requires within { k < length (united (graft g.now.host.now g.now.donor.now g.now.into g.now.from)).ports }
-    ensures { result ≡ new_port_of (new_numbers (graft g.now.host.now g.now.donor.now g.now.into g.now.from)) (port_at (united (graft g.now.host.now g.now.donor.now g.now.into g.now.from)) k) }
+    requires places { ArePlaces (united g.now) (new_numbers g.now) p.now }
+    requires within { k < length (united g.now).ports }
+    ensures { result ≡ new_port_of (new_numbers g.now) (port_at (united g.now) k) }
 {
-    g.host.keeps_ranges();
-    g.donor.keeps_ranges();
+    g.keeps_ranges();
     let before = modes(g.host).len();
     let front = ports(g.host);
     if k < front.len() {
@@ -49,9 +48,9 @@ pub(crate) fn new_ports(
     p: &NewNumbers,
     keys: &[u16],
 ) -> Result<Vec<Port>, AllocError>
-    requires places { ArePlaces (united (graft g.now.host.now g.now.donor.now g.now.into g.now.from)) (new_numbers (graft g.now.host.now g.now.donor.now g.now.into g.now.from)) p.now }
-    requires within { All (λ x. x < length (united (graft g.now.host.now g.now.donor.now g.now.into g.now.from)).ports) keys.now }
-    ensures { IfOk result (λ v. v.items ≡ map (λ x. new_port_of (new_numbers (graft g.now.host.now g.now.donor.now g.now.into g.now.from)) (port_at (united (graft g.now.host.now g.now.donor.now g.now.into g.now.from)) x)) keys.now) }
+    requires places { ArePlaces (united g.now) (new_numbers g.now) p.now }
+    requires within { All (λ x. x < length (united g.now).ports) keys.now }
+    ensures { IfOk result (λ v. v.items ≡ map (λ x. new_port_of (new_numbers g.now) (port_at (united g.now) x)) keys.now) }
 {
     let mut found = Vec::new(alloc);
     for k in 0..keys.len() {
@@ -129,11 +128,11 @@ fn is_of_mode(t: &Tables, mode: u16, k: usize) -> bool
 
 // The invocation of both in whose place one of the donor stands, by the one in whose place it stands there.
 fn moved(g: &Graft<'_>, calls: &[Option<u16>], k: u16) -> u16
-    requires calls { calls.now ≡ calls_for (graft g.now.host.now g.now.donor.now g.now.into g.now.from) }
-    requires within { k < length g.now.donor.now.invs }
-    ensures { result ≡ donor_parent (graft g.now.host.now g.now.donor.now g.now.into g.now.from) k }
+    requires calls { calls.now ≡ calls_for g.now }
+    requires within { k < length g.now.donor.invs }
+    ensures { result ≡ donor_parent g.now k }
 {
-    g.donor.keeps_ranges();
+    g.keeps_ranges();
     if is_of_mode(g.donor, g.from, k as usize) {
         match calls[k as usize] {
             Some(call) => call,
@@ -145,9 +144,9 @@ fn moved(g: &Graft<'_>, calls: &[Option<u16>], k: u16) -> u16
 }
 
 fn moved_parent(g: &Graft<'_>, calls: &[Option<u16>], parent: Option<u16>) -> Option<u16>
-    requires calls { calls.now ≡ calls_for (graft g.now.host.now g.now.donor.now g.now.into g.now.from) }
-    requires within { IfSome parent (λ k. k < length g.now.donor.now.invs) }
-    ensures { result ≡ option_map (donor_parent (graft g.now.host.now g.now.donor.now g.now.into g.now.from)) parent }
+    requires calls { calls.now ≡ calls_for g.now }
+    requires within { IfSome parent (λ k. k < length g.now.donor.invs) }
+    ensures { result ≡ option_map (donor_parent g.now) parent }
 {
     match parent {
         Some(k) => Some(moved(g, calls, k)),
@@ -162,13 +161,12 @@ fn new_inv(
     calls: &[Option<u16>],
     k: usize,
 ) -> Result<Inv, AllocError>
-    requires places { ArePlaces (united (graft g.now.host.now g.now.donor.now g.now.into g.now.from)) (new_numbers (graft g.now.host.now g.now.donor.now g.now.into g.now.from)) p.now }
-    requires calls { calls.now ≡ calls_for (graft g.now.host.now g.now.donor.now g.now.into g.now.from) }
-    requires within { k < length (united (graft g.now.host.now g.now.donor.now g.now.into g.now.from)).invs }
-    ensures { IfOk result (λ y. y ≡ new_inv_of (new_numbers (graft g.now.host.now g.now.donor.now g.now.into g.now.from)) (inv_at (united (graft g.now.host.now g.now.donor.now g.now.into g.now.from)) k)) }
+    requires places { ArePlaces (united g.now) (new_numbers g.now) p.now }
+    requires calls { calls.now ≡ calls_for g.now }
+    requires within { k < length (united g.now).invs }
+    ensures { IfOk result (λ y. y ≡ new_inv_of (new_numbers g.now) (inv_at (united g.now) k)) }
 {
-    g.host.keeps_ranges();
-    g.donor.keeps_ranges();
+    g.keeps_ranges();
     let front = invs(g.host);
     if k < front.len() {
         let none = Before {
@@ -196,10 +194,10 @@ pub(crate) fn new_invs(
     calls: &[Option<u16>],
     keys: &[u16],
 ) -> Result<Vec<Inv>, AllocError>
-    requires places { ArePlaces (united (graft g.now.host.now g.now.donor.now g.now.into g.now.from)) (new_numbers (graft g.now.host.now g.now.donor.now g.now.into g.now.from)) p.now }
-    requires calls { calls.now ≡ calls_for (graft g.now.host.now g.now.donor.now g.now.into g.now.from) }
-    requires within { All (λ x. x < length (united (graft g.now.host.now g.now.donor.now g.now.into g.now.from)).invs) keys.now }
-    ensures { IfOk result (λ v. v.items ≡ map (λ x. new_inv_of (new_numbers (graft g.now.host.now g.now.donor.now g.now.into g.now.from)) (inv_at (united (graft g.now.host.now g.now.donor.now g.now.into g.now.from)) x)) keys.now) }
+    requires places { ArePlaces (united g.now) (new_numbers g.now) p.now }
+    requires calls { calls.now ≡ calls_for g.now }
+    requires within { All (λ x. x < length (united g.now).invs) keys.now }
+    ensures { IfOk result (λ v. v.items ≡ map (λ x. new_inv_of (new_numbers g.now) (inv_at (united g.now) x)) keys.now) }
 {
     let mut found = Vec::new(alloc);
     for k in 0..keys.len() {
@@ -228,12 +226,11 @@ fn copied_switch(
 }
 
 fn new_switch(alloc: Global, g: &Graft<'_>, p: &NewNumbers, k: usize) -> Result<Switch, AllocError>
-    requires places { ArePlaces (united (graft g.now.host.now g.now.donor.now g.now.into g.now.from)) (new_numbers (graft g.now.host.now g.now.donor.now g.now.into g.now.from)) p.now }
-    requires within { k < length (united (graft g.now.host.now g.now.donor.now g.now.into g.now.from)).switches }
-    ensures { IfOk result (λ y. y ≡ new_switch_of (new_numbers (graft g.now.host.now g.now.donor.now g.now.into g.now.from)) (switch_at (united (graft g.now.host.now g.now.donor.now g.now.into g.now.from)) k)) }
+    requires places { ArePlaces (united g.now) (new_numbers g.now) p.now }
+    requires within { k < length (united g.now).switches }
+    ensures { IfOk result (λ y. y ≡ new_switch_of (new_numbers g.now) (switch_at (united g.now) k)) }
 {
-    g.host.keeps_ranges();
-    g.donor.keeps_ranges();
+    g.keeps_ranges();
     let before = modes(g.host).len();
     let front = switches(g.host);
     if k < front.len() {
@@ -250,9 +247,9 @@ pub(crate) fn new_switches(
     p: &NewNumbers,
     keys: &[u16],
 ) -> Result<Vec<Switch>, AllocError>
-    requires places { ArePlaces (united (graft g.now.host.now g.now.donor.now g.now.into g.now.from)) (new_numbers (graft g.now.host.now g.now.donor.now g.now.into g.now.from)) p.now }
-    requires within { All (λ x. x < length (united (graft g.now.host.now g.now.donor.now g.now.into g.now.from)).switches) keys.now }
-    ensures { IfOk result (λ v. v.items ≡ map (λ x. new_switch_of (new_numbers (graft g.now.host.now g.now.donor.now g.now.into g.now.from)) (switch_at (united (graft g.now.host.now g.now.donor.now g.now.into g.now.from)) x)) keys.now) }
+    requires places { ArePlaces (united g.now) (new_numbers g.now) p.now }
+    requires within { All (λ x. x < length (united g.now).switches) keys.now }
+    ensures { IfOk result (λ v. v.items ≡ map (λ x. new_switch_of (new_numbers g.now) (switch_at (united g.now) x)) keys.now) }
 {
     let mut found = Vec::new(alloc);
     for k in 0..keys.len() {

@@ -3,10 +3,9 @@ ghost use Rattle.std.specs.Prelude.{◌≡◌, ◌<◌, ◌≤◌, ℕ, All, len
 ghost use Rattle.std.specs.List.{flat_map};
 ghost use Rattle.htl_model.specs.Selections.{modes_of, invs_of};
 ghost use Rattle.htl_patch.specs.Patched.{order as order_of, new_numbers};
-ghost use Rattle.htl_patch.specs.Numbers.{numbering_of};
 ghost use Rattle.htl_patch.specs.Placed.{ArePlaces};
 ghost use Rattle.htl_patch.specs.Renumbered.{place_among, ports_of, tasks_of, switches_of};
-ghost use Rattle.htl_patch.specs.United.{graft, united};
+ghost use Rattle.htl_patch.specs.United.{united};
 
 use crate::graft::{Graft, mode_count, module_count};
 use crate::lists::{invs, modes, modules, ports, switches, tasks};
@@ -15,6 +14,7 @@ use crate::owned::owned;
 use crate::owners::owners_of;
 use crate::places::places;
 use std::alloc::{AllocError, Global};
+use std::marker::Model;
 
 /// The old numbers of the modules that are taken, and of all that they own, in the new order.
 pub(crate) struct OldNumbers {
@@ -24,6 +24,21 @@ pub(crate) struct OldNumbers {
     pub tasks: Vec<u16>,
     pub invs: Vec<u16>,
     pub switches: Vec<u16>,
+}
+
+impl Model for OldNumbers {
+    ghost use Rattle.htl_patch.specs.Renumbered.{Numbering};
+
+    ghost Value = { Numbering };
+
+    ghost view = { λ n. record {
+      modules = n.units.items;
+      modes = n.modes.items;
+      ports = n.ports.items;
+      tasks = n.tasks.items;
+      invs = n.invs.items;
+      switches = n.switches.items;
+    } };
 }
 
 impl Drop for OldNumbers {
@@ -62,8 +77,8 @@ impl Drop for NewNumbers {
 
 // The modes of modules, by module.
 fn modes_in(alloc: Global, g: &Graft<'_>, keys: &[u16]) -> Result<Vec<u16>, AllocError>
-    requires { All (λ x. x < length (united (graft g.now.host.now g.now.donor.now g.now.into g.now.from)).modules) keys.now }
-    ensures { IfOk result (λ v. v.items ≡ flat_map (modes_of (united (graft g.now.host.now g.now.donor.now g.now.into g.now.from))) keys.now) }
+    requires { All (λ x. x < length (united g.now).modules) keys.now }
+    ensures { IfOk result (λ v. v.items ≡ flat_map (modes_of (united g.now)) keys.now) }
 {
     let before = modules(g.host).len() as u16;
     let owners = owners_of(alloc, modes(g.host), modes(g.donor), before)?;
@@ -73,8 +88,8 @@ fn modes_in(alloc: Global, g: &Graft<'_>, keys: &[u16]) -> Result<Vec<u16>, Allo
 
 // The ports of modes, by mode.
 fn ports_in(alloc: Global, g: &Graft<'_>, keys: &[u16]) -> Result<Vec<u16>, AllocError>
-    requires { All (λ x. x < length (united (graft g.now.host.now g.now.donor.now g.now.into g.now.from)).modes) keys.now }
-    ensures { IfOk result (λ v. v.items ≡ flat_map (ports_of (united (graft g.now.host.now g.now.donor.now g.now.into g.now.from))) keys.now) }
+    requires { All (λ x. x < length (united g.now).modes) keys.now }
+    ensures { IfOk result (λ v. v.items ≡ flat_map (ports_of (united g.now)) keys.now) }
 {
     let before = modes(g.host).len() as u16;
     let owners = owners_of(alloc, ports(g.host), ports(g.donor), before)?;
@@ -84,8 +99,8 @@ fn ports_in(alloc: Global, g: &Graft<'_>, keys: &[u16]) -> Result<Vec<u16>, Allo
 
 // The tasks of modules, by module.
 fn tasks_in(alloc: Global, g: &Graft<'_>, keys: &[u16]) -> Result<Vec<u16>, AllocError>
-    requires { All (λ x. x < length (united (graft g.now.host.now g.now.donor.now g.now.into g.now.from)).modules) keys.now }
-    ensures { IfOk result (λ v. v.items ≡ flat_map (tasks_of (united (graft g.now.host.now g.now.donor.now g.now.into g.now.from))) keys.now) }
+    requires { All (λ x. x < length (united g.now).modules) keys.now }
+    ensures { IfOk result (λ v. v.items ≡ flat_map (tasks_of (united g.now)) keys.now) }
 {
     let before = modules(g.host).len() as u16;
     let owners = owners_of(alloc, tasks(g.host), tasks(g.donor), before)?;
@@ -95,8 +110,8 @@ fn tasks_in(alloc: Global, g: &Graft<'_>, keys: &[u16]) -> Result<Vec<u16>, Allo
 
 // The invocations of modes, by mode.
 fn invs_in(alloc: Global, g: &Graft<'_>, keys: &[u16]) -> Result<Vec<u16>, AllocError>
-    requires { All (λ x. x < length (united (graft g.now.host.now g.now.donor.now g.now.into g.now.from)).modes) keys.now }
-    ensures { IfOk result (λ v. v.items ≡ flat_map (invs_of (united (graft g.now.host.now g.now.donor.now g.now.into g.now.from))) keys.now) }
+    requires { All (λ x. x < length (united g.now).modes) keys.now }
+    ensures { IfOk result (λ v. v.items ≡ flat_map (invs_of (united g.now)) keys.now) }
 {
     let before = modes(g.host).len() as u16;
     let owners = owners_of(alloc, invs(g.host), invs(g.donor), before)?;
@@ -106,8 +121,8 @@ fn invs_in(alloc: Global, g: &Graft<'_>, keys: &[u16]) -> Result<Vec<u16>, Alloc
 
 // The switches of modes, by mode.
 fn switches_in(alloc: Global, g: &Graft<'_>, keys: &[u16]) -> Result<Vec<u16>, AllocError>
-    requires { All (λ x. x < length (united (graft g.now.host.now g.now.donor.now g.now.into g.now.from)).modes) keys.now }
-    ensures { IfOk result (λ v. v.items ≡ flat_map (switches_of (united (graft g.now.host.now g.now.donor.now g.now.into g.now.from))) keys.now) }
+    requires { All (λ x. x < length (united g.now).modes) keys.now }
+    ensures { IfOk result (λ v. v.items ≡ flat_map (switches_of (united g.now)) keys.now) }
 {
     let before = modes(g.host).len() as u16;
     let owners = owners_of(alloc, switches(g.host), switches(g.donor), before)?;
@@ -117,12 +132,11 @@ fn switches_in(alloc: Global, g: &Graft<'_>, keys: &[u16]) -> Result<Vec<u16>, A
 
 /// The old numbers in the new order. The time is linear in both programs.
 pub(crate) fn old_numbers(alloc: Global, g: &Graft<'_>) -> Result<OldNumbers, AllocError>
-    requires into { g.now.into < length g.now.host.now.modes }
-    requires from { g.now.from < length g.now.donor.now.modes }
-    ensures { IfOk result (λ n. numbering_of n ≡ new_numbers (graft g.now.host.now g.now.donor.now g.now.into g.now.from)) }
+    requires into { g.now.into < length g.now.host.modes }
+    requires from { g.now.from < length g.now.donor.modes }
+    ensures { IfOk result (λ n. n ≡ new_numbers g.now) }
 {
-    g.host.keeps_ranges();
-    g.donor.keeps_ranges();
+    g.keeps_ranges();
     let units = order(alloc, g)?;
     let modes = modes_in(alloc, g, units.as_slice())?;
     let ports = ports_in(alloc, g, modes.as_slice())?;
@@ -145,13 +159,12 @@ pub(crate) fn renumber(
     g: &Graft<'_>,
     n: &OldNumbers,
 ) -> Result<NewNumbers, AllocError>
-    requires into { g.now.into < length g.now.host.now.modes }
-    requires from { g.now.from < length g.now.donor.now.modes }
-    requires numbers { numbering_of n.now ≡ new_numbers (graft g.now.host.now g.now.donor.now g.now.into g.now.from) }
-    ensures { IfOk result (ArePlaces (united (graft g.now.host.now g.now.donor.now g.now.into g.now.from)) (new_numbers (graft g.now.host.now g.now.donor.now g.now.into g.now.from))) }
+    requires into { g.now.into < length g.now.host.modes }
+    requires from { g.now.from < length g.now.donor.modes }
+    requires numbers { n.now ≡ new_numbers g.now }
+    ensures { IfOk result (ArePlaces (united g.now) (new_numbers g.now)) }
 {
-    g.host.keeps_ranges();
-    g.donor.keeps_ranges();
+    g.keeps_ranges();
     let units = places(alloc, n.units.as_slice(), module_count(g))?;
     let modes = places(alloc, n.modes.as_slice(), mode_count(g))?;
     let count = ports(g.host).len() + ports(g.donor).len();

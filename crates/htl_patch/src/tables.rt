@@ -5,11 +5,10 @@ ghost use Rattle.htl_model.specs.Ranges.{AreInRange};
 ghost use Rattle.htl_object.specs.Ranges.{IsFunctionCode};
 ghost use Rattle.htl_patch.specs.Calls.{calls_for as calls_for_of};
 ghost use Rattle.htl_patch.specs.Joining.{Joins};
-ghost use Rattle.htl_patch.specs.Numbers.{numbering_of};
 ghost use Rattle.htl_patch.specs.Patched.{new_numbers, patched};
 ghost use Rattle.htl_patch.specs.Placed.{ArePlaces};
 ghost use Rattle.htl_patch.specs.Stops.{AreMet, IsEarlyFault};
-ghost use Rattle.htl_patch.specs.United.{graft, united};
+ghost use Rattle.htl_patch.specs.United.{united};
 
 use crate::calls::calls_for;
 use crate::fault::PatchFault;
@@ -54,15 +53,14 @@ fn heads_of(
     n: &OldNumbers,
     p: &NewNumbers,
 ) -> Result<Heads, AllocError>
-    requires into { g.now.into < length g.now.host.now.modes }
-    requires from { g.now.from < length g.now.donor.now.modes }
-    requires numbers { numbering_of n.now ≡ new_numbers (graft g.now.host.now g.now.donor.now g.now.into g.now.from) }
-    requires places { ArePlaces (united (graft g.now.host.now g.now.donor.now g.now.into g.now.from)) (new_numbers (graft g.now.host.now g.now.donor.now g.now.into g.now.from)) p.now }
-    ensures modules { IfOk result (λ h. h.modules.items ≡ (patched (graft g.now.host.now g.now.donor.now g.now.into g.now.from)).modules) }
-    ensures modes { IfOk result (λ h. h.modes.items ≡ (patched (graft g.now.host.now g.now.donor.now g.now.into g.now.from)).modes) }
+    requires into { g.now.into < length g.now.host.modes }
+    requires from { g.now.from < length g.now.donor.modes }
+    requires numbers { n.now ≡ new_numbers g.now }
+    requires places { ArePlaces (united g.now) (new_numbers g.now) p.now }
+    ensures modules { IfOk result (λ h. h.modules.items ≡ (patched g.now).modules) }
+    ensures modes { IfOk result (λ h. h.modes.items ≡ (patched g.now).modes) }
 {
-    g.host.keeps_ranges();
-    g.donor.keeps_ranges();
+    g.keeps_ranges();
     let modules = new_modules(alloc, g, p, n.units.as_slice())?;
     let modes = new_modes(alloc, g, p, n.modes.as_slice())?;
     Ok(Heads { modules, modes })
@@ -77,15 +75,15 @@ fn assembled(
     calls: &[Option<u16>],
     heads: Heads,
 ) -> Result<Tables, AllocError>
-    requires numbers { numbering_of n.now ≡ new_numbers (graft g.now.host.now g.now.donor.now g.now.into g.now.from) }
-    requires places { ArePlaces (united (graft g.now.host.now g.now.donor.now g.now.into g.now.from)) (new_numbers (graft g.now.host.now g.now.donor.now g.now.into g.now.from)) p.now }
-    requires calls { calls.now ≡ calls_for_of (graft g.now.host.now g.now.donor.now g.now.into g.now.from) }
-    requires coded { All IsFunctionCode g.now.host.now.functions }
-    requires donor_coded { All IsFunctionCode g.now.donor.now.functions }
-    requires modules { heads.modules.items ≡ (patched (graft g.now.host.now g.now.donor.now g.now.into g.now.from)).modules }
-    requires modes { heads.modes.items ≡ (patched (graft g.now.host.now g.now.donor.now g.now.into g.now.from)).modes }
-    requires ranges { AreInRange (patched (graft g.now.host.now g.now.donor.now g.now.into g.now.from)) }
-    ensures { IfOk result (λ t. t ≡ patched (graft g.now.host.now g.now.donor.now g.now.into g.now.from)) }
+    requires numbers { n.now ≡ new_numbers g.now }
+    requires places { ArePlaces (united g.now) (new_numbers g.now) p.now }
+    requires calls { calls.now ≡ calls_for_of g.now }
+    requires coded { All IsFunctionCode g.now.host.functions }
+    requires donor_coded { All IsFunctionCode g.now.donor.functions }
+    requires modules { heads.modules.items ≡ (patched g.now).modules }
+    requires modes { heads.modes.items ≡ (patched g.now).modes }
+    requires ranges { AreInRange (patched g.now) }
+    ensures { IfOk result (λ t. t ≡ patched g.now) }
 {
     let comms = copied_comms(alloc, comms(g.host))?;
     let ports = new_ports(alloc, g, p, n.ports.as_slice())?;
@@ -113,19 +111,18 @@ fn limited(
     p: &NewNumbers,
     calls: &[Option<u16>],
 ) -> Result<Result<Tables, PatchFault>, AllocError>
-    requires into { g.now.into < length g.now.host.now.modes }
-    requires from { g.now.from < length g.now.donor.now.modes }
-    requires formed { Formed g.now.host.now }
-    requires coded { All IsFunctionCode g.now.host.now.functions }
-    requires donor_coded { All IsFunctionCode g.now.donor.now.functions }
-    requires numbers { numbering_of n.now ≡ new_numbers (graft g.now.host.now g.now.donor.now g.now.into g.now.from) }
-    requires places { ArePlaces (united (graft g.now.host.now g.now.donor.now g.now.into g.now.from)) (new_numbers (graft g.now.host.now g.now.donor.now g.now.into g.now.from)) p.now }
-    requires calls { calls.now ≡ calls_for_of (graft g.now.host.now g.now.donor.now g.now.into g.now.from) }
-    requires met { AreMet (graft g.now.host.now g.now.donor.now g.now.into g.now.from) }
-    ensures { IfOk result (λ r. MatchResult r (λ t. (t ≡ patched (graft g.now.host.now g.now.donor.now g.now.into g.now.from)) × Joins (graft g.now.host.now g.now.donor.now g.now.into g.now.from)) (IsEarlyFault (graft g.now.host.now g.now.donor.now g.now.into g.now.from))) }
+    requires into { g.now.into < length g.now.host.modes }
+    requires from { g.now.from < length g.now.donor.modes }
+    requires formed { Formed g.now.host }
+    requires coded { All IsFunctionCode g.now.host.functions }
+    requires donor_coded { All IsFunctionCode g.now.donor.functions }
+    requires numbers { n.now ≡ new_numbers g.now }
+    requires places { ArePlaces (united g.now) (new_numbers g.now) p.now }
+    requires calls { calls.now ≡ calls_for_of g.now }
+    requires met { AreMet g.now }
+    ensures { IfOk result (λ r. MatchResult r (λ t. (t ≡ patched g.now) × Joins g.now) (IsEarlyFault g.now)) }
 {
-    g.host.keeps_ranges();
-    g.donor.keeps_ranges();
+    g.keeps_ranges();
     let heads = heads_of(alloc, g, n, p)?;
     let count = levels(heads.modules.as_slice(), heads.modes.as_slice(), 16);
     if let Some((which, count)) = first_limit(n, count) {
@@ -140,12 +137,12 @@ pub(crate) fn grafted(
     alloc: Global,
     g: &Graft<'_>,
 ) -> Result<Result<Tables, PatchFault>, AllocError>
-    requires into { g.now.into < length g.now.host.now.modes }
-    requires from { g.now.from < length g.now.donor.now.modes }
-    requires formed { Formed g.now.host.now }
-    requires coded { All IsFunctionCode g.now.host.now.functions }
-    requires donor_coded { All IsFunctionCode g.now.donor.now.functions }
-    ensures { IfOk result (λ r. MatchResult r (λ t. (t ≡ patched (graft g.now.host.now g.now.donor.now g.now.into g.now.from)) × Joins (graft g.now.host.now g.now.donor.now g.now.into g.now.from)) (IsEarlyFault (graft g.now.host.now g.now.donor.now g.now.into g.now.from))) }
+    requires into { g.now.into < length g.now.host.modes }
+    requires from { g.now.from < length g.now.donor.modes }
+    requires formed { Formed g.now.host }
+    requires coded { All IsFunctionCode g.now.host.functions }
+    requires donor_coded { All IsFunctionCode g.now.donor.functions }
+    ensures { IfOk result (λ r. MatchResult r (λ t. (t ≡ patched g.now) × Joins g.now) (IsEarlyFault g.now)) }
 {
     let n = old_numbers(alloc, g)?;
     let p = renumber(alloc, g, &n)?;

@@ -3,7 +3,7 @@ ghost use Rattle.std.specs.Prelude.{◌≡◌, ◌<◌, ◌≤◌, ◌+◌, All,
 ghost use Rattle.htl_patch.specs.Patched.{new_numbers};
 ghost use Rattle.htl_patch.specs.Placed.{ArePlaces, placed_mode, placed_module, placed_task};
 ghost use Rattle.htl_patch.specs.Renumbered.{mode_at, module_at, task_at, new_mode as new_mode_of, new_module as new_module_of, new_task as new_task_of};
-ghost use Rattle.htl_patch.specs.United.{graft, united, refined_mode};
+ghost use Rattle.htl_patch.specs.United.{united, refined_mode};
 
 use crate::graft::{Graft, refined};
 use crate::lists::{modes, modules, tasks};
@@ -25,12 +25,11 @@ fn copied_mode(x: &Mode, units: &[u16], before: usize) -> Mode
 }
 
 fn new_mode(g: &Graft<'_>, p: &NewNumbers, k: usize) -> Mode
-    requires places { ArePlaces (united (graft g.now.host.now g.now.donor.now g.now.into g.now.from)) (new_numbers (graft g.now.host.now g.now.donor.now g.now.into g.now.from)) p.now }
-    requires within { k < length (united (graft g.now.host.now g.now.donor.now g.now.into g.now.from)).modes }
-    ensures { result ≡ new_mode_of (new_numbers (graft g.now.host.now g.now.donor.now g.now.into g.now.from)) (mode_at (united (graft g.now.host.now g.now.donor.now g.now.into g.now.from)) k) }
+    requires places { ArePlaces (united g.now) (new_numbers g.now) p.now }
+    requires within { k < length (united g.now).modes }
+    ensures { result ≡ new_mode_of (new_numbers g.now) (mode_at (united g.now) k) }
 {
-    g.host.keeps_ranges();
-    g.donor.keeps_ranges();
+    g.keeps_ranges();
     let before = modules(g.host).len();
     let front = modes(g.host);
     if k < front.len() {
@@ -47,9 +46,9 @@ pub(crate) fn new_modes(
     p: &NewNumbers,
     keys: &[u16],
 ) -> Result<Vec<Mode>, AllocError>
-    requires places { ArePlaces (united (graft g.now.host.now g.now.donor.now g.now.into g.now.from)) (new_numbers (graft g.now.host.now g.now.donor.now g.now.into g.now.from)) p.now }
-    requires within { All (λ x. x < length (united (graft g.now.host.now g.now.donor.now g.now.into g.now.from)).modes) keys.now }
-    ensures { IfOk result (λ v. v.items ≡ map (λ x. new_mode_of (new_numbers (graft g.now.host.now g.now.donor.now g.now.into g.now.from)) (mode_at (united (graft g.now.host.now g.now.donor.now g.now.into g.now.from)) x)) keys.now) }
+    requires places { ArePlaces (united g.now) (new_numbers g.now) p.now }
+    requires within { All (λ x. x < length (united g.now).modes) keys.now }
+    ensures { IfOk result (λ v. v.items ≡ map (λ x. new_mode_of (new_numbers g.now) (mode_at (united g.now) x)) keys.now) }
 {
     let mut found = Vec::new(alloc);
     for k in 0..keys.len() {
@@ -84,12 +83,11 @@ fn copied_module(x: &Module, parent: Option<u16>, modes: &[u16], before: usize) 
 
 // The mode that a module of the donor refines, by the mode that it refines there.
 fn refined_parent(g: &Graft<'_>, parent: Option<u16>) -> Option<u16>
-    requires into { g.now.into < length g.now.host.now.modes }
-    requires parent { IfSome parent (λ k. k < length g.now.donor.now.modes) }
-    ensures { result ≡ option_map (refined_mode (graft g.now.host.now g.now.donor.now g.now.into g.now.from)) parent }
+    requires into { g.now.into < length g.now.host.modes }
+    requires parent { IfSome parent (λ k. k < length g.now.donor.modes) }
+    ensures { result ≡ option_map (refined_mode g.now) parent }
 {
-    g.host.keeps_ranges();
-    g.donor.keeps_ranges();
+    g.keeps_ranges();
     match parent {
         Some(k) => Some(refined(g, k) as u16),
         None => None,
@@ -97,13 +95,12 @@ fn refined_parent(g: &Graft<'_>, parent: Option<u16>) -> Option<u16>
 }
 
 fn new_module(g: &Graft<'_>, p: &NewNumbers, k: usize) -> Module
-    requires places { ArePlaces (united (graft g.now.host.now g.now.donor.now g.now.into g.now.from)) (new_numbers (graft g.now.host.now g.now.donor.now g.now.into g.now.from)) p.now }
-    requires within { k < length (united (graft g.now.host.now g.now.donor.now g.now.into g.now.from)).modules }
-    requires into { g.now.into < length g.now.host.now.modes }
-    ensures { result ≡ new_module_of (new_numbers (graft g.now.host.now g.now.donor.now g.now.into g.now.from)) (module_at (united (graft g.now.host.now g.now.donor.now g.now.into g.now.from)) k) }
+    requires places { ArePlaces (united g.now) (new_numbers g.now) p.now }
+    requires within { k < length (united g.now).modules }
+    requires into { g.now.into < length g.now.host.modes }
+    ensures { result ≡ new_module_of (new_numbers g.now) (module_at (united g.now) k) }
 {
-    g.host.keeps_ranges();
-    g.donor.keeps_ranges();
+    g.keeps_ranges();
     let before = modes(g.host).len();
     let front = modules(g.host);
     if k < front.len() {
@@ -122,10 +119,10 @@ pub(crate) fn new_modules(
     p: &NewNumbers,
     keys: &[u16],
 ) -> Result<Vec<Module>, AllocError>
-    requires places { ArePlaces (united (graft g.now.host.now g.now.donor.now g.now.into g.now.from)) (new_numbers (graft g.now.host.now g.now.donor.now g.now.into g.now.from)) p.now }
-    requires into { g.now.into < length g.now.host.now.modes }
-    requires within { All (λ x. x < length (united (graft g.now.host.now g.now.donor.now g.now.into g.now.from)).modules) keys.now }
-    ensures { IfOk result (λ v. v.items ≡ map (λ x. new_module_of (new_numbers (graft g.now.host.now g.now.donor.now g.now.into g.now.from)) (module_at (united (graft g.now.host.now g.now.donor.now g.now.into g.now.from)) x)) keys.now) }
+    requires places { ArePlaces (united g.now) (new_numbers g.now) p.now }
+    requires into { g.now.into < length g.now.host.modes }
+    requires within { All (λ x. x < length (united g.now).modules) keys.now }
+    ensures { IfOk result (λ v. v.items ≡ map (λ x. new_module_of (new_numbers g.now) (module_at (united g.now) x)) keys.now) }
 {
     let mut found = Vec::new(alloc);
     for k in 0..keys.len() {
@@ -152,12 +149,11 @@ fn copied_task(alloc: Global, x: &Task, units: &[u16], before: usize) -> Result<
 }
 
 fn new_task(alloc: Global, g: &Graft<'_>, p: &NewNumbers, k: usize) -> Result<Task, AllocError>
-    requires places { ArePlaces (united (graft g.now.host.now g.now.donor.now g.now.into g.now.from)) (new_numbers (graft g.now.host.now g.now.donor.now g.now.into g.now.from)) p.now }
-    requires within { k < length (united (graft g.now.host.now g.now.donor.now g.now.into g.now.from)).tasks }
-    ensures { IfOk result (λ y. y ≡ new_task_of (new_numbers (graft g.now.host.now g.now.donor.now g.now.into g.now.from)) (task_at (united (graft g.now.host.now g.now.donor.now g.now.into g.now.from)) k)) }
+    requires places { ArePlaces (united g.now) (new_numbers g.now) p.now }
+    requires within { k < length (united g.now).tasks }
+    ensures { IfOk result (λ y. y ≡ new_task_of (new_numbers g.now) (task_at (united g.now) k)) }
 {
-    g.host.keeps_ranges();
-    g.donor.keeps_ranges();
+    g.keeps_ranges();
     let before = modules(g.host).len();
     let front = tasks(g.host);
     if k < front.len() {
@@ -174,9 +170,9 @@ pub(crate) fn new_tasks(
     p: &NewNumbers,
     keys: &[u16],
 ) -> Result<Vec<Task>, AllocError>
-    requires places { ArePlaces (united (graft g.now.host.now g.now.donor.now g.now.into g.now.from)) (new_numbers (graft g.now.host.now g.now.donor.now g.now.into g.now.from)) p.now }
-    requires within { All (λ x. x < length (united (graft g.now.host.now g.now.donor.now g.now.into g.now.from)).tasks) keys.now }
-    ensures { IfOk result (λ v. v.items ≡ map (λ x. new_task_of (new_numbers (graft g.now.host.now g.now.donor.now g.now.into g.now.from)) (task_at (united (graft g.now.host.now g.now.donor.now g.now.into g.now.from)) x)) keys.now) }
+    requires places { ArePlaces (united g.now) (new_numbers g.now) p.now }
+    requires within { All (λ x. x < length (united g.now).tasks) keys.now }
+    ensures { IfOk result (λ v. v.items ≡ map (λ x. new_task_of (new_numbers g.now) (task_at (united g.now) x)) keys.now) }
 {
     let mut found = Vec::new(alloc);
     for k in 0..keys.len() {

@@ -1,13 +1,13 @@
 use Rattle.std.proofs.Common.{ℕ, List, length, ap, subst, sym, ◌∙◌}
-use Rattle.htl_patch.proofs.Words.{order, ArePlacesOf, Numbering, graft, united}
+use Rattle.htl_patch.proofs.Words.{order, ArePlacesOf, Numbering, united}
 use Rattle.htl_patch.proofs.tables.grafted.Goals as goal
 
 pub join_fault-requires-clause-units : goal.join_fault-requires-clause-units
-join_fault-requires-clause-units c = c.as_slice.ensures.value ∙ ap (λ (z : Numbering). z.modules) c.in_ok-n.ensures
+join_fault-requires-clause-units c = c.as_slice.ensures.value ∙ ap (λ (z : Numbering). z.modules) (c.n.view_is ∙ c.in_ok-n.ensures)
 
 pub join_fault-requires-clause-places : goal.join_fault-requires-clause-places
 join_fault-requires-clause-places c =
-    let g = graft c.args.g.now.host.now c.args.g.now.donor.now c.args.g.now.into c.args.g.now.from in
+    let g = c.args.g.now in
     subst (λ (xs : List ℕ). ArePlacesOf (length (united g).modules) (order g) xs) (sym c.as_slice-2.ensures.value) c.in_ok-p.ensures.units
 
 pub join_fault-requires-clause-calls : goal.join_fault-requires-clause-calls
