@@ -12,6 +12,7 @@ pub mod Triggers
 pub mod WriteRead
 pub mod CopyPhases
 pub mod Phases
+pub mod PhaseNumbers
 pub mod Rounds
 pub mod Deciding
 pub mod States

@@ -16,6 +16,7 @@ pub use Rattle.htl_ecode.proofs.Words.{AreInRange, Arrives, Asks, Does, Done, Is
 pub use Rattle.htl_ecode.specs.Chains.{led_to}
 pub use Rattle.htl_ecode.specs.Offsets.{meets}
 pub use Rattle.htl_ecode.specs.Paths.{begin_path, block_path, chain_path, decide_path, due_path, e_path, enter_path, followed, holds_in, on, round_end, step_from, switch_path, turn_step}
+pub use Rattle.htl_ecode.specs.Phases.{number_of, phase_of}
 pub use Rattle.htl_ecode.specs.declared.ecode.ECode.{ECode}
 pub use Rattle.htl_ecode.specs.declared.fault.EFault.{EFault}
 pub use Rattle.htl_ecode.specs.declared.fault.EKind.TheVariants.{Action}
@@ -24,13 +25,13 @@ pub use Rattle.htl_emach.specs.Calendars.{Calendar, HasModule, Standing, block_f
 pub use Rattle.htl_emach.specs.Contents.{Content, argument, arguments, buffer, call_read, call_write, comm_of, completed, effect, first_content, input_row, made, output_row, put_in, reads_at, writes_at, zeros}
 pub use Rattle.htl_emach.specs.Due.{IsDueAt, IsEarliest, IsNext, IsNextOf, IsUpToNext, LacksModules, NoneBefore, earlier, earliest, earliest_of}
 pub use Rattle.htl_emach.specs.Following.{BlockRuns, FollowsCode, IsBetweenBlocks, IsInBlock, Midway, Onward, PhaseStands, blocks_to_come, calendar_at, calendar_replay, from_module, phase_blocks, phase_path}
-pub use Rattle.htl_emach.specs.Indices.{Indices, first_functions, is_own, port_writers, writer_of}
+pub use Rattle.htl_emach.specs.Indices.{Indices, first_functions, index_of, is_own, port_writers, sensor_type, writer_of}
 pub use Rattle.htl_emach.specs.Laws.{NothingOverdue, PassesInstant}
 pub use Rattle.htl_emach.specs.Leading.{AreAllowed, Ends, HasInput, HasOutput, IsAllowed, Leads, goes_at}
 pub use Rattle.htl_emach.specs.Pending.{Between, Entry, IsSized, awaited, closed, ended, ending, entering, entry_after, entry_at, entry_before, is_called, new_stay, next_block, old_stay, opening, pending_entry, switched, trigger_at, turning}
 pub use Rattle.htl_emach.specs.Ready.{Fits, IsReady}
 pub use Rattle.htl_emach.specs.Safety.{IsFit, IsSafe, IsStart, LeadToBlocks, MayLead, RunsSafely, StandsSafely, StartsIn, safe}
-pub use Rattle.htl_emach.specs.Shapes.{Applies, HasEnds, HasRoom, HasValues, IsShaped, RowFits, SensorsStay, TaskApplies, comm_types, values_at}
+pub use Rattle.htl_emach.specs.Shapes.{Applies, HasEnds, HasRoom, HasValues, IsShaped, RowFits, SensorsStay, TaskApplies, comm_types, is_of_type, sensor_takes, values_at}
 pub use Rattle.htl_emach.specs.declared.contender.Contender.{Contender}
 pub use Rattle.htl_emach.specs.declared.trigger.Block.{Block}
 pub use Rattle.htl_emach.specs.declared.trigger.EDone.{EDone}

@@ -1,17 +1,20 @@
--- Where the tables' ports and functions stand.
-use Rattle.std.specs.Prelude.{ℕ, Bool, false, cond, eqb, List, length, slice_get, Option, Some, None}
+-- Where the tables' ports and functions stand, and which communicators are sensors.
+use Rattle.std.specs.Prelude.{ℕ, Bool, false, cond, eqb, List, length, map, slice_get, Option, Some, None}
+use Rattle.htl_base.specs.declared.Ty.{Ty}
 use Rattle.htl_model.specs.Lists.{list_to}
 use Rattle.htl_model.specs.Tables.{Tables, count_before}
 use Rattle.htl_model.specs.Meaning.{port_output, writer_from}
+use Rattle.htl_model.specs.declared.parts.Comm.{Comm}
 use Rattle.htl_model.specs.declared.parts.Port.{Port}
 use Rattle.htl_model.specs.declared.parts.End.{End}
 use Rattle.htl_model.specs.declared.parts.End.TheVariants as E
 
--- the first function of each task, how many functions the tasks have, and the writer of each port in its mode
+-- the first function of each task, how many functions the tasks have, the writer of each port in its mode, and the type of each communicator that is a sensor
 pub record Indices : Type 0 where
   pub firsts : List ℕ
   pub count : ℕ
   pub writers : List (Option (ℕ × ℕ))
+  pub sensors : List (Option Ty)
 
 abbrev pub first_functions : Tables → List ℕ
 first_functions t = list_to (λ k. count_before k t.tasks) (length t.tasks)
@@ -39,5 +42,10 @@ entered ports m k o ends p was = elim (cond (is_of ports m p) (port_output p o e
 abbrev pub is_own : Tables → ℕ → ℕ → Bool
 is_own t m p = elim (slice_get t.ports p) [ Some x ↦ eqb x.mode m | None ↦ false ]
 
+-- the type of a sensor; none of another communicator
+abbrev pub sensor_type : Comm → Option Ty
+sensor_type x = cond x.sensor (Some x.ty) None
+
 abbrev pub index_of : Tables → Indices
-index_of t = record { firsts = first_functions t; count = count_before (length t.tasks) t.tasks; writers = port_writers t }
+index_of t =
+    record { firsts = first_functions t; count = count_before (length t.tasks) t.tasks; writers = port_writers t; sensors = map sensor_type t.comms }

@@ -1,24 +1,27 @@
-// Where the tables' ports and functions stand.
-ghost use Rattle.std.specs.Prelude.{◌≡◌, ◌<◌, ◌≤◌, length, slice_get, All, IfOk, IfSome};
+// Where the tables' ports and functions stand, and which communicators are sensors.
+ghost use Rattle.std.specs.Prelude.{◌≡◌, ◌<◌, ◌≤◌, length, map, slice_get, All, IfOk, IfSome};
 ghost use Rattle.htl_base.specs.declared.limits.TheConstants as limit;
 ghost use Rattle.htl_model.specs.Lists.{list_to};
 ghost use Rattle.htl_model.specs.Tables.{count_before, function_count, output_function, switch_function};
 ghost use Rattle.htl_model.specs.Meaning.{writer_from};
-ghost use Rattle.htl_emach.specs.Indices.{first_functions, is_own, index_of};
+ghost use Rattle.htl_emach.specs.Calendars.{list_at};
+ghost use Rattle.htl_emach.specs.Indices.{first_functions, is_own, index_of, sensor_type as sensor_type_of};
 
 use crate::writers::port_writers;
-use htl_base::Seq;
+use htl_base::{Seq, Ty};
 use htl_model::lookup::{function_count, functions_before};
 use htl_model::port_ends::port_writer;
-use htl_model::{Tables, Task};
+use htl_model::{Comm, Tables, Task};
 use std::alloc::{AllocError, Global};
 use std::marker::Model;
 
-/// The first function of each task, how many functions the tasks have, and the writer of each port in its mode.
+/// The first function of each task, how many functions the tasks have, the writer of each port in its mode, and the type of
+/// each communicator that is a sensor.
 pub struct Index {
     firsts: Seq<u32>,
     count: u32,
     writers: Seq<Option<(u16, u16)>>,
+    sensors: Seq<Option<Ty>>,
 }
 
 impl Drop for Index {
@@ -27,6 +30,7 @@ impl Drop for Index {
             firsts: _,
             count: _,
             writers: _,
+            sensors: _,
         } = self;
     }
 }
@@ -36,7 +40,7 @@ impl Model for Index {
 
     ghost Value = { Indices };
 
-    ghost view = { λ i. record { firsts = i.firsts; count = i.count; writers = i.writers } };
+    ghost view = { λ i. record { firsts = i.firsts; count = i.count; writers = i.writers; sensors = i.sensors } };
 }
 
 impl Index {
@@ -46,11 +50,25 @@ impl Index {
     {
         let firsts = firsts(alloc, t)?;
         let writers = port_writers(alloc, t)?;
+        let sensors = sensor_types(alloc, t)?;
         Ok(Index {
             firsts: Seq::new(firsts),
             count: count(t),
             writers,
+            sensors: Seq::new(sensors),
         })
+    }
+
+    /// The type of a sensor; None of another communicator, and of none.
+    pub fn sensor(&self, comm: u16) -> Option<Ty>
+        ensures { result ≡ list_at self.now.sensors comm }
+    {
+        let sensors = self.sensors.as_slice();
+        if (comm as usize) < sensors.len() {
+            sensors[comm as usize]
+        } else {
+            None
+        }
     }
 
     // The first function of a task, which is in range.
@@ -153,4 +171,23 @@ fn count(t: &Tables) -> u32
     t.keeps_ranges();
     let tasks = t.parts().tasks.as_slice();
     functions_before(tasks, tasks.len())
+}
+
+// The type of a sensor; None of another communicator.
+fn sensor_type(comm: &Comm) -> Option<Ty>
+    ensures { result ≡ sensor_type_of comm.now }
+{
+    if comm.sensor { Some(comm.ty) } else { None }
+}
+
+// The types of the sensors.
+fn sensor_types(alloc: Global, t: &Tables) -> Result<Vec<Option<Ty>>, AllocError>
+    ensures { IfOk result (λ v. v.items ≡ map sensor_type_of t.now.comms) }
+{
+    let comms = t.parts().comms.as_slice();
+    let mut types = Vec::new(alloc);
+    for k in 0..comms.len() {
+        types.push(sensor_type(&comms[k]))?;
+    }
+    Ok(types)
 }

@@ -21,6 +21,7 @@ use crate::path::Path;
 use crate::steps::do_instrs;
 use crate::works::{Machines, Program, StandingList};
 use htl_base::Time;
+use htl_ecode::Phase;
 use htl_edge::{Failed, Sink};
 
 /// The last part of an instant at which a list begins: the switches; the beginning of the list, by the modes in which the modules
@@ -54,7 +55,7 @@ pub fn close_and_begin<W: Sink>(
 {
     let t = program.tables;
     let _parts = t.parts();
-    if let Err(failed) = do_instrs(sink, machines, program, path.jobs(), 2, at) {
+    if let Err(failed) = do_instrs(sink, machines, program, path.jobs(), Phase::Switch, at) {
         return Err(failed);
     }
     path.begin(&mut machines.works.s_machine, t, &machines.emach, takes, at);

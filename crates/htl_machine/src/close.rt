@@ -16,6 +16,7 @@ use crate::changes::put_changes;
 use crate::steps::do_instrs;
 use crate::works::{Machines, Program};
 use htl_base::Time;
+use htl_ecode::Phase;
 use htl_edge::{Failed, Sink};
 use htl_walk::Job;
 
@@ -44,7 +45,7 @@ pub fn read_instant<W: Sink>(
     ensures reads { (es : List Event) → AreToRead program.now.tables.now program.now.code.now es at machines.old → OnOk result (Onward program.now.tables.now program.now.code.now es at 3 machines.new.emach (phase_path program.now.tables.now program.now.code.now es at 3) [] None) }
 {
     let _parts = program.tables.parts();
-    if let Err(failed) = do_instrs(sink, machines, program, jobs, 3, at) {
+    if let Err(failed) = do_instrs(sink, machines, program, jobs, Phase::Read, at) {
         return Err(failed);
     }
     put_changes(sink, machines, program, at)
@@ -73,7 +74,7 @@ pub fn close_instant<W: Sink>(
     ensures stands { OnOk result ((s : List Instr) → Stands machines.old.works.s_machine s → Stands machines.new.works.s_machine s) }
     ensures reads { (es : List Event) → AreToClose program.now.tables.now program.now.code.now es at machines.old → OnOk result (Onward program.now.tables.now program.now.code.now es at 3 machines.new.emach (phase_path program.now.tables.now program.now.code.now es at 3) [] None) }
 {
-    if let Err(failed) = do_instrs(sink, machines, program, jobs, 2, at) {
+    if let Err(failed) = do_instrs(sink, machines, program, jobs, Phase::Switch, at) {
         return Err(failed);
     }
     read_instant(sink, machines, program, jobs, at)

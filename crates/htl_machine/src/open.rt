@@ -17,6 +17,7 @@ use crate::sensors::Sensors;
 use crate::steps::do_instrs;
 use crate::works::{Machines, Program, StandingList};
 use htl_base::Time;
+use htl_ecode::Phase;
 use htl_edge::{Failed, Sink};
 
 /// The records of the list that stands, as far as they are due, the writes and the sensors of an instant. After `Failed`
@@ -59,7 +60,7 @@ pub fn open_instant<W: Sink>(
     if let Err(failed) = leave_records(sink, &mut machines.works, program, list, at) {
         return Err(failed);
     }
-    if let Err(failed) = do_instrs(sink, machines, program, list.jobs, 1, at) {
+    if let Err(failed) = do_instrs(sink, machines, program, list.jobs, Phase::Write, at) {
         return Err(failed);
     }
     sensors.show(

@@ -4,6 +4,7 @@ ghost use Rattle.htl_edge.specs.Content.{Puts};
 ghost use Rattle.htl_model.specs.declared.event.Event.{Event};
 ghost use Rattle.htl_walk.specs.declared.schedule.SInstr.{SInstr as Instr};
 ghost use Rattle.htl_smach.specs.Rounds.{Stands};
+ghost use Rattle.htl_ecode.specs.Phases.{number_of};
 ghost use Rattle.htl_emach.specs.Shapes.{SensorsStay};
 ghost use Rattle.htl_emach.specs.Following.{Onward, phase_path};
 ghost use Rattle.htl_machine.specs.Asking.{IsSound, AreFitted, AreStarting};
@@ -17,7 +18,7 @@ use crate::lengths::position;
 use crate::works::{Machines, Program};
 use htl_base::Time;
 use htl_console::{Shown, line_e};
-use htl_ecode::EInstr;
+use htl_ecode::{EInstr, Phase};
 use htl_edge::{Failed, Sink};
 use htl_model::Tables;
 use htl_smach::{PosState, SMach};
@@ -59,14 +60,15 @@ fn release(s_machine: &mut SMach, jobs: &[Job], instr: EInstr)
 }
 
 // In the read phase releases are told.
-fn release_in(s_machine: &mut SMach, jobs: &[Job], phase: u8, instr: EInstr)
+fn release_in(s_machine: &mut SMach, jobs: &[Job], phase: Phase, instr: EInstr)
     requires jobs { s_machine.old.jobs ≡ jobs.now }
-    ensures s_machine { s_machine.new ≡ cond (eqb phase 3) (s_machine_does instr s_machine.old) s_machine.old }
+    ensures s_machine { s_machine.new ≡ cond (eqb (number_of phase) 3) (s_machine_does instr s_machine.old) s_machine.old }
     ensures jobs { s_machine.new.jobs ≡ s_machine.old.jobs }
     ensures stands { (s : List Instr) → Stands s_machine.old s → Stands s_machine.new s }
 {
-    if phase == 3 {
-        release(s_machine, jobs, instr);
+    match phase {
+        Phase::Read => release(s_machine, jobs, instr),
+        Phase::Write | Phase::Switch => {}
     }
 }
 
@@ -77,33 +79,32 @@ pub fn do_instrs<W: Sink>(
     machines: &mut Machines,
     program: &Program<'_>,
     jobs: &[Job],
-    phase: u8,
+    phase: Phase,
     at: Time,
 ) -> Result<(), Failed>
     requires sound { IsSound program.now.tables.now program.now.code.now }
-    requires phase { (1 ≤ phase) × (phase ≤ 3) }
     requires at { at ≤ 1000000000 }
     requires fitted { AreFitted program.now.tables.now program.now.code.now machines.old }
     requires jobs { machines.old.works.s_machine.jobs ≡ jobs.now }
-    requires starts { (es : List Event) × AreStarting program.now.tables.now program.now.code.now es at phase machines.old }
-    ensures text { (es : List Event) → AreStarting program.now.tables.now program.now.code.now es at phase machines.old → Puts (W.written sink.old) (W.written sink.new) (W.faults sink.old) (W.faults sink.new) (path_lines program.now.tables.now program.now.code.now program.now.show at (phase_path program.now.tables.now program.now.code.now es at phase)) result }
-    ensures counts { (es : List Event) → AreStarting program.now.tables.now program.now.code.now es at phase machines.old → OnOk result (machines.new.works.tally ≡ with_instrs (length (phase_path program.now.tables.now program.now.code.now es at phase)) machines.old.works.tally) }
-    ensures s_machine { (es : List Event) → AreStarting program.now.tables.now program.now.code.now es at phase machines.old → OnOk result (machines.new.works.s_machine ≡ told_in_phase phase program.now.code.now (phase_path program.now.tables.now program.now.code.now es at phase) machines.old.works.s_machine) }
+    requires starts { (es : List Event) × AreStarting program.now.tables.now program.now.code.now es at (number_of phase) machines.old }
+    ensures text { (es : List Event) → AreStarting program.now.tables.now program.now.code.now es at (number_of phase) machines.old → Puts (W.written sink.old) (W.written sink.new) (W.faults sink.old) (W.faults sink.new) (path_lines program.now.tables.now program.now.code.now program.now.show at (phase_path program.now.tables.now program.now.code.now es at (number_of phase))) result }
+    ensures counts { (es : List Event) → AreStarting program.now.tables.now program.now.code.now es at (number_of phase) machines.old → OnOk result (machines.new.works.tally ≡ with_instrs (length (phase_path program.now.tables.now program.now.code.now es at (number_of phase))) machines.old.works.tally) }
+    ensures s_machine { (es : List Event) → AreStarting program.now.tables.now program.now.code.now es at (number_of phase) machines.old → OnOk result (machines.new.works.s_machine ≡ told_in_phase (number_of phase) program.now.code.now (phase_path program.now.tables.now program.now.code.now es at (number_of phase)) machines.old.works.s_machine) }
     ensures jobs { OnOk result (machines.new.works.s_machine.jobs ≡ machines.old.works.s_machine.jobs) }
     ensures stands { OnOk result ((s : List Instr) → Stands machines.old.works.s_machine s → Stands machines.new.works.s_machine s) }
     ensures fitted { OnOk result (AreFitted program.now.tables.now program.now.code.now machines.new) }
-    ensures world { (es : List Event) → AreStarting program.now.tables.now program.now.code.now es at phase machines.old → OnOk result (machines.new.works.world ≡ replay program.now.tables.now program.now.code.now (phase_path program.now.tables.now program.now.code.now es at phase) machines.old.works.world) }
-    ensures values { OnOk result (phase ≡ 2 → machines.new.works.world.values ≡ machines.old.works.world.values) }
+    ensures world { (es : List Event) → AreStarting program.now.tables.now program.now.code.now es at (number_of phase) machines.old → OnOk result (machines.new.works.world ≡ replay program.now.tables.now program.now.code.now (phase_path program.now.tables.now program.now.code.now es at (number_of phase)) machines.old.works.world) }
+    ensures values { OnOk result ((number_of phase) ≡ 2 → machines.new.works.world.values ≡ machines.old.works.world.values) }
     ensures noted { OnOk result (KeepsNoted machines.old.noted machines.new.noted) }
     ensures sensors { OnOk result (SensorsStay program.now.tables.now machines.old.works.world.values machines.new.works.world.values) }
-    ensures ends { (es : List Event) → AreStarting program.now.tables.now program.now.code.now es at phase machines.old → OnOk result (Onward program.now.tables.now program.now.code.now es at phase machines.new.emach (phase_path program.now.tables.now program.now.code.now es at phase) [] None) }
+    ensures ends { (es : List Event) → AreStarting program.now.tables.now program.now.code.now es at (number_of phase) machines.old → OnOk result (Onward program.now.tables.now program.now.code.now es at (number_of phase) machines.new.emach (phase_path program.now.tables.now program.now.code.now es at (number_of phase)) [] None) }
 {
     let t = program.tables;
     let _parts = t.parts();
     loop {
         match machines
             .emach
-            .instant(t, program.code, &mut machines.works.world, phase, at)
+            .do_next(t, program.code, &mut machines.works.world, phase, at)
         {
             Some(done) => {
                 machines.works.tally.instr();

@@ -112,6 +112,9 @@ fn show(t: &Tables, code: &ECode, m: &EMach, world: &mut World, x: Value) -> Opt
     if !is_int(t, 0) {
         return None;
     }
+    if !world.takes(0, x) {
+        return None;
+    }
     world.set(0, x);
     Some(())
 }

@@ -21,11 +21,8 @@ do_instrs-requires-clause-fitted g c = record {
   marked = subst (λ (xs : List ℤ). MarksChanges c.args.machines.now.noted xs c.args.machines.now.emach.calendar.modes) (sym c.in_default.ensures.values) c.requires.fitted.marked;
 }
 
-pub show-requires-clause-values : goal.show-requires-clause-values
-show-requires-clause-values g c = c.in_default-do_instrs.ensures.fitted.shaped.values.count
-
-pub show-requires-clause-shows : goal.show-requires-clause-shows
-show-requires-clause-shows g c = c.requires.shows.count
+pub show-requires-clause-shaped : goal.show-requires-clause-shaped
+show-requires-clause-shaped g c = c.in_default-do_instrs.ensures.fitted.shaped
 
 pub show-requires-clause-waiting : goal.show-requires-clause-waiting
 show-requires-clause-waiting g c =

@@ -1,34 +1,20 @@
-use Rattle.htl_ecode.proofs.SpellingLaws.{spelled_departs_not}
-use Rattle.htl_emach.proofs.Completing.{done_keeps}
-use Rattle.htl_emach.proofs.SafeCalls.{ready_safely, few_safely, after_safely}
-use Rattle.htl_emach.proofs.Quiet.{sensors_stay, outputs_stay}
-use Rattle.htl_emach.proofs.Soundness.{step_onward}
+use Rattle.std.proofs.Common.{◌≡◌, ℕ, List, ℤ, sym, subst}
+use Rattle.htl_emach.proofs.Words.{Event, Done, Midway, Onward, state, number_of, done_in, standing_after}
+use Rattle.htl_emach.proofs.PhaseNumbers.{number_of_phase}
 use Rattle.htl_emach.proofs.emach.EMach.instant.Goals as goal
 
-pub advance-requires-clause-few : goal.advance-requires-clause-few
-advance-requires-clause-few c = few_safely c.args.t.now c.args.code.now c.args.phase c.args.self.now c.keeps_ranges.ensures.ranges c.requires.safe
+pub returns-clause-answer : goal.returns-clause-answer
+returns-clause-answer c =
+    subst (λ (p : ℕ). c.do_next.result ≡ done_in c.args.code.now p c.args.at c.args.self.now) (number_of_phase c.args.phase c.of.result c.of.ensures c.requires.phase) c.do_next.ensures.answer
 
-pub advance-requires-clause-ready : goal.advance-requires-clause-ready
-advance-requires-clause-ready c =
-    ready_safely c.args.t.now c.args.code.now c.args.phase c.args.at c.args.self.now c.args.world.now c.keeps_ranges.ensures.ranges c.requires.form (spelled_departs_not c.args.t.now c.args.code.now c.requires.spells) c.requires.phase c.requires.shaped c.requires.safe
-
-pub returns-clause-safe : goal.returns-clause-safe
-returns-clause-safe c =
-    after_safely c.args.t.now c.args.code.now c.args.world.now.values c.args.phase c.args.at c.args.self.now _ _ c.keeps_ranges.ensures.ranges (spelled_departs_not c.args.t.now c.args.code.now c.requires.spells) c.requires.phase c.requires.safe c.advance.ensures.answer c.advance.ensures.machine
+pub returns-clause-machine : goal.returns-clause-machine
+returns-clause-machine c =
+    subst (λ (p : ℕ). c.do_next.new.self ≡ standing_after c.args.t.now c.args.code.now c.args.world.now.values p c.args.at c.args.self.now c.do_next.result) (number_of_phase c.args.phase c.of.result c.of.ensures c.requires.phase)
+    c.do_next.ensures.machine
 
 pub returns-clause-onward : goal.returns-clause-onward
 returns-clause-onward c =
-    step_onward c.args.t.now c.args.code.now c.args.at c.args.phase c.args.world.now.values c.args.self.now _ _ c.keeps_ranges.ensures.ranges c.requires.form (spelled_departs_not c.args.t.now c.args.code.now c.requires.spells) c.requires.phase c.advance.ensures.answer c.advance.ensures.machine
-
-pub returns-clause-shaped : goal.returns-clause-shaped
-returns-clause-shaped c =
-    done_keeps c.args.t.now c.args.code.now c.args.phase c.args.at c.args.self.now c.args.world.now _ _ c.keeps_ranges.ensures.ranges c.requires.form
-    (ready_safely c.args.t.now c.args.code.now c.args.phase c.args.at c.args.self.now c.args.world.now c.keeps_ranges.ensures.ranges c.requires.form (spelled_departs_not c.args.t.now c.args.code.now c.requires.spells) c.requires.phase c.requires.shaped c.requires.safe)
-    c.requires.shaped c.advance.ensures.answer c.advance.ensures.world
-
-pub returns-clause-sensors : goal.returns-clause-sensors
-returns-clause-sensors c =
-    sensors_stay c.args.t.now c.args.world.now _ _ c.keeps_ranges.ensures.ranges c.requires.form c.advance.ensures.world
-
-pub returns-clause-outputs : goal.returns-clause-outputs
-returns-clause-outputs c = outputs_stay c.args.t.now c.args.world.now _ _ c.advance.ensures.world
+    subst
+    (λ (p : ℕ). (es : List Event) → (done rest : List Done) → (p ≡ 2 → c.args.world.now.values ≡ (state c.args.t.now es c.args.at).values) → Midway c.args.t.now c.args.code.now es c.args.at p c.args.self.now done rest
+    → Onward c.args.t.now c.args.code.now es c.args.at p c.do_next.new.self done rest c.do_next.result)
+    (number_of_phase c.args.phase c.of.result c.of.ensures c.requires.phase) c.do_next.ensures.onward
