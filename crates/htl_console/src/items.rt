@@ -1,4 +1,4 @@
-// The lines of the listing. Each is one piece.
+// The lines of the listing. That each is one piece is tested.
 ghost use Rattle.std.specs.Prelude.{◌≡◌, ◌≤◌, ◌+◌, [], ◌++◌, length, cond, codes};
 ghost use Rattle.htl_base.specs.declared.limits.TheConstants as limit;
 ghost use Rattle.htl_edge.specs.Content.{Puts};

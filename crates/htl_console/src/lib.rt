@@ -1,7 +1,7 @@
 //! What a run prints, line by line, and the listing of an object.
 //!
-//! Each line is one piece given to the sink. No call takes memory. `Failed` comes only where the sink counted a fault; what was
-//! written is then a prefix of the text. Instants and lengths are in ticks.
+//! Each line is given to the sink in one piece, which tests see and no clause says. No call takes memory. `Failed` comes only
+//! where the sink counted a fault; what was written is then a prefix of the text. Instants and lengths are in ticks.
 #![tactic(auto)]
 
 mod instrs;

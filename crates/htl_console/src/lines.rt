@@ -1,4 +1,4 @@
-// The lines of a run and of a plan. Each is one piece.
+// The lines of a run and of a plan. That each is one piece is tested.
 ghost use Rattle.std.specs.Prelude.{◌≡◌, ◌<◌, ◌≤◌, ◌+◌, ◌++◌, length, IfSome};
 ghost use Rattle.htl_base.specs.declared.limits.TheConstants as limit;
 ghost use Rattle.htl_edge.specs.Content.{Puts};

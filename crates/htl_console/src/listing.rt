@@ -17,8 +17,9 @@ use htl_walk::{SInstr, Schedule};
 
 /// Writes the listing of tables whose functions are code, with their E code and the schedules of the nodes: the line
 /// `platform NAME` where there is a platform, and then a line for each communicator, module, mode, invocation, function, E
-/// instruction and S instruction, in this order, each in one piece. It takes no memory. After `Failed`, which comes only where the sink counted a fault, a prefix was written. A number in E code that
-/// names no item is written as it is; a function that is no code has no line.
+/// instruction and S instruction, in this order; that each is one piece is tested. It takes no memory. After `Failed`, which comes
+/// only where the sink counted a fault, a prefix was written. A number in E code that names no item is written as it is; a function
+/// that is no code has no line.
 pub fn show<W: Sink>(
     sink: &mut W,
     platform: Option<&Name>,
