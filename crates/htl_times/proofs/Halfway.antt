@@ -2,23 +2,23 @@
 use Rattle.std.proofs.Common.{◌≡◌, ℕ, zero, suc, ◌≤◌, Bool, true, false, cond, ◌&&◌, List, [], ◌∷◌, length, drop, set, get_or, slice_get, Option, Some, None, refl, sym, ap, ◌∙◌, subst, arith}
 use Rattle.std.proofs.Math.ListN.{drop_of_length-le}
 use Rattle.std.proofs.lemmas.List.{get_or_past, set_past}
-use Rattle.htl_times.proofs.Words.{first_of, Point, Left, is_position, job_at, time_after, work_after, next_point, walk_from, last_point, finish, left_by, Job, SInstr, Dispatch, not_some, same_Some}
+use Rattle.htl_times.proofs.Words.{or_else, Point, Left, is_position, job_at, time_after, work_after, next_point, walk_from, last_point, finish, left_by, Job, SInstr, Dispatch, not_some, same_Some}
 use Rattle.htl_times.specs.Noting.{told, AreNoted, IsHalfway, AreFinishes}
 
 -- ---- the first of some
 
-pub first_none : {A : Type 0} (o : Option A) → first_of o None ≡ o
+pub first_none : {A : Type 0} (o : Option A) → or_else o None ≡ o
 first_none None = refl
 first_none (Some x) = refl
 
-pub first_first : {A : Type 0} (a b c : Option A) → first_of (first_of a b) c ≡ first_of a (first_of b c)
+pub first_first : {A : Type 0} (a b c : Option A) → or_else (or_else a b) c ≡ or_else a (or_else b c)
 first_first None b c = refl
 first_first (Some x) b c = refl
 
-pub finish_told : (l : Left) (ls : List Left) (p : ℕ) → finish (l ∷ ls) p ≡ first_of (told l p) (finish ls p)
+pub finish_told : (l : Left) (ls : List Left) (p : ℕ) → finish (l ∷ ls) p ≡ or_else (told l p) (finish ls p)
 finish_told l ls p = by (is_position l.position p && l.finished)
   where
-    by : (b : Bool) → cond b (Some l.at) (finish ls p) ≡ first_of (cond b (Some l.at) None) (finish ls p)
+    by : (b : Bool) → cond b (Some l.at) (finish ls p) ≡ or_else (cond b (Some l.at) None) (finish ls p)
     by true = refl
     by false = refl
 
@@ -44,13 +44,13 @@ module _ (jobs : List Job) (is : List SInstr) (x : Point) (old : List (Option �
         point = ap (last_point jobs (drop (suc k) is)) next ∙ sym (ap (λ ks. last_point jobs ks y) e) ∙ h.point;
         noted = λ p l.
             let y' = next_point jobs i y in
-            let n : get_or more p None ≡ first_of (get_or new p None) (told (left_by jobs i y y') p) = subst (λ w. get_or more p None ≡ first_of (get_or new p None) (told (left_by jobs i y w) p)) next (noted p (omega (arith, l, h.same))) in
+            let n : get_or more p None ≡ or_else (get_or new p None) (told (left_by jobs i y y') p) = subst (λ w. get_or more p None ≡ or_else (get_or new p None) (told (left_by jobs i y w) p)) next (noted p (omega (arith, l, h.same))) in
             let rest = finish (walk_from jobs (drop (suc k) is) y') p in
-            ap (λ w. first_of (get_or more p None) (finish (walk_from jobs (drop (suc k) is) w) p)) next
-            ∙ ap (λ o. first_of o rest) n
+            ap (λ w. or_else (get_or more p None) (finish (walk_from jobs (drop (suc k) is) w) p)) next
+            ∙ ap (λ o. or_else o rest) n
             ∙ first_first (get_or new p None) (told (left_by jobs i y y') p) rest
-            ∙ ap (first_of (get_or new p None)) (sym (finish_told (left_by jobs i y y') (walk_from jobs (drop (suc k) is) y') p))
-            ∙ sym (ap (λ ks. first_of (get_or new p None) (finish (walk_from jobs ks y) p)) e)
+            ∙ ap (or_else (get_or new p None)) (sym (finish_told (left_by jobs i y y') (walk_from jobs (drop (suc k) is) y') p))
+            ∙ sym (ap (λ ks. or_else (get_or new p None) (finish (walk_from jobs ks y) p)) e)
             ∙ h.noted p l;
       }
 
@@ -58,7 +58,7 @@ module _ (jobs : List Job) (is : List SInstr) (x : Point) (old : List (Option �
   halfway_last k y new past h =
       let e = drop_of_length-le is past in (
         sym (ap (λ ks. last_point jobs ks y) e) ∙ h.point,
-        λ p l. sym (first_none (get_or new p None)) ∙ sym (ap (λ ks. first_of (get_or new p None) (finish (walk_from jobs ks y) p)) e) ∙ h.noted p l,
+        λ p l. sym (first_none (get_or new p None)) ∙ sym (ap (λ ks. or_else (get_or new p None) (finish (walk_from jobs ks y) p)) e) ∙ h.noted p l,
       )
 
 -- ---- a dispatch

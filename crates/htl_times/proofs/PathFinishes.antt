@@ -1,15 +1,15 @@
 -- The finishes of a path, list by list.
 use Rattle.std.proofs.Common.{◌≡◌, ℕ, zero, suc, ◌<◌, List, [], ◌∷◌, ◌++◌, length, get_or, slice_get, Option, Some, None, refl, sym, ap, ◌∙◌, arith, append_assoc, append-nil}
-use Rattle.htl_times.proofs.Words.{Frame, Place, IsFrame, first_of, starts, frame_of, node, path_places, list_to, Tables, Job, SInstr, Schedule, reach, reached, list_at, instrs_of, path_jobs, legs_of, list_point, walks_from, end_to_end, Point, Left, walk_from, last_point, first_point, finish, work, worst_cases, start_read, list_read, list_front}
+use Rattle.htl_times.proofs.Words.{Frame, Place, IsFrame, or_else, starts, frame_of, node, path_places, list_to, Tables, Job, SInstr, Schedule, reach, reached, list_at, instrs_of, path_jobs, legs_of, list_point, walks_from, end_to_end, Point, Left, walk_from, last_point, first_point, finish, work, worst_cases, start_read, list_read, list_front}
 use Rattle.htl_times.specs.Noting.{AreFinishesTo, AreWorstFinishes, AreEmpty, list_walk, work_of}
 use Rattle.htl_times.proofs.Halfway.{finish_told, first_first}
 
 -- ---- records end to end
 
-pub finish_append : (xs ys : List Left) (p : ℕ) → finish (xs ++ ys) p ≡ first_of (finish xs p) (finish ys p)
+pub finish_append : (xs ys : List Left) (p : ℕ) → finish (xs ++ ys) p ≡ or_else (finish xs p) (finish ys p)
 finish_append [] ys p = refl
 finish_append (x ∷ xs) ys p =
-    finish_told x (xs ++ ys) p ∙ ap (first_of _) (finish_append xs ys p) ∙ sym (first_first _ (finish xs p) (finish ys p)) ∙ ap (λ o. first_of o (finish ys p)) (sym (finish_told x xs p))
+    finish_told x (xs ++ ys) p ∙ ap (or_else _) (finish_append xs ys p) ∙ sym (first_first _ (finish xs p) (finish ys p)) ∙ ap (λ o. or_else o (finish ys p)) (sym (finish_told x xs p))
 
 pub end_more : (ls : List (List Left)) (l : List Left) → end_to_end (ls ++ l ∷ []) ≡ end_to_end ls ++ l
 end_more [] l = append-nil l
@@ -49,11 +49,11 @@ module _ (t : Tables) (lists : List (List SInstr)) (path : ℕ) where
   none_yet finishes e p l = e p l
 
   pub one_more : (j : ℕ) (old new : List (Option ℕ)) → AreFinishesTo t lists path j old → length new ≡ length old
-      → ((p : ℕ) → p < length old → get_or new p None ≡ first_of (get_or old p None) (finish (list_walk t lists path j) p)) → AreFinishesTo t lists path (suc j) new
+      → ((p : ℕ) → p < length old → get_or new p None ≡ or_else (get_or old p None) (finish (list_walk t lists path j) p)) → AreFinishesTo t lists path (suc j) new
   one_more j old new so same more p l =
       let before = list_to (list_walk t lists path) j in
       let l' : p < length old = omega (arith, l, same) in
-      more p l' ∙ ap (λ o. first_of o (finish (list_walk t lists path j) p)) (so p l')
+      more p l' ∙ ap (λ o. or_else o (finish (list_walk t lists path j) p)) (so p l')
       ∙ sym (ap (λ ls. finish ls p) (end_more before (list_walk t lists path j)) ∙ finish_append (end_to_end before) (list_walk t lists path j) p)
 
   pub all_lists : (finishes : List (Option ℕ)) → AreFinishesTo t lists path (length (starts t)) finishes → AreWorstFinishes t lists path finishes

@@ -10,7 +10,8 @@ pub use Rattle.htl_model.specs.Chosen.{StandsFor, chosen, followed}
 pub use Rattle.htl_model.specs.Chosen.StandsFor.{below, itself}
 pub use Rattle.htl_model.specs.FrameRules.{KeptApart}
 pub use Rattle.htl_model.specs.FrameTables.{IsFrame}
-pub use Rattle.htl_model.specs.Frames.{choices, first_of, frame_limit, frame_of, multiple_of, no_place, node, nodes, path_places, paths, rounds, rounds_of, starts, starts_below, unit_period}
+pub use Rattle.htl_model.specs.First.{or_else}
+pub use Rattle.htl_model.specs.Frames.{choices, frame_limit, frame_of, multiple_of, no_place, node, nodes, path_places, paths, rounds, rounds_of, starts, starts_below, unit_period}
 pub use Rattle.htl_model.specs.Lists.{list_to}
 pub use Rattle.htl_model.specs.PortOrder.Leads.{direct}
 pub use Rattle.htl_model.specs.Ranges.{AreInRange, IsInvInRange, IsModeInRange, IsModeThat}

@@ -1,6 +1,7 @@
 -- What the code notes on its way: finishes in a walk, and the greatest of those that were seen.
 use Rattle.std.specs.Prelude.{◌≡◌, ℕ, ◌+◌, ◌≤◌, ◌<◌, ◌⊎◌, cond, ◌&&◌, ltb, List, drop, length, set, get_or, Option, Some, None}
-use Rattle.htl_model.specs.Frames.{first_of, starts}
+use Rattle.htl_model.specs.First.{or_else}
+use Rattle.htl_model.specs.Frames.{starts}
 use Rattle.htl_model.specs.Lists.{list_to}
 use Rattle.htl_model.specs.Tables.{Tables}
 use Rattle.htl_model.specs.declared.frame.Place.{Place}
@@ -22,17 +23,17 @@ told l p = cond (is_position l.position p && l.finished) (Some l.at) None
 
 -- the finishes after an instruction between these points: a finish that is noted stays
 abbrev pub AreNoted : List Job → SInstr → Point → Point → List (Option ℕ) → List (Option ℕ) → Type 0
-AreNoted jobs i x y old new = (p : ℕ) → p < length old → get_or new p None ≡ first_of (get_or old p None) (told (left_by jobs i x y) p)
+AreNoted jobs i x y old new = (p : ℕ) → p < length old → get_or new p None ≡ or_else (get_or old p None) (told (left_by jobs i x y) p)
 
 -- before instruction k: what is noted, with what the rest of the walk tells, is what the whole walk from x tells
 pub record IsHalfway (jobs : List Job) (is : List SInstr) (k : ℕ) (x y : Point) (old new : List (Option ℕ)) : Type 0 where
   pub same : length new ≡ length old
   pub point : last_point jobs (drop k is) y ≡ last_point jobs is x
-  pub noted : (p : ℕ) → p < length old → first_of (get_or new p None) (finish (walk_from jobs (drop k is) y) p) ≡ first_of (get_or old p None) (finish (walk_from jobs is x) p)
+  pub noted : (p : ℕ) → p < length old → or_else (get_or new p None) (finish (walk_from jobs (drop k is) y) p) ≡ or_else (get_or old p None) (finish (walk_from jobs is x) p)
 
 -- the finishes after a list that begins at x
 abbrev pub AreFinishes : List Job → List SInstr → Point → List (Option ℕ) → List (Option ℕ) → Type 0
-AreFinishes jobs is x old new = (p : ℕ) → p < length old → get_or new p None ≡ first_of (get_or old p None) (finish (walk_from jobs is x) p)
+AreFinishes jobs is x old new = (p : ℕ) → p < length old → get_or new p None ≡ or_else (get_or old p None) (finish (walk_from jobs is x) p)
 
 -- ---- the greatest of those that were seen
 

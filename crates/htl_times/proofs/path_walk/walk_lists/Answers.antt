@@ -1,5 +1,5 @@
 use Rattle.std.proofs.Common.{◌≡◌, ◌<◌, length, get_or, None, refl, sym, ap, ◌∙◌, subst, arith, add-one}
-use Rattle.htl_times.proofs.Words.{first_of, starts, reached, instrs_of, Point, walk_from, last_point, finish, work, worst_cases, left_length}
+use Rattle.htl_times.proofs.Words.{or_else, starts, reached, instrs_of, Point, walk_from, last_point, finish, work, worst_cases, left_length}
 use Rattle.htl_times.specs.Noting.{AreFinishesTo}
 use Rattle.htl_times.proofs.PathFinishes.{none_yet, one_more, all_lists, walk_here, left_here}
 use Rattle.htl_times.proofs.path_walk.walk_lists.Goals as goal
@@ -33,7 +33,7 @@ loop-j-preserved c =
       left = c.follow.ensures.left ∙ ap (λ ks. (last_point jobs ks x).left) is ∙ left ∙ sym (ap (λ m. (reached t lists path m).left) (add-one j));
       finishes = subst (λ m. AreFinishesTo t lists path m c.follow.new.finish) (sym (add-one j))
           (one_more t lists path j c.loop-j.finish c.follow.new.finish c.loop-j.invariant.finishes c.follow.ensures.len
-          (λ p below. c.follow.ensures.finishes p below ∙ ap (λ ks. first_of (get_or c.loop-j.finish p None) (finish (walk_from jobs ks x) p)) is ∙ ap (λ w. first_of (get_or c.loop-j.finish p None) (finish w p)) walk));
+          (λ p below. c.follow.ensures.finishes p below ∙ ap (λ ks. or_else (get_or c.loop-j.finish p None) (finish (walk_from jobs ks x) p)) is ∙ ap (λ w. or_else (get_or c.loop-j.finish p None) (finish w p)) walk));
       same = c.follow.ensures.len ∙ c.loop-j.invariant.same;
       work = c.follow.ensures.room ∙ c.loop-j.invariant.work;
     }
