@@ -112,11 +112,11 @@ fn show(t: &Tables, code: &ECode, m: &EMach, world: &mut World, x: Value) -> Opt
     if !is_int(t, 0) {
         return None;
     }
-    if !world.takes(0, x) {
-        return None;
+    if world.takes(0, x) {
+        world.set(0, x);
+        return Some(());
     }
-    world.set(0, x);
-    Some(())
+    None
 }
 
 // The job of the invocation finishes.
