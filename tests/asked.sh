@@ -31,6 +31,11 @@ ask_changed() {
 	ask "$name" lines compile
 }
 
+# A source of the tanks with the second one in front of the first.
+second_first() {
+	awk '/^  module T1 /, /^  }/ { first = first $0 "\n"; next } /^  module T2 /, /^  }/ { print; if (/^  }/) printf "%s", first; next } 1' "$1"
+}
+
 # Asks to compile a source with this expression of an int.
 ask_output() {
 	lines 'program P { module M start m { task t input (int x) output (int y = ' "$2" ') worst 4; mode m period 20 { } } }'
@@ -54,11 +59,22 @@ ask_all() {
 	ask_changed compile-uneven "$root/examples/tanks.htl" '/module T2/,/^  }/s/500/1000/'
 	sed '/module T2/,/^  }/s/500/1000/' "$work/asked/cases/compile-whole" >"$work/asked/lines"
 	ask compile-whole-uneven lines compile
+	# The tanks with the second one first, and the same with the other law.
+	second_first "$root/examples/tanks.htl" >"$work/asked/lines"
+	ask compile-second-first lines compile
+	second_first "$work/asked/cases/compile-whole" >"$work/asked/lines"
+	ask compile-whole-second-first lines compile
+	printf '%s\n' 'name = "line"' '[worst]' '"Camera.label" = 30' >"$work/asked/data/line.toml"
+	ask compile-on-line "$work/asked/data/belt.htl" compile with line.toml
+	ask_wide_patches
 	ask_whole
 	ask_pages
 	answer_all
 	for it in $examples; do grep '^j ' "$work/asked/go-$it.out" >"$work/asked/data/$it.log"; done
-	for it in $examples soft slow whole uneven whole-uneven on-slow on-fast; do cp "$work/asked/compile-$it.out" "$work/asked/data/$it.object"; done
+	for it in $examples soft slow whole uneven whole-uneven on-slow on-fast second-first whole-second-first on-line \
+		six-levels five-under-M2 five-under-M5 many-modes 55-modes 56-modes; do
+		cp "$work/asked/compile-$it.out" "$work/asked/data/$it.object"
+	done
 	(
 		cd "$work/asked/data" || exit
 		ask_for_all
@@ -130,6 +146,46 @@ ask_unproved() {
 ask_rates() {
 	lines "program P { module A start m { mode m period $2 { } ${4-} } module B start m { mode m period $3 { } } }"
 	ask "$1" lines compile
+}
+
+# A source of modules one under the other, with these names.
+tower() {
+	n=$#
+	for it; do
+		echo "program P$n { $([ $n -lt $# ] || echo 'communicator int u period 10 init 0;') module $it start m {"
+		[ $n -gt 1 ] && echo '  abstract task t input () output (int y) worst 2;' || echo '  task t input () output (int y = 1) worst 2;'
+		echo "  mode m period 10 $([ $n -eq 1 ] || echo "program P$((n - 1))") { invoke t input () output ((u, 1))$([ $n -eq $# ] || echo ' parent t'); } } }"
+		n=$((n - 1))
+	done
+}
+
+# A source of two modules, the first with so many modes; the mode of the second has a child with so many more, where there are any.
+many_modes() {
+	awk -v first="$1" -v below="$2" 'BEGIN {
+		printf "program P { module A start m1 {"
+		for (i = 1; i <= first; i++) printf " mode m%d period 10 { }", i
+		print " } module M start m { mode m period 10 " (below ? "program Q " : "") "{ } } }"
+		if (!below) exit
+		printf "program Q { module N start m1 {"
+		for (i = 1; i <= below; i++) printf " mode m%d period 10 { }", i
+		print " } }"
+	}'
+}
+
+# Asks for objects that keep their limits, and some of which exceed them when they are put together.
+ask_wide_patches() {
+	tower M0 M1 M2 M3 M4 M5 >"$work/asked/lines"
+	ask compile-six-levels lines compile
+	for it in 2 5; do
+		tower M$it N1 N2 N3 N4 N5 >"$work/asked/lines"
+		ask compile-five-under-M$it lines compile
+	done
+	many_modes 200 0 >"$work/asked/lines"
+	ask compile-many-modes lines compile
+	for it in 55 56; do
+		many_modes 1 $it >"$work/asked/lines"
+		ask compile-$it-modes lines compile
+	done
 }
 
 # Asks for frames at their limits and beyond, and for a program whose modules have the periods 10 and 20.
@@ -236,6 +292,10 @@ ask_for_all() {
 	ask show-whole-uneven /dev/null show whole-uneven.object
 	ask show-whole /dev/null show whole.object
 	ask jobs-whole "$root/examples/tanks.script" jobs whole.object
+	ask patch-second-first /dev/null patch second-first.object T1.hold soft.object
+	for it in 2 5; do ask patch-under-M$it /dev/null patch six-levels.object M$it.m five-under-M$it.object; done
+	for it in 55 56; do ask patch-$it-modes /dev/null patch many-modes.object M.m $it-modes.object; done
+	ask show-on-line /dev/null show on-line.object
 	ask patch-mode /dev/null patch tanks.object T1.none soft.object
 	for it in 1 2 64; do ask bulk-$it /dev/null bulk $it; done
 	for it in 0 65 01 +1; do ask bulk-wrong-$it /dev/null bulk $it; done
