@@ -15,4 +15,4 @@ pub returns : goal.returns
 returns g c =
     let head = WasPut-first _ _ _ _ _ _ (rw (c.as_bytes.ensures.bytes, c.slack_line-first.ensures, c.task_worst.ensures) at c.in_default.ensures) in
     let above = WasPut-more _ _ _ _ _ _ _ _ _ head (rw (c.as_bytes-2.ensures.bytes, c.above_line-second.ensures, c.limit_for.ensures) at c.in_default-put_all.ensures) in
-    WasPut-last _ _ _ _ _ _ _ _ _ above (rw c.as_slice.ensures.value at c.show_schedules.ensures)
+    WasPut-last _ _ _ _ _ _ _ _ _ above (rw c.as_slice.ensures at c.show_schedules.ensures)
