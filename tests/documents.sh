@@ -117,3 +117,14 @@ miscounted() {
 	grep -o '[0-9][0-9]* answers' "$root/README.md" "$root/docs/PROVED.md" | grep -v ":$answers answers$"
 	:
 }
+
+# The links of pages to a heading that isn't there.
+headless() {
+	for page; do
+		grep -o '](\([^)]*#[^)]*\))' "$root/$page" | sed 's/^](//; s/)$//' | sort -u | while IFS='#' read -r path heading; do
+			to=$root/$page
+			[ -z "$path" ] || to=$root/$(dirname "$page")/$path
+			sed -n 's/^##* //p' "$to" | tr 'A-Z' 'a-z' | tr -d -c 'a-z0-9 \n_-' | tr ' ' '-' | grep -q -x -e "$heading" || echo "$page links $path#$heading"
+		done
+	done
+}
