@@ -176,9 +176,9 @@ many_modes() {
 ask_wide_patches() {
 	tower M0 M1 M2 M3 M4 M5 >"$work/asked/lines"
 	ask compile-six-levels lines compile
-	for it in 2 5; do
-		tower M$it N1 N2 N3 N4 N5 >"$work/asked/lines"
-		ask compile-five-under-M$it lines compile
+	for level in 2 5; do
+		tower M$level N1 N2 N3 N4 N5 >"$work/asked/lines"
+		ask compile-five-under-M$level lines compile
 	done
 	many_modes 200 0 >"$work/asked/lines"
 	ask compile-many-modes lines compile
