@@ -12,8 +12,8 @@ use Rattle.htl_object.specs.Accepted.{IsAccepted}
 use Rattle.htl_walk.specs.declared.job.Job.{Job}
 use Rattle.htl_emach.specs.Contents.{Content, first_content, completed}
 use Rattle.htl_refine.specs.Records.{AreTookWithin}
-use Rattle.htl_machine.specs.Values.{ValuesFollow}
-use Rattle.htl_machine.specs.Worlds.{effects, all_reads, all_writes, with_sensors}
+use Rattle.htl_runs.specs.values.Values.{ValuesFollow}
+use Rattle.htl_runs.specs.values.InstantEffects.{effects, all_reads, all_writes, with_sensors}
 use Rattle.htl_audit.specs.declared.slice.Slice.{Slice}
 use Rattle.htl_audit.specs.Jobs.{round_of}
 use Rattle.htl_audit.specs.Legal.{is_done, IsLegal}

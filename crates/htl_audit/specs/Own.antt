@@ -16,9 +16,9 @@ use Rattle.htl_refine.specs.Records.{AreTookWithin, rounds_before}
 use Rattle.htl_console.specs.declared.shown.Shown.{Shown}
 use Rattle.htl_console.specs.Lines.{slice_line}
 use Rattle.htl_console.specs.Shows.{shows_jobs}
-use Rattle.htl_machine.specs.JobLines.{RunLine, printed, text_lines, HasNames}
-use Rattle.htl_machine.specs.JobLines.RunLine.{SliceLine}
-use Rattle.htl_machine.specs.Programs.{schedules_of, text_of}
+use Rattle.htl_runs.specs.lines.RunLines.{RunLine, printed, text_lines, HasNames}
+use Rattle.htl_runs.specs.lines.RunLines.RunLine.{SliceLine}
+use Rattle.htl_runs.specs.lines.Programs.{schedules_of, text_of}
 use Rattle.htl_audit.specs.declared.slice.Slice.{Slice}
 use Rattle.htl_audit.specs.Legal.{first_fault, IsLegal}
 

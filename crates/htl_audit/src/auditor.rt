@@ -3,7 +3,7 @@ ghost use Rattle.std.specs.Prelude.{◌≡◌, ◌++◌, ◌∷◌, [], ◌≤�
 ghost use Rattle.htl_model.specs.declared.event.Event.{Event as Told};
 ghost use Rattle.htl_model.specs.declared.event.Event.TheVariants as event;
 ghost use Rattle.htl_machine.specs.Calls.{IsSensorValue, IsLength, text_between};
-ghost use Rattle.htl_machine.specs.Follows.{shown_as};
+ghost use Rattle.htl_runs.specs.events.ToldSoFar.{shown_as};
 ghost use Rattle.htl_base.specs.declared.limits.TheConstants as limit;
 ghost use Rattle.htl_console.specs.declared.shown.Shown.TheVariants.{Values};
 ghost use Rattle.htl_edge.specs.Content.{Puts};

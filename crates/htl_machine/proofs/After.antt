@@ -4,19 +4,19 @@ use Rattle.htl_machine.proofs.Words.{All, eqb-true, cases_lt, get_or-map, get_or
 use Rattle.htl_model.specs.declared.event.Event.TheVariants as V
 use Rattle.htl_smach.specs.declared.left.Left.{Left}
 use Rattle.htl_smach.specs.Rounds as rounds
-use Rattle.htl_machine.specs.Plans.{with_records}
-use Rattle.htl_machine.proofs.Accepted.{accepted_is_loaded}
+use Rattle.htl_runs.specs.lists.RecordEffects.{with_records}
+use Rattle.htl_runs.proofs.jobs.Accepted.{accepted_is_loaded}
 use Rattle.htl_machine.proofs.Calling.{IsWhole, counts_of, whole_of, before_of}
 use Rattle.htl_machine.proofs.Composing.{instant_composed, counts_after, counts_are, texts_going, texts_beginning, texts_alone, records_going, records_beginning, records_alone}
-use Rattle.htl_machine.proofs.Following.{instant_values}
-use Rattle.htl_machine.proofs.Meeting.{next_is, switch_values}
-use Rattle.htl_machine.proofs.LoadedLists.{loaded_code}
-use Rattle.htl_machine.proofs.Showing.{sensors_are}
-use Rattle.htl_machine.proofs.LoadedRecords.{loaded_lines}
+use Rattle.htl_runs.proofs.events.NextReading.{instant_values}
+use Rattle.htl_runs.proofs.instants.BothMachines.{next_is, switch_values}
+use Rattle.htl_runs.proofs.lists.LoadedLists.{loaded_code}
+use Rattle.htl_runs.proofs.values.SensorValues.{sensors_are}
+use Rattle.htl_runs.proofs.lines.LoadedRecords.{loaded_lines}
 use Rattle.htl_machine.proofs.Ready.{node_known}
 use Rattle.htl_machine.proofs.NextStands.{IsScheduleOf, owed_before, owed_are, beginning, going, going_s_machine, going_on, list_over, begun_s_machine, begun_goes}
 use Rattle.htl_machine.proofs.ToBegin.{is_to_begin}
-use Rattle.htl_machine.proofs.Wholly.{modes_read, counted, whole_instant}
+use Rattle.htl_runs.proofs.events.WholeRuns.{modes_read, counted, whole_instant}
 
 -- ---- lengths that are kept
 

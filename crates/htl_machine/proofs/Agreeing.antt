@@ -2,7 +2,7 @@
 use Rattle.std.proofs.Common.{◌≡◌, ℕ, zero, suc, ◌+◌, ◌-◌, ◌^◌, ◌≤◌, ◌<◌, Bool, true, false, cond, min, List, [], ◌∷◌, ◌++◌, length, Option, Some, None, ℤ, refl, sym, ap, ap₂, ◌∙◌, arith, inl, inr}
 use Rattle.htl_machine.proofs.Words.{slice_get_past, Event, Line, Stay, joined, up_to, Tables, AreInRange, state, before, stay_of, mode_of, mode_in_state, value_lines, up_to_same, ECode, Done, e_path, Calendar, list_at, Between, Entry, phase_path, whole_path, Shown, shows_code, Tally, one_record, one_instr, with_records, with_instrs, mode_change, value_changes, mode_changes, all_changes, path_lines, e_line, standing_at, cases_lt}
 use Rattle.htl_smach.specs.declared.left.Left.{Left}
-use Rattle.htl_machine.proofs.Printing.{joined-append}
+use Rattle.htl_runs.proofs.lines.Joined.{joined-append}
 
 -- ---- modes
 

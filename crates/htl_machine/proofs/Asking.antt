@@ -2,7 +2,7 @@
 use Rattle.std.proofs.Common.{◌≡◌, ℕ, zero, suc, ◌-◌, ◌<◌, List, length, ℤ, Option, Some, sym, ap, ◌∙◌, subst, arith, refl}
 use Rattle.htl_machine.proofs.Words.{Event, before, state, Tables, list_at, ECode, Content, phase_path, Object, Round, SMachineAt, due_by, schedules_of, turn_at, turn_list, instrs_of, Schedule, Tally, with_instrs, with_records, first_records, replay, ListAt, IsToBegin, IsAccepted, IsSound, IsNoted, Seen, IsUpTo, values_before}
 use Rattle.htl_machine.proofs.Agreeing.{modes_open}
-use Rattle.htl_machine.proofs.Accepted.{accepted_is_loaded}
+use Rattle.htl_runs.proofs.jobs.Accepted.{accepted_is_loaded}
 
 pub sound_of : (m : Seen) (t : Tables) (code : ECode) → t ≡ m.object.tables → code ≡ m.object.ecode → IsAccepted m.object → IsSound t code
 sound_of m t code same same_code accepted =

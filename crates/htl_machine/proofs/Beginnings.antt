@@ -4,7 +4,7 @@ use Rattle.htl_machine.proofs.Words.{length-map, Puts, append_known-start, Puts-
 use Rattle.htl_walk.specs.declared.schedule.SInstr.TheVariants.{Dispatch, Idle, End}
 use Rattle.htl_machine.proofs.Closings.{reads_second}
 use Rattle.htl_machine.proofs.Modes.{modes_are}
-use Rattle.htl_machine.proofs.Turning.{before_count}
+use Rattle.htl_runs.proofs.records.DoneBefore.{before_count}
 
 -- ---- the list
 

@@ -3,16 +3,16 @@ use Rattle.std.proofs.Common.{◌≡◌, ℕ, zero, suc, ◌≤◌, ◌<◌, fal
 use Rattle.htl_machine.proofs.Words.{nat_tests, length-map, length-set, slice_get_within, same_Some, Event, Comm, Inv, FitsType, hyper, Tables, task_worst, is_concrete, sense, initial, SInstr, Job, absent_job, job_at, ECode, Standing, first_standing, Content, first_content, StandsSafely, IsShaped, inv_worst, AreTookWithin, Object, IsAccepted, Shown, Seen, IsKept, IsBefore, IsUpTo, Follows, GoesBy, IsSensorValue, IsLength, IsFinished, first_seen, position_from, reading_of, at_reading, shown_as, taken_as, s_machine_taking, SMachineFollows, IsLoaded, Counts, schedules_of, listed_text_before, Whole, WholeFollowed, turn_at, turn_by, list_turn, ListAt, turn_list, Turn, not_some}
 use Rattle.htl_model.specs.declared.event.Event.TheVariants as V
 use Rattle.htl_smach.specs.Rounds as rounds
-use Rattle.htl_machine.proofs.RunLists.{job_is_of}
-use Rattle.htl_machine.proofs.RunsAgree.{node_same}
-use Rattle.htl_machine.proofs.LoadedLists.{loaded_run}
-use Rattle.htl_machine.proofs.Accepted.{accepted_is_loaded}
-use Rattle.htl_machine.proofs.Counting.{totals_start}
-use Rattle.htl_machine.proofs.Events.{Alike, sense_at, sense_took, sense_sense}
-use Rattle.htl_machine.proofs.JobWindows.{position_some}
-use Rattle.htl_machine.proofs.Taking.{new_follows}
-use Rattle.htl_machine.proofs.LoadedRecords.{loaded_jobs, loaded_s, loaded_e}
-use Rattle.htl_machine.proofs.Wholly.{whole_new, whole_reading, whole_sense, whole_took}
+use Rattle.htl_runs.proofs.lists.RunLists.{job_is_of}
+use Rattle.htl_runs.proofs.events.SameLists.{node_same}
+use Rattle.htl_runs.proofs.lists.LoadedLists.{loaded_run}
+use Rattle.htl_runs.proofs.jobs.Accepted.{accepted_is_loaded}
+use Rattle.htl_runs.proofs.events.SameTotals.{totals_start}
+use Rattle.htl_runs.proofs.events.SameSensors.{Alike, sense_at, sense_took, sense_sense}
+use Rattle.htl_runs.proofs.frames.JobWindows.{position_some}
+use Rattle.htl_runs.proofs.events.NextLength.{new_follows}
+use Rattle.htl_runs.proofs.lines.LoadedRecords.{loaded_jobs, loaded_s, loaded_e}
+use Rattle.htl_runs.proofs.events.WholeRuns.{whole_new, whole_reading, whole_sense, whole_took}
 
 abbrev pub counts_of : Seen → Counts
 counts_of m = record { jobs = m.jobs; e = m.e; s = m.s }

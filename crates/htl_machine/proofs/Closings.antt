@@ -1,7 +1,7 @@
 -- The last part of an instant at which no round begins, put together.
 use Rattle.std.proofs.Common.{◌≡◌, ℕ, ◌<◌, ℤ, cond, List, [], length, Option, Some, None, IfSome, Result, Ok, Err, refl, sym, ap, subst, arith}
 use Rattle.htl_machine.proofs.Words.{Puts, append_known-start, Puts-failed, Puts-second, Event, Stay, Line, lines_text, AreInRange, Tables, state, before, stay_of, mode_of, mode_in_state, value_lines, ECode, Calendar, Standing, list_at, Between, Content, phase_path, to_switches, to_reads, Shown, shows_values, IsToRead, IsToClose, IsStarting, path_lines, reading_text, closing_text, standing_at}
-use Rattle.htl_machine.specs.Changing.{change_lines}
+use Rattle.htl_runs.specs.lines.ChangedItems.{change_lines}
 use Rattle.htl_machine.proofs.Agreeing.{modes_closed, changes_are}
 
 -- the modes after the read phase are modes of the tables

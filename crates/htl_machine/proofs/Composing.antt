@@ -2,7 +2,7 @@
 use Rattle.std.proofs.Common.{◌≡◌, ◌≢◌, ℕ, zero, suc, ◌+◌, ◌-◌, ◌^◌, min, ◌≤◌, Bool, true, false, cond, List, [], ◌∷◌, ◌++◌, length, Some, None, refl, sym, ap, ◌∙◌, arith, length-append}
 use Rattle.htl_machine.proofs.Words.{count_by, eq-eqb, ne_eqb, append_assoc, sum_by-cons, sum_by-append, Event, lines_text, value_lines, hyper, Tables, SInstr, ECode, e_path, phase_path, Shown, shows_values, Tally, one_record, one_instr, with_records, with_instrs, path_lines, closing_text, first_records, beginning_text, left_before, records_text, some_records, turn_old_records, list_texts, instant_text, records_of, old_turn, whole_path, Counts, turn_at}
 use Rattle.htl_smach.specs.declared.left.Left.{Left}
-use Rattle.htl_machine.proofs.Wholly.{counted}
+use Rattle.htl_runs.proofs.events.WholeRuns.{counted}
 use Rattle.htl_machine.proofs.Agreeing.{phases_are, instrs_capped, steps_capped}
 
 regroup : (o a b c v n : List ℕ) → (o ++ a) ++ ((b ++ (c ++ v)) ++ n) ≡ o ++ (a ++ (b ++ c)) ++ v ++ n

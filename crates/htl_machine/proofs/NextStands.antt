@@ -5,14 +5,14 @@ use Rattle.htl_walk.specs.Walk as walks
 use Rattle.htl_smach.specs.declared.left.Left.{Left}
 use Rattle.htl_smach.specs.Rounds as rounds
 use Rattle.htl_ecode.specs.declared.instr.EInstr.TheVariants as I
-use Rattle.htl_machine.proofs.Alone.{stands_nowhere}
-use Rattle.htl_machine.proofs.SMachineInstants.{s_machine_closes, not_running}
-use Rattle.htl_machine.proofs.Instants.{with_flags, s_machine_left, s_machine_on, s_machine_ends}
-use Rattle.htl_machine.proofs.Meeting.{records_leave}
-use Rattle.htl_machine.proofs.Periodic.{begins_never}
-use Rattle.htl_machine.proofs.Premises.{first_left, first_over}
-use Rattle.htl_machine.proofs.LoadedLists.{loaded_begins, loaded_empty, loaded_listed, loaded_turns}
-use Rattle.htl_machine.proofs.Timely.{read_phase_tells}
+use Rattle.htl_runs.proofs.instants.NoModules.{stands_nowhere}
+use Rattle.htl_runs.proofs.records.SMachineInstants.{s_machine_closes, not_running}
+use Rattle.htl_runs.proofs.instants.SMachineSteps.{with_flags, s_machine_left, s_machine_on, s_machine_ends}
+use Rattle.htl_runs.proofs.instants.BothMachines.{records_leave}
+use Rattle.htl_runs.proofs.frames.RoundStarts.{begins_never}
+use Rattle.htl_runs.proofs.instants.FirstRecords.{first_left, first_over}
+use Rattle.htl_runs.proofs.lists.LoadedLists.{loaded_begins, loaded_empty, loaded_listed, loaded_turns}
+use Rattle.htl_runs.proofs.instants.ToldReleases.{read_phase_tells}
 
 -- ---- when a list begins
 

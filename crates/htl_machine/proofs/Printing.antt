@@ -1,10 +1,11 @@
 -- The lines of records: one by one, and all that are due.
-use Rattle.std.proofs.Common.{◌≡◌, ℕ, zero, suc, ◌+◌, ◌-◌, ◌≤◌, ◌<◌, Bool, true, false, cond, List, [], ◌∷◌, ◌++◌, length, take, drop, slice_get, Option, Some, None, option_map, Result, Ok, Err, refl, sym, ap, ap₂, ◌∙◌, subst, arith, append_assoc, append-nil, ◌⊎◌, inl, inr}
+use Rattle.std.proofs.Common.{◌≡◌, ℕ, zero, suc, ◌+◌, ◌-◌, ◌≤◌, ◌<◌, Bool, true, false, cond, List, [], ◌∷◌, ◌++◌, length, take, drop, slice_get, Option, Some, None, option_map, Result, Ok, Err, refl, sym, ap, ap₂, ◌∙◌, subst, arith, append-nil, ◌⊎◌, inl, inr}
 use Rattle.htl_machine.proofs.Words.{slice_get_past, same_Some, append_known, Puts, append_known-start, append_known-more, Puts-failed, Puts-second, joined, Tables, Job, SInstr, Round, next_left, after, told, told_from, Content, Shown, done_line, step_line, shows_jobs, Tally, one_record, with_records, Plan, list_walk, SMachineAt, due_by, IsRecording, Prints, Counted, IsPrinting, inv_at, slice_lines, record_text, some_records, not_some, take_more_get, cases_up_to}
 use Rattle.htl_smach.specs.declared.left.Left.{Left}
-use Rattle.htl_machine.specs.RecordLines.{place_lines, job_lines, record_lines}
-use Rattle.htl_machine.proofs.Putting.{Puts-first}
-use Rattle.htl_machine.proofs.SMachineInstants.{next_some, next_none, told_get}
+use Rattle.htl_runs.specs.lines.RecordLines.{place_lines, job_lines, record_lines}
+use Rattle.htl_runs.proofs.lines.Joined.{joined-append}
+use Rattle.htl_runs.proofs.lines.PutLines.{Puts-first}
+use Rattle.htl_runs.proofs.records.SMachineInstants.{next_some, next_none, told_get}
 
 -- ---- the lines of one record
 
@@ -50,10 +51,6 @@ pub no_place : (code : List SInstr) (sel at k : ℕ) → length code ≤ k → p
 no_place code sel at k h = ap (λ (o : Option SInstr). elim o [ Some x ↦ step_line at sel k x | None ↦ [] ]) (slice_get_past code k h)
 
 -- ---- lists
-
-pub joined-append : {A B : Type 0} (f : A → List B) (xs ys : List A) → joined f (xs ++ ys) ≡ joined f xs ++ joined f ys
-joined-append f [] ys = refl
-joined-append f (x ∷ xs) ys = ap (λ z. f x ++ z) (joined-append f xs ys) ∙ sym (append_assoc (f x) (joined f xs) (joined f ys))
 
 cut : {A : Type 0} (xs : List A) (n m : ℕ) (y : A) → slice_get xs n ≡ Some y → n < m → take m xs ≡ take n xs ++ (y ∷ take (m - suc n) (drop (suc n) xs))
 cut [] n m y e h = not_some y e

@@ -1,7 +1,7 @@
 -- What is marked is gone over in order, and the rest passed over.
 use Rattle.std.proofs.Common.{◌≡◌, ◌≢◌, ℕ, zero, suc, ◌+◌, ◌<◌, ◌≤◌, ◌⊎◌, Bool, true, false, cond, not, ◌||◌, eqb, List, [], ◌∷◌, ◌++◌, length, get_or, set, Option, Some, None, ℤ, pos, negsuc, refl, sym, ap, ◌∙◌, subst, arith, inl, inr, length-set, get_or-set_same, get_or-set_other, append-nil}
 use Rattle.htl_machine.proofs.Words.{append_known, cases_lt, nat_tests, ext_get_or, Line, ValueLine, ModeLine, same, lines_text, up_to, same_mode, Tables, list_at, value_changes, mode_changes, is_marked, Marks}
-use Rattle.htl_machine.proofs.Putting.{IsPutting}
+use Rattle.htl_runs.proofs.lines.PutLines.{IsPutting}
 
 -- ---- lists that become others at the marks
 

@@ -1,92 +1,35 @@
 -- The words that several proofs cite, of this crate and of those below it, passed on from one place. Declares nothing.
-pub use Rattle.htl_base.proofs.Places.{length_mapped}
-pub use Rattle.htl_base.proofs.Tests.{and_with_true, none_below, or_with_false}
-pub use Rattle.htl_base.proofs.Words.{div-le_self, filter-append, length-le_from_distinct_below, mul-mod_right, or-false, slice_get-map, trailing_zeros, ℕ}
-pub use Rattle.htl_base.specs.Names.{is_word_byte}
-pub use Rattle.htl_base.specs.declared.Ty.{Ty}
-pub use Rattle.htl_console.specs.Instrs.{instr_text, phase_word, step_text}
-pub use Rattle.htl_console.specs.Lines.{done_line, instr_line, step_line}
-pub use Rattle.htl_console.specs.Names.{full_inv, full_mode, inv_name, mode_text, module_text, task_name}
-pub use Rattle.htl_console.specs.Shows.{shows_code, shows_jobs, shows_values}
+pub use Rattle.htl_base.proofs.Tests.{or_with_false}
+pub use Rattle.htl_base.proofs.Words.{div-le_self, or-false, trailing_zeros}
 pub use Rattle.htl_console.specs.declared.shown.Shown.{Shown}
-pub use Rattle.htl_console.specs.declared.shown.Shown.TheVariants.{Code, Jobs, Values}
-pub use Rattle.htl_ecode.proofs.Spelled.{Reads}
-pub use Rattle.htl_ecode.proofs.Words.{Spells}
-pub use Rattle.htl_ecode.specs.Paths.{instant_path, reads_done, switches_done, writes_done}
 pub use Rattle.htl_ecode.specs.declared.ecode.ECode.{ECode}
-pub use Rattle.htl_ecode.specs.declared.fault.EFault.{EFault}
-pub use Rattle.htl_ecode.specs.declared.fault.EKind.TheVariants.{Action}
 pub use Rattle.htl_ecode.specs.declared.instr.EInstr.{EInstr}
-pub use Rattle.htl_edge.proofs.Puts.{Puts-failed, Puts-second, append_known-more, append_known-start}
-pub use Rattle.htl_edge.specs.Content.{Puts}
 pub use Rattle.htl_edge.specs.declared.Failed.{Failed}
-pub use Rattle.htl_emach.proofs.Completing.{concrete_task}
 pub use Rattle.htl_emach.proofs.Effects.{list_other}
-pub use Rattle.htl_emach.proofs.Inside.{next_of_block, trigger_set_modes}
-pub use Rattle.htl_emach.proofs.Instants.{IsPhase, call_onward, every_module, first_follows, follows_writes, reads_follows, steps, switches_reads, whole_path, writes_switches}
-pub use Rattle.htl_emach.proofs.Keeping.{switch_quiet}
-pub use Rattle.htl_emach.proofs.ModuleLaws.{ModuleLaws, due_target}
-pub use Rattle.htl_emach.proofs.Phases.{from_zero, to_reads, to_switches}
+pub use Rattle.htl_emach.proofs.Inside.{trigger_set_modes}
+pub use Rattle.htl_emach.proofs.Phases.{to_reads, to_switches}
 pub use Rattle.htl_emach.proofs.SafeCalls.{ready_safely}
-pub use Rattle.htl_emach.proofs.Soundness.{has_ends, phase_is, sound, sound as is_sound}
-pub use Rattle.htl_emach.proofs.States.{active_some, begins_now, module_at, parent_at, parent_runs}
-pub use Rattle.htl_emach.proofs.Switching.{Sound}
-pub use Rattle.htl_emach.proofs.Words.{Between, Calendar, Content, Done, Entry, FollowsCode, HasValues, IsAllowed, IsBlockPhase, IsDueAt, IsLanding, IsNext, IsNextOf, IsReady, IsShaped, Jumps, Landing, Midway, ModeReads, Onward, Reached, SensorsStay, Standing, StandsSafely, Step, alternating, anchor_is, argument, arguments, awaited, begin_path, bind, bind_ok, block_begun, block_from, block_in, block_path, blocks, buffer, calendar_effect, calendar_replay, call_read, call_write, chain_path, comm_of, comm_period, completed, content_after, counted_in, decide_chain, decide_path, decided, done_at, done_in, doubling, due_path, e_path, effect, ending, enter_chain, enter_path, entered, entering, entry_of, fault, first_content, first_due, first_standing, followed, from_module, function_value, get_or-set_other, get_or-set_same, greatest, holds, holds_in, is_called, land_is, lands, leaving, led_to, length-set, list_at, made, meets, mode_of, new_stay, no_block, nothing_ends, offsets, old_stay, on, opening, output_function, pass, passed_by, phase_blocks, phase_path, port_output, ports, preempted, put_in, reach, reach_is, read, read_is, same_instr, same_is, sense, spelled_departs_not, spelled_reads, spelled_stands, standing_after, step_from, steps_of, switch_path, take_more_set, taken, taken_by, target_at, triggers_of, turn_step, turning, with_trigger, writer_from, writes_at}
-pub use Rattle.htl_emach.specs.Following.{done_of}
+pub use Rattle.htl_emach.proofs.Words.{IsNext, IsNextOf, IsReady, SensorsStay, block_in, calendar_effect, entry_of, first_content, take_more_set, taken, taken_by, writes_at}
 pub use Rattle.htl_emach.specs.declared.trigger.Block.{Block}
 pub use Rattle.htl_emach.specs.declared.trigger.EDone.{EDone}
-pub use Rattle.htl_emach.specs.declared.trigger.Trigger.{Trigger}
 pub use Rattle.htl_form.proofs.Words.{list_any-append, slice_get_read}
-pub use Rattle.htl_load.proofs.Words.{AreInRange, IsAccepted, Left, Leg, Point, Tables, arith, cases_less_same, cases_lt, count_at, dispatch_begins, end_to_end, first_point, job_at, last_point, left_by, list_point, list_to, lists_of, next_point, node, slice_between, spells_or_departs, starts, subst, time_after, walk_from, walks_from, work, work_after}
+pub use Rattle.htl_load.proofs.Words.{subst}
 pub use Rattle.htl_machine.specs.Asking.{AreToClose, AreToCloseAndBegin, AreToRead, IsNoted, IsSound, IsToClose, IsToCloseAndBegin, IsToRead}
 pub use Rattle.htl_machine.specs.Beginning.{CanFollow, IsToBegin}
 pub use Rattle.htl_machine.specs.Calls.{Follows, GoesBy, IsBefore, IsFinished, IsKept, IsLength, IsSameRun, IsSensorValue, IsUpTo, Seen, first_seen, schedule_by, text_between}
-pub use Rattle.htl_machine.specs.Changing.{all_changes, mode_change, mode_changes, value_changes}
-pub use Rattle.htl_machine.specs.Completing.{complete_at, complete_by, run_records}
 pub use Rattle.htl_machine.specs.Counts.{one_instr, one_record, with_instrs, with_records}
 pub use Rattle.htl_machine.specs.Doing.{IsDoing, IsDoingAll, IsStarting, instr_lines, path_lines, told_in_phase}
 pub use Rattle.htl_machine.specs.Fitted.{IsFitted, seen_by}
-pub use Rattle.htl_machine.specs.Follows.{IsLoaded, RunState, RunStateFollows, SMachineAt, SMachineFollows, SMachineStands, UpTo, at_reading, reading_of, released_before, s_machine_taking, set_pending, shown_as, taken_as, with_length}
-pub use Rattle.htl_machine.specs.FramePlacing.{FrameJobsStand, IsFramePlacing, JobsOfPlacing, PlacedByModes, begun_by, frame_start}
-pub use Rattle.htl_machine.specs.FramesGoOn.{AreFrames, FinishedCarried, Now, finished_at, frame_records, next_by_frames, present_finished}
 pub use Rattle.htl_machine.specs.Instant.{IsReadyAt}
-pub use Rattle.htl_machine.specs.JobLines.{HasNames, RunLine, ShowsJobs, begins_as_job, closed_slice_line, frame_job_lines, is_job_line, job_done_line, job_lines_at, job_lines_of, job_lines_to, list_job_lines, onto_first, printed, text_lines}
-pub use Rattle.htl_machine.specs.JobLines.RunLine.{ChangeLine, DoneLine, InstrLine, SliceLine, StepLine, TotalsLine}
-pub use Rattle.htl_machine.specs.JobTimes.{AllToldInTime, IsToldInTime, done_time, inv_period, is_in, job_round, slice_time}
-pub use Rattle.htl_machine.specs.JobsSoFar.{AreJobsSoFar, HaveWindows, IsJob, finish_or, rank, rank_at}
-pub use Rattle.htl_machine.specs.Laws.{AreReadFrom}
-pub use Rattle.htl_machine.specs.Leaving.{Leaves, due_by}
-pub use Rattle.htl_machine.specs.Lines.{change_lines, done_lines, e_done, e_lines, job_lines, jobs_done, lines, list_lines, new_lines, old_lines, record_lines, run_text, s_done, step_lines, text_before, where_shown}
-pub use Rattle.htl_machine.specs.ListBegun.{CanStart, IsAtEnd, ListsAreBegun, list_begun}
-pub use Rattle.htl_machine.specs.ListTurns.{AreListed, AreTurns, IsListed, IsTurn, Turn, left_before, records_so_far, turn_finished_by, turn_walk}
-pub use Rattle.htl_machine.specs.Machines.{Counts, Followed, RunStands}
 pub use Rattle.htl_machine.specs.Marks.{is_marked}
-pub use Rattle.htl_machine.specs.NextLists.{ListsBegin, NextListStands, next_list, next_node}
-pub use Rattle.htl_machine.specs.NextSMachines.{SMachinesGoOn, more_jobs, more_lengths}
 pub use Rattle.htl_machine.specs.Noting.{KeepsNoted, MarksChanges, decides, is_written}
 pub use Rattle.htl_machine.specs.Numbering.{IsAtFirst, IsNumbering, IsPath, first_list}
 pub use Rattle.htl_machine.specs.Opening.{IsOpened, Opens, beginning_text, closing_text, first_records, reading_text}
 pub use Rattle.htl_machine.specs.Passing.{ArePassing, IsOnward, IsPassing}
-pub use Rattle.htl_machine.specs.Plans.{finished_before, next_world}
 pub use Rattle.htl_machine.specs.Printing.{Counted, IsPrinting, Prints}
-pub use Rattle.htl_machine.specs.Programs.{before_of, lines_of, schedules_of, text_of}
 pub use Rattle.htl_machine.specs.Quiet.{AreQuiet, IsEmpty, IsQuiet, PassOver}
-pub use Rattle.htl_machine.specs.Readiness.{made_ready, released_to, s_machine_all, s_machine_at, s_machine_does, s_machine_replay, s_machine_want}
-pub use Rattle.htl_machine.specs.Recording.{AreOf, IsJobOf, IsRecording, Records}
-pub use Rattle.htl_machine.specs.ReleaseFlags.{raise_all, raise_at, raise_want}
-pub use Rattle.htl_machine.specs.RunFrames.{FeasibleRuns, RunFrames, RunReady, ValuesGoOn, now_of}
-pub use Rattle.htl_machine.specs.RunLists.{RunsGoByLists, begun_of, list_number, list_turn, no_turn, turn_at, turn_by, turn_of}
-pub use Rattle.htl_machine.specs.Running.{IsRunning, effect_at, replay}
-pub use Rattle.htl_machine.specs.Sensors.{AreSet, AreShown, ShowsNothing, shown_then}
 pub use Rattle.htl_machine.specs.StandingList.{instrs_by, next_at, node_by, turn_list}
-pub use Rattle.htl_machine.specs.Starting.{instrs_of, kept_lengths}
-pub use Rattle.htl_machine.specs.Texts.{TotalsFollow, capped, e_before, e_line, instant_text, inv_at, jobs_before, list_texts, listed_text_before, old_turn, record_text, records_of, records_text, s_before, slice_lines, some_records, sum_to, turn_new_records, turn_old_records}
-pub use Rattle.htl_machine.specs.Timing.{first_period, opens, some_round_begins}
-pub use Rattle.htl_machine.specs.Turns.{finished_in, last_position_done, later_or, position_from}
-pub use Rattle.htl_machine.specs.Values.{AreCarried, AreDistinct, EndIsMet, HasPlaces, HasReadInputs, InvStands, IsDue, IsPast, IsRead, Orders, Ready, ValuesFollow, and_also, out_val, values_before}
 pub use Rattle.htl_machine.specs.Waiting.{MarksWaiting, takes_now}
-pub use Rattle.htl_machine.specs.Wholes.{Passed, Whole, WholeFollowed}
-pub use Rattle.htl_machine.specs.Worlds.{all_reads, all_writes, effects, shown, shown_at, want_effect, wanted_reads, wanted_writes, with_sensors, world_after}
 pub use Rattle.htl_machine.specs.declared.machine.Machine.TheInside.{Inside}
 pub use Rattle.htl_machine.specs.declared.marks.Marks.{Marks}
 pub use Rattle.htl_machine.specs.declared.noted.Noted.{Noted}
@@ -95,103 +38,37 @@ pub use Rattle.htl_machine.specs.declared.numbering.Numbering.{Numbering}
 pub use Rattle.htl_machine.specs.declared.path.Path.{Path}
 pub use Rattle.htl_machine.specs.declared.sensors.Sensors.{Sensors}
 pub use Rattle.htl_machine.specs.declared.tally.Tally.{Tally}
-pub use Rattle.htl_model.proofs.FrameSteps.{node_step}
-pub use Rattle.htl_model.proofs.Laws.{seen_before, state_step}
-pub use Rattle.htl_model.proofs.Locality.{history_local}
-pub use Rattle.htl_model.proofs.Sources.{empty_mode}
-pub use Rattle.htl_model.proofs.Stays.{runs_is}
-pub use Rattle.htl_model.proofs.Words.{AbstractPorts, ConcreteWriters, changes, end_to, first_value, first_values, input_value, line_text, lines_text, mul-le-mul_left, newest, next_value, next_values, out, out_by, round_down, round_start, val, value_lines, with_start, write_from, write_in, written, written_by}
-pub use Rattle.htl_model.specs.Frames.{no_place}
 pub use Rattle.htl_model.specs.Functions.{same}
-pub use Rattle.htl_model.specs.Lines.{comm_name, mode_name, module_name, shown_mode}
-pub use Rattle.htl_model.specs.Meaning.{in_round, initial, last_sense, mode_in_state, mode_line, same_mode, value_in, value_line}
+pub use Rattle.htl_model.specs.Meaning.{mode_in_state, mode_line, same_mode, value_in, value_line}
 pub use Rattle.htl_model.specs.declared.event.Event.{Event}
-pub use Rattle.htl_model.specs.declared.event.Event.TheVariants.{At, End as Ends, Sense, Took}
 pub use Rattle.htl_model.specs.declared.frame.Place.{Place}
 pub use Rattle.htl_model.specs.declared.line.Line.{Line}
 pub use Rattle.htl_model.specs.declared.line.Line.TheVariants.{ModeLine, ValueLine}
 pub use Rattle.htl_model.specs.declared.parts.Comm.{Comm}
-pub use Rattle.htl_model.specs.declared.parts.End.{End}
 pub use Rattle.htl_model.specs.declared.parts.Inv.{Inv}
-pub use Rattle.htl_model.specs.declared.parts.Mode.{Mode}
 pub use Rattle.htl_model.specs.declared.parts.Module.{Module}
-pub use Rattle.htl_model.specs.declared.parts.Switch.{Switch}
-pub use Rattle.htl_model.specs.declared.parts.Task.{Task}
-pub use Rattle.htl_model.specs.declared.state.State.{State}
 pub use Rattle.htl_model.specs.declared.state.Stay.{Stay}
-pub use Rattle.htl_model.specs.declared.state.Write.{Write}
 pub use Rattle.htl_object.proofs.NodeCounts.{nodes_few}
-pub use Rattle.htl_object.proofs.Words.{Arrives, Asks, Does, FitsType, IsCommInRange, IsShort, Tests, Turns, Waits, Want, [], all_do, ap, append-nil, append_known, asks_for, begin_chain, block_chain, call_of, calls, calls_of, cases_below, children, choices_some, count_by, counts, flat_map-cons, get_list_to, get_or-take, get_or_past, is_name, layout, mul_assoc, next_offset, nodes, on_ok_weaker, or_second, phase_offsets, places_at, radices, release_of, releases, rounds_have, sum_by-append, sum_by-cons, sym, take_more, test_of, tests_of, waits_for}
+pub use Rattle.htl_object.proofs.Words.{IsShort, [], get_or_past, on_ok_weaker, sym}
 pub use Rattle.htl_object.specs.declared.object.Object.{Object}
-pub use Rattle.htl_refine.proofs.AlongPath.{legs_within}
 pub use Rattle.htl_refine.proofs.BeginningsEnd.{beginnings_end}
 pub use Rattle.htl_refine.proofs.BegunLimits.{choice_few, start_early}
-pub use Rattle.htl_refine.proofs.BegunTimes.{start_below}
-pub use Rattle.htl_refine.proofs.Chains.{right_parent}
-pub use Rattle.htl_refine.proofs.DoneRecords.{done_is, done_some}
-pub use Rattle.htl_refine.proofs.Exact.{chosen_exact_apart}
-pub use Rattle.htl_refine.proofs.FinishingRecords.{finish_more, last_is}
-pub use Rattle.htl_refine.proofs.FramesAgree.{frames_agree}
-pub use Rattle.htl_refine.proofs.FrontPlans.{front_plan, front_walks, leg_same, point_long}
-pub use Rattle.htl_refine.proofs.Fronts.{front_there, take_work}
-pub use Rattle.htl_refine.proofs.Inherit.{map_at, mapped}
-pub use Rattle.htl_refine.proofs.Kept.{kept_apart}
-pub use Rattle.htl_refine.proofs.LaterPoints.{later_released, later_time, later_unreleased, later_walks}
-pub use Rattle.htl_refine.proofs.LengthsLater.{lengths_later}
-pub use Rattle.htl_refine.proofs.ListCounts.{count_all, count_split, done_split}
-pub use Rattle.htl_refine.proofs.ListWalks.{front_agrees, list_walks, point_agrees}
-pub use Rattle.htl_refine.proofs.ListsFollow.{begins_by, leg_from, leg_knows, legs_many, lists_follow}
-pub use Rattle.htl_refine.proofs.Members.{at_place, in_flat, of_flat, of_places}
-pub use Rattle.htl_refine.proofs.NewJobs.{first_jobs, next_jobs}
-pub use Rattle.htl_refine.proofs.NodeRead.{node_steps, nodes_agree, nodes_read}
-pub use Rattle.htl_refine.proofs.OneFault.{kept_all}
-pub use Rattle.htl_refine.proofs.OwnPeriods.{parent_period, same_period, some_time}
-pub use Rattle.htl_refine.proofs.OwnRounds.{goes_on, own_starts, since, turns, until}
-pub use Rattle.htl_refine.proofs.PathDerived.{placed_present}
-pub use Rattle.htl_refine.proofs.PathRead.{paths_read}
-pub use Rattle.htl_refine.proofs.PlaceOrder.{places_ordered}
-pub use Rattle.htl_refine.proofs.Positions.{root_is}
-pub use Rattle.htl_refine.proofs.RecordLists.{new_joined, no_frames, none_joined, old_joined, up_to_none}
-pub use Rattle.htl_refine.proofs.RecordOrder.{counted, not_some, path_rises, times_within, walk_rises}
-pub use Rattle.htl_refine.proofs.RootSelection.{roots_some}
-pub use Rattle.htl_refine.proofs.RoundOrder.{of_rounds, round_of, run_of}
-pub use Rattle.htl_refine.proofs.RoundLaws.{have_lengths, within_worst}
-pub use Rattle.htl_refine.proofs.ServedFrames.{every_job_in_time, frames_are_served, paths_are}
-pub use Rattle.htl_refine.proofs.ServedSoFar.{front_served}
-pub use Rattle.htl_refine.proofs.SliceOrder.{slice_inside}
-pub use Rattle.htl_refine.proofs.Standing.{IsStanding, standing_at, stood}
-pub use Rattle.htl_refine.proofs.StateLaws.{states_are_selections}
-pub use Rattle.htl_refine.proofs.Words.{AgreeAt, AgreeBefore, All, AreInForm, AreOrdered, AreSameSoFar, AreTookWithin, AreWithin, AreWithinWorst, Finishes, Frame, HaveLengths, InForm, Input, IsAbstractIn, IsActive, IsEndInRange, IsEntry, IsFeasibleRun, IsInvInRange, IsModeInRange, IsModeThat, IsSelection, IsServing, IsSwitchInRange, KeptApart, KeptTo, ListPlan, Output, OutputBefore, ParentFault, Rises, RunningList, Runs, StandsFor, absent_job, add-mul-div_left, add-mul-mod_self_left, all_at, and_from, and_none, and_parts, before, begins, begins_at, begun_before, below, cases_eq, cases_less_more, cases_up_to, choice_at, choice_of, choices, choices_starts, chosen, count_left_before, derived_jobs, derived_place, div-add-mod, done_by, each_at, earlier, entry, entry_place, eq-eqb, eqb-false, eqb-true, eqb_apart, feeds, feeds_at, filter, finish, finishes_by, flat_map, frame_at, frame_jobs, frame_limit, frame_modes, frame_of, frame_places, frame_some, front_of, get_back, get_front, get_or-map, get_or_from_slice_get, get_taken, has_bit, hyper, in_frame, into_back, inv_of_mode, inv_worst, invs_of, is_concrete, is_fed_by, is_port, is_position, is_read_from, is_root, item_at, itself, job_in, job_there, joined, known_by, known_few, known_rises, last_took, le-leb, le-ltb, leb-false, leb-true, left_falls, left_falls_to, left_in, left_same, leg_at, legs_of, length-drop, length-list_to, length-map, length-take, length-take-le, lengths_of, limits_kept, list_any, list_plan, list_start, list_walk, lists_at, lists_from, lt-leb, lt-ltb, ltb-false, ltb-true, map-append, map_same, mask, mod-lt, mode_module, mode_of_module, mode_period, modes_at, modes_of, modes_some, mul-div_cancel_left, mul_comm, nat_tests, ne_eqb, new_jobs, new_records_by, next_of, no_leg, node_read, nodes_below, nodes_of, none-some, numbered, of_bool, old_records_by, option_map, or_left, or_parts, or_right, parent_mode, parent_of, path_in, path_of, path_point, place, placed, placed_job, placed_jobs, places_from, places_of, plain, precedes, records, records_before, reentered, refined, release, root_modules, root_periods, rounds, rounds_at, rounds_before, rounds_of, running_invs, running_places, runs, same_Some, same_length, same_number_lists, shifted, slice_get, slice_get-get_or, slice_get_past, slice_get_within, slice_onto, slices, spent, standing_places, starts_below, starts_order, state, stay_of, take_all, task_worst, time_rises, times_grow, took, unit_period, unit_start, up_to, up_to_same, walk_of, walks_of, ways, window_end, within_front, work_length, work_present, work_some, zero_down}
-pub use Rattle.htl_refine.proofs.WorkDone.{length-walk, work_done}
-pub use Rattle.htl_refine.specs.AgreeingRuns.{AreAlike, begun_by_offset}
-pub use Rattle.htl_refine.specs.ListLaws.{IsFollowed}
-pub use Rattle.htl_refine.specs.ListPlans.{ListPlan as Plan}
-pub use Rattle.htl_refine.specs.Records.{IsTookWithin}
-pub use Rattle.htl_refine.specs.ServedJobs.{IsServed}
-pub use Rattle.htl_refine.specs.ServedSoFar.{IsServedSoFar}
+pub use Rattle.htl_refine.proofs.Words.{All, frame_limit, get_or-map, has_bit, limits_kept, places_from, slice_get_past}
 pub use Rattle.htl_refine.specs.declared.selection.Selection.{Selection}
-pub use Rattle.htl_smach.proofs.Adding.{stands_added}
-pub use Rattle.htl_smach.proofs.Answering.{answer_is}
-pub use Rattle.htl_smach.proofs.RoundRecords.{absent_idle, is_pending, length-told, next_point_is, pending_is, stands_begun, take_more_get, told_from-take}
-pub use Rattle.htl_smach.proofs.Words.{CanBegin, IsEven, IsInForm, IsTold, Round, Stands, added, after, cleared, ext_get_or, front_more, job_is, left_until, moved, next_left, round_begun, state_by, state_of, take-append_seam, told, told_from, untouched, walk_records}
-pub use Rattle.htl_smach.specs.Rounds.{IsNextLeave, no_round}
-pub use Rattle.htl_smach.specs.declared.state.PosState.{PosState}
-pub use Rattle.htl_smach.specs.declared.state.PosState.TheVariants.{Done as Finished, Pending}
+pub use Rattle.htl_runs.proofs.Words.{AreInRange, AreListed, AreOf, AreShown, AreTookWithin, AreTurns, AreWithinWorst, Between, Calendar, CanBegin, CanStart, Content, Counts, Done, Entry, FitsType, FollowsCode, HasValues, HaveLengths, InForm, IsAccepted, IsAtEnd, IsCommInRange, IsDueAt, IsFeasibleRun, IsInForm, IsLoaded, IsRecording, IsRunning, IsSelection, IsShaped, IsTold, KeptApart, Leaves, Left, Midway, ModeReads, Onward, Passed, Plan, Point, Puts, Puts-failed, Puts-second, Records, Round, SMachineAt, SMachineFollows, SMachineStands, Sound, Spells, Standing, Stands, StandsSafely, Tables, Turn, Whole, WholeFollowed, absent_job, added, after, all_at, all_reads, and_parts, append-nil, append_assoc, append_known, append_known-more, append_known-start, at_reading, before, cases_eq, cases_lt, cases_up_to, choice_of, comm_of, complete_at, complete_by, content_after, count_by, count_left_before, derived_place, done_at, done_in, done_line, done_of, due_by, e_line, e_path, each_at, effect, eq-eqb, eqb-false, eqb-true, eqb_apart, finishes_by, first_due, first_standing, frame_modes, frame_of, frame_places, frame_some, frame_start, get_or_from_slice_get, hyper, initial, instant_text, instr_line, inv_at, inv_worst, is_concrete, is_root, item_at, job_at, joined, kept_lengths, last_took, left_before, left_by, left_same, length-map, length-set, lines_text, list_any, list_at, list_begun, list_texts, list_turn, list_walk, listed_text_before, map_at, mode_of, mode_period, modes_at, nat_tests, ne_eqb, new_jobs, next_left, next_list, next_node, next_point, no_round, nodes_below, not_some, old_turn, opens, or_parts, path_of, paths_read, phase_path, placed_job, position_from, raise_all, reading_of, record_text, records, records_of, records_text, replay, root_modules, root_periods, round_begun, run_records, s_machine_at, s_machine_does, s_machine_replay, s_machine_taking, same_Some, schedules_of, sense, shown_as, shown_then, shows_code, shows_jobs, shows_values, slice_get_within, slice_lines, some_records, some_round_begins, sound, spelled_departs_not, standing_after, standing_at, starts, starts_below, state, states_are_selections, stay_of, step_line, steps, sum_by-append, sum_by-cons, take_more, taken_as, task_worst, time_after, told, told_from, took, triggers_of, turn_at, turn_by, turn_old_records, turn_walk, up_to, up_to_none, up_to_same, value_lines, values_before, walk_from, whole_path, with_sensors, work_after, ℕ}
+pub use Rattle.htl_runs.specs.lines.ChangedItems.{all_changes, mode_change, mode_changes, value_changes}
+pub use Rattle.htl_runs.specs.lines.Programs.{lines_of}
+pub use Rattle.htl_runs.specs.lists.ListLengths.{instrs_of}
+pub use Rattle.htl_runs.specs.values.ShownValues.{AreSet, ShowsNothing}
+pub use Rattle.htl_smach.proofs.RoundRecords.{take_more_get}
+pub use Rattle.htl_smach.proofs.Words.{cleared, ext_get_or}
+pub use Rattle.htl_smach.specs.Rounds.{IsNextLeave}
 pub use Rattle.htl_walk.proofs.Clean.{passes}
-pub use Rattle.htl_walk.proofs.GoingOn.{onward_lists}
-pub use Rattle.htl_walk.proofs.Masks.{get_mapped, mask_bit}
-pub use Rattle.htl_walk.proofs.Nodes.{nodes_within}
-pub use Rattle.htl_walk.proofs.PathLists.{form_at, point_next, walk_take, job_front}
-pub use Rattle.htl_walk.proofs.PathReady.{IsRootAt, as_unit, window_within}
 pub use Rattle.htl_walk.proofs.Steps.{time_passes}
-pub use Rattle.htl_walk.proofs.Words.{AllWithin, DoneBy, List, and_right, bit_at, bit_at-trailing_zeros, bit_at-zero, flat_map-append, frame_divided, has_no_bit, least_or, list_all, mul-le-mul_right, multiple_of, place_passes_0, times_same, w128}
+pub use Rattle.htl_walk.proofs.Words.{bit_at, bit_at-trailing_zeros, bit_at-zero, has_no_bit, w128}
 pub use Rattle.htl_walk.specs.declared.job.Job.{Job}
 pub use Rattle.htl_walk.specs.declared.schedule.SInstr.{SInstr}
-pub use Rattle.htl_walk.specs.declared.schedule.SInstr.TheVariants.{Dispatch}
 pub use Rattle.htl_walk.specs.declared.schedule.Schedule.{Schedule}
 pub use Rattle.std.proofs.Math.Bool.{or-true}
-pub use Rattle.std.proofs.Math.Seq.{get_or-append_seam}
-pub use Rattle.std.proofs.lemmas.Grind.{get_or-set_at}
-pub use Rattle.std.proofs.lemmas.List.{append_assoc, drop-map, drop-take, set-get_or, take-take, take-map}
-pub use Rattle.std.proofs.lemmas.List.Folds.{list_all-append}
+pub use Rattle.std.proofs.lemmas.List.{drop-take}
 pub use Rattle.std.proofs.lemmas.Nat.{shr-shr}

@@ -5,7 +5,7 @@ use Rattle.htl_model.specs.Frames.{frame_limit}
 use Rattle.htl_model.specs.FunctionTypes.{FitPlaces}
 use Rattle.htl_model.specs.Meaning.{state, before, mode_in_state}
 use Rattle.htl_ecode.specs.Spelling.{Spells}
-use Rattle.htl_machine.specs.Running.{replay}
+use Rattle.htl_runs.specs.values.PhaseEffects.{replay}
 use Rattle.htl_machine.specs.Beginning.{IsToBegin}
 use Rattle.htl_machine.specs.Doing.{IsStarting}
 use Rattle.htl_machine.specs.Noting.{MarksChanges}

@@ -4,14 +4,15 @@ use Rattle.htl_machine.specs.Common.{Event, up_to, hyper, Comm, Inv, Tables, is_
 use Rattle.htl_model.specs.Ranges.{FitsType}
 use Rattle.htl_emach.specs.Following as machines
 use Rattle.htl_machine.specs.declared.numbering.ListAt.{ListAt}
-use Rattle.htl_machine.specs.Programs.{schedules_of, lines_of}
-use Rattle.htl_machine.specs.ListTurns.{Turn}
-use Rattle.htl_machine.specs.Plans.{finished_before}
-use Rattle.htl_machine.specs.RunLists.{turn_at}
+use Rattle.htl_runs.specs.lines.Programs.{schedules_of, lines_of}
+use Rattle.htl_runs.specs.lists.StandingLists.{Turn}
+use Rattle.htl_runs.specs.lists.RecordEffects.{finished_before}
+use Rattle.htl_runs.specs.lists.RunLists.{turn_at}
 use Rattle.htl_machine.specs.StandingList.{instrs_by, turn_list}
-use Rattle.htl_machine.specs.Values.{ValuesFollow}
-use Rattle.htl_machine.specs.Follows.{RunState, reading_of, SMachineFollows}
-use Rattle.htl_machine.specs.Lines.{e_done, jobs_done, s_done}
+use Rattle.htl_runs.specs.values.Values.{ValuesFollow}
+use Rattle.htl_runs.specs.events.ToldSoFar.{RunState, reading_of}
+use Rattle.htl_runs.specs.lists.StandingLists.{SMachineFollows}
+use Rattle.htl_runs.specs.lines.Lines.{e_done, jobs_done, s_done}
 
 -- what contracts see of a machine
 pub record Seen : Type 0 where

@@ -5,13 +5,13 @@ use Rattle.htl_smach.specs.Rounds as rounds
 use Rattle.htl_ecode.specs.Paths as paths
 use Rattle.htl_emach.specs.Pending.{Between}
 use Rattle.htl_emach.specs.Shapes.{IsShaped, SensorsStay}
-use Rattle.htl_machine.specs.Running.{IsRunning}
+use Rattle.htl_runs.specs.values.PhaseEffects.{IsRunning}
 use Rattle.htl_machine.specs.declared.tally.Tally.{Tally}
 use Rattle.htl_machine.specs.Counts.{with_instrs}
-use Rattle.htl_machine.specs.Readiness.{s_machine_replay}
+use Rattle.htl_runs.specs.instants.Releases.{s_machine_replay}
 use Rattle.htl_machine.specs.Noting.{MarksChanges, KeepsNoted}
 use Rattle.htl_machine.specs.declared.noted.Noted.{Noted}
-use Rattle.htl_machine.specs.Texts.{e_line}
+use Rattle.htl_runs.specs.lines.StandingLines.{e_line}
 
 -- the line of an instruction
 abbrev pub instr_lines : Tables → Shown → ℕ → ℕ → EInstr → List ℕ

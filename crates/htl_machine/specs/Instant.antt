@@ -2,14 +2,14 @@
 use Rattle.std.specs.Prelude.{◌≡◌, ◌≤◌, ℕ, ◌-◌, true, List, length}
 use Rattle.htl_machine.specs.Common.{Event, joined, hyper, SInstr, Round, Stands, IsInForm, IsTold, Content, Plan}
 use Rattle.htl_machine.specs.Calls.{Seen}
-use Rattle.htl_machine.specs.Follows.{SMachineAt}
-use Rattle.htl_machine.specs.Leaving.{due_by}
-use Rattle.htl_machine.specs.Plans.{with_records}
-use Rattle.htl_machine.specs.Programs.{schedules_of}
-use Rattle.htl_machine.specs.Recording.{AreOf, Records}
-use Rattle.htl_machine.specs.RunLists.{turn_at}
+use Rattle.htl_runs.specs.records.SMachineStands.{SMachineAt}
+use Rattle.htl_runs.specs.records.DueRecords.{due_by}
+use Rattle.htl_runs.specs.lists.RecordEffects.{with_records}
+use Rattle.htl_runs.specs.lines.Programs.{schedules_of}
+use Rattle.htl_runs.specs.records.RecordSteps.{AreOf, Records}
+use Rattle.htl_runs.specs.lists.RunLists.{turn_at}
 use Rattle.htl_machine.specs.StandingList.{node_by}
-use Rattle.htl_machine.specs.Texts.{record_text, list_texts, some_records}
+use Rattle.htl_runs.specs.lines.StandingLines.{record_text, list_texts, some_records}
 
 -- before an instant the S machine stands in a list of these instructions, or in none, by an empty one
 pub record IsReadyAt (m : Seen) (es : List Event) (now : ℕ) (steps : List SInstr) : Type 0 where

@@ -2,16 +2,16 @@
 use Rattle.std.specs.Prelude.{◌≡◌, ◌≤◌, ◌-◌, ◌++◌, ℕ, cond, List, [], length, Option, ℤ}
 use Rattle.htl_machine.specs.Common.{Result, Puts, Event, joined, lines_text, value_lines, Tables, SInstr, Round, ECode, Content, phase_path, Shown, shows_values, Plan}
 use Rattle.htl_smach.specs.declared.left.Left.{Left}
-use Rattle.htl_machine.specs.Running.{replay}
+use Rattle.htl_runs.specs.values.PhaseEffects.{replay}
 use Rattle.htl_machine.specs.declared.tally.Tally.{Tally}
 use Rattle.htl_machine.specs.Counts.{with_records, with_instrs}
-use Rattle.htl_machine.specs.Follows.{SMachineAt}
-use Rattle.htl_machine.specs.Leaving.{due_by}
-use Rattle.htl_machine.specs.Recording.{Records}
-use Rattle.htl_machine.specs.RunLists.{turn_at}
-use Rattle.htl_machine.specs.Sensors.{AreShown}
+use Rattle.htl_runs.specs.records.SMachineStands.{SMachineAt}
+use Rattle.htl_runs.specs.records.DueRecords.{due_by}
+use Rattle.htl_runs.specs.records.RecordSteps.{Records}
+use Rattle.htl_runs.specs.lists.RunLists.{turn_at}
+use Rattle.htl_runs.specs.values.ShownValues.{AreShown}
 use Rattle.htl_machine.specs.Doing.{path_lines}
-use Rattle.htl_machine.specs.Texts.{record_text, some_records}
+use Rattle.htl_runs.specs.lines.StandingLines.{record_text, some_records}
 
 -- the lines of the records that are due, wherever the S machine stood, and those of the writes
 abbrev pub Opens : {T E : Type 0} → Tables → ECode → List Event → Shown → ℕ → Round → List SInstr → ℕ → Option (List ℕ) → Option (List ℕ) → ℕ → ℕ → Result T E → Type 0

@@ -3,9 +3,9 @@ use Rattle.std.specs.Prelude.{◌≡◌, ◌≤◌, ℕ, ◌-◌, List, Option}
 use Rattle.htl_machine.specs.Common.{Result, append_known, Puts, joined, Tables, SInstr, Round, Shown, Plan}
 use Rattle.htl_machine.specs.declared.tally.Tally.{Tally}
 use Rattle.htl_machine.specs.Counts.{with_records}
-use Rattle.htl_machine.specs.Follows.{SMachineAt}
-use Rattle.htl_machine.specs.Leaving.{due_by}
-use Rattle.htl_machine.specs.Texts.{record_text, some_records}
+use Rattle.htl_runs.specs.records.SMachineStands.{SMachineAt}
+use Rattle.htl_runs.specs.records.DueRecords.{due_by}
+use Rattle.htl_runs.specs.lines.StandingLines.{record_text, some_records}
 
 -- wherever the S machine stood, the lines of the records that are due from there on are written
 abbrev pub Prints : {T E : Type 0} → Tables → Shown → ℕ → Round → List SInstr → ℕ → Option (List ℕ) → Option (List ℕ) → ℕ → ℕ → Result T E → Type 0

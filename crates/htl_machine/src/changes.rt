@@ -5,7 +5,7 @@ ghost use Rattle.htl_model.specs.Lists.{up_to};
 ghost use Rattle.htl_model.specs.Lines.{lines_text};
 ghost use Rattle.htl_model.specs.Meaning.{same_mode};
 ghost use Rattle.htl_emach.specs.Calendars.{list_at};
-ghost use Rattle.htl_machine.specs.Changing.{mode_change, value_changes, mode_changes, change_lines};
+ghost use Rattle.htl_runs.specs.lines.ChangedItems.{mode_change, value_changes, mode_changes, change_lines};
 ghost use Rattle.htl_machine.specs.Marks.{is_marked};
 ghost use Rattle.htl_machine.specs.Noting.{MarksChanges};
 

@@ -5,7 +5,7 @@ ghost use Rattle.htl_model.specs.FrameRules.{KeptApart};
 ghost use Rattle.htl_smach.specs.Rounds.{Stands, IsInForm, IsTold};
 ghost use Rattle.htl_model.specs.FunctionTypes.{FitPlaces};
 ghost use Rattle.htl_emach.specs.Shapes.{IsShaped};
-ghost use Rattle.htl_machine.specs.Recording.{AreOf, Records};
+ghost use Rattle.htl_runs.specs.records.RecordSteps.{AreOf, Records};
 ghost use Rattle.htl_machine.specs.Printing.{Prints, Counted};
 
 use crate::records::put_out;

@@ -4,8 +4,8 @@ ghost use Rattle.htl_walk.specs.declared.job.Job.{Job as Work};
 ghost use Rattle.htl_walk.specs.declared.schedule.SInstr.{SInstr as Instr};
 ghost use Rattle.htl_walk.specs.Walk.{job_at};
 ghost use Rattle.htl_smach.specs.Rounds.{Stands};
-ghost use Rattle.htl_machine.specs.Turns.{position_from};
-ghost use Rattle.htl_machine.specs.Follows.{s_machine_taking};
+ghost use Rattle.htl_runs.specs.frames.LastPositions.{position_from};
+ghost use Rattle.htl_runs.specs.events.ToldSoFar.{s_machine_taking};
 
 use htl_base::Time;
 use htl_smach::{PosState, SMach};

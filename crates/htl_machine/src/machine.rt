@@ -6,8 +6,8 @@ ghost use Rattle.htl_emach.specs.Calendars.{list_at};
 ghost use Rattle.htl_model.specs.declared.event.Event.{Event as Told};
 ghost use Rattle.htl_model.specs.declared.event.Event.TheVariants as event;
 ghost use Rattle.htl_machine.specs.Calls.{Follows, IsSensorValue, IsLength, IsSameRun, IsFinished, IsUpTo, first_seen, text_between};
-ghost use Rattle.htl_machine.specs.Follows.{shown_as, taken_as};
-ghost use Rattle.htl_machine.specs.Programs.{lines_of};
+ghost use Rattle.htl_runs.specs.events.ToldSoFar.{shown_as, taken_as};
+ghost use Rattle.htl_runs.specs.lines.Programs.{lines_of};
 ghost use Rattle.htl_machine.specs.Quiet.{AreQuiet};
 ghost use Rattle.htl_object.specs.Accepted.{IsAccepted};
 

@@ -6,10 +6,10 @@ ghost use Rattle.htl_model.specs.Frames.{frame_limit, frame_of, starts, ways, no
 ghost use Rattle.htl_model.specs.Ranges.{AreInRange};
 ghost use Rattle.htl_model.specs.Selected.{IsSelection};
 ghost use Rattle.htl_refine.specs.BegunJobs.{choice_of};
-ghost use Rattle.htl_machine.specs.NextLists.{next_list};
+ghost use Rattle.htl_runs.specs.lists.NextLists.{next_list};
 ghost use Rattle.htl_machine.specs.Numbering.{IsNumbering};
 ghost use Rattle.htl_machine.specs.StandingList.{node_by, number_by, next_at};
-ghost use Rattle.htl_machine.specs.Timing.{some_round_begins as begins};
+ghost use Rattle.htl_runs.specs.frames.RoundStarts.{some_round_begins as begins};
 
 use htl_base::Time;
 use htl_base::limits::MAX_STARTS;

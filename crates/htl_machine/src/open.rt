@@ -5,7 +5,7 @@ ghost use Rattle.htl_emach.specs.Shapes.{HasValues};
 ghost use Rattle.htl_emach.specs.Following.{FollowsCode, Onward, phase_path};
 ghost use Rattle.htl_smach.specs.Rounds.{Stands, IsInForm, IsTold};
 ghost use Rattle.htl_machine.specs.Asking.{IsSound, AreFitted};
-ghost use Rattle.htl_machine.specs.Recording.{AreOf};
+ghost use Rattle.htl_runs.specs.records.RecordSteps.{AreOf};
 ghost use Rattle.htl_machine.specs.Opening.{Opens, AreCounted, IsOpened, IsOpenedIdle};
 ghost use Rattle.htl_machine.specs.Noting.{KeepsNoted};
 ghost use Rattle.htl_machine.specs.Waiting.{MarksWaiting};

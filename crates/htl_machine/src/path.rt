@@ -8,13 +8,13 @@ ghost use Rattle.htl_refine.specs.BegunJobs.{choice_of, new_jobs};
 ghost use Rattle.htl_walk.specs.Refinement.{HaveLengths, AreWithinWorst};
 ghost use Rattle.htl_smach.specs.Adding.{CanBegin};
 ghost use Rattle.htl_smach.specs.Rounds.{round_begun, added};
-ghost use Rattle.htl_machine.specs.ListBegun.{list_begun};
+ghost use Rattle.htl_runs.specs.lists.FirstStand.{list_begun};
 ghost use Rattle.htl_machine.specs.Numbering.{IsNumbering, IsPath, IsAtFirst};
-ghost use Rattle.htl_machine.specs.NextLists.{next_list};
-ghost use Rattle.htl_machine.specs.Timing.{some_round_begins};
+ghost use Rattle.htl_runs.specs.lists.NextLists.{next_list};
+ghost use Rattle.htl_runs.specs.frames.RoundStarts.{some_round_begins};
 ghost use Rattle.htl_machine.specs.StandingList.{instrs_by};
 ghost use Rattle.htl_machine.specs.StandingList.{node_by, number_by, next_at};
-ghost use Rattle.htl_machine.specs.Starting.{kept_lengths};
+ghost use Rattle.htl_runs.specs.lists.ListLengths.{kept_lengths};
 ghost use Rattle.htl_machine.specs.Beginning.{CanFollow};
 
 use crate::changes::{mode_at, same_mode};

@@ -4,8 +4,8 @@ ghost use Rattle.htl_model.specs.FrameRules.{KeptApart};
 ghost use Rattle.htl_walk.specs.Walk.{job_at};
 ghost use Rattle.htl_model.specs.FunctionTypes.{FitPlaces};
 ghost use Rattle.htl_emach.specs.Shapes.{IsShaped};
-ghost use Rattle.htl_machine.specs.Completing.{complete_at};
-ghost use Rattle.htl_machine.specs.Recording.{IsJobOf};
+ghost use Rattle.htl_runs.specs.values.FinishedJobs.{complete_at};
+ghost use Rattle.htl_runs.specs.records.RecordSteps.{IsJobOf};
 
 use htl_emach::World;
 use htl_model::Tables;

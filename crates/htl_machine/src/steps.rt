@@ -8,9 +8,9 @@ ghost use Rattle.htl_ecode.specs.Phases.{number_of};
 ghost use Rattle.htl_emach.specs.Shapes.{SensorsStay};
 ghost use Rattle.htl_emach.specs.Following.{Onward, phase_path};
 ghost use Rattle.htl_machine.specs.Asking.{IsSound, AreFitted, AreStarting};
-ghost use Rattle.htl_machine.specs.Running.{replay};
+ghost use Rattle.htl_runs.specs.values.PhaseEffects.{replay};
 ghost use Rattle.htl_machine.specs.Counts.{with_instrs};
-ghost use Rattle.htl_machine.specs.Readiness.{s_machine_does};
+ghost use Rattle.htl_runs.specs.instants.Releases.{s_machine_does};
 ghost use Rattle.htl_machine.specs.Doing.{instr_lines, path_lines, told_in_phase};
 ghost use Rattle.htl_machine.specs.Noting.{KeepsNoted};
 

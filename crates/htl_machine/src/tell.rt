@@ -3,8 +3,8 @@ ghost use Rattle.std.specs.Prelude.{◌≡◌, ◌<◌, ◌++◌, [], cond, leng
 ghost use Rattle.htl_edge.specs.Content.{Puts};
 ghost use Rattle.htl_console.specs.Lines.{done_line};
 ghost use Rattle.htl_console.specs.Shows.{shows_jobs, shows_code};
-ghost use Rattle.htl_machine.specs.Texts.{inv_at as inv_at_position, slice_lines};
-ghost use Rattle.htl_machine.specs.RecordLines.{place_lines, job_lines, code_lines, record_lines};
+ghost use Rattle.htl_runs.specs.lines.StandingLines.{inv_at as inv_at_position, slice_lines};
+ghost use Rattle.htl_runs.specs.lines.RecordLines.{place_lines, job_lines, code_lines, record_lines};
 
 use crate::works::{Program, StandingList};
 use htl_base::Time;

@@ -3,7 +3,7 @@ use Rattle.std.proofs.Common.{◌≡◌, ◌<◌, inl, inr, ℕ, true, List, [],
 use Rattle.htl_base.proofs.Places.{all_at, get_mapped, item_at}
 use Rattle.htl_base.specs.Names.{is_name, is_word_byte}
 use Rattle.htl_console.specs.Names.{full_inv, full_mode, inv_name, task_name}
-use Rattle.htl_machine.specs.JobLines.{HasNames}
+use Rattle.htl_runs.specs.lines.RunLines.{HasNames}
 use Rattle.htl_model.proofs.Apart.{apart_names, apart_owned, apart_pairs}
 use Rattle.htl_model.specs.Lines.{mode_name, module_name}
 use Rattle.htl_model.specs.Lists.{AreApart}

@@ -1,12 +1,12 @@
 -- What a reader finds of values and modes in the text of what `go` runs.
 use Rattle.std.proofs.Common.{◌≡◌, ◌*◌, ◌/◌, ℕ, zero, suc, Bool, true, false, cond, List, [], ◌∷◌, ◌++◌, map, Option, Some, None, refl, sym, ap, ap₂, ◌∙◌, append-nil}
 use Rattle.htl_base.proofs.Places.{map_same}
-use Rattle.htl_machine.proofs.JobLines.{joined-up_to}
-use Rattle.htl_machine.proofs.LineBytes.{lines_found}
-use Rattle.htl_machine.proofs.Printing.{joined-append}
-use Rattle.htl_machine.specs.JobLines.{RunLine, SliceLine, DoneLine, ChangeLine, TotalsLine, printed, text_lines, HasNames, closed_slice_line, job_done_line, job_lines_of, list_job_lines, frame_job_lines, job_lines_at}
-use Rattle.htl_machine.specs.Lines.{e_done, jobs_done, s_done}
-use Rattle.htl_machine.specs.Texts.{inv_at}
+use Rattle.htl_runs.proofs.lines.JobLines.{joined-up_to}
+use Rattle.htl_runs.proofs.lines.LineBytes.{lines_found}
+use Rattle.htl_runs.proofs.lines.Joined.{joined-append}
+use Rattle.htl_runs.specs.lines.RunLines.{RunLine, SliceLine, DoneLine, ChangeLine, TotalsLine, printed, text_lines, HasNames, closed_slice_line, job_done_line, job_lines_of, list_job_lines, frame_job_lines, job_lines_at}
+use Rattle.htl_runs.specs.lines.Lines.{e_done, jobs_done, s_done}
+use Rattle.htl_runs.specs.lines.StandingLines.{inv_at}
 use Rattle.htl_model.proofs.Locality.{up_to_same}
 use Rattle.htl_model.specs.Lists.{joined, up_to}
 use Rattle.htl_model.specs.Meaning.{run_lines}

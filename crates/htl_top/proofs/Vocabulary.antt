@@ -36,13 +36,8 @@ pub use Rattle.htl_load.proofs.Words.{HasBytes, RefusesBytes, RefusesObject, fau
 pub use Rattle.htl_load.specs.Loading.{IsLoadedAs}
 pub use Rattle.htl_load.specs.declared.fault.LoadFault.{LoadFault}
 pub use Rattle.htl_load.specs.declared.fault.ObjectFault.{ObjectFault}
-pub use Rattle.htl_machine.proofs.Events.{sense_end, took_end}
-pub use Rattle.htl_machine.proofs.JobLines.{old_alone}
-pub use Rattle.htl_machine.proofs.JobTimes.{told_in_time}
-pub use Rattle.htl_machine.proofs.LoadedLists.{run_of}
 pub use Rattle.htl_machine.proofs.Printing.{nothing_put}
-pub use Rattle.htl_machine.proofs.Putting.{IsPutting, one_line}
-pub use Rattle.htl_machine.proofs.Words.{All, AreReadFrom, HasNames, InForm, IsActive, IsModeThat, IsSameRun, IsSensorValue, List, add-mul-mod_self_left, append_known-more, choice_few, choice_of, doubling, empty_mode, every_job_in_time, finishes_by, first_jobs, first_value, flat_map-append, flat_map-cons, form_at, front_more, get_or-map, get_or-take, get_taken, initial, is_name, jobs_done, known_few, known_rises, last_sense, leg_from, legs_many, length-take, length-walk, line_text, lines, lines_text, list_lines, mode_of_module, new_jobs, new_lines, next_jobs, next_value, no_leg, old_lines, parent_of, path_in, paths_read, places_from, places_of, record_lines, running_places, s_done, slice_get_past, slice_get_read, start_early, starts_order, take_all, value_lines, walk_of, work, work_after, ℕ}
+pub use Rattle.htl_machine.proofs.Words.{All, IsSameRun, IsSensorValue, choice_few, get_or-map, places_from, slice_get_past, slice_get_read, start_early}
 pub use Rattle.htl_model.proofs.Locality.{Agree, not_yet, run_lines_same}
 pub use Rattle.htl_model.proofs.Words.{History, count_by, history, past}
 pub use Rattle.htl_model.specs.Lines.{totals_line}
@@ -82,6 +77,12 @@ pub use Rattle.htl_refine.proofs.ListsFollow.{rises_next}
 pub use Rattle.htl_refine.proofs.NodeRead.{path_join}
 pub use Rattle.htl_refine.proofs.SelectedLaws.{active_is}
 pub use Rattle.htl_refine.proofs.Words.{IsModeOf, choices_append, get_or, grow_times, is_active, mod-eq_of_lt, most_invs, start_read, starts_rise}
+pub use Rattle.htl_runs.proofs.Words.{AreReadFrom, HasNames, InForm, IsActive, IsModeThat, List, add-mul-mod_self_left, append_known-more, choice_of, doubling, empty_mode, every_job_in_time, finishes_by, first_jobs, first_value, flat_map-append, flat_map-cons, form_at, front_more, get_or-take, get_taken, initial, is_name, jobs_done, known_few, known_rises, last_sense, leg_from, legs_many, length-take, length-walk, line_text, lines, lines_text, list_lines, mode_of_module, new_jobs, new_lines, next_jobs, next_value, no_leg, old_lines, parent_of, path_in, paths_read, places_of, record_lines, running_places, s_done, starts_order, take_all, value_lines, walk_of, work, work_after, ℕ}
+pub use Rattle.htl_runs.proofs.events.SameSensors.{sense_end, took_end}
+pub use Rattle.htl_runs.proofs.jobs.JobTimes.{told_in_time}
+pub use Rattle.htl_runs.proofs.lines.JobLines.{old_alone}
+pub use Rattle.htl_runs.proofs.lines.PutLines.{IsPutting, one_line}
+pub use Rattle.htl_runs.proofs.lists.LoadedLists.{run_of}
 pub use Rattle.htl_script.proofs.Behind.{behind-append, behind-nil, events_of-behind, script_of-rest}
 pub use Rattle.htl_script.proofs.Examples.{sample}
 pub use Rattle.htl_script.proofs.Fitting.{AreEvents-front, script-events, whole-script}

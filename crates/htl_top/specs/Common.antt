@@ -16,7 +16,6 @@ pub use Rattle.htl_edge.specs.Holdings.{Holdings, HoldsUnder}
 pub use Rattle.htl_load.specs.Loading.{HasBytes}
 pub use Rattle.htl_load.specs.declared.fault.ObjectFault.{ObjectFault}
 pub use Rattle.htl_machine.specs.Calls.{Seen}
-pub use Rattle.htl_machine.specs.Programs.{before_of, lines_of, schedules_of, text_of}
 pub use Rattle.htl_model.specs.Frames.{frame_of, hyper}
 pub use Rattle.htl_model.specs.Lines.{lines_text}
 pub use Rattle.htl_model.specs.Meaning.{val, value_lines}
@@ -29,6 +28,7 @@ pub use Rattle.htl_object.specs.declared.object.Object.{Object}
 pub use Rattle.htl_patch.specs.declared.fault.PatchFault.{PatchFault}
 pub use Rattle.htl_platform.specs.declared.fault.PlatformFault.{PlatformFault}
 pub use Rattle.htl_platform.specs.declared.platform.Platform.{Platform as PlatformOf}
+pub use Rattle.htl_runs.specs.lines.Programs.{before_of, lines_of, schedules_of, text_of}
 pub use Rattle.htl_script.specs.Judging.{past_of}
 pub use Rattle.htl_script.specs.Reading.{OfScript}
 pub use Rattle.htl_script.specs.Script.{Bad, Script, Whole, script_of}

@@ -3,7 +3,7 @@ use Rattle.std.specs.Prelude.{◌≡◌, ◌<◌, ℕ, Bool, false, eqb, ◌||�
 use Rattle.std.specs.List.{filter}
 use Rattle.htl_top.specs.Common.{built, CanBuild, IsTablesOf, Jobs, text_of, Event, Tables}
 use Rattle.htl_console.specs.Names.{full_mode, inv_name}
-use Rattle.htl_machine.specs.JobLines.{text_lines, HasNames}
+use Rattle.htl_runs.specs.lines.RunLines.{text_lines, HasNames}
 use Rattle.htl_model.specs.Lines.{comm_name, module_name, line_text}
 use Rattle.htl_model.specs.Meaning.{run_lines}
 use Rattle.htl_model.specs.Ranges.{AreInRange}

@@ -1,7 +1,7 @@
 -- What the values and lines of a run depend on, and what `go` shows.
 use Rattle.std.specs.Prelude.{◌≡◌, ◌≤◌, ◌<◌, ℕ, Bool, cond, nat_le, nat_lt, List, [], ◌∷◌, ◌++◌, length}
 use Rattle.htl_top.specs.Common.{built, CanBuild, Jobs, lines_of, schedules_of, Event, frame_of, hyper, Tables}
-use Rattle.htl_machine.specs.Lines.{old_lines}
+use Rattle.htl_runs.specs.lines.Lines.{old_lines}
 use Rattle.htl_model.specs.declared.event.Event.TheVariants as event
 use Rattle.htl_model.specs.Lines.{lines_before_text, lines_text}
 use Rattle.htl_model.specs.Meaning.{run_lines, sense, val, value_lines}

@@ -2,7 +2,7 @@
 use Rattle.std.specs.Prelude.{ℕ, suc, ◌≡◌, ◌≤◌, false, List, [], ◌∷◌, ◌++◌, Option, None, Some}
 use Rattle.htl_top.specs.Common.{append_known, MAX_INSTANT, Shown, Tables, Event, Object, past_of, script_of}
 use Rattle.htl_machine.specs.Calls.{Seen, Follows, IsFinished, IsSensorValue, IsLength, IsSameRun, text_between}
-use Rattle.htl_machine.specs.Follows.{reading_of}
+use Rattle.htl_runs.specs.events.ToldSoFar.{reading_of}
 use Rattle.htl_model.specs.declared.event.Event.TheVariants as event
 use Rattle.htl_script.specs.Events.{AreEvents}
 use Rattle.htl_script.specs.Reading.{behind}

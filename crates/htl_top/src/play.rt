@@ -3,7 +3,7 @@ ghost use Rattle.std.specs.Prelude.{◌≡◌, ◌+◌, [], List, OnOk};
 ghost use Rattle.htl_base.specs.declared.limits.TheConstants as limit;
 ghost use Rattle.htl_edge.specs.Content.{Puts};
 ghost use Rattle.htl_machine.specs.Calls.{Follows, IsSameRun};
-ghost use Rattle.htl_machine.specs.Follows.{reading_of};
+ghost use Rattle.htl_runs.specs.events.ToldSoFar.{reading_of};
 ghost use Rattle.htl_model.specs.Lines.{totals_line};
 ghost use Rattle.htl_model.specs.declared.event.Event.{Event as Told};
 ghost use Rattle.htl_object.specs.Accepted.{IsAccepted};

@@ -4,7 +4,7 @@ use Rattle.htl_machine.proofs.Beginnings.{HasBegun, may_follow, node_there, has_
 use Rattle.htl_machine.proofs.Closings.{switches_fail, reads_second, switches_start}
 use Rattle.htl_machine.proofs.Marking.{reads_next, sensors_then, sensors_same}
 use Rattle.htl_machine.proofs.Modes.{modes_are}
-use Rattle.htl_machine.proofs.Premises.{at_told}
+use Rattle.htl_runs.proofs.instants.FirstRecords.{at_told}
 use Rattle.htl_machine.proofs.beginning.close_and_begin.Given as given
 use Rattle.htl_machine.proofs.beginning.close_and_begin.Goals as goal
 use Rattle.htl_machine.proofs.beginning.close_and_begin.Goals.{In_default, After-schedule}

@@ -1,6 +1,6 @@
 use Rattle.std.proofs.Common.{Some, ◌-◌, cond, take, sym, ap, ◌∙◌, arith}
-use Rattle.htl_machine.specs.Turns.{position_from}
-use Rattle.htl_machine.proofs.Positions.{one_step}
+use Rattle.htl_runs.specs.frames.LastPositions.{position_from}
+use Rattle.htl_runs.proofs.frames.LastPositions.{one_step}
 use Rattle.htl_machine.proofs.lengths.position.Goals as goal
 
 pub returns-then-is_of-clause-place : goal.returns-then-is_of-clause-place

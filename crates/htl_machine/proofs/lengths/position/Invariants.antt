@@ -1,5 +1,5 @@
 use Rattle.std.proofs.Common.{◌≡◌, ◌≤◌, length, take}
-use Rattle.htl_machine.specs.Turns.{position_from}
+use Rattle.htl_runs.specs.frames.LastPositions.{position_from}
 use Rattle.htl_machine.proofs.lengths.position.Given as goal
 
 abbrev pub invariant-loop-p : goal.invariant-loop-p

@@ -1,5 +1,5 @@
 use Rattle.std.proofs.Common.{arith}
-use Rattle.htl_machine.proofs.NodesBelow.{AreBelow, one_below}
+use Rattle.htl_runs.proofs.lists.NodesBelow.{AreBelow, one_below}
 use Rattle.htl_machine.proofs.numbering.fill_below.Goals as goal
 
 pub loop-j-preserved : goal.loop-j-preserved

@@ -3,7 +3,7 @@ use Rattle.htl_machine.proofs.Words.{phase_path, with_instrs, Puts-second, path_
 use Rattle.htl_machine.proofs.Beginnings.{then_more}
 use Rattle.htl_machine.proofs.Marking.{sensors_then, sensors_same}
 use Rattle.htl_machine.proofs.Openings.{opens_failed, opens_second, opened, writes_start}
-use Rattle.htl_machine.proofs.Sensing.{sensors_shaped}
+use Rattle.htl_runs.proofs.values.SensorSteps.{sensors_shaped}
 use Rattle.htl_machine.proofs.Waits.{waiting_stays, waiting_same}
 use Rattle.htl_machine.proofs.open.open_instant.Goals as goal
 

@@ -2,10 +2,10 @@ use Rattle.std.proofs.Common.{◌∙◌, refl, arith}
 use Rattle.htl_ecode.specs.Phases.{number_of}
 use Rattle.htl_emach.proofs.Overdue.{nothing_overdue}
 use Rattle.htl_emach.proofs.PhaseNumbers.{number_range}
-use Rattle.htl_machine.proofs.Going.{phase_replayed, phase_ends}
+use Rattle.htl_runs.proofs.values.PhaseSteps.{phase_replayed, phase_ends}
 use Rattle.htl_machine.proofs.Doing.{doing_start, doing_on, doing_cut, doing_end, doing_counted, doing_told}
 use Rattle.htl_machine.proofs.Marking.{noted_on, module_done, sensors_then}
-use Rattle.htl_machine.proofs.Short.{fewer_then}
+use Rattle.htl_runs.proofs.values.PhaseLengths.{fewer_then}
 use Rattle.htl_machine.proofs.steps.do_instrs.Goals as goal
 use Rattle.htl_emach.proofs.Instants.{starts}
 

@@ -1,5 +1,5 @@
 use Rattle.std.proofs.Common.{◌<◌, length, refl, sym, ap, ◌∙◌, arith, add-one, Ok, Err}
-use Rattle.htl_machine.proofs.Putting.{IsPutting-step, Puts-cut}
+use Rattle.htl_runs.proofs.lines.PutLines.{IsPutting-step, Puts-cut}
 use Rattle.htl_top.proofs.Bulking.{value_put}
 use Rattle.htl_top.specs.Bulk.{value_seen}
 use Rattle.htl_top.proofs.bulk.write_values.Goals as goal

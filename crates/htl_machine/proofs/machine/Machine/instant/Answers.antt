@@ -7,7 +7,7 @@ use Rattle.htl_machine.proofs.Ended.{open_failed, going_closed, begun_closed_at}
 use Rattle.htl_machine.proofs.NumberedStarts.{begins_so}
 use Rattle.htl_machine.proofs.Quiet.{nothing_due}
 use Rattle.htl_machine.proofs.InstantGiven.{IsGiven, given, given_closes, given_begins}
-use Rattle.htl_machine.proofs.Readying.{replay_only}
+use Rattle.htl_runs.proofs.instants.ReleaseSteps.{replay_only}
 use Rattle.htl_machine.proofs.Ready.{list_known}
 use Rattle.htl_machine.proofs.ShownOn.{next_shown_up_to, noted_marks}
 use Rattle.htl_machine.proofs.Spent.{spent_fits}

@@ -1,6 +1,6 @@
 use Rattle.std.proofs.Common.{◌∙◌, arith}
 use Rattle.htl_object.proofs.NodeCounts.{nodes_few}
-use Rattle.htl_machine.proofs.NodesBelow.{ways_there, below_starts, starts_many, starts_front, frame_end}
+use Rattle.htl_runs.proofs.lists.NodesBelow.{ways_there, below_starts, starts_many, starts_front, frame_end}
 use Rattle.htl_machine.proofs.numbering.Numbering.survey.Goals as goal
 
 pub fill_below-requires-clause-some : goal.fill_below-requires-clause-some

@@ -1,5 +1,5 @@
 use Rattle.std.proofs.Common.{◌≤◌, ◌-◌, length}
-use Rattle.htl_machine.specs.Sensors.{ShowsNothing}
+use Rattle.htl_runs.specs.values.ShownValues.{ShowsNothing}
 use Rattle.htl_machine.proofs.sensors.Sensors.next.Given as goal
 
 abbrev pub invariant-loop-c : goal.invariant-loop-c

@@ -1,5 +1,5 @@
 use Rattle.std.proofs.Common.{◌≡◌, ◌∙◌, ℕ, ◌<◌, ◌+◌, List, length, get_or, Some, sym, ap, subst, arith, inl, inr}
-use Rattle.htl_machine.proofs.Words.{get_or_from_slice_get, slice_get-get_or, IsSelection, Tables, cases_below}
+use Rattle.htl_runs.proofs.Words.{get_or_from_slice_get, slice_get-get_or, IsSelection, Tables, cases_below}
 use Rattle.htl_refine.specs.declared.selection.Selection.{Selection}
 use Rattle.htl_part_tests.proofs.schedules.refine_tests.are_selections.Goals as goal
 

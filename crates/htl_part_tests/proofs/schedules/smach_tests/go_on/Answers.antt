@@ -1,5 +1,5 @@
 use Rattle.std.proofs.Common.{◌≡◌, ℕ, ◌-◌, true, leb, leb-true, List, length, sym, ◌∙◌, arith}
-use Rattle.htl_machine.proofs.Words.{list_all, HaveLengths, AreWithinWorst, Round, IsTold, CanBegin, each_at}
+use Rattle.htl_runs.proofs.Words.{list_all, HaveLengths, AreWithinWorst, Round, IsTold, CanBegin, each_at}
 use Rattle.htl_platform.proofs.Words.{AllPass-from_list_all}
 use Rattle.htl_walk.specs.declared.job.Job.{Job}
 use Rattle.htl_part_tests.proofs.schedules.smach_tests.go_on.Goals as goal

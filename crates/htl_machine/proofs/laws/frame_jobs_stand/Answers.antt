@@ -1,5 +1,0 @@
-use Rattle.htl_machine.proofs.FramesHaveJobs.{frame_jobs_so_far}
-use Rattle.htl_machine.proofs.laws.frame_jobs_stand.Goals as goal
-
-pub returns : goal.returns
-returns c = frame_jobs_so_far

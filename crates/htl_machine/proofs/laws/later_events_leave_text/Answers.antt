@@ -1,8 +1,0 @@
-use Rattle.htl_machine.specs.Programs.{schedules_of}
-use Rattle.htl_machine.proofs.Accepted.{accepted_is_loaded}
-use Rattle.htl_machine.proofs.TextSoFar.{later_leave}
-use Rattle.htl_machine.proofs.laws.later_events_leave_text.Goals as goal
-
-pub returns : goal.returns
-returns c = λ o es later show now accepted within from.
-    later_leave o.tables o.ecode (schedules_of o) show now (accepted_is_loaded o accepted) es later within from

@@ -1,5 +1,0 @@
-use Rattle.htl_machine.proofs.NextSMachines.{s_machines_go_on}
-use Rattle.htl_machine.proofs.laws.s_machines_go_on.Goals as goal
-
-pub returns : goal.returns
-returns c = s_machines_go_on

@@ -1,6 +1,0 @@
-use Rattle.htl_machine.specs.Programs.{schedules_of}
-use Rattle.htl_machine.proofs.Deciding.{values_are_the_meaning}
-use Rattle.htl_machine.proofs.laws.values_are_the_meaning.Goals as goal
-
-pub returns : goal.returns
-returns c = λ o es now. values_are_the_meaning o.tables o.ecode (schedules_of o) es now

@@ -1,0 +1,14 @@
+pub mod JobWindows
+pub mod OwedJobs
+pub mod FrameJobs
+pub mod FrameMembers
+pub mod RootModes
+pub mod PlacedStays
+pub mod PlacedJobs
+pub mod FrameValues
+pub mod FrameSteps
+pub mod ServedWindows
+pub mod RunFrames
+pub mod RootPaths
+pub mod RoundStarts
+pub mod LastPositions

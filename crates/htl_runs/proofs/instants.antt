@@ -1,0 +1,9 @@
+pub mod ReleaseSteps
+pub mod InstantPath
+pub mod DueReleases
+pub mod SMachineSteps
+pub mod BothMachines
+pub mod ReadPhase
+pub mod ToldReleases
+pub mod FirstRecords
+pub mod NoModules

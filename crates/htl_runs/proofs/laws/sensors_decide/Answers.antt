@@ -1,0 +1,9 @@
+use Rattle.std.proofs.Common.{◌≡◌, subst}
+use Rattle.htl_runs.proofs.Words.{Values, text_before, schedules_of, before_of}
+use Rattle.htl_runs.proofs.events.SensorsDecide.{sensors_decide}
+use Rattle.htl_runs.proofs.laws.sensors_decide.Goals as goal
+
+pub returns : goal.returns
+returns c = λ o p es fs now tables same.
+    subst (λ t. before_of o es Values now ≡ text_before t p.ecode (schedules_of p) fs Values now) tables
+    (sensors_decide o.tables o.ecode p.ecode (schedules_of o) (schedules_of p) es fs now same)

@@ -1,0 +1,9 @@
+pub mod Joined
+pub mod ListRecords
+pub mod RecordTexts
+pub mod LineBytes
+pub mod JobLines
+pub mod RecordTimes
+pub mod LoadedRecords
+pub mod Examples
+pub mod PutLines

@@ -1,0 +1,10 @@
+pub mod ListStarts
+pub mod RunLists
+pub mod LoadedLists
+pub mod NextLists
+pub mod NextPoints
+pub mod NextSMachines
+pub mod FirstStand
+pub mod AddedJobs
+pub mod ListValues
+pub mod NodesBelow

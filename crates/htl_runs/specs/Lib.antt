@@ -1,0 +1,9 @@
+pub mod Common
+pub mod values
+pub mod records
+pub mod frames
+pub mod lists
+pub mod instants
+pub mod lines
+pub mod events
+pub mod jobs

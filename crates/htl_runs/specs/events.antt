@@ -1,0 +1,3 @@
+pub mod ToldSoFar
+pub mod Counted
+pub mod WholeRuns

@@ -1,0 +1,2 @@
+pub mod JobTimes
+pub mod Laws

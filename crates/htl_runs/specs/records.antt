@@ -1,0 +1,3 @@
+pub mod SMachineStands
+pub mod DueRecords
+pub mod RecordSteps

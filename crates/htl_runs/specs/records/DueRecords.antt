@@ -1,0 +1,12 @@
+-- The S machine while the records of an instant are left.
+use Rattle.std.specs.Prelude.{◌≡◌, ◌≤◌, ℕ, suc, ◌-◌, List}
+use Rattle.htl_runs.specs.Common.{SInstr, Round, count_left_before, Plan, list_walk}
+use Rattle.htl_runs.specs.records.SMachineStands.{SMachineAt}
+
+-- the records of the list that are left at an instant or before, as a number
+abbrev pub due_by : Plan → ℕ → ℕ → ℕ
+due_by p s at = count_left_before (suc at - s) (list_walk p)
+
+-- and once no more is answered, all of them are given
+abbrev pub Leaves : Round → Round → List SInstr → ℕ → Type 0
+Leaves old now code at = (p : Plan) (s k d : ℕ) → p.schedule ≡ code → s ≤ at → k ≤ due_by p s at → SMachineAt p s k d old → SMachineAt p s (due_by p s at) d now
