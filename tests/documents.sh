@@ -74,8 +74,9 @@ bracketed() {
 			for file in $(echo "$files" | tr ',' ' '); do
 				found=
 				for crate in $crates; do
-					path=$root/crates/$crate/specs/$file.antt
-					[ ! -f "$path" ] || found="$found $path"
+					for path in "$root/crates/$crate/specs/$file.antt" "$root/crates/$crate"/specs/*/"$file.antt"; do
+						[ ! -f "$path" ] || found="$found $path"
+					done
 				done
 				[ -n "$found" ] || echo "$1: no file $file in [$inner]"
 				where="$where $found"
@@ -89,9 +90,9 @@ bracketed() {
 
 # The names in backticks on pages, of letters, digits and `_`, that are no word of the code, its definitions, tools or examples.
 unheard() {
-	cat "$root"/crates/*/src/*.rt "$root"/crates/*/specs/*.antt "$root"/bin/htl "$root"/tools/* "$root"/tests/* "$root"/.ci/run "$root"/examples/* \
+	cat "$root"/crates/*/src/*.rt "$root"/crates/*/specs/*.antt "$root"/crates/*/specs/*/*.antt "$root"/bin/htl "$root"/tools/* "$root"/tests/* "$root"/.ci/run "$root"/examples/* \
 		"$root"/docs/FORMATS.md "$root"/docs/LANGUAGE.md "$root"/crates.txt 2>/dev/null | tr -c 'A-Za-z0-9_' '\n' | sort -u >heard
-	ls "$root"/crates/*/src "$root"/crates/*/specs | sed 's/\.[a-z]*$//' >>heard
+	ls "$root"/crates/*/src "$root"/crates/*/specs "$root"/crates/htl_runs/specs/* | sed 's/\.[a-z]*$//' >>heard
 	for page; do
 		grep -v '^| .* | .* | .* | .* | .* |$' "$root/$page" | grep -o '`[A-Za-z_][A-Za-z0-9_:]*`' | tr -d '`' | sed 's/::/\n/g' | sort -u | grep -v -x -F -f heard | sed "s:^:$page\: :"
 	done
@@ -103,7 +104,7 @@ mapped() {
 		for (k = 1; k <= n; k++) { it = part[k]; if (it ~ /^htl_.*\/specs\//) { print it; continue } if (it !~ /\.(rt|antt)$/) continue; if (it ~ /\//) { folder = it; sub(/[^\/]*$/, "", folder) } else it = folder it; print own "/" it } } }' "$root/docs/MAP.md" >files
 	while read -r it; do [ -f "$root/crates/$it" ] || echo "no $it"; done <files
 	wc -l <files
-	sed -n '/^| Law | specs/,/^$/p' "$root/docs/MAP.md" | grep -o '[A-Za-z]*\.antt' | sort -u | while read -r it; do ls "$root"/crates/htl_machine/specs/"$it" "$root"/crates/htl_refine/specs/"$it" "$root"/crates/htl_emach/specs/"$it" "$root"/crates/htl_smach/specs/"$it" 2>/dev/null | grep -q . || echo "no $it"; done
+	sed -n '/^| Law | specs/,/^$/p' "$root/docs/MAP.md" | grep -o '[A-Za-z]*\.antt' | sort -u | while read -r it; do ls "$root"/crates/htl_machine/specs/"$it" "$root"/crates/htl_runs/specs/*/"$it" "$root"/crates/htl_refine/specs/"$it" "$root"/crates/htl_emach/specs/"$it" "$root"/crates/htl_smach/specs/"$it" 2>/dev/null | grep -q . || echo "no $it"; done
 }
 
 # The numbers of docs/EVIDENCE.md that aren't those of the files, but for those that were measured; and that of README.md's answers.

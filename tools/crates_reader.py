@@ -52,8 +52,8 @@ class File:
         part = path.split("/")
         self.path, self.crate, self.part = path, part[1], part[2]
         self.module = ".".join(["Rattle", *part[1:]])[: -len(".antt")]
-        # Files in folders of proofs/ answer goals of the function that the folder is named by.
-        self.answers = self.part == "proofs" and len(part) > 4
+        # Files in folders of proofs/ answer goals of the function that the folder is named by, but for a chapter's, which lists them.
+        self.answers = self.part == "proofs" and len(part) > 4 and not os.path.exists("/".join(part[:4]) + ".antt")
         with open(path, encoding="utf-8") as file:
             self.lines = file.read().split("\n")
         self.local, self.passed, self.modules, self.declared = {}, {}, {}, []

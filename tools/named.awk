@@ -1,5 +1,6 @@
 # The clauses of files of code, each with the definitions that it names: CRATE CALL CLAUSE FILE:NAME.. The call is the function's
-# name alone; a name counts where the file has it from a specs/ of one of the crates, by `ghost use`.
+# name alone; a name counts where the file has it from a specs/ of one of the crates, by `ghost use`. A file in a folder of specs/
+# goes by its own name.
 function flush() {
 	if (clause != "" && fn != "") {
 		line = crate " " fn " " clause
@@ -23,6 +24,7 @@ FNR == 1 { flush(); fn = ""; crate = FILENAME; sub(/^crates\//, "", crate); sub(
 	sub(/^ghost use Rattle\.htl_[a-z]*\.specs\./, "", file)
 	names = file
 	sub(/\.\{.*/, "", file)
+	sub(/^[a-z]+\./, "", file)
 	sub(/^.*\.\{/, "", names)
 	sub(/\}.*/, "", names)
 	n = split(names, part, /, */)
