@@ -5,6 +5,7 @@ pub mod Clean
 pub mod CleanAlike
 pub mod CodeWalk
 pub mod Dominance
+pub mod ExtentLaws
 pub mod EqualPeriods
 pub mod Fine
 pub mod Finishes

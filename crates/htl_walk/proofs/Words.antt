@@ -29,6 +29,7 @@ pub use Rattle.htl_model.specs.declared.parts.Mode.{Mode}
 pub use Rattle.htl_model.specs.declared.parts.Module.{Module}
 pub use Rattle.htl_model.specs.declared.parts.Task.{Task}
 pub use Rattle.htl_walk.specs.EqualPeriods.{AllHave, AreRounds, HasOnePeriod, OnePeriod, RootsHaveOnePeriod}
+pub use Rattle.htl_walk.specs.Extents.{AreExtents, Stand, no_items, widened}
 pub use Rattle.htl_walk.specs.Feasible.{AreFeasible, lists_of}
 pub use Rattle.htl_walk.specs.Following.{ArePending, IsFollowed, IsInTime, IsKnown, IsMissAt, IsReady}
 pub use Rattle.htl_walk.specs.FrameLaws.{AreFronts, LegsAreFronts, LegsFollow, LegsKnow, ModesStay, NodesDiffer, NodesReached, NodesShare, NodesWithin, start_at, start_end_at}
@@ -47,6 +48,8 @@ pub use Rattle.htl_walk.specs.Refinement.{AreWithinWorst, HasWork, HaveLengths, 
 pub use Rattle.htl_walk.specs.Walk.{AllWithin, AreDone, DoneBy, InForm, InOrder, IsMet, IsStep, Left, Meets, Point, ScheduleIsAccepted, dispatch_begins, earlier, finish, finishes_by, first_point, is_position, job_at, last_point, left_by, next_point, point_at, slice_between, slice_onto, slices, time_after, walk, walk_from, work, work_after, worst_cases}
 pub use Rattle.htl_walk.specs.WellFormed.{AreWellFormed, EndWithin, IsWellFormed}
 pub use Rattle.htl_walk.specs.Writers.{AreWriters, inv_of, job_with, reads_of, standing_in, stands}
+pub use Rattle.htl_walk.specs.declared.extents.Extent.{Extent}
+pub use Rattle.htl_walk.specs.declared.extents.Extents.{Extents}
 pub use Rattle.htl_walk.specs.declared.job.Job.{Job}
 pub use Rattle.htl_walk.specs.declared.miss.Miss.{Miss}
 pub use Rattle.htl_walk.specs.declared.schedule.SInstr.{SInstr}

@@ -4,6 +4,7 @@
 mod departure;
 pub mod dispatch;
 mod equal_periods;
+mod extents;
 mod job;
 mod jobs;
 pub mod laws;

@@ -3,11 +3,13 @@ ghost use Rattle.std.specs.Prelude.{◌≡◌, ◌≤◌, ◌<◌, ◌+◌, ◌*
 ghost use Rattle.htl_model.specs.Frames.{frame_limit, starts as starts_of, node as node_of_path, paths as paths_of, nodes as nodes_of_frame, path_places};
 ghost use Rattle.htl_model.specs.FrameRules.{KeptApart};
 ghost use Rattle.htl_model.specs.FrameTables.{IsFrame};
+ghost use Rattle.htl_walk.specs.Extents.{AreExtents};
 ghost use Rattle.htl_walk.specs.Feasible.{AreFeasible};
 ghost use Rattle.htl_walk.specs.PathJobs.{path_jobs as path_jobs_of};
 ghost use Rattle.htl_walk.specs.PathMisses.{counted as counted_of};
 ghost use Rattle.htl_walk.specs.NodeWalks.{AreWalkable, AreWalkedTo, AreResumed, ShareNodes, MissesAt, IsFirstFailing, instrs_of, count_to, list_at, reached};
 
+use crate::extents::{Extents, put_path};
 use crate::listing::{Span, worst_list};
 use crate::placed::placed_jobs;
 use crate::{Job, Miss, Schedule};
@@ -15,7 +17,7 @@ use htl_base::Time;
 use htl_base::limits::{MAX_POSITIONS, MAX_STARTS};
 use htl_model::Tables;
 use htl_model::frame::{Frame, Place};
-use htl_model::places::{fill_places, known_by};
+use htl_model::places::known_by;
 
 /// What a path has left after each of its lists.
 type States = [[Time; MAX_POSITIONS]; MAX_STARTS];
@@ -26,6 +28,7 @@ struct PathLists<'a> {
     t: &'a Tables,
     f: &'a Frame,
     lists: &'a [Schedule],
+    extents: &'a Extents,
     path: u32,
 }
 
@@ -186,7 +189,13 @@ fn walk_jobs(
     ensures missed { IfErr result (λ m. MissesAt p.entry.t.now (instrs_of p.entry.lists.now) p.entry.path m) }
     ensures room { length states.new ≡ 32 }
 {
-    let PathLists { t, f, lists, path } = p;
+    let PathLists {
+        t,
+        f,
+        lists,
+        path,
+        ..
+    } = p;
     for j in first..f.count {
         let known = known_by(at.places, f.starts[j]);
         let list = &lists[node(t, f, path, j) as usize];
@@ -211,6 +220,7 @@ fn walk_on(p: PathLists<'_>, first: usize, states: &mut States) -> Result<(), Mi
     requires lists { length p.lists.now ≡ nodes_of_frame p.t.now }
     requires instrs { All (λ s. length s.instrs ≤ 4294967295) p.lists.now }
     requires first { first ≤ length (starts_of p.t.now) }
+    requires extents { AreExtents p.t.now p.extents.now }
     requires walked { AreWalkedTo p.t.now (instrs_of p.lists.now) p.path first states.old }
     requires room { length states.old ≡ 32 }
     ensures walked { OnOk result (AreWalkedTo p.entry.t.now (instrs_of p.entry.lists.now) p.entry.path (length (starts_of p.entry.t.now)) states.new) }
@@ -220,7 +230,8 @@ fn walk_on(p: PathLists<'_>, first: usize, states: &mut States) -> Result<(), Mi
     let PathLists { t, f, path, .. } = p;
     t.keeps_ranges();
     let mut places = [Place { inv: None, at: 0 }; MAX_POSITIONS];
-    let count = fill_places(t, &f.rounds[..f.round_count], f.paths, path, &mut places);
+    let rounds = &f.rounds[..f.round_count];
+    let count = put_path(t, p.extents, rounds, f.paths, path, &mut places);
     let mut jobs = [Job::ABSENT; MAX_POSITIONS];
     placed_jobs(t, &places[..count], &mut jobs);
     let mut left = [0; MAX_POSITIONS];
@@ -251,6 +262,7 @@ fn walk_paths(t: &Tables, lists: &[Schedule]) -> Result<(), (u32, Miss)>
     ensures refused { OnErr result (AreFeasible t.now (instrs_of lists.now) → ⊥) }
 {
     let f = Frame::survey(t);
+    let extents = Extents::survey(t);
     let mut states = [[0; MAX_POSITIONS]; MAX_STARTS];
     for path in 0..f.paths {
         let first = if path == 0 { 0 } else { fork(t, &f, path - 1) };
@@ -258,6 +270,7 @@ fn walk_paths(t: &Tables, lists: &[Schedule]) -> Result<(), (u32, Miss)>
             t,
             f: &f,
             lists,
+            extents: &extents,
             path,
         };
         if let Err(miss) = walk_on(here, first, &mut states) {

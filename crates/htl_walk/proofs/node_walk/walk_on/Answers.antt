@@ -7,5 +7,5 @@ pub placed_jobs-requires-clause-times : goal.placed_jobs-requires-clause-times
 placed_jobs-requires-clause-times c =
     let t = c.args.p.t.now in
     let path = c.args.p.path in
-    let e : take c.fill_places-count.result c.fill_places-count.new.out ≡ path_places t path = c.fill_places-count.ensures.places ∙ ap (places_in t path) c.requires.frame.rounds in
+    let e : take c.put_path-count.result c.put_path-count.new.out ≡ path_places t path = c.put_path-count.ensures.places ∙ ap (places_in t path) c.requires.frame.rounds in
     subst (λ xs. All HasTimes (placed_jobs t xs)) (sym e) (formed_times (path_jobs t path) (c.requires.walkable.jobs path c.requires.path))
