@@ -15,10 +15,9 @@ module _ (count period : ℕ) where
   departs_shifted i is k h d = by_instruction (slice_get is k) d
     where
       by_instruction : (o : Option SInstr) → DepartsBy count period is k o → DepartsBy count period (i ∷ is) (suc k) o
-      by_instruction (Some (Dispatch p until)) d = d
-      by_instruction (Some (Idle until)) d = d
       by_instruction (Some End) d = omega arith
       by_instruction None d = absurd (omega (arith, d.0))
+      by_instruction _ d = d
 
   departs_back : (i : SInstr) (is : List SInstr) (k : ℕ) → 0 < length is → DepartsAt count period (i ∷ is) (suc k) → DepartsAt count period is k
   departs_back i is k h d = by_instruction (slice_get is k) d
@@ -28,10 +27,9 @@ module _ (count period : ℕ) where
       last (suc m) e n f = let back : suc m - 1 ≡ m = omega arith in n (ap (slice_get is) (sym back) ∙ f)
 
       by_instruction : (o : Option SInstr) → DepartsBy count period (i ∷ is) (suc k) o → DepartsBy count period is k o
-      by_instruction (Some (Dispatch p until)) d = d
-      by_instruction (Some (Idle until)) d = d
       by_instruction (Some End) d = omega arith
       by_instruction None d = (omega (arith, d.0), last k (omega (arith, d.0)) (λ e. let back : suc k - 1 ≡ k = omega arith in d.1 (ap (slice_get (i ∷ is)) back ∙ e)))
+      by_instruction _ d = d
 
   form_some : (s : List SInstr) → InForm count period s → 0 < length s
   form_some [] f = absurd f

@@ -78,10 +78,9 @@ clean_more t lists path j c h i l = elim (cases_lt i j) [
 ]
 
 set_other : (xs : List (List ℕ)) (j i : ℕ) (y : List ℕ) → i < j → get_or (set xs j y) i [] ≡ get_or xs i []
-set_other [] j i y l = refl
 set_other (x ∷ xs) zero i y l = absurd (omega (arith, l))
-set_other (x ∷ xs) (suc j) zero y l = refl
 set_other (x ∷ xs) (suc j) (suc i) y l = set_other xs j i y (omega (arith, l))
+set_other _ _ _ y l = refl
 
 set_same : (xs : List (List ℕ)) (j : ℕ) (y : List ℕ) → j < length xs → get_or (set xs j y) j [] ≡ y
 set_same [] j y l = absurd (omega (arith, l))

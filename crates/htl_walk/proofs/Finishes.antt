@@ -5,14 +5,12 @@ use Rattle.htl_walk.proofs.Steps.{left_other, time_rises}
 use Rattle.htl_walk.proofs.Ahead.{Ahead, ahead_next}
 
 finishes_yes : (a b : ℕ) → 0 < a → b ≡ 0 → finishes_by a b ≡ true
-finishes_yes zero b h e = absurd (omega arith)
 finishes_yes (suc a) zero h e = refl
-finishes_yes (suc a) (suc b) h e = absurd (omega arith)
+finishes_yes _ _ h e = absurd (omega arith)
 
 pub finishes_no : (a b : ℕ) → (a ≡ 0) ⊎ (0 < b) → finishes_by a b ≡ false
-finishes_no zero b h = refl
 finishes_no (suc a) zero h = absurd (omega arith)
-finishes_no (suc a) (suc b) h = refl
+finishes_no _ _ h = refl
 
 pub ends : (a b : ℕ) → ((0 < a) × (b ≡ 0)) ⊎ ((a ≡ 0) ⊎ (0 < b))
 ends zero b = inr (inl refl)

@@ -51,9 +51,6 @@ one_first_miss jobs period s m n a b = cases m n a b
 
     cases : (m n : Miss) → IsFirstMiss jobs period s m → IsFirstMiss jobs period s n → m ≡ n
     cases (miss.Order k) (miss.Order l) a b = let same : k ≡ l = same_from_neither k l (λ h. b.first k h a.here) (λ h. a.first l h b.here) in ap miss.Order same
-    cases (miss.Order k) (miss.Before p q l) a b = absurd (in_form k b.0 a)
-    cases (miss.Order k) (miss.Late p f w) a b = absurd (in_form k b.0 a)
-    cases (miss.Order k) (miss.Unfinished p n) a b = absurd (in_form k b.0 a)
     cases (miss.Before p q k) (miss.Order l) a b = absurd (in_form l a.0 b)
     cases (miss.Before p q k) (miss.Before p' q' l) a b = before_before jobs s p q k p' q' l a.1 b.1
     cases (miss.Before p q k) (miss.Late p' f w) a b = absurd (before_late jobs s p q k p' f w a.1 b.1)
@@ -66,3 +63,4 @@ one_first_miss jobs period s m n a b = cases m n a b
     cases (miss.Unfinished p n) (miss.Before p' q k) a b = absurd (a.1.clean.early k p' q (within jobs s k p' b.1.here.dispatches) b.1.here)
     cases (miss.Unfinished p n) (miss.Late p' f w) a b = absurd (a.1.clean.late b.1.place p' f (within jobs s b.1.place p' b.1.here.dispatches) b.1.here)
     cases (miss.Unfinished p n) (miss.Unfinished p' n') a b = unfinished_unfinished jobs s p n p' n' a.1 b.1
+    cases (miss.Order k) _ a b = absurd (in_form k b.0 a)

@@ -64,12 +64,11 @@ mode_from_append t path u a (r ∷ rs) ss none =
     ∙ ap (λ n. cond (eqb r.unit u && eqb r.at a) (mode_in t (path / choices t ss) r rs) n) (mode_from_append t path u a rs ss none)
 
 starts_in_order : (ps : List ℕ) (h k i : ℕ) (xs : List ℕ) → Rises ps h xs → k ≤ i → i < length xs → get_or xs k 0 ≤ get_or xs i 0
-starts_in_order ps h k i [] r l b = absurd (omega (arith, b))
 starts_in_order ps h zero zero (x ∷ xs) r l b = omega arith
-starts_in_order ps h zero (suc i) (x ∷ []) r l b = absurd (omega (arith, b))
 starts_in_order ps h zero (suc i) (x ∷ y ∷ xs) r l b = omega (arith, r.1, starts_in_order ps h zero i (y ∷ xs) r.3 (omega arith) (omega (arith, b)))
 starts_in_order ps h (suc k) zero (x ∷ xs) r l b = absurd (omega (arith, l))
 starts_in_order ps h (suc k) (suc i) (x ∷ xs) r l b = starts_in_order ps h k i xs r.3 (omega (arith, l)) (omega (arith, b))
+starts_in_order ps h _ _ _ r l b = absurd (omega (arith, b))
 
 module _ (t : Tables) (i : ℕ) (within : i < length (starts t)) where
   abbrev ps : List ℕ

@@ -16,7 +16,7 @@ pub list_front : {A : Type 0} (f : ℕ → A) (n : ℕ) → list_to f (suc n) �
 list_front f zero = refl
 list_front f (suc n) = ap (λ xs. xs ++ f (suc n) ∷ []) (list_front f n)
 
-reach_behind : (js : List Job) (a : ℕ) (later : List ℕ) (f : ℕ → List SInstr) (x : Point) (j : ℕ)
+pub reach_behind : (js : List Job) (a : ℕ) (later : List ℕ) (f : ℕ → List SInstr) (x : Point) (j : ℕ)
     → reach js (a ∷ later) f x (suc j) ≡ reach js later (λ k. f (suc k)) (last_point js (f 0) (list_point a x)) j
 reach_behind js a later f x zero = refl
 reach_behind js a later f x (suc j) = ap (λ y. last_point js (f (suc j)) (list_point (get_or later j 0) y)) (reach_behind js a later f x j)

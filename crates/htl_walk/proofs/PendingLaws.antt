@@ -14,8 +14,7 @@ both_set a b q e = by (has_bit a q) (has_bit b q) refl refl (sym (has_bit_and a 
   where
     by : (x y : Bool) → has_bit a q ≡ x → has_bit b q ≡ y → (has_bit a q && has_bit b q) ≡ true → (has_bit a q ≡ true) × (has_bit b q ≡ true)
     by true true f g h = (f, g)
-    by true false f g h = cc
-    by false y f g h = cc
+    by _ _ f g h = cc
 
 pub not_both : (a b q : ℕ) → bit_at (bit_and a b) q ≡ 0 → has_bit a q ≡ true → has_bit b q ≡ false
 not_both a b q e f = by (has_bit b q) refl (sym (has_bit_and a b q) ∙ ap (λ x. eqb x 1) e)
