@@ -1,6 +1,7 @@
 -- The slices of a walk that close at an instant: one at most, and how many ticks those before an instant have.
 use Rattle.std.proofs.Common.{◌≡◌, ◌≤◌, ◌<◌, ℕ, zero, suc, ◌+◌, ◌-◌, Bool, true, false, cond, eqb, ltb, List, [], ◌∷◌, length, map, take, slice_get, get_or, Option, Some, None, option_map, refl, sym, ap, ap₂, ◌∙◌, arith}
-use Rattle.htl_audit.proofs.Words.{filter, eqb-true, ltb-true, ltb-false, lt-ltb, le-ltb, all_some, numbered, Job, SInstr, Dispatch, Point, Left, job_at, dispatch_begins, time_after, slice_between, slice_of, slice_onto, position_of, next_point, left_by, walk_from, is_position, slices, finish, time_rises, left_falls, shifted, spent, count_left_before, Rises, done_some, walk_rises, not_some, slice_inside, spent_is, done_exactly, Slice, own_slice, same_Some}
+use Rattle.htl_walk.proofs.PathLists.{walk_take}
+use Rattle.htl_audit.proofs.Words.{filter, eqb-true, ltb-true, ltb-false, lt-ltb, le-ltb, all_some, numbered, Job, SInstr, Dispatch, Point, Left, job_at, dispatch_begins, time_after, slice_between, slice_of, slice_onto, position_of, next_point, walk_from, is_position, slices, finish, time_rises, left_falls, shifted, spent, count_left_before, Rises, done_some, walk_rises, not_some, slice_inside, spent_is, done_exactly, Slice, own_slice, same_Some}
 
 -- ---- slices have room
 
@@ -205,11 +206,6 @@ given_front p s d a (l ∷ ls) r = by (ltb l.at d) refl (given_front p s d l.at 
         omega (arith, ap (λ (b : Bool). cond b (gives p l) 0) (lt-ltb (s + l.at) (s + d) (omega (arith, ltb-true l.at d is))), next, spent_more p l (take (count_left_before d ls) ls))
     by false is next =
         omega (arith, ap (λ (b : Bool). cond b (gives p l) 0) (le-ltb (s + l.at) (s + d) (omega (arith, ltb-false l.at d is))), none_given p s (s + d) l.at ls r.1 (omega (arith, ltb-false l.at d is)))
-
-walk_take : (jobs : List Job) (is : List SInstr) (x : Point) (k : ℕ) → take k (walk_from jobs is x) ≡ walk_from jobs (take k is) x
-walk_take jobs is x zero = refl
-walk_take jobs [] x (suc k) = refl
-walk_take jobs (i ∷ is) x (suc k) = ap (λ (ls : List Left). left_by jobs i x (next_point jobs i x) ∷ ls) (walk_take jobs is (next_point jobs i x) k)
 
 -- who finished before has all its ticks
 pub given_all : (jobs : List Job) (is : List SInstr) (x : Point) (p s f now : ℕ) → finish (walk_from jobs is x) p ≡ Some f → s + f < now → given p s now (walk_from jobs is x) ≡ get_or x.left p 0

@@ -1,22 +1,9 @@
 -- Code in the place of functions means the same, and fits its place.
-use Rattle.std.proofs.Common.{◌≡◌, ◌≤◌, ◌<◌, ◌⊎◌, ℕ, zero, suc, List, [], ◌∷◌, ◌++◌, length, get_or, slice_get, Option, Some, None, All, refl, sym, ◌∙◌, ap, subst, arith, inl, inr}
-use Rattle.htl_compile.proofs.Words.{slice_get_cases, slice_get-get_or, ℤ, pos, count_function_types, same_runs, first_same, in_range, MeanTheSame, SameRuns, FunctionType, function_types, IsFunctionOf, FitPlaces, code_of, code_by, code_at, codes, coded, IsTyped, AreTyped, code_means, IsCompiled-postfix, IsCompiled, length-list_to, IsFirstBroken, postfix, list_to, AreInRange, IsFunInRange, IsSmallFunction, AreSmall, Tables, Fun, Formula, Compiled, fun, FormFault, IsFunctionCode, within_front, cases_below}
+use Rattle.std.proofs.Common.{◌≡◌, ◌≤◌, ◌<◌, ℕ, List, [], length, get_or, slice_get, Option, Some, None, All, refl, sym, ◌∙◌, ap, subst, arith, inl, inr}
+use Rattle.htl_names.proofs.FlatMaps.{list_to_at}
+use Rattle.htl_compile.proofs.Words.{slice_get_cases, slice_get-get_or, ℤ, pos, count_function_types, same_runs, first_same, in_range, MeanTheSame, SameRuns, FunctionType, function_types, IsFunctionOf, FitPlaces, code_of, code_by, code_at, codes, coded, IsTyped, AreTyped, code_means, IsCompiled-postfix, IsCompiled, length-list_to, IsFirstBroken, postfix, AreInRange, IsFunInRange, IsSmallFunction, AreSmall, Tables, Fun, Formula, Compiled, fun, FormFault, IsFunctionCode}
 
 -- ---- lists by places
-
-get_last : {A : Type 0} (xs : List A) (y : A) → slice_get (xs ++ y ∷ []) (length xs) ≡ Some y
-get_last [] y = refl
-get_last (x ∷ xs) y = get_last xs y
-
-pub list_to_at : {A : Type 0} (f : ℕ → A) (n k : ℕ) → k < n → slice_get (list_to f n) k ≡ Some (f k)
-list_to_at f zero k h = absurd (omega arith)
-list_to_at f (suc n) k h =
-    by (cases_below k n h) (λ less. within_front (list_to f n) (f n ∷ []) k (omega (arith, length-list_to f n, less)) ∙ list_to_at f n k less)
-  where
-    by : (k < n) ⊎ (k ≡ n) → (k < n → slice_get (list_to f n ++ f n ∷ []) k ≡ Some (f k)) → slice_get (list_to f n ++ f n ∷ []) k ≡ Some (f k)
-    by (inl less) rest = rest less
-    by (inr same) rest =
-        ap (slice_get (list_to f n ++ f n ∷ [])) (same ∙ sym (length-list_to f n)) ∙ get_last (list_to f n) (f n) ∙ ap (λ (j : ℕ). Some (f j)) (sym same)
 
 pub within : {A : Type 0} (xs : List A) (k : ℕ) (x : A) → slice_get xs k ≡ Some x → k < length xs
 within xs k x e = elim (slice_get_cases xs k).1 [ inl c ↦ c.1 | inr c ↦ absurd (let no : Some x ≡ None = sym e ∙ c.1 in cc) ]

@@ -1,6 +1,7 @@
 -- The schedules of all nodes: each node is that of a path behind a start, and the parts of paths through one node are the same.
 use Rattle.std.proofs.Common.{◌≡◌, ◌<◌, ◌≤◌, ℕ, zero, suc, ◌+◌, ◌-◌, ◌*◌, ◌/◌, ◌%◌, Bool, true, false, cond, ◌&&◌, eqb, List, [], ◌∷◌, ◌++◌, length, length-append, map, drop, get_or, Option, Some, None, All, ⊎_elim, refl, sym, ◌∙◌, ap, subst, arith}
-use Rattle.htl_compile.proofs.Words.{mul_assoc, mul_comm, div-lt_iff_lt-mul, cases_Bool, length-map, div-add-mod', div-mul-add, mod-mul-add, mul-add-lt, through, node_schedule, schedules, from_none, from_more, depth_same, one_list_of_node, slice_instrs, Slice, longer, edf, tightened, AreReady, AreNodeLists, slices_from, part, rounds_have, choices_some, choices_starts, limits_kept, length-list_to, get_list_to, frame_of, root_periods, begins, frame_limit, multiple_of, unit_period, starts_below, starts, rounds, rounds_at, choices, paths, radices, ways, nodes_of, nodes, node_of, node, AreInRange, root_modules, Tables, IsShort, list_read, nodes_within, start_at, start_end_at, instrs_of, path_jobs, next_of, Job, Dispatch, End, Schedule, product_parts}
+use Rattle.htl_edf.proofs.Walking.{instrs_many}
+use Rattle.htl_compile.proofs.Words.{mul_assoc, mul_comm, div-lt_iff_lt-mul, cases_Bool, length-map, div-add-mod', div-mul-add, mod-mul-add, mul-add-lt, through, node_schedule, schedules, from_none, from_more, depth_same, one_list_of_node, slice_instrs, Slice, longer, edf, tightened, AreReady, AreNodeLists, slices_from, part, rounds_have, choices_some, choices_starts, limits_kept, length-list_to, get_list_to, frame_of, root_periods, begins, frame_limit, multiple_of, unit_period, starts_below, starts, rounds, rounds_at, choices, paths, radices, ways, nodes_of, nodes, node_of, node, AreInRange, root_modules, Tables, IsShort, list_read, nodes_within, start_at, start_end_at, instrs_of, path_jobs, next_of, Job, End, Schedule, product_parts}
 
 -- ---- the node of a number
 
@@ -138,14 +139,10 @@ from_short run a (suc n) = omega (arith, ap length (from_more run a n), longer_s
     longer_short (Some p) x [] = omega arith
     longer_short (Some p) x (s ∷ ss) = ⊎_elim (λ e. rw e (omega arith)) (λ e. rw e (omega arith)) (cases_Bool (eqb p s.position && eqb s.end x))
 
-many : (ss : List Slice) → length (slice_instrs ss) ≡ length ss
-many [] = refl
-many (s ∷ ss) = omega (arith, length-append (slice_instrs ss) (Dispatch s.position s.end ∷ []), many ss)
-
 part_short : (js : List Job) (a b : ℕ) → length (part js a b) ≤ b + 1
 part_short js a b =
     let ss = slices_from (edf (tightened js)) a (b - a) in
-    omega (arith, length-append (slice_instrs ss) (End ∷ []), many ss, from_short (edf (tightened js)) a (b - a))
+    omega (arith, length-append (slice_instrs ss) (End ∷ []), instrs_many ss, from_short (edf (tightened js)) a (b - a))
 
 AllMost : ℕ → List ℕ → Type 0
 AllMost h [] = Unit {0}

@@ -1,5 +1,6 @@
 -- Where modules are, from one instant to the next.
 use Rattle.std.proofs.Common.{◌≡◌, ℕ, zero, suc, ◌+◌, ◌<◌, ◌≤◌, Bool, true, false, cond, ◌&&◌, eqb, List, [], ◌∷◌, length, slice_get, Option, Some, None, IfSome, ℤ, refl, sym, ap, ◌∙◌, subst, arith, ◌⊎◌, inl, inr}
+use Rattle.htl_model.proofs.Stays.{runs_is}
 use Rattle.htl_emach.proofs.Words.{eqb-true, eq-eqb, cases_Bool, slice_get_within, Event, Module, Mode, Switch, Stay, AreInRange, IsModeThat, IsSwitchInRange, parent_of, Tables, mode_period, mode_module, state, before, stay_of, stays_to, next_stay, go_on_or_begin, runs, target, target_from, switch_holds, stay_at, old_stay, new_stay, each_at, and_first, true_not_false}
 
 -- the values at the instant
@@ -159,14 +160,6 @@ pub ran_some : (t : Tables) (es : List Event) (now k : ℕ) (x : Module) (q : �
 ran_some t es zero k x q y r at e is = absurd (none_stay y is)
 ran_some t es (suc n) k x q y r at e is = sym (ap (λ (o : Option ℕ). elim o as (λ _. Bool) [ None ↦ true | Some p ↦ runs t (state t es n).stays p ]) e) ∙ runs_some t es n k x y r at is
 
--- the stay of a mode that runs
-pub runs_stay : (t : Tables) (stays : List (Option Stay)) (q : ℕ) → runs t stays q ≡ true → (z : Stay) × (stay_of stays (mode_module t q) ≡ Some z) × (z.mode ≡ q)
-runs_stay t stays q on = by_stay (stay_of stays (mode_module t q)) refl on
-  where
-    by_stay : (o : Option Stay) → stay_of stays (mode_module t q) ≡ o → ◌≡◌ {A = Bool} (elim o [ Some x ↦ eqb x.mode q | None ↦ false ]) true → (z : Stay) × (o ≡ Some z) × (z.mode ≡ q)
-    by_stay None is h = absurd (let z : ⊥ = cc in z)
-    by_stay (Some z) is h = (z, refl, eqb-true z.mode q h)
-
 pub stay_runs : (t : Tables) (stays : List (Option Stay)) (q : ℕ) (z : Stay) → stay_of stays (mode_module t q) ≡ Some z → z.mode ≡ q → runs t stays q ≡ true
 stay_runs t stays q z is same = ap (λ (o : Option Stay). elim o as (λ _. Bool) [ Some x ↦ eqb x.mode q | None ↦ false ]) is ∙ eq-eqb z.mode q same
 
@@ -227,7 +220,7 @@ pub aligned_new : (t : Tables) (es : List Event) (now : ℕ) → AreInRange t �
     (z : Stay) × (new_stay t es now (mode_module t q) ≡ Some z) × (z.mode ≡ q) × (z.start ≡ y.start)
 aligned_new t es now r periods olds k x q y at e new =
     let on : runs t (state t es now).stays q ≡ true = sym (parent_of_runs t es now x q e) ∙ runs_some t es now k x y r at new in
-    let z = runs_stay t (state t es now).stays q on in
+    let z = runs_is t (state t es now).stays q on in
     let lower : mode_module t q < k = lower_parent t k x q r at e in
     let inside : k < length t.modules = slice_get_within t.modules k x at in
     let u = module_at t (mode_module t q) (omega (arith, lower, inside)) in

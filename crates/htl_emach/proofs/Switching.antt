@@ -1,8 +1,9 @@
 -- What holds of each module in the switch phase.
 use Rattle.std.proofs.Common.{◌≡◌, ℕ, zero, suc, ◌+◌, ◌-◌, ◌<◌, ◌≤◌, Bool, true, false, cond, ltb, List, [], ◌∷◌, length, slice_get, Option, Some, None, refl, sym, ap, ◌∙◌, arith, inl, inr}
+use Rattle.htl_model.proofs.Stays.{runs_is}
 use Rattle.htl_emach.proofs.Words.{cases_Bool, lt-ltb, cases_eq, nat_tests, Event, Mode, Stay, AreInRange, IsModeInRange, parent_of, Tables, mode_period, mode_module, state, before, stay_of, mode_of, runs, ECode, next_offset, least_from, phase_offsets, holds, block_at, IsLeast, least_is, ModeReads, Trigger, trigger_at, next_block, awaited, ending, is_called, entering, turning, Entry, entry_before, pending_entry, switched, old_stay, new_stay, each_at, cond_same, true_not_false}
 use Rattle.htl_emach.proofs.CopyPhases.{off_offset}
-use Rattle.htl_emach.proofs.States.{SamePeriods, runs_some, ran_none, runs_stay, stay_runs, module_at, parent_at, parent_of_runs, option_cases, some_stay, none_stay}
+use Rattle.htl_emach.proofs.States.{SamePeriods, runs_some, ran_none, stay_runs, module_at, parent_at, parent_of_runs, option_cases, some_stay, none_stay}
 
 -- tables and code that the machine runs
 pub record Sound (t : Tables) (code : ECode) : Type 0 where
@@ -115,7 +116,7 @@ pub parent_stay : (t : Tables) (es : List Event) (now j q : ℕ) (y : Stay) → 
 parent_stay t es now j q y r inside e new =
     let x = module_at t j inside in
     let parent : x.0.parent ≡ Some q = sym (parent_at t j x.0 x.1) ∙ e in
-    runs_stay t (state t es now).stays q (sym (parent_of_runs t es now x.0 q parent) ∙ runs_some t es now j x.0 y r x.1 new)
+    runs_is t (state t es now).stays q (sym (parent_of_runs t es now x.0 q parent) ∙ runs_some t es now j x.0 y r x.1 new)
 
 pub calls_none_gone : (t : Tables) (es : List Event) (now k j : ℕ) → AreInRange t → j < length t.modules → new_stay t es now k ≡ None → CallsNone t es now k j
 calls_none_gone t es now k j r inside gone = λ q e same old. elim (option_cases (new_stay t es now j)) [

@@ -14,7 +14,7 @@ refusal : (bytes : List ℕ) (f : ObjectFault) → RefusesBytes bytes f → Tell
 refusal bytes (fault.Malformed m) h = inl (record { malformed = m; is = refl; bad = h })
 refusal bytes _ h = inr h
 
-not_both : (bytes : List ℕ) (r : Read Lists) (o : Object) (m : Malformed) → object_or bytes r ≡ Ok o → fault_of bytes r ≡ Some m → ⊥
+pub not_both : (bytes : List ℕ) (r : Read Lists) (o : Object) (m : Malformed) → object_or bytes r ≡ Ok o → fault_of bytes r ≡ Some m → ⊥
 not_both bytes (Ok x) o m p q = cc
 not_both bytes (Err bad) o m p q = cc
 

@@ -6,7 +6,7 @@ mod ListLaws
 mod Examples
 mod LimitLaws
 mod RuleLaws
-mod FlatMaps
+pub mod FlatMaps
 pub mod InRange
 pub mod KeepsLimits
 mod SymbolLaws

@@ -1,6 +1,7 @@
 -- The functions of a source have few nodes, and arguments that are there.
-use Rattle.std.proofs.Common.{◌≡◌, ◌≤◌, ◌<◌, ◌+◌, ℕ, zero, suc, length-append, cond, eqb, List, [], ◌∷◌, length, map, slice_get, Some, refl, sym, ◌∙◌, ap, ap₂, subst, arith, flat_map, All}
-use Rattle.htl_names.proofs.Words.{AllZip, flat_map-map, map-map, slice_get_within, AllZip-long, length-map, IsSmallFunction, AreSmall, ArgumentsBelow, nodes, AreInRange, IsFunInRange, Tables, Fun, Formula, Compiled, function_count, count_before, Task, get_mapped, ParamNode, names_of, out_params, out_values, tree_nodes, Expr, Variable, Prefix, Infix, Choice, PlainProgram, PlainTask, PlainOut, PlainOuts, PlainSwitch, Concrete, Abstract, Id, MeetsBounds, MeetsTaskBounds, Layout, layout, meaning, term_by, types_of, is_abstract, task_item, task_items, module_task_items, switch_items, function_items, input_place, flat_output_function, outs_functions, task_functions, module_functions, comms_in, switch_item, mode_switch_items, read_place, flat_switch_function, mode_functions, tables_of_tree, comm_key, AreNamesRight, tasks_at, switches_at, input_use, output_uses, outputs_uses, ModeAt, ModuleAt, BoolTy, FunctionType, output_type, task_types, switch_type, comm_type, function_types, all_at, item_at}
+use Rattle.std.proofs.Common.{◌≡◌, ◌≤◌, ◌<◌, ◌+◌, ℕ, length-append, cond, eqb, List, [], length, map, slice_get, Some, refl, sym, ◌∙◌, ap, ap₂, subst, arith, flat_map, All}
+use Rattle.htl_model.proofs.PlaceLaws.{count_all}
+use Rattle.htl_names.proofs.Words.{AllZip, flat_map-map, map-map, slice_get_within, AllZip-long, length-map, IsSmallFunction, AreSmall, ArgumentsBelow, nodes, AreInRange, IsFunInRange, Tables, Fun, Formula, Compiled, count_before, get_mapped, ParamNode, names_of, out_params, out_values, tree_nodes, Expr, Variable, Prefix, Infix, Choice, PlainProgram, PlainTask, PlainOut, PlainOuts, PlainSwitch, Concrete, Abstract, Id, MeetsBounds, MeetsTaskBounds, Layout, layout, meaning, term_by, types_of, is_abstract, task_item, task_items, module_task_items, switch_items, function_items, input_place, flat_output_function, outs_functions, task_functions, module_functions, comms_in, switch_item, mode_switch_items, read_place, flat_switch_function, mode_functions, tables_of_tree, comm_key, AreNamesRight, tasks_at, switches_at, input_use, output_uses, outputs_uses, ModeAt, ModuleAt, BoolTy, FunctionType, output_type, task_types, switch_type, comm_type, function_types, all_at, item_at}
 use Rattle.htl_names.proofs.ListLaws.{zip_append, zip_map, zip_parts, zip_at, distinct_has, among_at, place_within, few_reads}
 use Rattle.htl_names.proofs.FlatMaps.{flat_map_is, flat_map_parts}
 use Rattle.htl_names.proofs.Members.{All-from_places, In, in_first, in_second, in_part, in_mapped, at_place, map_flat_map_at}
@@ -130,21 +131,9 @@ functions_in_range ps small right =
     by f (Formula first e) h = tt
     by f (Compiled code) h = absurd h
 
-types_of_task : (t : Task) → length (task_types t) ≡ function_count t
-types_of_task t = let size = length-map t.outputs (output_type t.inputs) in grind arith
-
-count_first : (t : Task) (ts : List Task) (n : ℕ) → count_before (suc n) (t ∷ ts) ≡ function_count t + count_before n ts
-count_first t ts zero = omega arith
-count_first t ts (suc n) = let rest = count_first t ts n in omega (arith, rest)
-
-types_counted : (ts : List Task) → length (flat_map task_types ts) ≡ count_before (length ts) ts
-types_counted [] = refl
-types_counted (t ∷ ts) =
-    omega (arith, length-append (task_types t) (flat_map task_types ts), types_of_task t, types_counted ts, count_first t ts (length ts))
-
 pub functions_counted : (ps : List PlainProgram) → MeetsBounds ps → AreNamesRight ps
     → length (function_items (layout ps) ps) ≡ count_before (length (task_items (layout ps) ps)) (task_items (layout ps) ps) + length (switch_items (layout ps) ps)
 functions_counted ps small right =
     let t = tables_of_tree ps in
     let all = AllZip-long IsSmallFunction (function_types t) (function_items (layout ps) ps) (all_zipped ps small right) in
-    omega (arith, all, length-append (flat_map task_types t.tasks) (map (switch_type t) t.switches), types_counted t.tasks, length-map t.switches (switch_type t))
+    omega (arith, all, length-append (flat_map task_types t.tasks) (map (switch_type t) t.switches), count_all t.tasks, length-map t.switches (switch_type t))

@@ -1,5 +1,6 @@
 -- The limits of the patched tables, by the numbers that are taken.
 use Rattle.std.proofs.Common.{◌≡◌, ◌≤◌, ℕ, zero, suc, Bool, cond, ltb, eqb, List, [], ◌∷◌, ◌++◌, length, Option, Some, None, refl, sym, ◌∙◌, ap, arith}
+use Rattle.htl_model.proofs.Listed.{list_same}
 use Rattle.htl_patch.proofs.Words.{count_by, length-map, MAX_MODULES, MAX_MODES, MAX_PORTS, MAX_TASKS, MAX_INVOCATIONS, MAX_SWITCHES, MAX_MODE_INVOCATIONS, list_to, parent_of, Tables, mode_module, greatest, Mode, Module, level, levels, widest, exceeded, first_limit, upright, sizes_of, AreFewNumbers, order, new_numbers, patched, mode_at, module_at, port_at, task_at, inv_at, switch_at, new_mode, new_module, new_port, new_task, new_inv, new_switch, Graft, united, le-ltb}
 use Rattle.htl_patch.proofs.Grafting.{CanGraft, order_apart}
 use Rattle.htl_patch.proofs.Limiting.{greatest_most, of_list_to}
@@ -17,16 +18,12 @@ level_upright t (suc n) u = by (parent_of t u) (λ p. level_upright t n (mode_mo
     by None later = refl
     by (Some p) later = ap (λ (k : ℕ). suc k) (later p)
 
-list_same : (f g : ℕ → ℕ) (n : ℕ) → ((k : ℕ) → f k ≡ g k) → list_to f n ≡ list_to g n
-list_same f g zero same = refl
-list_same f g (suc n) same = ap (λ (xs : List ℕ). xs ++ f n ∷ []) (list_same f g n same) ∙ ap (λ (x : ℕ). list_to g n ++ x ∷ []) (same n)
-
 pub levels_upright : (t : Tables) (units : List Module) (modes : List Mode) (count : ℕ) → units ≡ t.modules → modes ≡ t.modes → count ≡ greatest 0 (list_to (level 16 (upright units modes)) (length units)) → count ≡ levels t
 levels_upright t units modes count same other is =
     is
     ∙ ap (λ (us : List Module). greatest 0 (list_to (level 16 (upright us modes)) (length us))) same
     ∙ ap (λ (ms : List Mode). greatest 0 (list_to (level 16 (upright t.modules ms)) (length t.modules))) other
-    ∙ ap (greatest 0) (list_same (level 16 (upright t.modules t.modes)) (level 16 t) (length t.modules) (λ k. level_upright t 16 k))
+    ∙ ap (greatest 0) (list_same (level 16 (upright t.modules t.modes)) (level 16 t) (length t.modules) (λ k l. level_upright t 16 k))
 
 exceeded_behind : (xs ys zs : List (ℕ × ℕ)) (k : ℕ) → ((j : ℕ) → exceeded j ys ≡ exceeded j zs) → exceeded k (xs ++ ys) ≡ exceeded k (xs ++ zs)
 exceeded_behind [] ys zs k same = same k

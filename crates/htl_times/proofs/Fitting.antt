@@ -3,6 +3,7 @@ use Rattle.std.proofs.Common.{◌≡◌, ℕ, zero, suc, ◌+◌, ◌≤◌, ◌
 use Rattle.std.specs.List.{All, fold}
 use Rattle.std.proofs.Math.ListN.{drop_of_length-le}
 use Rattle.std.proofs.lemmas.List.{get_or_past, set_past}
+use Rattle.htl_walk.proofs.Acceptance.{left_falls_to, no_finish}
 use Rattle.htl_times.proofs.Words.{frame_of, Job, SInstr, Dispatch, Idle, End, lists_of, path_jobs, legs, Leg, AreChained, IsPathAccepted, HasWork, Point, job_at, time_after, work_after, next_point, walk_from, last_point, first_point, worst_cases, work, finish, form_joined, finish_later, joined, show_joined, stays, legs_follow, left_falls, each_at, job_there, work_some, path_work, not_some}
 use Rattle.htl_times.proofs.Halfway.{drop_here}
 use Rattle.htl_times.specs.Laws.{UtilisationAtMostOne}
@@ -54,16 +55,6 @@ walk_works jobs (i ∷ is) x = omega (arith, step_works jobs i x, walk_works job
 
 -- ---- who finishes has no work left
 
-falls_to : (jobs : List Job) (is : List SInstr) (x : Point) (p : ℕ) → get_or (last_point jobs is x).left p 0 ≤ get_or x.left p 0
-falls_to jobs [] x p = omega arith
-falls_to jobs (i ∷ is) x p = omega (arith, left_falls jobs i x p, falls_to jobs is (next_point jobs i x) p)
-
-open_still : (jobs : List Job) (is : List SInstr) (x : Point) (p : ℕ) → 0 < get_or (last_point jobs is x).left p 0 → finish (walk_from jobs is x) p ≡ None
-open_still jobs [] x p s = refl
-open_still jobs (i ∷ is) x p s =
-    let y = next_point jobs i x in
-    finish_later jobs i is x p (inr (omega (arith, s, falls_to jobs is y p))) ∙ open_still jobs is y p s
-
 -- ---- a path
 
 whole_work : (js : List Job) → ((p : ℕ) (j : Job) → slice_get js p ≡ Some j → j.present ≡ true) → work js (worst_cases js) ≡ worst_cases js
@@ -88,10 +79,10 @@ load_fits js ss gs h all chain accepted =
         by (suc w) e =
             let x = first_point js (worst_cases js) in
             let some : 0 < get_or (last_point js (joined ss gs) x).left p 0 = omega (arith, e) in
-            let here = work_some js (worst_cases js) p (omega (arith, some, falls_to js (joined ss gs) x p)) in
+            let here = work_some js (worst_cases js) p (omega (arith, some, left_falls_to js (joined ss gs) x p)) in
             let met = accepted.meets p (job_at js p) (job_there js p here) here in
             let shown = show_joined js ss gs 0 h (length js) x p accepted.forms chain (omega arith) in
-            not_some met.finishes.0 (sym (open_still js (joined ss gs) x p some) ∙ sym shown.finish ∙ met.finishes.1)
+            not_some met.finishes.0 (sym (no_finish js (joined ss gs) x p some) ∙ sym shown.finish ∙ met.finishes.1)
 
 pub utilisation_at_most_one : UtilisationAtMostOne
 utilisation_at_most_one t lists es path run below =

@@ -1,8 +1,9 @@
 -- No job is finished later than in the worst-case walk of its path.
-use Rattle.std.proofs.Common.{◌≡◌, ℕ, ◌+◌, ◌-◌, ◌≤◌, ◌<◌, true, List, [], ◌∷◌, length, get_or, map, slice_get, take, Option, Some, refl, sym, ap, ◌∙◌, subst, arith}
+use Rattle.std.proofs.Common.{◌≡◌, ℕ, ◌+◌, ◌-◌, ◌≤◌, ◌<◌, true, List, length, get_or, map, slice_get, Option, Some, refl, sym, ap, ◌∙◌, subst, arith}
+use Rattle.htl_refine.proofs.ServedFrames.{paths_are}
 use Rattle.std.proofs.lemmas.List.{length-map}
 use Rattle.htl_times.proofs.Words.{take_all}
-use Rattle.htl_times.proofs.Words.{Event, Place, StandsFor, chosen, KeptApart, frame_of, starts, rounds, choices, paths, path_places, AreInRange, root_modules, Tables, Job, SInstr, lists_of, placed_job, job_in, path_jobs, legs_of, legs, RefinesFront, Leg, walk_path, end_to_end, AreChained, IsPathAccepted, Refines, HasWork, Left, first_point, worst_cases, walk_from, job_at, DoneBy, accepted_joined, Ahead, dominance, finish_ahead, same_Some, joined, show_joined, legs_follow, each_at, job_there, job_is, work_some, work_present, derived_place, derived_jobs, place, frame_modes, path_of, frame_places, frame_at, walk_of, lengths_of, IsFeasibleRun, chosen_exact_apart, finish_record, last_is, from_map, get_mapped, placed_present, path_refinement, paths_read, path_work, have_lengths, within_worst, frames_are_served, frame_serves, states_are_selections}
+use Rattle.htl_times.proofs.Words.{Event, Place, StandsFor, chosen, KeptApart, frame_of, starts, paths, path_places, AreInRange, Tables, Job, SInstr, lists_of, placed_job, job_in, path_jobs, legs_of, legs, RefinesFront, Leg, walk_path, end_to_end, AreChained, IsPathAccepted, Refines, HasWork, Left, first_point, worst_cases, walk_from, job_at, DoneBy, accepted_joined, Ahead, dominance, finish_ahead, same_Some, joined, show_joined, legs_follow, each_at, job_there, job_is, work_some, work_present, derived_place, derived_jobs, place, frame_modes, path_of, frame_places, frame_at, walk_of, lengths_of, IsFeasibleRun, chosen_exact_apart, finish_record, last_is, from_map, get_mapped, placed_present, path_refinement, paths_read, path_work, have_lengths, within_worst, frames_are_served, frame_serves, states_are_selections}
 use Rattle.htl_times.specs.declared.greatest.Greatest.{Greatest}
 use Rattle.htl_times.specs.Response.{worst_walk, worst_finish, IsLatest}
 use Rattle.htl_times.specs.Laws.{PathFinishesNoLater, FinishesNoLater, LatestInWindow}
@@ -29,13 +30,6 @@ path_finishes_no_later js ks ns ss gs h p f j all refined least most chain accep
     (r.0, mine.finish ∙ r.1, r.2)
 
 -- ---- a frame of a run
-
-pub paths_are : (t : Tables) → 0 < length (root_modules t) → paths t ≡ choices t (rounds t)
-paths_are t some = by (root_modules t) some (choices t (rounds t))
-  where
-    by : (us : List ℕ) → 0 < length us → (n : ℕ) → elim us as (λ _. ℕ) [ [] ↦ 0 | v ∷ vs ↦ n ] ≡ n
-    by [] h n = absurd (omega arith)
-    by (u ∷ us) h n = refl
 
 module _ (t : Tables) (lists : List (List SInstr)) (es : List Event) (f path : ℕ) (modes : ℕ → List (Option ℕ)) (run : IsFeasibleRun t lists es)
     (accepted : IsPathAccepted (path_jobs t path) (legs t path) (lists_of t lists path)) where

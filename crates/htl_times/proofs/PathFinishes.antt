@@ -1,5 +1,7 @@
 -- The finishes of a path, list by list.
-use Rattle.std.proofs.Common.{◌≡◌, ℕ, zero, suc, ◌<◌, List, [], ◌∷◌, ◌++◌, length, get_or, slice_get, Option, Some, None, refl, sym, ap, ◌∙◌, arith, append_assoc, append-nil}
+use Rattle.std.proofs.Common.{◌≡◌, ℕ, suc, ◌<◌, List, [], ◌∷◌, ◌++◌, length, get_or, slice_get, Option, Some, None, refl, sym, ap, ◌∙◌, arith, append_assoc, append-nil}
+use Rattle.htl_model.proofs.Listed.{list_same}
+use Rattle.htl_walk.proofs.NodeWalks.{reach_behind}
 use Rattle.htl_times.proofs.Words.{Frame, Place, IsFrame, or_else, starts, frame_of, node, path_places, list_to, Tables, Job, SInstr, Schedule, reach, reached, list_at, instrs_of, path_jobs, legs_of, list_point, walks_from, end_to_end, Point, Left, walk_from, last_point, first_point, finish, work, worst_cases, start_read, list_read, list_front}
 use Rattle.htl_times.specs.Noting.{AreFinishesTo, AreWorstFinishes, AreEmpty, list_walk, work_of}
 use Rattle.htl_times.proofs.Halfway.{finish_told, first_first}
@@ -15,17 +17,6 @@ pub end_more : (ls : List (List Left)) (l : List Left) → end_to_end (ls ++ l �
 end_more [] l = append-nil l
 end_more (k ∷ ls) l = ap (λ zs. k ++ zs) (end_more ls l) ∙ sym (append_assoc k (end_to_end ls) l)
 
--- ---- lists by place
-
-list_alike : {A : Type 0} (f g : ℕ → A) (n : ℕ) → ((j : ℕ) → f j ≡ g j) → list_to f n ≡ list_to g n
-list_alike f g zero h = refl
-list_alike f g (suc n) h = ap (λ xs. xs ++ f n ∷ []) (list_alike f g n h) ∙ ap (λ x. list_to g n ++ x ∷ []) (h n)
-
-reach_behind : (js : List Job) (a : ℕ) (later : List ℕ) (f : ℕ → List SInstr) (x : Point) (j : ℕ)
-    → reach js (a ∷ later) f x (suc j) ≡ reach js later (λ k. f (suc k)) (last_point js (f 0) (list_point a x)) j
-reach_behind js a later f x zero = refl
-reach_behind js a later f x (suc j) = ap (λ y. last_point js (f (suc j)) (list_point (get_or later j 0) y)) (reach_behind js a later f x j)
-
 abbrev walk_at : List Job → List ℕ → (ℕ → List SInstr) → Point → ℕ → List Left
 walk_at js as' f x j = walk_from js (f j) (list_point (get_or as' j 0) (reach js as' f x j))
 
@@ -39,7 +30,7 @@ walks_are js h xs (a ∷ later) f x =
     ap (λ ss. walks_from js ss (legs_of h xs (a ∷ later)) x) (list_front f n)
     ∙ ap (λ ws. walk_from js (f 0) (list_point a x) ∷ ws)
     (walks_are js h xs later g y
-    ∙ list_alike (walk_at js later g y) (λ j. walk_at js (a ∷ later) f x (suc j)) n (λ j. ap (λ z. walk_from js (f (suc j)) (list_point (get_or later j 0) z)) (sym (reach_behind js a later f x j))))
+    ∙ list_same (walk_at js later g y) (λ j. walk_at js (a ∷ later) f x (suc j)) n (λ j l. ap (λ z. walk_from js (f (suc j)) (list_point (get_or later j 0) z)) (sym (reach_behind js a later f x j))))
     ∙ sym (list_front (walk_at js (a ∷ later) f x) n)
 
 -- ---- a path
@@ -65,9 +56,6 @@ module _ (t : Tables) (lists : List (List SInstr)) (path : ℕ) where
 
 module _ (t : Tables) (f : Frame) (lists : List Schedule) (path j n : ℕ) (jobs : List Job) (r : Schedule) (left : List ℕ) (frame : IsFrame t f) (below : j < length (starts t)) (within : n < length lists)
     (jobs_are : jobs ≡ path_jobs t path) (node_is : n ≡ node t path j) (list_is : r ≡ get_or lists n r) (left_is : left ≡ (reached t (instrs_of lists) path j).left) where
-  here : List SInstr
-  here = list_at t (instrs_of lists) path j
-
   instrs_are : r.instrs ≡ list_at t (instrs_of lists) path j
   instrs_are = ap (λ (z : Schedule). z.instrs) list_is ∙ list_read lists r n within ∙ ap (λ m. get_or (instrs_of lists) m []) node_is
 

@@ -1,7 +1,8 @@
 -- From an invocation upwards: parents are of modules of lower numbers, up to a root invocation.
-use Rattle.std.proofs.Common.{◌≡◌, ◌≤◌, ◌<◌, ◌⊎◌, ◌↔◌, ℕ, zero, suc, ◌+◌, List, length, slice_get, Option, Some, None, IfSome, refl, sym, ◌∙◌, ap, subst, arith, inl, inr}
-use Rattle.htl_times.proofs.Words.{item_at, each_at, cases_lt, none-some, same_Some, Inv, Mode, Module, StandsFor, itself, below, KeptApart, AreInRange, IsInvInRange, IsModeInRange, IsModeThat, IsAbstractIn, ParentFault, parent_mode, Tables, mode_module, no_parent, right_parent}
-use Rattle.htl_times.specs.Roots.{inv_parent, root_in, root_of, HasRoot, EachHasRoot, StandsWithinRoot, ParentlessOfRoots}
+use Rattle.std.proofs.Common.{◌≡◌, ◌≤◌, ◌<◌, ℕ, zero, suc, ◌+◌, List, length, slice_get, Option, Some, None, IfSome, refl, sym, ◌∙◌, ap, subst, arith}
+use Rattle.htl_times.proofs.Words.{item_at, each_at, none-some, same_Some, Inv, StandsFor, itself, below, KeptApart, AreInRange, IsInvInRange, ParentFault, parent_mode, Tables, no_parent, right_parent}
+use Rattle.htl_refine.proofs.Exact.{module_below, module_of, module_rises}
+use Rattle.htl_times.specs.Roots.{inv_parent, root_in, root_of, EachHasRoot, StandsWithinRoot, ParentlessOfRoots}
 
 -- ---- upwards
 
@@ -44,52 +45,7 @@ comes_to t inv at step none less way = let r = some_left step (length t.modules)
 pub looked_enough : (t : Tables) (inv at step : ℕ) → length t.modules ≤ step → step ≤ length t.modules → IsOnWay t inv at step → None ≡ root_of t inv
 looked_enough t inv at step most least way = way 0 (omega (arith, most, least))
 
--- ---- modules rise
-
 module _ (t : Tables) (range : AreInRange t) (kept : KeptApart t 16) where
-  -- the module of an invocation
-  module_of : Inv → ℕ
-  module_of i = mode_module t i.mode
-
-  module_below : (k : ℕ) (i : Inv) → slice_get t.invs k ≡ Some i → module_of i < length t.modules
-  unfolding module_of
-  module_below k i at =
-      let mode = item_at t.modes i.mode (each_at (IsInvInRange t) t.invs range.invs k i at).owner in
-      let own_module : mode_module t i.mode ≡ mode.0.«module» = ap (λ (o : Option Mode). elim o [ Some y ↦ y.«module» | None ↦ 0 ]) mode.1 in
-      let own = (each_at (IsModeInRange t) t.modes range.modes i.mode mode.0 mode.1).owner in
-      omega arith
-
-  -- that of a parent has a lower number
-  module_rises : (n k : ℕ) (x i : Inv) → slice_get t.invs n ≡ Some x → x.parent ≡ Some k → slice_get t.invs k ≡ Some i → module_of i < module_of x
-  unfolding module_of
-  module_rises n k x i at par at_k = by_module (slice_get t.modules (module_of x)) refl
-    where
-      -- the parent stands in the refined mode
-      stands : (m : ℕ) → parent_mode t x.mode ≡ Some m → (IsAbstractIn t m k → ⊥) → ⊥
-      stands m e astray =
-          right_parent t range kept n x at 2 1 (subst (λ o. ParentFault t o x.parent 2 1) (sym e) (subst (λ o. ParentFault t (Some m) o 2 1) (sym par) (refl, (refl, astray))))
-
-      lower : (m : ℕ) → parent_mode t x.mode ≡ Some m → IsModeThat t (λ owner. owner < module_of x) m → (module_of i < module_of x) ⊎ (module_of x ≤ module_of i) → module_of i < module_of x
-      lower m e that (inl less) = less
-      lower m e that (inr more) = absurd (stands m e (λ a.
-          let item : Some i ≡ Some a.parent = sym at_k ∙ a.at in
-          let inv : i ≡ a.parent = cc in
-          let mode : i.mode ≡ m = ap (λ (y : Inv). y.mode) inv ∙ a.mode in
-          let own_module : mode_module t i.mode ≡ that.0.«module» = ap (mode_module t) mode ∙ ap (λ (o : Option Mode). elim o [ Some y ↦ y.«module» | None ↦ 0 ]) that.1 in
-          omega (arith, that.2)))
-
-      by_parent : (u : Module) → slice_get t.modules (module_of x) ≡ Some u → (o : Option ℕ) → u.parent ≡ o → module_of i < module_of x
-      by_parent u e (Some m) f =
-          let parent : parent_mode t x.mode ≡ Some m = ap (λ (o : Option Module). elim o [ Some y ↦ y.parent | None ↦ None ]) e ∙ f in
-          lower m parent (subst (λ o. IfSome o (IsModeThat t (λ owner. owner < module_of x))) f (range.modules (module_of x) u e).parent) (cases_lt (module_of i) (module_of x))
-      by_parent u e None f =
-          let parent : parent_mode t x.mode ≡ None = ap (λ (o : Option Module). elim o [ Some y ↦ y.parent | None ↦ None ]) e ∙ f in
-          absurd (none-some k (sym (no_parent t range kept n x at parent) ∙ par))
-
-      by_module : (o : Option Module) → slice_get t.modules (module_of x) ≡ o → module_of i < module_of x
-      by_module (Some u) e = by_parent u e u.parent refl
-      by_module None e = let item = item_at t.modules (module_of x) (module_below n x at) in absurd (none-some item.0 (sym e ∙ item.1))
-
   -- ---- parents and root modules
 
   -- an invocation without a parent is of a root module
@@ -108,15 +64,15 @@ module _ (t : Tables) (range : AreInRange t) (kept : KeptApart t 16) where
   abbrev Leads : ℕ → ℕ → Type 0
   Leads n i = (r : ℕ) × (y : Inv) × (root_in n t i ≡ Some r) × (slice_get t.invs r ≡ Some y) × (y.parent ≡ None)
 
-  root_above : (n i : ℕ) (x : Inv) → slice_get t.invs i ≡ Some x → module_of x < n → Leads n i
+  root_above : (n i : ℕ) (x : Inv) → slice_get t.invs i ≡ Some x → module_of t range kept x < n → Leads n i
   root_above zero i x at few = absurd (omega arith)
   root_above (suc n) i x at few = by (λ p y at_p less. root_above n p y at_p less) x.parent refl
     where
-      by : ((p : ℕ) (y : Inv) → slice_get t.invs p ≡ Some y → module_of y < n → Leads n p) → (o : Option ℕ) → x.parent ≡ o → Leads (suc n) i
+      by : ((p : ℕ) (y : Inv) → slice_get t.invs p ≡ Some y → module_of t range kept y < n → Leads n p) → (o : Option ℕ) → x.parent ≡ o → Leads (suc n) i
       by later None e = (i, x, stop_here t n i x at e, at, e)
       by later (Some p) e =
           let y = parent_at i p x at e in
-          let r = later p y.0 y.1 (omega (arith, few, module_rises i p x y.0 at e y.1)) in
+          let r = later p y.0 y.1 (omega (arith, few, module_rises t range kept i p x y.0 at e y.1)) in
           (r.0, r.1, step_up t n i p x at e ∙ r.2, r.3, r.4)
 
   -- and all that suffice lead to one

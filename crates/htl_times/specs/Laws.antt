@@ -70,7 +70,7 @@ WorstIsReached =
     → walk_of (frame_at t lists es f) ≡ worst_walk t lists (path_of t (frame_modes t es f))
 
 -- where all paths accept their lists, a latest finish lies in the window: behind the release, and by the window's end, so that
--- response and margin are what is between
+-- the response time is what is before it, and the margin what is behind
 pub record IsInWindow (t : Tables) (x : Inv) (l : Greatest) : Type 0 where
   pub released : release t x < l.ticks
   pub in_time : l.ticks ≤ window_end t x

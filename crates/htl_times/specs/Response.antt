@@ -1,8 +1,7 @@
 -- Response times: when the jobs of a path finish in its worst-case walk, by its own lists.
-use Rattle.std.specs.Prelude.{◌≡◌, ℕ, ◌+◌, ◌-◌, ◌≤◌, ◌<◌, List, slice_get, Option, Some, None}
+use Rattle.std.specs.Prelude.{◌≡◌, ℕ, ◌+◌, ◌≤◌, ◌<◌, List, slice_get, Option, Some, None}
 use Rattle.htl_model.specs.Frames.{paths, path_places}
-use Rattle.htl_model.specs.Tables.{Tables, release, window_end}
-use Rattle.htl_model.specs.declared.parts.Inv.{Inv}
+use Rattle.htl_model.specs.Tables.{Tables}
 use Rattle.htl_walk.specs.Feasible.{lists_of}
 use Rattle.htl_walk.specs.PathJobs.{path_jobs, legs}
 use Rattle.htl_walk.specs.Paths.{walk_path, end_to_end}
@@ -37,11 +36,3 @@ pub record IsLatest (t : Tables) (lists : List (List SInstr)) (i : ℕ) (l : Gre
 abbrev pub IsLatestOf : Tables → List (List SInstr) → ℕ → Option Greatest → Type 0
 IsLatestOf t lists i None = (path ticks : ℕ) → path < paths t → FinishesAfter t lists i path ticks → ⊥
 IsLatestOf t lists i (Some l) = IsLatest t lists i l
-
--- the worst-case response time: from the release to the latest finish
-abbrev pub response : Tables → Inv → Greatest → ℕ
-response t x l = l.ticks - release t x
-
--- the margin: from the latest finish to the deadline, the window's end
-abbrev pub margin : Tables → Inv → Greatest → ℕ
-margin t x l = window_end t x - l.ticks

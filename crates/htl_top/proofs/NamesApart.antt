@@ -1,33 +1,22 @@
 -- Different items have different names in lines.
-use Rattle.std.proofs.Common.{◌≡◌, ◌<◌, inl, inr, ℕ, true, List, [], ◌∷◌, ◌++◌, map, length, slice_get, Option, Some, None, refl, sym, ap, ◌∙◌, arith, append_assoc, append-nil, decimal}
-use Rattle.htl_base.proofs.Places.{all_at, get_mapped, item_at}
+use Rattle.std.proofs.Common.{◌≡◌, ◌<◌, ℕ, true, List, [], ◌∷◌, ◌++◌, map, length, slice_get, Option, Some, None, refl, sym, ap, ◌∙◌, arith, append_assoc, append-nil, decimal}
+use Rattle.htl_base.proofs.Places.{all_at, item_at}
 use Rattle.htl_base.specs.Names.{is_name, is_word_byte}
 use Rattle.htl_console.specs.Names.{full_inv, full_mode, inv_name, task_name}
 use Rattle.htl_runs.specs.lines.RunLines.{HasNames}
 use Rattle.htl_model.proofs.Apart.{apart_names, apart_owned, apart_pairs}
 use Rattle.htl_model.specs.Lines.{mode_name, module_name}
-use Rattle.htl_model.specs.Lists.{AreApart}
 use Rattle.htl_model.specs.Ranges.{AreInRange, IsModeInRange, IsInvInRange, are_different}
 use Rattle.htl_model.specs.Tables.{mode_module}
 use Rattle.htl_model.specs.declared.parts.Inv.{Inv}
 use Rattle.htl_model.specs.declared.parts.Mode.{Mode}
 use Rattle.htl_model.specs.declared.parts.Task.{Task}
+use Rattle.htl_patch.proofs.Counting.{one_key}
 use Rattle.htl_top.proofs.Vocabulary.{Tables, and_parts}
 use Rattle.htl_top.specs.FoundLaws.{AreToldApart, NamesTellApart}
-use Rattle.std.proofs.lemmas.Bool.{cases_lt}
 use Rattle.std.specs.List.{All, list_all}
 
 -- ---- lists whose items differ
-
--- in a key
-one_place : {A K : Type 0} (key : A → K) (xs : List A) → AreApart (map key xs) → (a b : ℕ) (x y : A) → slice_get xs a ≡ Some x → slice_get xs b ≡ Some y → key x ≡ key y → a ≡ b
-one_place key xs apart a b x y p q same = elim (cases_lt a b) [
-  | inl less ↦ absurd (apart a b (key x) less (get_mapped key xs a x p) (get_mapped key xs b y q ∙ ap Some (sym same)))
-  | inr rest ↦ elim (cases_lt b a) [
-    | inl less ↦ absurd (apart b a (key y) less (get_mapped key xs b y q) (get_mapped key xs a x p ∙ ap Some same))
-    | inr most ↦ omega (arith, rest, most)
-  ]
-]
 
 -- the name of the item at a place
 abbrev named : {A : Type 0} → (A → List ℕ) → List A → ℕ → List ℕ
@@ -43,7 +32,7 @@ told : {A : Type 0} (f : A → List ℕ) (xs : List A) → are_different (map f 
 told f xs apart a b p q same =
     let x = item_at xs a p in
     let y = item_at xs b q in
-    one_place f xs (apart_names (map f xs) apart) a b x.0 y.0 x.1 y.1 (same_named f xs a b x.0 y.0 x.1 y.1 same)
+    one_key f xs (apart_names (map f xs) apart) a b x.0 y.0 x.1 y.1 (same_named f xs a b x.0 y.0 x.1 y.1 same)
 
 -- ---- names up to a dot
 
@@ -86,7 +75,7 @@ module _ (t : Tables) (range : AreInRange t) (names : HasNames t) where
       let x = item_at t.modes a p in
       let y = item_at t.modes b q in
       let owner : x.0.«module» ≡ y.0.«module» = sym (owner_is a x.0 x.1) ∙ modules_told (mode_module t a) (mode_module t b) (owner_below a p) (owner_below b q) owners ∙ owner_is b y.0 y.1 in
-      one_place (λ (m : Mode). (m.«module», m.name)) t.modes (apart_owned _ range.mode_names) a b x.0 y.0 x.1 y.1
+      one_key (λ (m : Mode). (m.«module», m.name)) t.modes (apart_owned _ range.mode_names) a b x.0 y.0 x.1 y.1
       (ap (λ (u : ℕ). (u, x.0.name)) owner ∙ ap (λ (n : List ℕ). (y.0.«module», n)) (same_named (λ (m : Mode). m.name) t.modes a b x.0 y.0 x.1 y.1 modes))
 
   -- a mode's names apart, whatever stands behind them
@@ -120,8 +109,8 @@ module _ (t : Tables) (range : AreInRange t) (names : HasNames t) where
       let l = j.task.0 in
       let owner : k.«module» ≡ l.«module» = i.task.2 ∙ ap (mode_module t) mode ∙ sym j.task.2 in
       let name = same_named (λ (z : Task). z.name) t.tasks x.0.task y.0.task k l i.task.1 j.task.1 second.1 in
-      let task = one_place (λ (z : Task). (z.«module», z.name)) t.tasks (apart_owned _ range.task_names) x.0.task y.0.task k l i.task.1 j.task.1 (ap (λ (u : ℕ). (u, k.name)) owner ∙ ap (λ (n : List ℕ). (l.«module», n)) name) in
-      one_place (λ (z : Inv). (z.mode, z.task)) t.invs (apart_pairs _ range.invoked_once) a b x.0 y.0 x.1 y.1 (ap (λ (m : ℕ). (m, x.0.task)) mode ∙ ap (λ (n : ℕ). (y.0.mode, n)) task)
+      let task = one_key (λ (z : Task). (z.«module», z.name)) t.tasks (apart_owned _ range.task_names) x.0.task y.0.task k l i.task.1 j.task.1 (ap (λ (u : ℕ). (u, k.name)) owner ∙ ap (λ (n : List ℕ). (l.«module», n)) name) in
+      one_key (λ (z : Inv). (z.mode, z.task)) t.invs (apart_pairs _ range.invoked_once) a b x.0 y.0 x.1 y.1 (ap (λ (m : ℕ). (m, x.0.task)) mode ∙ ap (λ (n : ℕ). (y.0.mode, n)) task)
 
 pub names_tell : NamesTellApart
 names_tell t range names =

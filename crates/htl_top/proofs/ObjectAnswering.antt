@@ -1,6 +1,7 @@
 -- What a command on an object answers, by what it does with an accepted one.
-use Rattle.std.proofs.Common.{arith, ◌≡◌, ◌≤◌, ◌<◌, ◌⊎◌, ℕ, List, length, Option, Some, Ok, Err, refl, sym, ap, ◌∙◌, subst, inl, inr}
-use Rattle.htl_top.proofs.Vocabulary.{MAX_OBJECT, Rose, Holdings, accepted_bytes, fault_told, bad_field_told, HasBytes, RefusesBytes, RefusesObject, ObjectFault, one_object, says_itself, IsAccepted, fault_of, first_bad, whole_at, object_in, object_or, ReadOf, Lists, Malformed, Object, Files, Streams, IsWritten, IsBeforeScript, IsBeforeRun, IsFaultOf, IsLongFile, IsGiven, IsOrMemory, IsRefusedFile, IsAcceptedFile, IsStopped, IsOnObject, IsTextAnswer, IsTextOnObject, IsReadyObject, Work, Outcome, Done, Usage, IllFormed, Task, Refused, Script, Shelf, Read, Write, Memory, Failed, TooLong}
+use Rattle.std.proofs.Common.{arith, ◌≡◌, ◌≤◌, ◌<◌, ◌⊎◌, ℕ, List, length, Option, Some, Ok, refl, sym, ap, ◌∙◌, subst, inl, inr}
+use Rattle.htl_load.proofs.OneAnswer.{not_both}
+use Rattle.htl_top.proofs.Vocabulary.{MAX_OBJECT, Rose, Holdings, accepted_bytes, fault_told, bad_field_told, HasBytes, RefusesBytes, RefusesObject, ObjectFault, one_object, says_itself, IsAccepted, first_bad, whole_at, object_in, Malformed, Object, Files, Streams, IsWritten, IsBeforeScript, IsBeforeRun, IsFaultOf, IsLongFile, IsGiven, IsOrMemory, IsRefusedFile, IsAcceptedFile, IsStopped, IsOnObject, IsTextAnswer, IsTextOnObject, IsReadyObject, Work, Outcome, Done, Usage, Task, Refused, Script, Shelf, Read, Write, Memory, Failed, TooLong}
 use Rattle.htl_load.specs.declared.fault.ObjectFault.TheVariants as fault
 use Rattle.htl_top.proofs.GivenFiles as files
 
@@ -14,10 +15,6 @@ said bytes o h = ap object_in h.spelled ∙ says_itself o h.object
 
 pub accepted_or_refused : (bytes : List ℕ) (o : Object) (f : ObjectFault) → HasBytes bytes o → IsAccepted o → RefusesBytes bytes f → ⊥
 accepted_or_refused bytes o f h accepted refused = accepted_bytes bytes o (said bytes o h) (λ p k. one_of_bytes bytes o p h k) accepted f refused
-
-not_both : (bytes : List ℕ) (r : ReadOf Lists) (o : Object) (m : Malformed) → object_or bytes r ≡ Ok o → fault_of bytes r ≡ Some m → ⊥
-not_both bytes (Ok x) o m p q = cc
-not_both bytes (Err bad) o m p q = cc
 
 -- bytes of an object have no bad field
 pub object_or_bad : (bytes : List ℕ) (o : Object) (m : Malformed) → HasBytes bytes o → first_bad bytes ≡ Some m → ⊥
