@@ -1,17 +1,17 @@
 -- The code that is made for tables spells them.
 use Rattle.std.proofs.Common.{◌≡◌, ℕ, zero, suc, ◌+◌, ◌<◌, true, List, [], ◌∷◌, ◌++◌, length, slice_get, Option, Some, None, Result, Ok, refl, sym, ap, ◌∙◌, subst, arith, append_assoc, append-nil, inl, inr}
-use Rattle.htl_ecode.proofs.Words.{length-append, up_to, Tables, get_list_to, ECode, EInstr, EFault, phase_offsets, next_offset, Want, Arrives, all_do, enter_calls, enter_chain, waits_for, turn, begin_chain, block_chain, asks_of, tests_of, decide_chain, bind, arrives, Step, Reached, read, steps_of, target_of, blocks_from, led_on, first_target, fault_of, either, block_faults, enter_fault, begin_fault, phase_fault, decide_fault, mode_fault, departure_before, departure, entered, block_begun, decided, laid, blocks_code, phase_code, begin_place, writes_place, reads_place, decide_place, first_block, begin_code, decide_code, mode_code, mode_place, enter_places, layout, cases_below}
+use Rattle.htl_ecode.proofs.Words.{length-append, up_to, Tables, get_list_to, ECode, EInstr, EFault, phase_offsets, next_offset, Requirement, AtAnchor, all_do, enter_calls, enter_chain, waits_for, turn, begin_chain, block_chain, asks_of, tests_of, decide_chain, bind, arrives, Step, Reached, read, steps_of, target_of, blocks_from, branch_on, first_target, fault_of, either, block_faults, enter_fault, begin_fault, phase_fault, decide_fault, mode_fault, departure_before, departure, entered, block_begun, decided, laid, blocks_code, phase_code, begin_place, writes_place, reads_place, decide_place, first_block, begin_code, decide_code, mode_code, mode_place, enter_places, layout, cases_below}
 use Rattle.htl_ecode.specs.declared.instr.EInstr.TheVariants as I
 use Rattle.htl_ecode.proofs.Spelled.{has_wait, goes_on, has_wait_more, waits_there}
 use Rattle.htl_ecode.proofs.Standing.{StandAt, stand_first, stand_second, stand_between, arrives_here, arrives_by_jump, laid_steps, AreLaid, read_laid, laid_target}
 use Rattle.htl_ecode.proofs.Laying.{enter_no_jumps, do_laid, laid_do, block_laid, begin_laid, decide_laid, block_single, begin_single, laid_length, begin_length, decide_length}
 
 -- a chain that was laid, with nothing behind it
-read_whole : (code : List EInstr) (to : ℕ → ℕ) (ws : List Want) (a : ℕ) → StandAt code a (laid to a ws) → AreLaid ws → read code a ws ≡ Ok (laid_steps to a ws)
+read_whole : (code : List EInstr) (to : ℕ → ℕ) (ws : List Requirement) (a : ℕ) → StandAt code a (laid to a ws) → AreLaid ws → read code a ws ≡ Ok (laid_steps to a ws)
 read_whole code to ws a h well =
     ap (read code a) (sym (append-nil ws)) ∙ read_laid code to ws [] a [] h well refl ∙ ap (λ ss. Ok ss) (append-nil (laid_steps to a ws))
 
-target_whole : (code : List EInstr) (to : ℕ → ℕ) (p : ℕ) (ws : List Want) (a : ℕ) → StandAt code a (laid to a ws) → AreLaid ws → has_wait p ws ≡ true → target_of p ws (steps_of (read code a ws)) ≡ Some (to p)
+target_whole : (code : List EInstr) (to : ℕ → ℕ) (p : ℕ) (ws : List Requirement) (a : ℕ) → StandAt code a (laid to a ws) → AreLaid ws → has_wait p ws ≡ true → target_of p ws (steps_of (read code a ws)) ≡ Some (to p)
 target_whole code to p ws a h well e =
     ap (λ r. target_of p ws (steps_of r)) (read_whole code to ws a h well)
     ∙ ap (target_of p ws) (sym (append-nil (laid_steps to a ws)))
@@ -32,10 +32,10 @@ module _ (t : Tables) (code : List EInstr) (m phase : ℕ) where
       let back : StandAt code (a + length (laid (λ p. behind) a ws)) (blocks_code fuel t m phase behind next) = stand_second code a (laid (λ p. behind) a ws) (blocks_code fuel t m phase behind next) h in
       let rest : StandAt code behind (blocks_code fuel t m phase behind next) = subst (λ n. StandAt code (a + n) (blocks_code fuel t m phase behind next)) (laid_length (λ p. behind) a ws (block_single t m phase o)) back in
       let well = block_laid t m phase o in
-      let ih : block_faults t code m phase (blocks_from fuel t code m phase next (led_on t code m phase o a)) ≡ None =
-      blocks_stand fuel behind next (led_on t code m phase o a) rest (λ x e. target_whole code (λ p. behind) phase ws a front well (goes_on t m phase o x e)) in
+      let ih : block_faults t code m phase (blocks_from fuel t code m phase next (branch_on t code m phase o a)) ≡ None =
+      blocks_stand fuel behind next (branch_on t code m phase o a) rest (λ x e. target_whole code (λ p. behind) phase ws a front well (goes_on t m phase o x e)) in
       ap (λ z. block_faults t code m phase (blocks_from (suc fuel) t code m phase (Some o) z)) (at o refl)
-      ∙ ap (λ r. either (fault_of r) (block_faults t code m phase (blocks_from fuel t code m phase next (led_on t code m phase o a)))) (read_whole code (λ p. behind) ws a front well)
+      ∙ ap (λ r. either (fault_of r) (block_faults t code m phase (blocks_from fuel t code m phase next (branch_on t code m phase o a)))) (read_whole code (λ p. behind) ws a front well)
       ∙ ih
 
 -- ---- the places of a mode
@@ -78,7 +78,7 @@ mode_stands t code enters a m h =
 -- ---- the chains of a mode
 
 -- an anchor that is reached
-anchor_read : (code : List EInstr) (a x : ℕ) (xs : List ℕ) → arrives code a x a ≡ Ok xs → read code a (Arrives x ∷ []) ≡ Ok (record { passed = xs; target = x; side = [] } ∷ [])
+anchor_read : (code : List EInstr) (a x : ℕ) (xs : List ℕ) → arrives code a x a ≡ Ok xs → read code a (AtAnchor x ∷ []) ≡ Ok (record { passed = xs; target = x; side = [] } ∷ [])
 anchor_read code a x xs e =
     ap (λ (r : Result (List ℕ) EFault). bind (bind r (λ ys. Ok (record { step = record { passed = ys; target = x; side = [] }; next = x }))) (λ (y : Reached). bind (read code y.next []) (λ ss. Ok (y.step ∷ ss)))) e
 
@@ -96,12 +96,12 @@ module _ (t : Tables) (code : ECode) (a m : ℕ) (stands : ModeStands t code.ins
       let begin = begin_place t a m in
       let js = enter_calls t m in
       let first : StandAt code.instrs a (laid (λ p. 0) a (all_do js)) = subst (StandAt code.instrs a) (sym (laid_do (λ p. 0) a js)) stands.enter in
-      let at : read code.instrs begin (Arrives begin ∷ []) ≡ Ok (record { passed = []; target = begin; side = [] } ∷ []) = anchor_read code.instrs begin begin [] (arrives_here code.instrs begin begin) in
-      let at' : read code.instrs (a + length (laid (λ p. 0) a (all_do js))) (Arrives begin ∷ []) ≡ Ok (record { passed = []; target = begin; side = [] } ∷ []) =
-      ap (λ n. read code.instrs (a + length n) (Arrives begin ∷ [])) (laid_do (λ p. 0) a js) ∙ at in
+      let at : read code.instrs begin (AtAnchor begin ∷ []) ≡ Ok (record { passed = []; target = begin; side = [] } ∷ []) = anchor_read code.instrs begin begin [] (arrives_here code.instrs begin begin) in
+      let at' : read code.instrs (a + length (laid (λ p. 0) a (all_do js))) (AtAnchor begin ∷ []) ≡ Ok (record { passed = []; target = begin; side = [] } ∷ []) =
+      ap (λ n. read code.instrs (a + length n) (AtAnchor begin ∷ [])) (laid_do (λ p. 0) a js) ∙ at in
       ap (λ x. fault_of (read code.instrs x (enter_chain t (block_begun code m) m))) enter_is
       ∙ ap (λ x. fault_of (read code.instrs a (enter_chain t x m))) begin_is
-      ∙ none_of _ _ (read_laid code.instrs (λ p. 0) (all_do js) (Arrives begin ∷ []) a _ first (do_laid js (enter_no_jumps t m)) at')
+      ∙ none_of _ _ (read_laid code.instrs (λ p. 0) (all_do js) (AtAnchor begin ∷ []) a _ first (do_laid js (enter_no_jumps t m)) at')
 
   abbrev first_to : ℕ → ℕ
   first_to = first_block (writes_place t a m) (reads_place t a m)
@@ -141,8 +141,8 @@ module _ (t : Tables) (code : ECode) (a m : ℕ) (stands : ModeStands t code.ins
       let at = anchor_read code.instrs (place + length (laid (λ p. 0) place ws)) begin by.0 by.1 in
       ap (λ x. fault_of (read code.instrs x (decide_chain t (block_begun code m) code.enter m))) decide_is
       ∙ ap (λ x. fault_of (read code.instrs place (decide_chain t x code.enter m))) begin_is
-      ∙ ap (λ zs. fault_of (read code.instrs place zs)) (sym (append_assoc (asks_of t m) (tests_of t begin code.enter m) (Arrives begin ∷ [])))
-      ∙ none_of _ _ (read_laid code.instrs (λ p. 0) ws (Arrives begin ∷ []) place _ stands.decide (decide_laid t begin code.enter m) at)
+      ∙ ap (λ zs. fault_of (read code.instrs place zs)) (sym (append_assoc (asks_of t m) (tests_of t begin code.enter m) (AtAnchor begin ∷ [])))
+      ∙ none_of _ _ (read_laid code.instrs (λ p. 0) ws (AtAnchor begin ∷ []) place _ stands.decide (decide_laid t begin code.enter m) at)
 
   pub mode_none : mode_fault t code m ≡ None
   mode_none =

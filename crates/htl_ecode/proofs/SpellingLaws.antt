@@ -1,6 +1,6 @@
 -- E code spells tables exactly where it departs from them nowhere.
 use Rattle.std.proofs.Common.{◌≡◌, ◌↔◌, ℕ, zero, suc, ◌<◌, List, [], ◌∷◌, length, None, Result, Ok, Err, IsOk, IfOk, All, refl, sym, ap, subst, arith, inl, inr}
-use Rattle.htl_ecode.proofs.Words.{All-nil, All-cons, All-head, All-tail, Tables, ECode, EInstr, EFault, Want, enter_chain, begin_chain, block_chain, decide_chain, Step, read, Block, blocks, fault_of, block_faults, mode_fault, departure_before, departure, enter_fault, begin_fault, phase_fault, decide_fault, entered, block_begun, decided, HasPath, SpellsMode, Spells, HasBlocks, layout}
+use Rattle.htl_ecode.proofs.Words.{All-nil, All-cons, All-head, All-tail, Tables, ECode, EInstr, EFault, Requirement, enter_chain, begin_chain, block_chain, decide_chain, Step, read, Block, blocks, fault_of, block_faults, mode_fault, departure_before, departure, enter_fault, begin_fault, phase_fault, decide_fault, entered, block_begun, decided, HasPath, SpellsMode, Spells, HasBlocks, layout}
 use Rattle.htl_ecode.proofs.Spelled.{Reads, ModeReads, Stands, either_none, spelled_reads}
 use Rattle.htl_ecode.proofs.LayoutLaw.{either_both, layout_departs_not}
 use Rattle.htl_ecode.proofs.BlockLaws.{IsBlockPhase, spelled_stands, spelled_links, spelled_first, no_block}
@@ -13,7 +13,7 @@ fault_path : (r : Result (List Step) EFault) → fault_of r ≡ None → IsOk r
 fault_path (Ok ss) h = refl
 fault_path (Err e) h = absurd (let z : ⊥ = cc in z)
 
-pub read_path : (code : List EInstr) (a : ℕ) (ws : List Want) → Reads code a ws → HasPath code a ws
+pub read_path : (code : List EInstr) (a : ℕ) (ws : List Requirement) → Reads code a ws → HasPath code a ws
 read_path code a ws r = fault_path (read code a ws) (ap fault_of r.1)
 
 module _ (t : Tables) (code : List EInstr) (m phase : ℕ) where

@@ -1,12 +1,12 @@
 -- The words that several proofs cite, of this crate and of those below it, passed on from one place. Declares nothing.
 pub use Rattle.htl_base.proofs.Tests.{eqb_less}
 pub use Rattle.htl_base.proofs.Words.{All-cons, All-head, All-nil, All-tail, and_from}
-pub use Rattle.htl_ecode.specs.Chains.{Arrives, Asks, Does, Tests, Turns, Waits, Want, all_do, asks_for, asks_of, begin_chain, block_chain, block_end, call_of, calls, calls_of, children, decide_chain, enter_calls, enter_chain, is_child, release_of, releases, test_of, tests_of, turn, waits_for}
+pub use Rattle.htl_ecode.specs.Chains.{AtAnchor, ModeJump, Exactly, SwitchJump, EndOfRound, NextBlock, Requirement, all_do, asks_for, asks_of, begin_chain, block_chain, block_end, call_of, calls, calls_of, children, decide_chain, enter_calls, enter_chain, is_child, release_of, releases, test_of, tests_of, turn, waits_for}
 pub use Rattle.htl_ecode.specs.Conditions.{KeepsOffsets}
-pub use Rattle.htl_ecode.specs.Departure.{Block, address_in, begin_fault, block_at, block_begun, block_faults, blocks, blocks_from, decide_fault, decided, departure, departure_before, either, enter_fault, entered, fault_of, first_target, led_on, mode_fault, phase_fault}
+pub use Rattle.htl_ecode.specs.Departure.{Block, address_in, begin_fault, block_at, block_begun, block_faults, blocks, blocks_from, decide_fault, decided, departure, departure_before, either, enter_fault, entered, fault_of, first_target, branch_on, mode_fault, phase_fault}
 pub use Rattle.htl_ecode.specs.Generation.{IsLater, IsModeCode, end_size, trigger}
 pub use Rattle.htl_ecode.specs.Instructions.{Digits, delay_in, digits_of, same_instr, target_in}
-pub use Rattle.htl_ecode.specs.Jumps.{Landing, arrive, arrive_on, arrives, bind, fault, jump_to, land, land_on, lands, slide}
+pub use Rattle.htl_ecode.specs.Jumps.{Resolved, arrive, arrive_on, arrives, bind, fault, jump_to, resolve, resolve_on, resolved, behind_jump}
 pub use Rattle.htl_ecode.specs.Laws.{HasBlocks}
 pub use Rattle.htl_ecode.specs.Layout.{begin_code, begin_place, blocks_code, decide_code, decide_place, enter_places, first_block, laid, layout, mode_code, mode_place, phase_code, reads_place, writes_place}
 pub use Rattle.htl_ecode.specs.ModeInvs.{AreInvsOf}

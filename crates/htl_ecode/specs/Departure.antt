@@ -24,13 +24,13 @@ pub record Block : Type 0 where
   pub address : ℕ
 
 -- where the trigger in the block at an address leads
-abbrev pub led_on : Tables → List EInstr → ℕ → ℕ → ℕ → ℕ → Option ℕ
-led_on t code m phase o a = let ws = block_chain t m phase o in target_of phase ws (steps_of (read code a ws))
+abbrev pub branch_on : Tables → List EInstr → ℕ → ℕ → ℕ → ℕ → Option ℕ
+branch_on t code m phase o a = let ws = block_chain t m phase o in target_of phase ws (steps_of (read code a ws))
 
 abbrev pub blocks_from : ℕ → Tables → List EInstr → ℕ → ℕ → Option ℕ → Option ℕ → List Block
 blocks_from zero t code m phase o a = []
 blocks_from (suc fuel) t code m phase (Some o) (Some a) =
-    record { offset = o; address = a } ∷ blocks_from fuel t code m phase (next_offset t m phase (suc o)) (led_on t code m phase o a)
+    record { offset = o; address = a } ∷ blocks_from fuel t code m phase (next_offset t m phase (suc o)) (branch_on t code m phase o a)
 blocks_from (suc fuel) t code m phase _ _ = []
 
 -- where the first trigger of a phase in a round leads

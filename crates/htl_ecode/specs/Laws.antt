@@ -4,7 +4,7 @@ use Rattle.htl_model.specs.Tables.{Tables}
 use Rattle.htl_ecode.specs.declared.ecode.ECode.{ECode}
 use Rattle.htl_ecode.specs.Offsets.{phase_offsets, next_offset, holds}
 use Rattle.htl_ecode.specs.Chains.{block_chain}
-use Rattle.htl_ecode.specs.Departure.{departure, block_at, led_on, first_target}
+use Rattle.htl_ecode.specs.Departure.{departure, block_at, branch_on, first_target}
 use Rattle.htl_ecode.specs.Spelling.{HasPath, Spells}
 use Rattle.htl_ecode.specs.Layout.{layout}
 
@@ -24,7 +24,7 @@ pub record HasBlocks (t : Tables) (code : ECode) (m phase : ℕ) : Type 0 where
   pub first : (o : ℕ) → next_offset t m phase 0 ≡ Some o → block_at t code m phase o ≡ first_target t code m phase
   -- the next is where the trigger of a block leads
   pub links : (o o1 a : ℕ) → holds o (phase_offsets t m phase) ≡ true → block_at t code m phase o ≡ Some a → next_offset t m phase (suc o) ≡ Some o1 →
-      block_at t code m phase o1 ≡ led_on t code.instrs m phase o a
+      block_at t code m phase o1 ≡ branch_on t code.instrs m phase o a
   -- at another offset there is none
   pub absent : (o : ℕ) → holds o (phase_offsets t m phase) ≡ false → block_at t code m phase o ≡ None
 

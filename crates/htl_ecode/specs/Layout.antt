@@ -6,18 +6,18 @@ use Rattle.htl_ecode.specs.declared.ecode.ECode.{ECode}
 use Rattle.htl_ecode.specs.declared.instr.EInstr.{EInstr}
 use Rattle.htl_ecode.specs.declared.instr.EInstr.TheVariants as I
 use Rattle.htl_ecode.specs.Offsets.{phase_offsets, next_offset}
-use Rattle.htl_ecode.specs.Chains.{Want, Does, Waits, Turns, Tests, Asks, Arrives, enter_calls, begin_chain, block_chain, asks_of, tests_of}
+use Rattle.htl_ecode.specs.Chains.{Requirement, Exactly, NextBlock, EndOfRound, SwitchJump, ModeJump, AtAnchor, enter_calls, begin_chain, block_chain, asks_of, tests_of}
 
 -- a chain as instructions from an address on, with no jump between them; `to` says where the trigger of a phase leads.
 -- An anchor takes no instruction.
-abbrev pub laid : (ℕ → ℕ) → ℕ → List Want → List EInstr
+abbrev pub laid : (ℕ → ℕ) → ℕ → List Requirement → List EInstr
 laid to a [] = []
-laid to a (Does j ∷ ws) = j ∷ laid to (suc a) ws
-laid to a (Waits d p ∷ ws) = I.Future d p (to p) ∷ laid to (suc a) ws
-laid to a (Turns d x ∷ ws) = I.Future d 2 x ∷ laid to (suc a) ws
-laid to a (Tests k m x ∷ ws) = I.JumpIf k x ∷ laid to (suc a) ws
-laid to a (Asks q ∷ ws) = I.IfMode q (a + 3) ∷ I.Leave ∷ I.Return ∷ laid to (a + 3) ws
-laid to a (Arrives x ∷ ws) = laid to a ws
+laid to a (Exactly j ∷ ws) = j ∷ laid to (suc a) ws
+laid to a (NextBlock d p ∷ ws) = I.Future d p (to p) ∷ laid to (suc a) ws
+laid to a (EndOfRound d x ∷ ws) = I.Future d 2 x ∷ laid to (suc a) ws
+laid to a (SwitchJump k m x ∷ ws) = I.JumpIf k x ∷ laid to (suc a) ws
+laid to a (ModeJump q ∷ ws) = I.IfMode q (a + 3) ∷ I.Leave ∷ I.Return ∷ laid to (a + 3) ws
+laid to a (AtAnchor x ∷ ws) = laid to a ws
 
 -- a block from an address on; its trigger leads to the address behind it
 abbrev pub block_code : Tables → ℕ → ℕ → ℕ → ℕ → List EInstr

@@ -7,7 +7,7 @@ use Rattle.htl_model.specs.Lists.{up_to}
 use Rattle.htl_model.specs.Tables.{Tables, mode_period}
 use Rattle.htl_model.specs.Meaning.{state, before, stay_of, switch_holds, History, newest, history, sense}
 use Rattle.htl_ecode.specs.declared.ecode.ECode.{ECode}
-use Rattle.htl_ecode.specs.Chains.{Want, Turns, Tests, Asks, Arrives, enter_chain, begin_chain, block_chain, decide_chain}
+use Rattle.htl_ecode.specs.Chains.{Requirement, EndOfRound, SwitchJump, ModeJump, AtAnchor, enter_chain, begin_chain, block_chain, decide_chain}
 use Rattle.htl_ecode.specs.Steps.{Step, read, steps_of, passed_by}
 use Rattle.htl_ecode.specs.Departure.{block_at, entered, block_begun, decided}
 
@@ -16,7 +16,7 @@ pub record Done : Type 0 where
   pub «module» : ℕ
   pub address : ℕ
 
-abbrev pub chain_path : ECode → ℕ → List Want → List ℕ
+abbrev pub chain_path : ECode → ℕ → List Requirement → List ℕ
 chain_path code a ws = passed_by (steps_of (read code.instrs a ws))
 
 abbrev pub begin_path : Tables → ECode → ℕ → List ℕ
@@ -35,20 +35,20 @@ due_path t code phase now None = []
 due_path t code phase now (Some x) = block_path t code x.mode phase (now - x.start)
 
 -- the decide chain of m, followed: `holds` says which switches hold, `stays` whether the module goes on
-abbrev pub followed : Tables → ECode → ℕ → (ℕ → Bool) → Bool → List Want → List Step → List ℕ
-followed t code m holds stays (Asks q ∷ ws) (s ∷ ss) =
+abbrev pub followed : Tables → ECode → ℕ → (ℕ → Bool) → Bool → List Requirement → List Step → List ℕ
+followed t code m holds stays (ModeJump q ∷ ws) (s ∷ ss) =
     s.passed ++ elim stays [ true ↦ followed t code m holds stays ws ss | false ↦ s.side ]
-followed t code m holds stays (Tests k x a ∷ ws) (s ∷ ss) =
+followed t code m holds stays (SwitchJump k x a ∷ ws) (s ∷ ss) =
     s.passed ++ elim (holds k) [ true ↦ s.side ++ cond (eqb x m) (begin_path t code m) (enter_path t code x) | false ↦ followed t code m holds stays ws ss ]
-followed t code m holds stays (Arrives a ∷ ws) (s ∷ ss) = s.passed ++ begin_path t code m
+followed t code m holds stays (AtAnchor a ∷ ws) (s ∷ ss) = s.passed ++ begin_path t code m
 followed t code m holds stays _ _ = []
 
 abbrev pub holds_in : Tables → List ℤ → ℕ → Bool
 holds_in t values k = elim (slice_get t.switches k) [ Some w ↦ switch_holds t values k w | None ↦ false ]
 
 -- the step of the trigger that ends a round, in the chain of a round's start
-abbrev pub turn_step : List Want → List Step → Step
-turn_step (Turns d x ∷ ws) (s ∷ ss) = s
+abbrev pub turn_step : List Requirement → List Step → Step
+turn_step (EndOfRound d x ∷ ws) (s ∷ ss) = s
 turn_step (w ∷ ws) (s ∷ ss) = turn_step ws ss
 turn_step _ _ = record { passed = []; target = 0; side = [] }
 

@@ -3,12 +3,12 @@ use Rattle.std.specs.Prelude.{ℕ, ◌<◌, List, length, All, IsOk}
 use Rattle.htl_model.specs.Tables.{Tables}
 use Rattle.htl_ecode.specs.declared.ecode.ECode.{ECode}
 use Rattle.htl_ecode.specs.declared.instr.EInstr.{EInstr}
-use Rattle.htl_ecode.specs.Chains.{Want, enter_chain, begin_chain, block_chain, decide_chain}
+use Rattle.htl_ecode.specs.Chains.{Requirement, enter_chain, begin_chain, block_chain, decide_chain}
 use Rattle.htl_ecode.specs.Steps.{read}
 use Rattle.htl_ecode.specs.Departure.{Block, blocks, entered, block_begun, decided}
 
 -- a chain has its path from an address: it is read there without departure
-abbrev pub HasPath : List EInstr → ℕ → List Want → Type 0
+abbrev pub HasPath : List EInstr → ℕ → List Requirement → Type 0
 HasPath code a ws = IsOk (read code a ws)
 
 -- the blocks of a phase, followed by their triggers from the start of a round on, have their paths

@@ -1,6 +1,6 @@
 // The end of a round: whether the module leaves, and where its switches lead.
 ghost use Rattle.std.specs.Prelude.{◌≡◌, ◌≤◌, ◌+◌, ◌++◌, ◌∷◌, [], OnOk};
-ghost use Rattle.htl_ecode.specs.Chains.{led_to, test_of, asks_of};
+ghost use Rattle.htl_ecode.specs.Chains.{branch_target, test_of, asks_of};
 ghost use Rattle.htl_ecode.specs.Chains as chains;
 ghost use Rattle.htl_ecode.specs.Layout.{laid};
 ghost use Rattle.htl_ecode.specs.declared.instr.EInstr.TheVariants.{Jump};
@@ -11,8 +11,8 @@ use htl_model::{Switch, Tables};
 use std::alloc::AllocError;
 
 /// Where a switch of a mode leads: the start of a round where the mode stays.
-pub fn led(begin: u32, enters: &[u32], mode: u16, target: u16) -> u32
-    ensures { result ≡ led_to begin enters.now mode target }
+pub fn branch_target(begin: u32, enters: &[u32], mode: u16, target: u16) -> u32
+    ensures { result ≡ branch_target begin enters.now mode target }
 {
     if target == mode {
         begin
@@ -53,7 +53,7 @@ fn put_test(
     if switch.mode == mode {
         instrs.push(EInstr::JumpIf {
             switch: k,
-            target: led(begin, enters, mode, switch.target),
+            target: branch_target(begin, enters, mode, switch.target),
         })?;
     }
     Ok(())

@@ -1,6 +1,6 @@
 -- What the instructions at passed addresses do to a calendar.
 use Rattle.std.proofs.Common.{◌≡◌, ℕ, zero, suc, ◌+◌, ◌<◌, Bool, true, false, cond, eqb, List, [], ◌∷◌, ◌++◌, length, slice_get, set, Option, Some, None, refl, sym, ap, ◌∙◌, subst, arith}
-use Rattle.htl_emach.proofs.Words.{length-set, joined, numbered, Tables, ECode, EInstr, Want, Does, Waits, Turns, Tests, Asks, Arrives, all_do, jump_to, Step, jump_to_is, kept, kept_one, instrs_of, Trigger, Calendar, HasModule, list_at, calendar_effect, with_trigger, IsAllowed, AreAllowed, IsSized, Entry, entry_at, calendar_at, calendar_replay}
+use Rattle.htl_emach.proofs.Words.{length-set, joined, numbered, Tables, ECode, EInstr, Requirement, Exactly, NextBlock, EndOfRound, SwitchJump, ModeJump, AtAnchor, all_do, jump_to, Step, jump_to_is, kept, kept_one, instrs_of, Trigger, Calendar, HasModule, list_at, calendar_effect, with_trigger, IsAllowed, AreAllowed, IsSized, Entry, entry_at, calendar_at, calendar_replay}
 use Rattle.htl_ecode.specs.declared.instr.EInstr.TheVariants as I
 
 -- ---- by the instructions, plain jumps left out
@@ -51,29 +51,29 @@ allowed_kept t code phase k (x ∷ xs) h = by_instr (allowed_kept t code phase k
     by_instr ih (Some i) at h = by_jump ih i (jump_to i) refl at h
 
 -- the same of what a chain requires
-abbrev pub WantAllowed : Tables → ℕ → ℕ → Want → Type 0
-WantAllowed t phase k (Does j) = IsAllowed t phase k j
-WantAllowed t phase k (Tests j m x) = IsAllowed t phase k (I.JumpIf j x)
-WantAllowed t phase k (Asks q) = IsAllowed t phase k (I.IfMode q 0)
+abbrev pub WantAllowed : Tables → ℕ → ℕ → Requirement → Type 0
+WantAllowed t phase k (Exactly j) = IsAllowed t phase k j
+WantAllowed t phase k (SwitchJump j m x) = IsAllowed t phase k (I.JumpIf j x)
+WantAllowed t phase k (ModeJump q) = IsAllowed t phase k (I.IfMode q 0)
 WantAllowed t phase k _ = Unit {0}
 
-abbrev pub WantsAllowed : Tables → ℕ → ℕ → List Want → Type 0
+abbrev pub WantsAllowed : Tables → ℕ → ℕ → List Requirement → Type 0
 WantsAllowed t phase k [] = Unit {0}
 WantsAllowed t phase k (w ∷ ws) = WantAllowed t phase k w × WantsAllowed t phase k ws
 
-pub allowed_instrs : (t : Tables) (phase k : ℕ) (ws : List Want) (ss : List Step) → WantsAllowed t phase k ws → AllAllowed t phase k (instrs_of ws ss)
+pub allowed_instrs : (t : Tables) (phase k : ℕ) (ws : List Requirement) (ss : List Step) → WantsAllowed t phase k ws → AllAllowed t phase k (instrs_of ws ss)
 allowed_instrs t phase k [] ss h = tt
 allowed_instrs t phase k (w ∷ ws) [] h = tt
-allowed_instrs t phase k (Does j ∷ ws) (s ∷ ss) h = (h.0, allowed_instrs t phase k ws ss h.1)
-allowed_instrs t phase k (Waits d p ∷ ws) (s ∷ ss) h = (tt, allowed_instrs t phase k ws ss h.1)
-allowed_instrs t phase k (Turns d x ∷ ws) (s ∷ ss) h = (tt, allowed_instrs t phase k ws ss h.1)
-allowed_instrs t phase k (Tests j m x ∷ ws) (s ∷ ss) h = (h.0, allowed_instrs t phase k ws ss h.1)
-allowed_instrs t phase k (Asks q ∷ ws) (s ∷ ss) h = (h.0, allowed_instrs t phase k ws ss h.1)
-allowed_instrs t phase k (Arrives x ∷ ws) (s ∷ ss) h = allowed_instrs t phase k ws ss h.1
+allowed_instrs t phase k (Exactly j ∷ ws) (s ∷ ss) h = (h.0, allowed_instrs t phase k ws ss h.1)
+allowed_instrs t phase k (NextBlock d p ∷ ws) (s ∷ ss) h = (tt, allowed_instrs t phase k ws ss h.1)
+allowed_instrs t phase k (EndOfRound d x ∷ ws) (s ∷ ss) h = (tt, allowed_instrs t phase k ws ss h.1)
+allowed_instrs t phase k (SwitchJump j m x ∷ ws) (s ∷ ss) h = (h.0, allowed_instrs t phase k ws ss h.1)
+allowed_instrs t phase k (ModeJump q ∷ ws) (s ∷ ss) h = (h.0, allowed_instrs t phase k ws ss h.1)
+allowed_instrs t phase k (AtAnchor x ∷ ws) (s ∷ ss) h = allowed_instrs t phase k ws ss h.1
 
-pub wants_more : (t : Tables) (phase k : ℕ) (xs ys : List Want) → WantsAllowed t phase k xs → WantsAllowed t phase k ys → WantsAllowed t phase k (xs ++ ys)
-wants_more t phase k [] ys p q = q
-wants_more t phase k (x ∷ xs) ys p q = (p.0, wants_more t phase k xs ys p.1 q)
+pub requirements_more : (t : Tables) (phase k : ℕ) (xs ys : List Requirement) → WantsAllowed t phase k xs → WantsAllowed t phase k ys → WantsAllowed t phase k (xs ++ ys)
+requirements_more t phase k [] ys p q = q
+requirements_more t phase k (x ∷ xs) ys p q = (p.0, requirements_more t phase k xs ys p.1 q)
 
 -- the same of instructions that are done
 pub do_more : (t : Tables) (phase k : ℕ) (xs ys : List EInstr) → WantsAllowed t phase k (all_do xs) → WantsAllowed t phase k (all_do ys) → WantsAllowed t phase k (all_do (xs ++ ys))

@@ -23,10 +23,10 @@ next_of_block code go a x xs (front, b, i, path, leads, stands, stop) = by_front
 -- the same of an instruction that is known, and of where it leads
 pub step_of_block : (code : List EInstr) (go : ℕ → EInstr → Option ℕ) (a x : ℕ) (xs : List ℕ) (i : EInstr) (n : Option ℕ) → Ends code go a (x ∷ xs) → slice_get code a ≡ Some i → n ≡ go a i →
     ((n ≡ None) × (xs ≡ [])) ⊎ ((c : ℕ) × (n ≡ Some c) × Ends code go c xs)
-step_of_block code go a x xs i n ends at led =
+step_of_block code go a x xs i n ends at branch_target =
     let r = next_of_block code go a x xs ends in
     let same : r.1.0 ≡ i = same_Some r.1.0 i (sym r.1.1 ∙ at) in
-    let here : n ≡ go a r.1.0 = led ∙ sym (ap (go a) same) in
+    let here : n ≡ go a r.1.0 = branch_target ∙ sym (ap (go a) same) in
     elim r.1.2 [
       | inl h ↦ inl (here ∙ h.0, h.1)
       | inr h ↦ inr (h.0, here ∙ h.1, h.2)
@@ -111,13 +111,13 @@ inside t code es now phase c b values done rest i path h at same = by_path h.pat
         let here : slice_get code.instrs x ≡ Some i = ap (slice_get code.instrs) one.0 ∙ at in
         let leads : Between t code es now phase (calendar_replay t code now b.«module» xs (calendar_effect t code now b.«module» i c)) (suc b.«module») =
         subst (λ o. Between t code es now phase (calendar_replay t code now b.«module» xs (calendar_at t code now b.«module» o c)) (suc b.«module»)) here r.leads in
-        let led : goes (holds_in t values) (runs_in t c.modes) b.address i ≡ goes_at t es now b.address i =
+        let branch_target : goes (holds_in t values) (runs_in t c.modes) b.address i ≡ goes_at t es now b.address i =
         go_same t code es now phase b.«module» b.address c values i (r.allowed.0 i here) same (lower_modes t code es now phase b.«module» (x ∷ xs) c r.leads) in
         let more : List Done = on b.«module» xs ++ blocks_to_come t code es now phase (suc b.«module») in
         let first : rest ≡ record { «module» = b.«module»; address = b.address } ∷ more = left ∙ ap (λ z. record { «module» = b.«module»; address = z } ∷ more) one.0 in
         let onward : phase_path t code es now phase ≡ (done ++ record { «module» = b.«module»; address = b.address } ∷ []) ++ more =
         path ∙ ap (λ z. done ++ z) first ∙ sym (append_assoc done (record { «module» = b.«module»; address = b.address } ∷ []) more) in
-        (more, first, at, r.allowed.0 i here, record { path = onward; stands = by_next xs r leads (goes (holds_in t values) (runs_in t c.modes) b.address i) (step_of_block code.instrs (goes_at t es now) b.address x xs i (goes (holds_in t values) (runs_in t c.modes) b.address i) r.ends at led) })
+        (more, first, at, r.allowed.0 i here, record { path = onward; stands = by_next xs r leads (goes (holds_in t values) (runs_in t c.modes) b.address i) (step_of_block code.instrs (goes_at t es now) b.address x xs i (goes (holds_in t values) (runs_in t c.modes) b.address i) r.ends at branch_target) })
       where
         by_next : (xs : List ℕ) → BlockRuns t code es now phase c b.«module» b.address (x ∷ xs) → Between t code es now phase (calendar_replay t code now b.«module» xs (calendar_effect t code now b.«module» i c)) (suc b.«module») → (n : Option ℕ) →
             ((n ≡ None) × (xs ≡ [])) ⊎ ((e : ℕ) × (n ≡ Some e) × Ends code.instrs (goes_at t es now) e xs) →

@@ -1,6 +1,6 @@
 -- A round that begins, and a mode that is entered: what is passed, what stands there, what it does.
 use Rattle.std.proofs.Common.{◌≡◌, ℕ, suc, ◌+◌, ◌-◌, ◌≤◌, Bool, true, false, cond, List, [], ◌∷◌, ◌++◌, length, slice_get, set, map, Option, Some, None, refl, sym, ap, ◌∙◌, subst, arith, inl, inr}
-use Rattle.htl_emach.proofs.Words.{Module, places_from, Tables, mode_period, ECode, EInstr, next_offset, phase_offsets, Want, Does, Turns, Arrives, all_do, waits_for, begin_chain, enter_chain, children, is_child, jump_to, Step, steps_of, passed_by, target_of, block_begun, entered, decided, block_at, begin_path, enter_path, chain_path, round_end, turn_step, IsLeast, least_is, kept, kept_one, kept_are, instrs_of, ModeReads, spelled_stands, spelled_first, Trigger, Calendar, goes, with_trigger, entry_of, calendar_effect, Leads, Ends, trigger_at, next_block, ending}
+use Rattle.htl_emach.proofs.Words.{Module, places_from, Tables, mode_period, ECode, EInstr, next_offset, phase_offsets, Requirement, Exactly, EndOfRound, AtAnchor, all_do, waits_for, begin_chain, enter_chain, children, is_child, jump_to, Step, steps_of, passed_by, target_of, block_begun, entered, decided, block_at, begin_path, enter_path, chain_path, round_end, turn_step, IsLeast, least_is, kept, kept_one, kept_are, instrs_of, ModeReads, spelled_stands, spelled_first, Trigger, Calendar, goes, with_trigger, entry_of, calendar_effect, Leads, Ends, trigger_at, next_block, ending}
 use Rattle.htl_ecode.specs.declared.instr.EInstr.TheVariants as I
 use Rattle.htl_emach.proofs.Blocks.{IsBlock, AllGoOn, block_ends, chain_leads, ends_on}
 use Rattle.htl_emach.proofs.Effects.{calendar_after, AllAllowed, WantsAllowed, allowed_instrs, with_next}
@@ -18,18 +18,18 @@ abbrev pub begun_calendar : Tables → ECode → ℕ → ℕ → ℕ → Calenda
 begun_calendar t code at k m c =
     with_trigger 2 k (Some (ending t code (record { mode = m; start = at }))) (with_next 3 k (next_block t code m 3 at 0) (with_next 1 k (next_block t code m 1 at 0) c))
 
-begin_block : (code : List EInstr) (hs rs : ℕ → Bool) (p d : ℕ) (w r : Option ℕ) → IsBlock code hs rs (waits_for 0 1 w ++ (waits_for 0 3 r ++ Turns p d ∷ Does I.Return ∷ []))
+begin_block : (code : List EInstr) (hs rs : ℕ → Bool) (p d : ℕ) (w r : Option ℕ) → IsBlock code hs rs (waits_for 0 1 w ++ (waits_for 0 3 r ++ EndOfRound p d ∷ Exactly I.Return ∷ []))
 begin_block code hs rs p d None None = (tt, refl)
 begin_block code hs rs p d (Some x) (Some y) = (tt, (tt, (tt, refl)))
 begin_block code hs rs p d _ _ = (tt, (tt, refl))
 
-begin_wants : (t : Tables) (k p d : ℕ) (w r : Option ℕ) → WantsAllowed t 2 k (waits_for 0 1 w ++ (waits_for 0 3 r ++ Turns p d ∷ Does I.Return ∷ []))
+begin_wants : (t : Tables) (k p d : ℕ) (w r : Option ℕ) → WantsAllowed t 2 k (waits_for 0 1 w ++ (waits_for 0 3 r ++ EndOfRound p d ∷ Exactly I.Return ∷ []))
 begin_wants t k p d None None = (tt, (tt, tt))
 begin_wants t k p d (Some x) (Some y) = (tt, (tt, (tt, (tt, tt))))
 begin_wants t k p d _ _ = (tt, (tt, (tt, tt)))
 
-begin_does : (t : Tables) (code : ECode) (at k p d : ℕ) (w r : Option ℕ) (ss : List Step) (c : Calendar) → length ss ≡ length (waits_for 0 1 w ++ (waits_for 0 3 r ++ Turns p d ∷ Does I.Return ∷ [])) →
-    (let ws : List Want = waits_for 0 1 w ++ (waits_for 0 3 r ++ Turns p d ∷ Does I.Return ∷ []) in
+begin_does : (t : Tables) (code : ECode) (at k p d : ℕ) (w r : Option ℕ) (ss : List Step) (c : Calendar) → length ss ≡ length (waits_for 0 1 w ++ (waits_for 0 3 r ++ EndOfRound p d ∷ Exactly I.Return ∷ [])) →
+    (let ws : List Requirement = waits_for 0 1 w ++ (waits_for 0 3 r ++ EndOfRound p d ∷ Exactly I.Return ∷ []) in
     calendar_after t code at k (instrs_of ws ss) c
     ≡ with_trigger 2 k (Some (record { at = at + p; target = (turn_step ws ss).target })) (set_next at k 3 0 r (target_of 3 ws ss) (set_next at k 1 0 w (target_of 1 ws ss) c)))
 begin_does t code at k p d None None [] c e = absurd (omega (arith, e))
@@ -109,17 +109,17 @@ forks_go : (code : List EInstr) (hs rs : ℕ → Bool) (js : List ℕ) → AllGo
 forks_go code hs rs [] = tt
 forks_go code hs rs (j ∷ js) = (λ a. refl, forks_go code hs rs js)
 
-forks_wants : (t : Tables) (k x : ℕ) (test : Module → Bool) (n : ℕ) (xs : List Module) → n + length xs ≤ length t.modules → WantsAllowed t 2 k (all_do (map (λ j. I.Fork j) (places_from test n xs)) ++ Arrives x ∷ [])
+forks_wants : (t : Tables) (k x : ℕ) (test : Module → Bool) (n : ℕ) (xs : List Module) → n + length xs ≤ length t.modules → WantsAllowed t 2 k (all_do (map (λ j. I.Fork j) (places_from test n xs)) ++ AtAnchor x ∷ [])
 forks_wants t k x test n [] h = (tt, tt)
 forks_wants t k x test n (y ∷ ys) h = by_test (test y) (forks_wants t k x test (suc n) ys (omega (arith, h)))
   where
-    by_test : (b : Bool) → WantsAllowed t 2 k (all_do (map (λ j. I.Fork j) (places_from test (suc n) ys)) ++ Arrives x ∷ []) →
-        WantsAllowed t 2 k (all_do (map (λ j. I.Fork j) (cond b (n ∷ places_from test (suc n) ys) (places_from test (suc n) ys))) ++ Arrives x ∷ [])
+    by_test : (b : Bool) → WantsAllowed t 2 k (all_do (map (λ j. I.Fork j) (places_from test (suc n) ys)) ++ AtAnchor x ∷ []) →
+        WantsAllowed t 2 k (all_do (map (λ j. I.Fork j) (cond b (n ∷ places_from test (suc n) ys) (places_from test (suc n) ys))) ++ AtAnchor x ∷ [])
     by_test true rest = (omega (arith, h), rest)
     by_test false rest = rest
 
-forks_do : (t : Tables) (code : ECode) (at k x : ℕ) (js : List ℕ) (ss : List Step) (c : Calendar) → length ss ≡ length (all_do (map (λ j. I.Fork j) js) ++ Arrives x ∷ []) →
-    calendar_after t code at k (instrs_of (all_do (map (λ j. I.Fork j) js) ++ Arrives x ∷ []) ss) c ≡ forked t code at js c
+forks_do : (t : Tables) (code : ECode) (at k x : ℕ) (js : List ℕ) (ss : List Step) (c : Calendar) → length ss ≡ length (all_do (map (λ j. I.Fork j) js) ++ AtAnchor x ∷ []) →
+    calendar_after t code at k (instrs_of (all_do (map (λ j. I.Fork j) js) ++ AtAnchor x ∷ []) ss) c ≡ forked t code at js c
 forks_do t code at k x [] (s ∷ u ∷ ss) c e = absurd (omega (arith, e))
 forks_do t code at k x (j ∷ js) [] c e = absurd (omega (arith, e))
 forks_do t code at k x (j ∷ js) (s ∷ ss) c e = forks_do t code at k x js ss (with_trigger 2 j (Some (record { at = at; target = entry_of t code j })) c) (omega (arith, e))
@@ -161,7 +161,7 @@ pub enter_passes : (t : Tables) (code : ECode) (at k m : ℕ) (hs rs : ℕ → B
 enter_passes t code at k m hs rs r =
     subst (λ xs. Passes t code at k (goes hs rs) (entered code m) (xs ++ begin_path t code m) (entered_calendar t code at k m)) (sym path)
     (leads_then t code at k hs rs (entered code m) (block_begun code m) (passed_by r.enters.0) (begin_path t code m) (begun_calendar t code at k m) (λ c. forked t code at (children t m) (with_mode k (Some m) c))
-    (chain_leads code.instrs hs rs (Does (I.Enter m) ∷ all_do (map (λ j. I.Fork j) (children t m))) (entered code m) (block_begun code m) r.enters.0 (λ a. refl, forks_go code.instrs hs rs (children t m)) r.enters.1)
+    (chain_leads code.instrs hs rs (Exactly (I.Enter m) ∷ all_do (map (λ j. I.Fork j) (children t m))) (entered code m) (block_begun code m) r.enters.0 (λ a. refl, forks_go code.instrs hs rs (children t m)) r.enters.1)
     (subst (AllAllowed t 2 k) (sym are) (allowed_instrs t 2 k (enter_chain t (block_begun code m) m) r.enters.0 (tt, forks_wants t k (block_begun code m) (is_child m) 0 t.modules (omega arith))))
     (λ c. ap (λ is. calendar_after t code at k is c) are ∙ by_steps r.enters.0 (length_read code.instrs (enter_chain t (block_begun code m) m) (entered code m) r.enters.0 r.enters.1) c)
     (begin_passes t code at k m hs rs r))

@@ -1,46 +1,46 @@
 -- A write or read block leaves the trigger of the next one.
 use Rattle.std.proofs.Common.{◌≡◌, ℕ, suc, ◌+◌, ◌-◌, ◌≤◌, Bool, true, false, cond, ◌&&◌, eqb, List, [], ◌∷◌, ◌++◌, length, map, drop, Option, Some, None, Result, Ok, refl, sym, ap, ◌∙◌, arith, length-append, length-drop}
-use Rattle.htl_emach.proofs.Words.{eq-eqb, joined, numbered, Tables, release, ECode, EInstr, EFault, counts, ends_in, places_at, next_offset, Want, Does, all_do, waits_for, call_of, calls_of, release_of, releases, calls, block_chain, Step, read, target_of, read_is, instrs_of, Calendar, with_trigger, trigger_at}
+use Rattle.htl_emach.proofs.Words.{eq-eqb, joined, numbered, Tables, release, ECode, EInstr, EFault, counts, ends_in, places_at, next_offset, Requirement, Exactly, all_do, waits_for, call_of, calls_of, release_of, releases, calls, block_chain, Step, read, target_of, read_is, instrs_of, Calendar, with_trigger, trigger_at}
 use Rattle.htl_ecode.specs.declared.instr.EInstr.TheVariants as I
 use Rattle.htl_emach.proofs.Effects.{calendar_after}
 
-pub length_read : (code : List EInstr) (ws : List Want) (a : ℕ) (ss : List Step) → read code a ws ≡ Ok ss → length ss ≡ length ws
+pub length_read : (code : List EInstr) (ws : List Requirement) (a : ℕ) (ss : List Step) → read code a ws ≡ Ok ss → length ss ≡ length ws
 length_read code [] a ss e = let none : [] ≡ ss = (let h : ◌≡◌ {A = Result (List Step) EFault} (Ok []) (Ok ss) = e in cc) in ap length (sym none)
 length_read code (w ∷ ws) a ss e = let r = read_is code a w ws ss e in ap length r.is ∙ ap suc (length_read code ws r.first.next r.rest r.then)
 
 -- instructions that set nothing
-abbrev pub IsQuiet : Want → Type 0
-IsQuiet (Does (I.CallWrite a b)) = Unit {0}
-IsQuiet (Does (I.CallRead a b)) = Unit {0}
-IsQuiet (Does (I.Release a)) = Unit {0}
+abbrev pub IsQuiet : Requirement → Type 0
+IsQuiet (Exactly (I.CallWrite a b)) = Unit {0}
+IsQuiet (Exactly (I.CallRead a b)) = Unit {0}
+IsQuiet (Exactly (I.Release a)) = Unit {0}
 IsQuiet _ = ⊥
 
-abbrev pub AreQuiet : List Want → Type 0
+abbrev pub AreQuiet : List Requirement → Type 0
 AreQuiet [] = Unit {0}
 AreQuiet (w ∷ ws) = IsQuiet w × AreQuiet ws
 
 -- what a chain sets, and its target
-record Sets (t : Tables) (ec : ECode) (at k p : ℕ) (ws : List Want) (ss : List Step) (c d : Calendar) (x : Option ℕ) : Type 0 where
+record Sets (t : Tables) (ec : ECode) (at k p : ℕ) (ws : List Requirement) (ss : List Step) (c d : Calendar) (x : Option ℕ) : Type 0 where
   sets : calendar_after t ec at k (instrs_of ws ss) c ≡ d
   leads : target_of p ws ss ≡ x
 
-quiet_front : (t : Tables) (ec : ECode) (at k p : ℕ) (xs ys : List Want) (ss : List Step) (c d : Calendar) (x : Option ℕ) → AreQuiet xs → length xs ≤ length ss → Sets t ec at k p ys (drop (length xs) ss) c d x → Sets t ec at k p (xs ++ ys) ss c d x
+quiet_front : (t : Tables) (ec : ECode) (at k p : ℕ) (xs ys : List Requirement) (ss : List Step) (c d : Calendar) (x : Option ℕ) → AreQuiet xs → length xs ≤ length ss → Sets t ec at k p ys (drop (length xs) ss) c d x → Sets t ec at k p (xs ++ ys) ss c d x
 quiet_front t ec at k p [] ys ss c d x q l h = h
-quiet_front t ec at k p (Does (I.CallWrite a b) ∷ xs) ys [] c d x q l h = absurd (omega arith)
-quiet_front t ec at k p (Does (I.CallWrite a b) ∷ xs) ys (s ∷ ss) c d x q l h = let r = quiet_front t ec at k p xs ys ss c d x q.1 (omega arith) h in record { sets = r.sets; leads = r.leads }
-quiet_front t ec at k p (Does (I.CallRead a b) ∷ xs) ys [] c d x q l h = absurd (omega arith)
-quiet_front t ec at k p (Does (I.CallRead a b) ∷ xs) ys (s ∷ ss) c d x q l h = let r = quiet_front t ec at k p xs ys ss c d x q.1 (omega arith) h in record { sets = r.sets; leads = r.leads }
-quiet_front t ec at k p (Does (I.Release a) ∷ xs) ys [] c d x q l h = absurd (omega arith)
-quiet_front t ec at k p (Does (I.Release a) ∷ xs) ys (s ∷ ss) c d x q l h = let r = quiet_front t ec at k p xs ys ss c d x q.1 (omega arith) h in record { sets = r.sets; leads = r.leads }
-quiet_front t ec at k p (Does (I.Future a b e) ∷ xs) ys ss c d x q l h = absurd q.0
+quiet_front t ec at k p (Exactly (I.CallWrite a b) ∷ xs) ys [] c d x q l h = absurd (omega arith)
+quiet_front t ec at k p (Exactly (I.CallWrite a b) ∷ xs) ys (s ∷ ss) c d x q l h = let r = quiet_front t ec at k p xs ys ss c d x q.1 (omega arith) h in record { sets = r.sets; leads = r.leads }
+quiet_front t ec at k p (Exactly (I.CallRead a b) ∷ xs) ys [] c d x q l h = absurd (omega arith)
+quiet_front t ec at k p (Exactly (I.CallRead a b) ∷ xs) ys (s ∷ ss) c d x q l h = let r = quiet_front t ec at k p xs ys ss c d x q.1 (omega arith) h in record { sets = r.sets; leads = r.leads }
+quiet_front t ec at k p (Exactly (I.Release a) ∷ xs) ys [] c d x q l h = absurd (omega arith)
+quiet_front t ec at k p (Exactly (I.Release a) ∷ xs) ys (s ∷ ss) c d x q l h = let r = quiet_front t ec at k p xs ys ss c d x q.1 (omega arith) h in record { sets = r.sets; leads = r.leads }
+quiet_front t ec at k p (Exactly (I.Future a b e) ∷ xs) ys ss c d x q l h = absurd q.0
 quiet_front t ec at k p _ ys ss c d x q l h = absurd q.0
 
 -- the trigger that the end of a block sets
 abbrev pub set_next : ℕ → ℕ → ℕ → ℕ → Option ℕ → Option ℕ → Calendar → Calendar
 set_next at k p o n x c = elim n [ None ↦ c | Some o1 ↦ with_trigger p k (trigger_at (at + (o1 - o)) x) c ]
 
-end_sets : (t : Tables) (ec : ECode) (at k p o : ℕ) (n : Option ℕ) (ss : List Step) (c : Calendar) → length ss ≡ length (waits_for o p n ++ Does I.Return ∷ []) →
-    calendar_after t ec at k (instrs_of (waits_for o p n ++ Does I.Return ∷ []) ss) c ≡ set_next at k p o n (target_of p (waits_for o p n ++ Does I.Return ∷ []) ss) c
+end_sets : (t : Tables) (ec : ECode) (at k p o : ℕ) (n : Option ℕ) (ss : List Step) (c : Calendar) → length ss ≡ length (waits_for o p n ++ Exactly I.Return ∷ []) →
+    calendar_after t ec at k (instrs_of (waits_for o p n ++ Exactly I.Return ∷ []) ss) c ≡ set_next at k p o n (target_of p (waits_for o p n ++ Exactly I.Return ∷ []) ss) c
 end_sets t ec at k p o None [] c l = absurd (omega arith)
 end_sets t ec at k p o None (s ∷ []) c l = refl
 end_sets t ec at k p o None (s ∷ u ∷ ss) c l = absurd (omega arith)
@@ -49,10 +49,10 @@ end_sets t ec at k p o (Some o1) (s ∷ u ∷ []) c l =
 end_sets t ec at k p o (Some o1) _ c l = absurd (omega arith)
 
 -- a block of quiet instructions, a trigger and a return
-pub block_sets : (t : Tables) (ec : ECode) (code : List EInstr) (at k p o a : ℕ) (xs : List Want) (n : Option ℕ) (ss : List Step) (c : Calendar) → AreQuiet xs → read code a (xs ++ (waits_for o p n ++ Does I.Return ∷ [])) ≡ Ok ss →
-    calendar_after t ec at k (instrs_of (xs ++ (waits_for o p n ++ Does I.Return ∷ [])) ss) c ≡ set_next at k p o n (target_of p (xs ++ (waits_for o p n ++ Does I.Return ∷ [])) ss) c
+pub block_sets : (t : Tables) (ec : ECode) (code : List EInstr) (at k p o a : ℕ) (xs : List Requirement) (n : Option ℕ) (ss : List Step) (c : Calendar) → AreQuiet xs → read code a (xs ++ (waits_for o p n ++ Exactly I.Return ∷ [])) ≡ Ok ss →
+    calendar_after t ec at k (instrs_of (xs ++ (waits_for o p n ++ Exactly I.Return ∷ [])) ss) c ≡ set_next at k p o n (target_of p (xs ++ (waits_for o p n ++ Exactly I.Return ∷ [])) ss) c
 block_sets t ec code at k p o a xs n ss c quiet e =
-    let ys : List Want = waits_for o p n ++ Does I.Return ∷ [] in
+    let ys : List Requirement = waits_for o p n ++ Exactly I.Return ∷ [] in
     let l : length ss ≡ length (xs ++ ys) = length_read code (xs ++ ys) a ss e in
     let zs : List Step = drop (length xs) ss in
     let m : length zs ≡ length ys = omega (arith, l, length-append xs ys, length-drop (length xs) ss) in
@@ -74,7 +74,7 @@ quiet_calls : (p i : ℕ) (js : List ℕ) → AreQuiet (all_do (map (call_of p i
 quiet_calls p i [] = tt
 quiet_calls p i (j ∷ js) = (by_phase (eqb p 1), quiet_calls p i js)
   where
-    by_phase : (b : Bool) → IsQuiet (Does (cond b (I.CallWrite i j) (I.CallRead i j)))
+    by_phase : (b : Bool) → IsQuiet (Exactly (cond b (I.CallWrite i j) (I.CallRead i j)))
     by_phase true = tt
     by_phase false = tt
 

@@ -9,11 +9,11 @@ pub use Rattle.htl_ecode.proofs.BlockLaws.{IsBlockPhase, no_block, spelled_first
 pub use Rattle.htl_ecode.proofs.Fitting.{holds_append}
 pub use Rattle.htl_ecode.proofs.Kept.{instr_of, instrs_of, kept, kept_are, kept_jumps, kept_one, kept_reached}
 pub use Rattle.htl_ecode.proofs.Least.{IsLeast, least_is}
-pub use Rattle.htl_ecode.proofs.Reading.{IsInstr, IsLanding, IsReached, Jumps, anchor_is, bind_ok, jump_to_is, land_is, reach_is, read_is, same_is}
+pub use Rattle.htl_ecode.proofs.Reading.{IsInstr, IsResolved, IsReached, Jumps, anchor_is, bind_ok, jump_to_is, resolve_is, reach_is, read_is, same_is}
 pub use Rattle.htl_ecode.proofs.Spelled.{ModeReads, spelled_reads}
 pub use Rattle.htl_ecode.proofs.SpellingLaws.{spelled_departs_not}
-pub use Rattle.htl_ecode.proofs.Words.{AreInRange, Arrives, Asks, Does, Done, IsInvInRange, IsModeInRange, Landing, Output, Reached, Step, Tables, Tests, Turns, Waits, Want, all_do, alternating, and_parts, asks_for, begin_chain, bind, block_at, block_begun, block_chain, blocks, call_of, calls, calls_of, cases_below, children, comm_period, counted_in, counts, decide_chain, decided, departure, doubling, ends_in, enter_chain, entered, eq-eqb, eqb-true, fault, get_list_to, greatest, holds, is_child, is_concrete, joined, jump_to, lands, layout, least_from, leaving, list_to, mode_module, mode_period, nat_tests, next_offset, numbered, offsets, or_cases, or_right, parent_of, pass, passed_by, phase_offsets, places_at, places_from, ports, preempted, reach, read, reentered, refined, release, release_of, releases, same_instr, slice_get_within, steps_of, tanks, target_of, test_of, tests_of, up_to, waits_for}
-pub use Rattle.htl_ecode.specs.Chains.{led_to}
+pub use Rattle.htl_ecode.proofs.Words.{AreInRange, AtAnchor, ModeJump, Exactly, Done, IsInvInRange, IsModeInRange, Resolved, Output, Reached, Step, Tables, SwitchJump, EndOfRound, NextBlock, Requirement, all_do, alternating, and_parts, asks_for, begin_chain, bind, block_at, block_begun, block_chain, blocks, call_of, calls, calls_of, cases_below, children, comm_period, counted_in, counts, decide_chain, decided, departure, doubling, ends_in, enter_chain, entered, eq-eqb, eqb-true, fault, get_list_to, greatest, holds, is_child, is_concrete, joined, jump_to, resolved, layout, least_from, leaving, list_to, mode_module, mode_period, nat_tests, next_offset, numbered, offsets, or_cases, or_right, parent_of, pass, passed_by, phase_offsets, places_at, places_from, ports, preempted, reach, read, reentered, refined, release, release_of, releases, same_instr, slice_get_within, steps_of, tanks, target_of, test_of, tests_of, up_to, waits_for}
+pub use Rattle.htl_ecode.specs.Chains.{branch_target}
 pub use Rattle.htl_ecode.specs.Offsets.{meets}
 pub use Rattle.htl_ecode.specs.Paths.{begin_path, block_path, chain_path, decide_path, due_path, e_path, enter_path, followed, holds_in, on, round_end, step_from, switch_path, turn_step}
 pub use Rattle.htl_ecode.specs.Phases.{number_of, phase_of}

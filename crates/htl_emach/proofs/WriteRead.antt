@@ -1,10 +1,10 @@
 -- The blocks of the write phase and of the read phase: what they pass, hold and set.
 use Rattle.std.proofs.Common.{◌≡◌, ℕ, suc, ◌+◌, ◌-◌, ◌<◌, ◌≤◌, Bool, true, false, cond, ◌&&◌, eqb, List, [], ◌∷◌, ◌++◌, length, slice_get, map, Option, Some, None, Ok, refl, sym, ap, ◌∙◌, subst, arith, inl, inr}
-use Rattle.htl_emach.proofs.Words.{Inv, End, joined, numbered, Tables, release, ECode, EInstr, counts, meets, ends_in, places_at, next_offset, phase_offsets, holds, Want, Does, Waits, all_do, waits_for, call_of, calls_of, release_of, releases, calls, block_chain, Step, read, steps_of, passed_by, target_of, blocks, block_at, block_path, IsLeast, least_is, kept_are, instrs_of, ModeReads, IsBlockPhase, spelled_stands, spelled_links, Trigger, Calendar, goes, with_trigger, Ends, IsAllowed, AreAllowed, HasOutput, HasInput, trigger_at, next_block, calendar_replay}
+use Rattle.htl_emach.proofs.Words.{Inv, End, joined, numbered, Tables, release, ECode, EInstr, counts, meets, ends_in, places_at, next_offset, phase_offsets, holds, Requirement, Exactly, NextBlock, all_do, waits_for, call_of, calls_of, release_of, releases, calls, block_chain, Step, read, steps_of, passed_by, target_of, blocks, block_at, block_path, IsLeast, least_is, kept_are, instrs_of, ModeReads, IsBlockPhase, spelled_stands, spelled_links, Trigger, Calendar, goes, with_trigger, Ends, IsAllowed, AreAllowed, HasOutput, HasInput, trigger_at, next_block, calendar_replay}
 use Rattle.htl_ecode.specs.declared.instr.EInstr.TheVariants as I
 use Rattle.htl_ecode.proofs.Spelled as spelled
 use Rattle.htl_emach.proofs.Blocks.{GoesOn, IsBlock, block_ends}
-use Rattle.htl_emach.proofs.Effects.{calendar_after, replay_kept, allowed_kept, allowed_instrs, AllAllowed, WantsAllowed, wants_more, do_more, do_cond, do_numbered, with_next}
+use Rattle.htl_emach.proofs.Effects.{calendar_after, replay_kept, allowed_kept, allowed_instrs, AllAllowed, WantsAllowed, requirements_more, do_more, do_cond, do_numbered, with_next}
 use Rattle.htl_emach.proofs.Triggers.{IsQuiet, AreQuiet, set_next, calls_quiet, chain_sets}
 
 -- a block of module k at an offset of mode m
@@ -18,20 +18,20 @@ pub record BlockIs (t : Tables) (code : ECode) (m p o a k : ℕ) : Type 0 where
 -- ---- a chain of quiet instructions, a trigger and a return is a block
 
 module _ (code : List EInstr) (holds runs : ℕ → Bool) where
-  quiet_goes : (w : Want) → IsQuiet w → GoesOn code holds runs w
-  quiet_goes (Does (I.CallWrite a b)) q = λ z. refl
-  quiet_goes (Does (I.CallRead a b)) q = λ z. refl
-  quiet_goes (Does (I.Release a)) q = λ z. refl
+  quiet_goes : (w : Requirement) → IsQuiet w → GoesOn code holds runs w
+  quiet_goes (Exactly (I.CallWrite a b)) q = λ z. refl
+  quiet_goes (Exactly (I.CallRead a b)) q = λ z. refl
+  quiet_goes (Exactly (I.Release a)) q = λ z. refl
   quiet_goes _ q = absurd q
 
-  quiet_block : (xs : List Want) (y : Want) (ys : List Want) → AreQuiet xs → IsBlock code holds runs (y ∷ ys) → IsBlock code holds runs (xs ++ y ∷ ys)
+  quiet_block : (xs : List Requirement) (y : Requirement) (ys : List Requirement) → AreQuiet xs → IsBlock code holds runs (y ∷ ys) → IsBlock code holds runs (xs ++ y ∷ ys)
   quiet_block [] y ys q b = b
   quiet_block (x ∷ []) y ys q b = (quiet_goes x q.0, b)
   quiet_block (x ∷ z ∷ xs) y ys q b = (quiet_goes x q.0, quiet_block (z ∷ xs) y ys q.1 b)
 
-  pub ended_block : (xs : List Want) (o p : ℕ) (n : Option ℕ) → AreQuiet xs → IsBlock code holds runs (xs ++ (waits_for o p n ++ Does I.Return ∷ []))
-  ended_block xs o p None q = quiet_block xs (Does I.Return) [] q refl
-  ended_block xs o p (Some o1) q = quiet_block xs (Waits (o1 - o) p) (Does I.Return ∷ []) q (tt, refl)
+  pub ended_block : (xs : List Requirement) (o p : ℕ) (n : Option ℕ) → AreQuiet xs → IsBlock code holds runs (xs ++ (waits_for o p n ++ Exactly I.Return ∷ []))
+  ended_block xs o p None q = quiet_block xs (Exactly I.Return) [] q refl
+  ended_block xs o p (Some o1) q = quiet_block xs (NextBlock (o1 - o) p) (Exactly I.Return ∷ []) q (tt, refl)
 
 -- ---- what may stand
 
@@ -43,13 +43,13 @@ offset_wants t p k o f n j (e ∷ ends) h g = by_test (meets t o e) (offset_want
     by_test true rest = (g j (omega (arith, h)), rest)
     by_test false rest = rest
 
-last_wants : (t : Tables) (p k o q : ℕ) (n : Option ℕ) → WantsAllowed t p k (waits_for o q n ++ Does I.Return ∷ [])
+last_wants : (t : Tables) (p k o q : ℕ) (n : Option ℕ) → WantsAllowed t p k (waits_for o q n ++ Exactly I.Return ∷ [])
 last_wants t p k o q None = (tt, tt)
 last_wants t p k o q (Some o1) = (tt, (tt, tt))
 
 pub block_wants : (t : Tables) (k m p o : ℕ) → IsBlockPhase p → WantsAllowed t p k (block_chain t m p o)
 block_wants t k m p o phase =
-    wants_more t p k (all_do (calls t m p o)) (waits_for o p (next_offset t m p (suc o)) ++ Does I.Return ∷ [])
+    requirements_more t p k (all_do (calls t m p o)) (waits_for o p (next_offset t m p (suc o)) ++ Exactly I.Return ∷ [])
     (do_more t p k (joined (calls_of t m p o) (numbered 0 t.invs)) (cond (eqb p 1) [] (releases t m o))
     (do_numbered t p k (calls_of t m p o) 0 t.invs (λ i x e. do_cond t p k (counts t m x) (map (call_of p (0 + i)) (places_at t o 0 (ends_in p x))) [] (of_inv phase i x e) tt))
     (do_cond t p k (eqb p 1) [] (releases t m o) tt
@@ -79,10 +79,10 @@ sets_next t code m p s o k c (Some o1) x h =
     ∙ ap (λ n. with_trigger p k (Some (record { at = n; target = g.1.0 })) c) when
     ∙ sym (ap (λ z. with_next p k (trigger_at (s + o1) z) c) g.1.1)
 
-passed_allowed : (t : Tables) (code : List EInstr) (p k a : ℕ) (ws : List Want) (ss : List Step) → read code a ws ≡ Ok ss → WantsAllowed t p k ws → AreAllowed t code p k (passed_by ss)
+passed_allowed : (t : Tables) (code : List EInstr) (p k a : ℕ) (ws : List Requirement) (ss : List Step) → read code a ws ≡ Ok ss → WantsAllowed t p k ws → AreAllowed t code p k (passed_by ss)
 passed_allowed t code p k a ws ss e h = allowed_kept t code p k (passed_by ss) (subst (AllAllowed t p k) (sym (kept_are code ws a ss e)) (allowed_instrs t p k ws ss h))
 
-passed_does : (t : Tables) (code : ECode) (at k a : ℕ) (ws : List Want) (ss : List Step) (c : Calendar) → read code.instrs a ws ≡ Ok ss → calendar_replay t code at k (passed_by ss) c ≡ calendar_after t code at k (instrs_of ws ss) c
+passed_does : (t : Tables) (code : ECode) (at k a : ℕ) (ws : List Requirement) (ss : List Step) (c : Calendar) → read code.instrs a ws ≡ Ok ss → calendar_replay t code at k (passed_by ss) c ≡ calendar_after t code at k (instrs_of ws ss) c
 passed_does t code at k a ws ss c e = replay_kept t code at k (passed_by ss) c ∙ ap (λ is. calendar_after t code at k is c) (kept_are code.instrs ws a ss e)
 
 -- a block at an offset of its phase

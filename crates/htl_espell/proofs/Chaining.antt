@@ -1,6 +1,6 @@
 -- A chain read item by item.
 use Rattle.std.proofs.Common.{◌≡◌, ℕ, suc, ◌+◌, ◌<◌, ◌≤◌, Bool, true, false, cond, eqb, List, [], ◌∷◌, ◌++◌, length, get_or, drop, drop-cons, add-one, map, Result, Ok, Err, refl, sym, ap, ◌∙◌}
-use Rattle.htl_espell.proofs.Words.{Inv, End, Module, joined, numbered, places_from, IsStartOf, Tables, EInstr, EFault, meets, counts, ends_in, places_at, Want, Does, all_do, is_child, children, call_of, calls_of, release_of, releases, calls, bind, Reached, reach, IsOfMode, calls_of_mode, releases_of_mode, found_from_start, nothing_later, next_of, end_wants, call_wants, release_wants, child_wants}
+use Rattle.htl_espell.proofs.Words.{Inv, End, Module, joined, numbered, places_from, IsStartOf, Tables, EInstr, EFault, meets, counts, ends_in, places_at, Requirement, Exactly, all_do, is_child, children, call_of, calls_of, release_of, releases, calls, bind, Reached, reach, IsOfMode, calls_of_mode, releases_of_mode, found_from_start, nothing_later, next_of, end_wants, call_wants, release_wants, child_wants}
 use Rattle.htl_ecode.specs.declared.instr.EInstr.TheVariants as I
 
 pub bind_twice : {A B C : Type 0} (r : Result A EFault) (f : A → Result B EFault) (g : B → Result C EFault) → bind (bind r f) g ≡ bind r (λ x. bind (f x) g)
@@ -8,7 +8,7 @@ bind_twice (Ok x) f g = refl
 bind_twice (Err e) f g = refl
 
 -- a chain, and then another
-pub next_append : (code : List EInstr) (a : ℕ) (xs ys : List Want) → next_of code a (xs ++ ys) ≡ bind (next_of code a xs) (λ b. next_of code b ys)
+pub next_append : (code : List EInstr) (a : ℕ) (xs ys : List Requirement) → next_of code a (xs ++ ys) ≡ bind (next_of code a xs) (λ b. next_of code b ys)
 next_append code a [] ys = refl
 next_append code a (x ∷ xs) ys = by_first (reach code a x) (λ n. next_append code n xs ys)
   where
@@ -17,7 +17,7 @@ next_append code a (x ∷ xs) ys = by_first (reach code a x) (λ n. next_append 
     by_first (Ok y) ih = ih y.next
     by_first (Err e) ih = refl
 
-module _ {A : Type 0} (f : ℕ × A → List Want) (code : List EInstr) (k : ℕ) (xs : List A) (x : A) (a : ℕ) (below : k < length xs) (at : x ≡ get_or xs k x) where
+module _ {A : Type 0} (f : ℕ × A → List Requirement) (code : List EInstr) (k : ℕ) (xs : List A) (x : A) (a : ℕ) (below : k < length xs) (at : x ≡ get_or xs k x) where
   -- the items from k on are the one at k and the rest
   items_cut : joined f (numbered k (drop k xs)) ≡ f (k, x) ++ joined f (numbered (k + 1) (drop (k + 1) xs))
   items_cut =
@@ -42,7 +42,7 @@ module _ {A : Type 0} (f : ℕ × A → List Want) (code : List EInstr) (k : ℕ
 
 do_append : (xs ys : List EInstr) → all_do (xs ++ ys) ≡ all_do xs ++ all_do ys
 do_append [] ys = refl
-do_append (x ∷ xs) ys = ap (λ zs. Does x ∷ zs) (do_append xs ys)
+do_append (x ∷ xs) ys = ap (λ zs. Exactly x ∷ zs) (do_append xs ys)
 
 do_joined : {A : Type 0} (f : A → List EInstr) (xs : List A) → all_do (joined f xs) ≡ joined (λ x. all_do (f x)) xs
 do_joined f [] = refl
@@ -53,8 +53,8 @@ ends_are t phase o i k [] = refl
 ends_are t phase o i k (e ∷ ends) = by_test (meets t o e) (ends_are t phase o i (suc k) ends)
   where
     by_test : (b : Bool) → all_do (map (call_of phase i) (places_at t o (suc k) ends)) ≡ joined (end_wants t phase o i) (numbered (suc k) ends) →
-        all_do (map (call_of phase i) (cond b (k ∷ places_at t o (suc k) ends) (places_at t o (suc k) ends))) ≡ cond b (Does (call_of phase i k) ∷ []) [] ++ joined (end_wants t phase o i) (numbered (suc k) ends)
-    by_test true h = ap (λ zs. Does (call_of phase i k) ∷ zs) h
+        all_do (map (call_of phase i) (cond b (k ∷ places_at t o (suc k) ends) (places_at t o (suc k) ends))) ≡ cond b (Exactly (call_of phase i k) ∷ []) [] ++ joined (end_wants t phase o i) (numbered (suc k) ends)
+    by_test true h = ap (λ zs. Exactly (call_of phase i k) ∷ zs) h
     by_test false h = h
 
 pub inv_counted : (code : List EInstr) (t : Tables) (m phase o a : ℕ) (n : ℕ × Inv) (ends : List End) (r : Result ℕ EFault) → counts t m n.1 ≡ true → ends ≡ ends_in phase n.1 →
@@ -92,12 +92,12 @@ pub releases_wanted_of_mode : (t : Tables) (m o : ℕ) → IsOfMode m (release_w
 releases_wanted_of_mode t m o k x e = ap (λ js. all_do js) (releases_of_mode t m o k x e)
 
 -- nothing is read for invocations before those of the mode
-pub read_from_start : (code : List EInstr) (a : ℕ) (t : Tables) (xs : List Inv) (m s : ℕ) (f : ℕ × Inv → List Want) → xs ≡ t.invs → IsOfMode m f → IsStartOf t m s →
+pub read_from_start : (code : List EInstr) (a : ℕ) (t : Tables) (xs : List Inv) (m s : ℕ) (f : ℕ × Inv → List Requirement) → xs ≡ t.invs → IsOfMode m f → IsStartOf t m s →
     next_of code a (joined f (numbered s (drop s xs))) ≡ next_of code a (joined f (numbered 0 t.invs))
 read_from_start code a t xs m s f is h start = ap (next_of code a) (found_from_start t xs m s f is h start)
 
 -- nor for those behind
-pub all_read : (code : List EInstr) (a : ℕ) (t : Tables) (xs : List Inv) (m e k : ℕ) (f : ℕ × Inv → List Want) (whole : Result ℕ EFault) → xs ≡ t.invs → IsOfMode m f → IsStartOf t (m + 1) e → e ≤ k →
+pub all_read : (code : List EInstr) (a : ℕ) (t : Tables) (xs : List Inv) (m e k : ℕ) (f : ℕ × Inv → List Requirement) (whole : Result ℕ EFault) → xs ≡ t.invs → IsOfMode m f → IsStartOf t (m + 1) e → e ≤ k →
     next_of code a (joined f (numbered k (drop k xs))) ≡ whole → Ok a ≡ whole
 all_read code a t xs m e k f whole is h end past going = sym (ap (next_of code a) (nothing_later t xs m e k f is h end past)) ∙ going
 
@@ -108,8 +108,8 @@ children_from m k [] = refl
 children_from m k (u ∷ modules) = by_test (is_child m u) (children_from m (suc k) modules)
   where
     by_test : (b : Bool) → all_do (map (λ j. I.Fork j) (places_from (is_child m) (suc k) modules)) ≡ joined (child_wants m) (numbered (suc k) modules) →
-        all_do (map (λ j. I.Fork j) (cond b (k ∷ places_from (is_child m) (suc k) modules) (places_from (is_child m) (suc k) modules))) ≡ cond b (Does (I.Fork k) ∷ []) [] ++ joined (child_wants m) (numbered (suc k) modules)
-    by_test true h = ap (λ zs. Does (I.Fork k) ∷ zs) h
+        all_do (map (λ j. I.Fork j) (cond b (k ∷ places_from (is_child m) (suc k) modules) (places_from (is_child m) (suc k) modules))) ≡ cond b (Exactly (I.Fork k) ∷ []) [] ++ joined (child_wants m) (numbered (suc k) modules)
+    by_test true h = ap (λ zs. Exactly (I.Fork k) ∷ zs) h
     by_test false h = h
 
 pub children_are : (t : Tables) (m : ℕ) → all_do (map (λ j. I.Fork j) (children t m)) ≡ joined (child_wants m) (numbered 0 t.modules)

@@ -1,6 +1,6 @@
 -- The blocks of a phase, one by one.
 use Rattle.std.proofs.Common.{◌≡◌, ℕ, zero, suc, ◌+◌, ◌≤◌, ◌<◌, true, List, [], ◌∷◌, length, Option, Some, None, IfSome, refl, sym, ap, ◌∙◌, subst, arith, add-one}
-use Rattle.htl_espell.proofs.Words.{Tables, EInstr, EFault, next_offset, phase_offsets, holds, OffsetsFit, block_chain, read, Block, blocks_from, led_on, fault_of, either, block_faults, count_from, count_all, left_from, left_next, left_falls, IsOffset, next_is_offset, next_after, IsLater, phase_departure, block_of}
+use Rattle.htl_espell.proofs.Words.{Tables, EInstr, EFault, next_offset, phase_offsets, holds, OffsetsFit, block_chain, read, Block, blocks_from, branch_on, fault_of, either, block_faults, count_from, count_all, left_from, left_next, left_falls, IsOffset, next_is_offset, next_after, IsLater, phase_departure, block_of}
 
 enough_blocks : (t : Tables) (code : List EInstr) (m phase f g : ℕ) (next at : Option ℕ) → IsOffset t m phase next → left_from t m phase next ≤ f → left_from t m phase next ≤ g →
     blocks_from f t code m phase next at ≡ blocks_from g t code m phase next at
@@ -14,7 +14,7 @@ enough_blocks t code m phase (suc f) (suc g) (Some o) None h p q = refl
 enough_blocks t code m phase (suc f) (suc g) (Some o) (Some a) h p q =
     let falls = left_falls t m phase o h in
     ap (λ bs. record { offset = o; address = a } ∷ bs)
-    (enough_blocks t code m phase f g (next_offset t m phase (suc o)) (led_on t code m phase o a) (next_is_offset t m phase (suc o)) (omega arith) (omega arith))
+    (enough_blocks t code m phase f g (next_offset t m phase (suc o)) (branch_on t code m phase o a) (next_is_offset t m phase (suc o)) (omega arith) (omega arith))
 
 -- how many offsets there are from a block on
 abbrev pub left_of : Tables → ℕ → ℕ → Option (ℕ × ℕ) → ℕ
@@ -47,13 +47,13 @@ left_is t m phase (Some o) None = omega arith
 left_is t m phase (Some o) (Some a) = omega arith
 
 block_first : (t : Tables) (code : List EInstr) (m phase o a : ℕ) → holds o (phase_offsets t m phase) ≡ true →
-    blocks_at t code m phase (Some (o, a)) ≡ record { offset = o; address = a } ∷ blocks_at t code m phase (block_of (next_offset t m phase (suc o)) (led_on t code m phase o a))
+    blocks_at t code m phase (Some (o, a)) ≡ record { offset = o; address = a } ∷ blocks_at t code m phase (block_of (next_offset t m phase (suc o)) (branch_on t code m phase o a))
 block_first t code m phase o a h = by_count (count_from o (phase_offsets t m phase)) (left_falls t m phase o h)
   where
     by_count : (n : ℕ) → left_from t m phase (next_offset t m phase (suc o)) < n →
-        blocks_from n t code m phase (Some o) (Some a) ≡ record { offset = o; address = a } ∷ blocks_at t code m phase (block_of (next_offset t m phase (suc o)) (led_on t code m phase o a))
+        blocks_from n t code m phase (Some o) (Some a) ≡ record { offset = o; address = a } ∷ blocks_at t code m phase (block_of (next_offset t m phase (suc o)) (branch_on t code m phase o a))
     by_count zero l = absurd (omega arith)
-    by_count (suc n) l = ap (λ bs. record { offset = o; address = a } ∷ bs) (blocks_are t code m phase n (next_offset t m phase (suc o)) (led_on t code m phase o a) (next_is_offset t m phase (suc o)) (omega arith))
+    by_count (suc n) l = ap (λ bs. record { offset = o; address = a } ∷ bs) (blocks_are t code m phase n (next_offset t m phase (suc o)) (branch_on t code m phase o a) (next_is_offset t m phase (suc o)) (omega arith))
 
 -- ---- the loop over blocks
 
@@ -78,23 +78,23 @@ module _ (t : Tables) (code : List EInstr) (m phase o a : ℕ) (whole : Option E
   offset_there : holds o (phase_offsets t m phase) ≡ true
   offset_there = subst (IsBlock t m phase) is h.there
 
-  first_and_rest : either (fault_of (read code a (block_chain t m phase o))) (block_faults t code m phase (blocks_at t code m phase (block_of (next_offset t m phase (suc o)) (led_on t code m phase o a)))) ≡ whole
+  first_and_rest : either (fault_of (read code a (block_chain t m phase o))) (block_faults t code m phase (blocks_at t code m phase (block_of (next_offset t m phase (suc o)) (branch_on t code m phase o a)))) ≡ whole
   first_and_rest = sym (ap (block_faults t code m phase) (ap (blocks_at t code m phase) is ∙ block_first t code m phase o a offset_there)) ∙ h.rest
 
-  pub checking_more : (next target : Option ℕ) (new : Option (ℕ × ℕ)) → next ≡ next_offset t m phase (o + 1) → fault_of (read code a (block_chain t m phase o)) ≡ None → target ≡ led_on t code m phase o a → new ≡ block_of next target →
+  pub checking_more : (next target : Option ℕ) (new : Option (ℕ × ℕ)) → next ≡ next_offset t m phase (o + 1) → fault_of (read code a (block_chain t m phase o)) ≡ None → target ≡ branch_on t code m phase o a → new ≡ block_of next target →
       IsChecking t code m phase whole new
   checking_more next target new next_is fine target_is new_is =
       let next' : next_offset t m phase (suc o) ≡ next = ap (next_offset t m phase) (sym (add-one o)) ∙ sym next_is in
-      let same : block_of (next_offset t m phase (suc o)) (led_on t code m phase o a) ≡ new = ap (λ n. block_of n (led_on t code m phase o a)) next' ∙ ap (block_of next) (sym target_is) ∙ sym new_is in
+      let same : block_of (next_offset t m phase (suc o)) (branch_on t code m phase o a) ≡ new = ap (λ n. block_of n (branch_on t code m phase o a)) next' ∙ ap (block_of next) (sym target_is) ∙ sym new_is in
       subst (IsChecking t code m phase whole) same
       (record {
-        rest = sym (ap (λ f. either f (block_faults t code m phase (blocks_at t code m phase (block_of (next_offset t m phase (suc o)) (led_on t code m phase o a))))) fine) ∙ first_and_rest;
-        there = block_there t m phase (next_offset t m phase (suc o)) (led_on t code m phase o a) (next_is_offset t m phase (suc o));
+        rest = sym (ap (λ f. either f (block_faults t code m phase (blocks_at t code m phase (block_of (next_offset t m phase (suc o)) (branch_on t code m phase o a))))) fine) ∙ first_and_rest;
+        there = block_there t m phase (next_offset t m phase (suc o)) (branch_on t code m phase o a) (next_is_offset t m phase (suc o));
       })
 
   pub checking_departs : (e : EFault) → fault_of (read code a (block_chain t m phase o)) ≡ Some e → Some e ≡ whole
   checking_departs e departs =
-      sym (ap (λ f. either f (block_faults t code m phase (blocks_at t code m phase (block_of (next_offset t m phase (suc o)) (led_on t code m phase o a))))) departs) ∙ first_and_rest
+      sym (ap (λ f. either f (block_faults t code m phase (blocks_at t code m phase (block_of (next_offset t m phase (suc o)) (branch_on t code m phase o a))))) departs) ∙ first_and_rest
 
   pub checking_falls : (next target : Option ℕ) (new : Option (ℕ × ℕ)) → next ≡ next_offset t m phase (o + 1) → new ≡ block_of next target → left_of t m phase new < left_of t m phase block
   checking_falls next target new next_is new_is =

@@ -6,18 +6,18 @@ use Rattle.htl_ecode.specs.declared.instr.EInstr.{EInstr}
 use Rattle.htl_ecode.specs.declared.instr.EInstr.TheVariants as I
 use Rattle.htl_ecode.specs.declared.fault.EFault.{EFault}
 use Rattle.htl_ecode.specs.Offsets.{phase_offsets, next_offset}
-use Rattle.htl_ecode.specs.Chains.{Want, Does, Waits, Turns, all_do, calls, asks_of, tests_of}
-use Rattle.htl_ecode.specs.Jumps.{Landing, bind, arrives}
+use Rattle.htl_ecode.specs.Chains.{Requirement, Exactly, NextBlock, EndOfRound, all_do, calls, asks_of, tests_of}
+use Rattle.htl_ecode.specs.Jumps.{Resolved, bind, arrives}
 use Rattle.htl_ecode.specs.Steps.{Met, Reached, reach}
 use Rattle.htl_ecode.specs.Departure.{blocks_from, block_faults}
 use Rattle.htl_espell.specs.Parts.{child_wants}
 
-abbrev pub place_of : Result Landing EFault → Result ℕ EFault
+abbrev pub place_of : Result Resolved EFault → Result ℕ EFault
 place_of (Ok l) = Ok l.place
 place_of (Err e) = Err e
 
 -- the address after a chain, or its first departure
-abbrev pub next_of : List EInstr → ℕ → List Want → Result ℕ EFault
+abbrev pub next_of : List EInstr → ℕ → List Requirement → Result ℕ EFault
 next_of code a [] = Ok a
 next_of code a (w ∷ ws) = bind (reach code a w) (λ y. next_of code y.next ws)
 
@@ -29,7 +29,7 @@ ends_of (Err e) = Err e
 -- the same, where there is a further offset; else it goes on where it is
 abbrev pub waited : List EInstr → ℕ → ℕ → ℕ → Option ℕ → Result (ℕ × Option ℕ) EFault
 waited code a from phase None = Ok (a, None)
-waited code a from phase (Some o) = bind (reach code a (Waits (o - from) phase)) (λ y. Ok (y.next, Some y.step.target))
+waited code a from phase (Some o) = bind (reach code a (NextBlock (o - from) phase)) (λ y. Ok (y.next, Some y.step.target))
 
 -- a block: its offset and its address, where both are there
 abbrev pub block_of : Option ℕ → Option ℕ → Option (ℕ × ℕ)
@@ -53,15 +53,15 @@ abbrev pub block_read : List EInstr → Tables → ℕ → ℕ → ℕ → Optio
 block_read code t m phase o next a =
     bind (next_of code a (all_do (calls t m phase o))) (λ b.
     bind (waited code b o phase next) (λ w.
-    bind (next_of code w.0 (Does I.Return ∷ [])) (λ c. Ok w.1)))
+    bind (next_of code w.0 (Exactly I.Return ∷ [])) (λ c. Ok w.1)))
 
 -- the start of a round: where its first triggers lead
 abbrev pub begin_read : List EInstr → Tables → ℕ → ℕ → ℕ → Result (Option ℕ × Option ℕ) EFault
 begin_read code t decide m a =
     bind (waited code a 0 1 (next_offset t m 1 0)) (λ w.
     bind (waited code w.0 0 3 (next_offset t m 3 0)) (λ r.
-    bind (next_of code r.0 (Turns (mode_period t m) decide ∷ [])) (λ b.
-    bind (next_of code b (Does I.Return ∷ [])) (λ c. Ok (w.1, r.1)))))
+    bind (next_of code r.0 (EndOfRound (mode_period t m) decide ∷ [])) (λ b.
+    bind (next_of code b (Exactly I.Return ∷ [])) (λ c. Ok (w.1, r.1)))))
 
 -- the first departure in the blocks of a phase, the first of which stands at an address
 abbrev pub phase_departure : Tables → List EInstr → ℕ → ℕ → Option ℕ → Option EFault
@@ -71,7 +71,7 @@ phase_departure t code m phase first =
 -- what enters a mode
 abbrev pub enter_read : List EInstr → Tables → ℕ → ℕ → ℕ → Result (List ℕ) EFault
 enter_read code t begin m a =
-    bind (next_of code a (Does (I.Enter m) ∷ [])) (λ b.
+    bind (next_of code a (Exactly (I.Enter m) ∷ [])) (λ b.
     bind (next_of code b (joined (child_wants m) (numbered 0 t.modules))) (λ c.
     arrives code c begin c))
 

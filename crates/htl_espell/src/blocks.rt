@@ -7,8 +7,8 @@ ghost use Rattle.htl_ecode.specs.Phases.{number_of};
 ghost use Rattle.htl_espell.specs.Checks.{block_of as block_of_both, block_read, begin_read, phase_departure};
 
 use crate::calls::{Block, need_calls};
+use crate::chains::Instrs;
 use crate::needs::{need, turn, wait_for};
-use crate::slides::Instrs;
 use htl_base::Time;
 use htl_ecode::mode_invs::ModeInvs;
 use htl_ecode::offsets::next_offset;

@@ -7,8 +7,8 @@ ghost use Rattle.htl_ecode.specs.Phases.{number_of};
 ghost use Rattle.htl_espell.specs.Checks.{next_of};
 ghost use Rattle.htl_espell.specs.Parts.{end_wants, call_wants, release_wants};
 
+use crate::chains::Instrs;
 use crate::needs::need;
-use crate::slides::Instrs;
 use htl_base::Time;
 use htl_ecode::calls::call;
 use htl_ecode::mode_invs::ModeInvs;

@@ -4,10 +4,10 @@ ghost use Rattle.htl_ecode.specs.Chains.{test_of, tests_of, asks_of};
 ghost use Rattle.htl_ecode.specs.Departure.{fault_of};
 ghost use Rattle.htl_espell.specs.Checks.{next_of, decide_read};
 
-use crate::landing::arrive;
+use crate::chains::Instrs;
 use crate::needs::{ask, test};
-use crate::slides::Instrs;
-use htl_ecode::decisions::led;
+use crate::resolving::arrive;
+use htl_ecode::decisions::branch_target;
 use htl_ecode::{EFault, EInstr};
 use htl_model::lookup::{mode_module, parent_of};
 use htl_model::{Switch, Tables};
@@ -45,7 +45,7 @@ fn need_test(
     ensures same { code.new ≡ code.old }
 {
     if switch.mode == rounds.mode {
-        let anchor = led(rounds.begin, rounds.enters, rounds.mode, switch.target);
+        let anchor = branch_target(rounds.begin, rounds.enters, rounds.mode, switch.target);
         test(code, at, k, anchor)
     } else {
         Ok(at)

@@ -5,9 +5,9 @@ ghost use Rattle.htl_ecode.specs.Departure.{fault_of};
 ghost use Rattle.htl_espell.specs.Checks.{next_of, enter_read};
 ghost use Rattle.htl_espell.specs.Parts.{child_wants};
 
-use crate::landing::arrive;
+use crate::chains::Instrs;
 use crate::needs::need;
-use crate::slides::Instrs;
+use crate::resolving::arrive;
 use htl_ecode::modes::is_child;
 use htl_ecode::{EFault, EInstr};
 use htl_model::{Module, Tables};

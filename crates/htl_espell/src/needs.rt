@@ -1,14 +1,14 @@
 // One thing that is required.
 ghost use Rattle.std.specs.Prelude.{◌≡◌, ◌≤◌, ◌<◌, ◌∷◌, [], length, IfSome};
-ghost use Rattle.htl_ecode.specs.Chains.{Does, Waits, Turns, Tests, Asks};
+ghost use Rattle.htl_ecode.specs.Chains.{Exactly, NextBlock, EndOfRound, SwitchJump, ModeJump};
 ghost use Rattle.htl_ecode.specs.Instructions.{target_in as target_in_of, delay_in as delay_in_of};
 ghost use Rattle.htl_ecode.specs.Steps.{reach, met_by, leaving};
 ghost use Rattle.htl_ecode.specs.Departure.{fault_of};
 ghost use Rattle.htl_ecode.specs.Phases.{number_of};
 ghost use Rattle.htl_espell.specs.Checks.{next_of, ends_of, waited, next_met, ends_met};
 
-use crate::landing::{arrive, land};
-use crate::slides::Instrs;
+use crate::chains::Instrs;
+use crate::resolving::{arrive, resolve};
 use htl_base::Time;
 use htl_ecode::{EFault, EInstr, EKind, Phase};
 
@@ -37,7 +37,7 @@ fn delay_in(i: EInstr) -> u32
 // Whether the instruction at a place is the one that is required: the address after it.
 fn need_at(place: u32, i: EInstr, want: EInstr) -> Result<u32, EFault>
     requires { place < 4294967295 }
-    ensures { result ≡ next_met (met_by [] (Does want) place i) }
+    ensures { result ≡ next_met (met_by [] (Exactly want) place i) }
 {
     if want != i {
         return Err(EFault {
@@ -51,17 +51,17 @@ fn need_at(place: u32, i: EInstr, want: EInstr) -> Result<u32, EFault>
 /// Reads one required instruction: the address after it.
 pub fn need(code: &mut Instrs<'_>, at: u32, want: EInstr) -> Result<u32, EFault>
     requires { length code.old ≤ 4294967295 }
-    ensures read { result ≡ next_of code.old at (Does want ∷ []) }
+    ensures read { result ≡ next_of code.old at (Exactly want ∷ []) }
     ensures same { code.new ≡ code.old }
 {
-    let place = land(code, at)?;
+    let place = resolve(code, at)?;
     need_at(place, code.at(place), want)
 }
 
 // Whether the instruction at a place sets a trigger of the phase with this delay: the address after it, and its target.
 fn wait_at(place: u32, i: EInstr, delay: Time, phase: Phase) -> Result<(u32, u32), EFault>
     requires { place < 4294967295 }
-    ensures { result ≡ ends_met (met_by [] (Waits delay (number_of phase)) place i) }
+    ensures { result ≡ ends_met (met_by [] (NextBlock delay (number_of phase)) place i) }
 {
     let target = target_in(i);
     let set = delay_in(i);
@@ -83,10 +83,10 @@ fn wait_at(place: u32, i: EInstr, delay: Time, phase: Phase) -> Result<(u32, u32
 // Reads a trigger of a phase with a delay: the address after it, and its target.
 fn wait(code: &mut Instrs<'_>, at: u32, delay: Time, phase: Phase) -> Result<(u32, u32), EFault>
     requires { length code.old ≤ 4294967295 }
-    ensures read { result ≡ ends_of (reach code.old at (Waits delay (number_of phase))) }
+    ensures read { result ≡ ends_of (reach code.old at (NextBlock delay (number_of phase))) }
     ensures same { code.new ≡ code.old }
 {
-    let place = land(code, at)?;
+    let place = resolve(code, at)?;
     wait_at(place, code.at(place), delay, phase)
 }
 
@@ -121,7 +121,7 @@ fn turn_at(
     anchor: u32,
 ) -> Result<u32, EFault>
     requires place { place < 4294967295 }
-    ensures next { result ≡ next_met (met_by code.old (Turns delay anchor) place i) }
+    ensures next { result ≡ next_met (met_by code.old (EndOfRound delay anchor) place i) }
     ensures same { code.new ≡ code.old }
 {
     let target = target_in(i);
@@ -145,10 +145,10 @@ fn turn_at(
 /// Reads the trigger of a round's end, whose target arrives at an anchor: the address after it.
 pub fn turn(code: &mut Instrs<'_>, at: u32, delay: Time, anchor: u32) -> Result<u32, EFault>
     requires code { length code.old ≤ 4294967295 }
-    ensures next { result ≡ next_of code.old at (Turns delay anchor ∷ []) }
+    ensures next { result ≡ next_of code.old at (EndOfRound delay anchor ∷ []) }
     ensures same { code.new ≡ code.old }
 {
-    let place = land(code, at)?;
+    let place = resolve(code, at)?;
     let i = code.at(place);
     turn_at(code, place, i, delay, anchor)
 }
@@ -162,7 +162,7 @@ fn test_at(
     anchor: u32,
 ) -> Result<u32, EFault>
     requires place { place < 4294967295 }
-    ensures next { result ≡ next_met (met_by code.old (Tests switch 0 anchor) place i) }
+    ensures next { result ≡ next_met (met_by code.old (SwitchJump switch 0 anchor) place i) }
     ensures same { code.new ≡ code.old }
 {
     let target = target_in(i);
@@ -175,10 +175,10 @@ fn test_at(
 /// Reads the jump of a switch, whose target arrives at an anchor: the address after it.
 pub fn test(code: &mut Instrs<'_>, at: u32, switch: u16, anchor: u32) -> Result<u32, EFault>
     requires code { length code.old ≤ 4294967295 }
-    ensures next { result ≡ next_of code.old at (Tests switch 0 anchor ∷ []) }
+    ensures next { result ≡ next_of code.old at (SwitchJump switch 0 anchor ∷ []) }
     ensures same { code.new ≡ code.old }
 {
-    let place = land(code, at)?;
+    let place = resolve(code, at)?;
     let i = code.at(place);
     test_at(code, place, i, switch, anchor)
 }
@@ -198,7 +198,7 @@ fn leave(code: &mut Instrs<'_>, at: u32) -> Result<(), EFault>
 fn ask_at(code: &mut Instrs<'_>, place: u32, i: EInstr, mode: u16) -> Result<u32, EFault>
     requires code { length code.old ≤ 4294967295 }
     requires place { place < 4294967295 }
-    ensures read { result ≡ next_met (met_by code.old (Asks mode) place i) }
+    ensures read { result ≡ next_met (met_by code.old (ModeJump mode) place i) }
     ensures same { code.new ≡ code.old }
 {
     let target = target_in(i);
@@ -211,10 +211,10 @@ fn ask_at(code: &mut Instrs<'_>, place: u32, i: EInstr, mode: u16) -> Result<u32
 /// Reads the jump where a mode runs, and behind it `Leave` and `Return`: its target.
 pub fn ask(code: &mut Instrs<'_>, at: u32, mode: u16) -> Result<u32, EFault>
     requires { length code.old ≤ 4294967295 }
-    ensures read { result ≡ next_of code.old at (Asks mode ∷ []) }
+    ensures read { result ≡ next_of code.old at (ModeJump mode ∷ []) }
     ensures same { code.new ≡ code.old }
 {
-    let place = land(code, at)?;
+    let place = resolve(code, at)?;
     let i = code.at(place);
     ask_at(code, place, i, mode)
 }

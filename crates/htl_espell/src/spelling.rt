@@ -7,9 +7,9 @@ ghost use Rattle.htl_ecode.specs.ModeInvs.{AreInvsOf};
 ghost use Rattle.htl_ecode.specs.Spelling.{Spells};
 
 use crate::blocks::{check_begin, check_phase};
+use crate::chains::Instrs;
 use crate::endings::{Rounds, check_decide};
 use crate::entries::check_enter;
-use crate::slides::Instrs;
 use htl_ecode::mode_invs::{ModeInvs, mode_invs};
 use htl_ecode::{ECode, EFault, Phase};
 use htl_model::Tables;

@@ -5,7 +5,7 @@ pub use Rattle.htl_base.proofs.Words.{All, IfOk, IfOk-weaker, [], ap, append_kno
 pub use Rattle.htl_base.specs.Names.{is_name}
 pub use Rattle.htl_base.specs.declared.Ty.{Ty}
 pub use Rattle.htl_base.specs.declared.Ty.TheVariants.{Bool as BoolTy, Bool as Truth, Int}
-pub use Rattle.htl_ecode.proofs.Words.{All-cons, All-head, All-nil, All-tail, Arrives, Asks, Does, Tests, Turns, Waits, Want, all_do, asks_for, asks_of, begin_chain, begin_code, begin_place, block_chain, block_end, blocks_code, call_of, calls, calls_of, cases_below, children, counts, decide_code, decide_place, ends_in, enter_calls, enter_places, eqb-true, first_block, get_list_to, joined, laid, layout, mode_code, mode_module, mode_place, next_offset, numbered, or_cases, or_right, phase_code, phase_offsets, places_at, reads_place, release_of, releases, tables_of, test_of, tests_of, turn, up_to, waits_for, writes_place}
+pub use Rattle.htl_ecode.proofs.Words.{All-cons, All-head, All-nil, All-tail, AtAnchor, ModeJump, Exactly, SwitchJump, EndOfRound, NextBlock, Requirement, all_do, asks_for, asks_of, begin_chain, begin_code, begin_place, block_chain, block_end, blocks_code, call_of, calls, calls_of, cases_below, children, counts, decide_code, decide_place, ends_in, enter_calls, enter_places, eqb-true, first_block, get_list_to, joined, laid, layout, mode_code, mode_module, mode_place, next_offset, numbered, or_cases, or_right, phase_code, phase_offsets, places_at, reads_place, release_of, releases, tables_of, test_of, tests_of, turn, up_to, waits_for, writes_place}
 pub use Rattle.htl_ecode.specs.Layout.{block_code}
 pub use Rattle.htl_ecode.specs.declared.ecode.ECode.{ECode}
 pub use Rattle.htl_ecode.specs.declared.instr.EInstr.{EInstr}

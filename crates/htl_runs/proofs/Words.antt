@@ -29,7 +29,7 @@ pub use Rattle.htl_emach.proofs.Phases.{from_zero}
 pub use Rattle.htl_emach.proofs.Soundness.{has_ends, phase_is, sound as is_sound, sound}
 pub use Rattle.htl_emach.proofs.States.{active_some, begins_now, module_at, parent_at, parent_runs}
 pub use Rattle.htl_emach.proofs.Switching.{Sound}
-pub use Rattle.htl_emach.proofs.Words.{Between, Calendar, Content, Done, Entry, FollowsCode, HasValues, IsAllowed, IsBlockPhase, IsDueAt, IsLanding, IsShaped, Jumps, Landing, Midway, ModeReads, Onward, Reached, Standing, StandsSafely, Step, alternating, anchor_is, argument, arguments, awaited, begin_path, bind, bind_ok, block_begun, block_from, block_path, blocks, buffer, calendar_replay, call_read, call_write, chain_path, comm_of, comm_period, completed, content_after, counted_in, decide_chain, decide_path, decided, done_at, done_in, doubling, due_path, e_path, effect, ending, enter_chain, enter_path, entered, entering, fault, first_due, first_standing, followed, from_module, function_value, get_or-set_other, get_or-set_same, greatest, holds, holds_in, is_called, land_is, lands, leaving, led_to, length-set, list_at, made, meets, mode_of, new_stay, no_block, nothing_ends, offsets, old_stay, on, opening, output_function, pass, passed_by, phase_blocks, phase_path, port_output, ports, preempted, put_in, reach, reach_is, read, read_is, same_instr, same_is, sense, spelled_departs_not, spelled_reads, spelled_stands, standing_after, step_from, steps_of, switch_path, target_at, triggers_of, turn_step, turning, with_trigger, writer_from}
+pub use Rattle.htl_emach.proofs.Words.{Between, Calendar, Content, Done, Entry, FollowsCode, HasValues, IsAllowed, IsBlockPhase, IsDueAt, IsResolved, IsShaped, Jumps, Resolved, Midway, ModeReads, Onward, Reached, Standing, StandsSafely, Step, alternating, anchor_is, argument, arguments, awaited, begin_path, bind, bind_ok, block_begun, block_from, block_path, blocks, buffer, calendar_replay, call_read, call_write, chain_path, comm_of, comm_period, completed, content_after, counted_in, decide_chain, decide_path, decided, done_at, done_in, doubling, due_path, e_path, effect, ending, enter_chain, enter_path, entered, entering, fault, first_due, first_standing, followed, from_module, function_value, get_or-set_other, get_or-set_same, greatest, holds, holds_in, is_called, resolve_is, resolved, leaving, branch_target, length-set, list_at, made, meets, mode_of, new_stay, no_block, nothing_ends, offsets, old_stay, on, opening, output_function, pass, passed_by, phase_blocks, phase_path, port_output, ports, preempted, put_in, reach, reach_is, read, read_is, same_instr, same_is, sense, spelled_departs_not, spelled_reads, spelled_stands, standing_after, step_from, steps_of, switch_path, target_at, triggers_of, turn_step, turning, with_trigger, writer_from}
 pub use Rattle.htl_emach.specs.Following.{done_of}
 pub use Rattle.htl_emach.specs.declared.trigger.Block.{Block}
 pub use Rattle.htl_emach.specs.declared.trigger.EDone.{EDone}
@@ -57,7 +57,7 @@ pub use Rattle.htl_model.specs.declared.parts.Task.{Task}
 pub use Rattle.htl_model.specs.declared.state.State.{State}
 pub use Rattle.htl_model.specs.declared.state.Stay.{Stay}
 pub use Rattle.htl_model.specs.declared.state.Write.{Write}
-pub use Rattle.htl_object.proofs.Words.{Arrives, Asks, Does, FitsType, IsCommInRange, Tests, Turns, Waits, Want, all_do, ap, append-nil, append_known, asks_for, begin_chain, block_chain, call_of, calls, calls_of, cases_below, children, choices_some, count_at, count_by, counts, flat_map-cons, get_list_to, get_or-take, is_name, layout, mul_assoc, next_offset, nodes, or_second, phase_offsets, places_at, radices, release_of, releases, rounds_have, sum_by-append, sum_by-cons, take_more, test_of, tests_of, waits_for}
+pub use Rattle.htl_object.proofs.Words.{AtAnchor, ModeJump, Exactly, FitsType, IsCommInRange, SwitchJump, EndOfRound, NextBlock, Requirement, all_do, ap, append-nil, append_known, asks_for, begin_chain, block_chain, call_of, calls, calls_of, cases_below, children, choices_some, count_at, count_by, counts, flat_map-cons, get_list_to, get_or-take, is_name, layout, mul_assoc, next_offset, nodes, or_second, phase_offsets, places_at, radices, release_of, releases, rounds_have, sum_by-append, sum_by-cons, take_more, test_of, tests_of, waits_for}
 pub use Rattle.htl_object.specs.Accepted.{IsAccepted}
 pub use Rattle.htl_object.specs.declared.object.Object.{Object}
 pub use Rattle.htl_refine.proofs.AlongPath.{legs_within}

@@ -2,7 +2,7 @@
 pub use Rattle.htl_console.specs.Lines.{done_line, instr_line, slice_line, step_line}
 pub use Rattle.htl_console.specs.Shows.{shows_code, shows_jobs, shows_values}
 pub use Rattle.htl_console.specs.declared.shown.Shown.{Shown}
-pub use Rattle.htl_ecode.specs.Chains.{Does, Want}
+pub use Rattle.htl_ecode.specs.Chains.{Exactly, Requirement}
 pub use Rattle.htl_ecode.specs.Paths.{Done, e_path}
 pub use Rattle.htl_ecode.specs.declared.ecode.ECode.{ECode}
 pub use Rattle.htl_ecode.specs.declared.instr.EInstr.{EInstr}

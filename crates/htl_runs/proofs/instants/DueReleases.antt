@@ -1,6 +1,6 @@
 -- The releases of an instant: exactly the invocations that stand and are released then, and the flags afterwards.
 use Rattle.std.proofs.Common.{◌≡◌, ◌≢◌, ℕ, zero, suc, ◌+◌, ◌-◌, ◌≤◌, ◌<◌, Bool, true, false, cond, ◌&&◌, eqb, ltb, List, [], ◌∷◌, ◌++◌, length, get_or, slice_get, Option, Some, None, refl, sym, ap, ap₂, ◌∙◌, subst, arith, ◌⊎◌, inl, inr}
-use Rattle.htl_runs.proofs.Words.{eqb-true, eq-eqb, lt-ltb, le-ltb, and_parts, cases_eq, and_from, get_or-set_same, get_or-set_other, length-set, length-map, Inv, Stay, numbered, Tables, mode_module, is_concrete, release, stay_of, Job, counts, next_offset, Want, Does, all_do, waits_for, block_chain, wanted_reads, all_reads, InvStands, AreJobsSoFar, HaveWindows, position_from, released_before, raise_at, raise_want, raise_all, IsStanding, not_some, same_Some}
+use Rattle.htl_runs.proofs.Words.{eqb-true, eq-eqb, lt-ltb, le-ltb, and_parts, cases_eq, and_from, get_or-set_same, get_or-set_other, length-set, length-map, Inv, Stay, numbered, Tables, mode_module, is_concrete, release, stay_of, Job, counts, next_offset, Requirement, Exactly, all_do, waits_for, block_chain, wanted_reads, all_reads, InvStands, AreJobsSoFar, HaveWindows, position_from, released_before, raise_at, raise_want, raise_all, IsStanding, not_some, same_Some}
 use Rattle.htl_ecode.specs.declared.instr.EInstr.TheVariants as I
 use Rattle.htl_ecode.specs.Chains as C
 use Rattle.htl_runs.proofs.values.BlockContents.{In, AsksFor, asks_left, do_right, asks_joined, joined_asks, asks_up_to, up_to_asks, numbered_in, in_numbered, copied, not_called, among_reads}
@@ -28,7 +28,7 @@ release_called t m o i h = elim (among_reads (I.Release i) t m o (λ e. let z : 
 called_release : (t : Tables) (m o i : ℕ) (x : Inv) → slice_get t.invs i ≡ Some x → counts t m x ≡ true → release t x ≡ o → AsksFor (I.Release i) (block_chain t m 3 o)
 called_release t m o i x at c r =
     let yes' : (counts t m x && eqb (release t x) o) ≡ true = and_from (counts t m x) (eqb (release t x) o) c (eq-eqb (release t x) o r) in
-    asks_left (I.Release i) (all_do (copied t m o ++ C.releases t m o)) (waits_for o 3 (next_offset t m 3 (suc o)) ++ Does I.Return ∷ [])
+    asks_left (I.Release i) (all_do (copied t m o ++ C.releases t m o)) (waits_for o 3 (next_offset t m 3 (suc o)) ++ Exactly I.Return ∷ [])
     (do_right (I.Release i) (copied t m o) (C.releases t m o)
     (joined_asks (I.Release i) (C.release_of t m o) (numbered 0 t.invs) (i, x)
     (subst (λ z. In (z, x) (numbered 0 t.invs)) (let z : 0 + i ≡ i = omega arith in z) (in_numbered t.invs 0 i x at))
@@ -65,33 +65,33 @@ module _ (t : Tables) (stays : List (Option Stay)) (n now : ℕ) (standing : IsS
 
 -- ---- the flags
 
-data Kind (x : Want) : Type 1 where
-  releases : (i : ℕ) → x ≡ Does (I.Release i) → Kind x
-  idles : ((jobs : List Job) (bs : List Bool) → raise_want jobs x bs ≡ bs) → ((i : ℕ) → x ≡ Does (I.Release i) → ⊥) → Kind x
+data Kind (x : Requirement) : Type 1 where
+  releases : (i : ℕ) → x ≡ Exactly (I.Release i) → Kind x
+  idles : ((jobs : List Job) (bs : List Bool) → raise_want jobs x bs ≡ bs) → ((i : ℕ) → x ≡ Exactly (I.Release i) → ⊥) → Kind x
 
-kind_of : (x : Want) → Kind x
-kind_of (Does (I.Release a)) = releases a refl
+kind_of : (x : Requirement) → Kind x
+kind_of (Exactly (I.Release a)) = releases a refl
 kind_of _ = idles (λ js bs. refl) (λ i e. let z : ⊥ = cc in z)
 
 tell_length : (o : Option ℕ) (bs : List Bool) → length (raise_at o bs) ≡ length bs
 tell_length None bs = refl
 tell_length (Some p) bs = length-set bs p true
 
-want_length : (jobs : List Job) (x : Want) (bs : List Bool) → Kind x → length (raise_want jobs x bs) ≡ length bs
+want_length : (jobs : List Job) (x : Requirement) (bs : List Bool) → Kind x → length (raise_want jobs x bs) ≡ length bs
 want_length jobs x bs (releases i e) = ap (λ z. length (raise_want jobs z bs)) e ∙ tell_length (position_from 0 jobs i) bs
 want_length jobs x bs (idles f g) = ap (λ (z : List Bool). length z) (f jobs bs)
 
-all_length : (jobs : List Job) (ws : List Want) (bs : List Bool) → length (raise_all jobs ws bs) ≡ length bs
+all_length : (jobs : List Job) (ws : List Requirement) (bs : List Bool) → length (raise_all jobs ws bs) ≡ length bs
 all_length jobs [] bs = refl
 all_length jobs (x ∷ xs) bs = all_length jobs xs (raise_want jobs x bs) ∙ want_length jobs x bs (kind_of x)
 
 -- a flag is that before, or true where the position's invocation is asked for
-abbrev pub Flagged : List Job → List Want → List Bool → ℕ → Type 0
+abbrev pub Flagged : List Job → List Requirement → List Bool → ℕ → Type 0
 Flagged jobs ws bs p =
     (((i : ℕ) → AsksFor (I.Release i) ws → position_from 0 jobs i ≡ Some p → ⊥) × (get_or (raise_all jobs ws bs) p false ≡ get_or bs p false))
     ⊎ ((i : ℕ) × AsksFor (I.Release i) ws × (position_from 0 jobs i ≡ Some p) × (get_or (raise_all jobs ws bs) p false ≡ true))
 
-pub are_flagged : (jobs : List Job) (ws : List Want) (bs : List Bool) (p : ℕ) → p < length bs → Flagged jobs ws bs p
+pub are_flagged : (jobs : List Job) (ws : List Requirement) (bs : List Bool) (p : ℕ) → p < length bs → Flagged jobs ws bs p
 are_flagged jobs [] bs p h = inl (λ i a e. a, refl)
 are_flagged jobs (x ∷ xs) bs p h = by_kind (kind_of x) (are_flagged jobs xs (raise_want jobs x bs) p (omega (arith, want_length jobs x bs (kind_of x))))
   where
@@ -117,7 +117,7 @@ are_flagged jobs (x ∷ xs) bs p h = by_kind (kind_of x) (are_flagged jobs xs (r
             by_same q (inr n) =
                 inl (
                   λ j a w. elim a [
-                    | inl z ↦ let same : i ≡ j = (let y : Does (I.Release i) ≡ Does (I.Release j) = sym f ∙ z in cc) in n (sym e ∙ ap (position_from 0 jobs) same ∙ w)
+                    | inl z ↦ let same : i ≡ j = (let y : Exactly (I.Release i) ≡ Exactly (I.Release j) = sym f ∙ z in cc) in n (sym e ∙ ap (position_from 0 jobs) same ∙ w)
                     | inr z ↦ r.0 j z w
                   ],
                   r.1 ∙ ap (λ z. get_or z p false) put ∙ kept o n,

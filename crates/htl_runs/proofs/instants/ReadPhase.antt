@@ -1,6 +1,6 @@
 -- The addresses of the read phase do to the S machine what its blocks ask for.
 use Rattle.std.proofs.Common.{◌≡◌, ℕ, zero, suc, ◌-◌, ◌<◌, Bool, true, false, List, [], ◌∷◌, ◌++◌, length, slice_get, Option, Some, None, Result, Ok, inr, refl, sym, ap, ◌∙◌}
-use Rattle.htl_runs.proofs.Words.{Event, Stay, State, up_to, Tables, AreInRange, state, stay_of, Round, ECode, EInstr, EFault, next_offset, phase_offsets, holds, Want, Does, Waits, Turns, Tests, Asks, Arrives, waits_for, all_do, block_chain, Step, Reached, reach, read, steps_of, passed_by, blocks, Done, chain_path, block_path, due_path, reads_done, Jumps, reach_is, anchor_is, read_is, spelled_stands, no_block, phase_path, wanted_reads, all_reads, s_machine_does, s_machine_at, s_machine_replay, s_machine_want, s_machine_all, standing_at}
+use Rattle.htl_runs.proofs.Words.{Event, Stay, State, up_to, Tables, AreInRange, state, stay_of, Round, ECode, EInstr, EFault, next_offset, phase_offsets, holds, Requirement, Exactly, NextBlock, EndOfRound, SwitchJump, ModeJump, AtAnchor, waits_for, all_do, block_chain, Step, Reached, reach, read, steps_of, passed_by, blocks, Done, chain_path, block_path, due_path, reads_done, Jumps, reach_is, anchor_is, read_is, spelled_stands, no_block, phase_path, wanted_reads, all_reads, s_machine_does, s_machine_at, s_machine_replay, s_machine_want, s_machine_all, standing_at}
 use Rattle.htl_ecode.specs.declared.instr.EInstr.TheVariants as I
 use Rattle.htl_ecode.proofs.Spelled.{ModeReads, Stands}
 use Rattle.htl_runs.proofs.values.PhasePaths.{no_calls, addresses, addresses_on, addresses_more}
@@ -14,7 +14,7 @@ pub s_machine_addresses : (code : ECode) (ds : List Done) (r : Round) → s_mach
 s_machine_addresses code [] r = refl
 s_machine_addresses code (d ∷ ds) r = s_machine_addresses code ds (s_machine_at (slice_get code.instrs d.address) r)
 
-pub all_more : (xs ys : List Want) (r : Round) → s_machine_all (xs ++ ys) r ≡ s_machine_all ys (s_machine_all xs r)
+pub all_more : (xs ys : List Requirement) (r : Round) → s_machine_all (xs ++ ys) r ≡ s_machine_all ys (s_machine_all xs r)
 all_more [] ys r = refl
 all_more (x ∷ xs) ys r = all_more xs ys (s_machine_want x r)
 
@@ -30,25 +30,25 @@ module _ (code : List EInstr) where
   one_acts : (a b : ℕ) (xs : List ℕ) (i : EInstr) (r : Round) → Jumps code a xs b → slice_get code b ≡ Some i → s_machine_path code (xs ++ b ∷ []) r ≡ s_machine_does i r
   one_acts a b xs i r p at = path_more xs (b ∷ []) r ∙ ap (λ z. s_machine_path code (b ∷ []) z) (jumps_leave a b xs r p) ∙ ap (λ o. s_machine_at o r) at
 
-  reached_acts : (a : ℕ) (x : Want) (y : Reached) (r : Round) → reach code a x ≡ Ok y → s_machine_path code y.step.passed r ≡ s_machine_want x r
-  reached_acts a (Does j) y r e =
-      let h = reach_is code a (Does j) y tt e in
+  reached_acts : (a : ℕ) (x : Requirement) (y : Reached) (r : Round) → reach code a x ≡ Ok y → s_machine_path code y.step.passed r ≡ s_machine_want x r
+  reached_acts a (Exactly j) y r e =
+      let h = reach_is code a (Exactly j) y tt e in
       ap (λ zs. s_machine_path code zs r) h.passed ∙ one_acts a h.place h.jumps h.instr r h.leads h.stands ∙ ap (λ z. s_machine_does z r) h.meets.0
-  reached_acts a (Waits d p) y r e =
-      let h = reach_is code a (Waits d p) y tt e in
+  reached_acts a (NextBlock d p) y r e =
+      let h = reach_is code a (NextBlock d p) y tt e in
       ap (λ zs. s_machine_path code zs r) h.passed ∙ one_acts a h.place h.jumps h.instr r h.leads h.stands ∙ ap (λ z. s_machine_does z r) h.meets.0
-  reached_acts a (Turns d x) y r e =
-      let h = reach_is code a (Turns d x) y tt e in
+  reached_acts a (EndOfRound d x) y r e =
+      let h = reach_is code a (EndOfRound d x) y tt e in
       ap (λ zs. s_machine_path code zs r) h.passed ∙ one_acts a h.place h.jumps h.instr r h.leads h.stands ∙ ap (λ z. s_machine_does z r) h.meets.0
-  reached_acts a (Tests k m x) y r e =
-      let h = reach_is code a (Tests k m x) y tt e in
+  reached_acts a (SwitchJump k m x) y r e =
+      let h = reach_is code a (SwitchJump k m x) y tt e in
       ap (λ zs. s_machine_path code zs r) h.passed ∙ one_acts a h.place h.jumps h.instr r h.leads h.stands ∙ ap (λ z. s_machine_does z r) h.meets.0
-  reached_acts a (Asks q) y r e =
-      let h = reach_is code a (Asks q) y tt e in
+  reached_acts a (ModeJump q) y r e =
+      let h = reach_is code a (ModeJump q) y tt e in
       ap (λ zs. s_machine_path code zs r) h.passed ∙ one_acts a h.place h.jumps h.instr r h.leads h.stands ∙ ap (λ z. s_machine_does z r) h.meets.0
-  reached_acts a (Arrives x) y r e = jumps_leave a x y.step.passed r (anchor_is code a x y e).0
+  reached_acts a (AtAnchor x) y r e = jumps_leave a x y.step.passed r (anchor_is code a x y e).0
 
-  chain_acts : (ws : List Want) (a : ℕ) (ss : List Step) (r : Round) → read code a ws ≡ Ok ss → s_machine_path code (passed_by ss) r ≡ s_machine_all ws r
+  chain_acts : (ws : List Requirement) (a : ℕ) (ss : List Step) (r : Round) → read code a ws ≡ Ok ss → s_machine_path code (passed_by ss) r ≡ s_machine_all ws r
   chain_acts [] a ss r e =
       let none : [] ≡ ss = (let h : ◌≡◌ {A = Result (List Step) EFault} (Ok []) (Ok ss) = e in cc) in
       ap (λ zs. s_machine_path code (passed_by zs) r) (sym none)
@@ -59,7 +59,7 @@ module _ (code : List EInstr) where
       ∙ ap (λ z. s_machine_path code (passed_by d.rest) z) (reached_acts a x d.first r d.reaches)
       ∙ chain_acts xs d.first.next d.rest (s_machine_want x r) d.then
 
-waits_leave : (o p : ℕ) (n : Option ℕ) (r : Round) → s_machine_all (waits_for o p n ++ Does I.Return ∷ []) r ≡ r
+waits_leave : (o p : ℕ) (n : Option ℕ) (r : Round) → s_machine_all (waits_for o p n ++ Exactly I.Return ∷ []) r ≡ r
 waits_leave o p None r = refl
 waits_leave o p (Some x) r = refl
 
@@ -75,7 +75,7 @@ read_block_acts t code m o r reads = by_offset (holds o (phase_offsets t m 3)) r
         ∙ chain_acts code.instrs (block_chain t m 3 o) s.address s.reads.0 r s.reads.1
     by_offset false h =
         ap (λ z. s_machine_path code.instrs (elim z [ Some a ↦ chain_path code a (block_chain t m 3 o) | None ↦ [] ]) r) (no_block t code m 3 o h)
-        ∙ sym (ap (λ js. s_machine_all (all_do js ++ (waits_for o 3 (next_offset t m 3 (suc o)) ++ Does I.Return ∷ [])) r) (no_calls t m 3 o h) ∙ waits_leave o 3 (next_offset t m 3 (suc o)) r)
+        ∙ sym (ap (λ js. s_machine_all (all_do js ++ (waits_for o 3 (next_offset t m 3 (suc o)) ++ Exactly I.Return ∷ [])) r) (no_calls t m 3 o h) ∙ waits_leave o 3 (next_offset t m 3 (suc o)) r)
 
 module _ (t : Tables) (code : ECode) (reads : (m : ℕ) → m < length t.modes → ModeReads t code m) where
   reads_of_stay : (now : ℕ) (o : Option Stay) → ((y : Stay) → o ≡ Some y → y.mode < length t.modes) → (r : Round) → s_machine_path code.instrs (due_path t code 3 now o) r ≡ s_machine_all (wanted_reads t now o) r

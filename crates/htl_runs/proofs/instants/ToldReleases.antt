@@ -1,6 +1,6 @@
 -- The releases of an instant: who is released now isn't done yet, so the read phase tells exactly the flags that the list asks for.
 use Rattle.std.proofs.Common.{◌≡◌, ◌≢◌, ℕ, zero, suc, ◌+◌, ◌-◌, ◌≤◌, ◌<◌, Bool, true, false, cond, ◌&&◌, eqb, is_some, List, [], ◌∷◌, length, get_or, slice_get, set, take, Option, Some, None, refl, sym, ap, ap₂, ◌∙◌, arith, inl, inr, length-append}
-use Rattle.htl_runs.proofs.Words.{eqb-true, set-get_or, slice_get_within, same_Some, Event, Tables, AreInRange, state, Job, Point, Left, job_at, last_point, finish, is_position, Finished, Round, state_by, state_of, ECode, Want, Does, ModeReads, phase_path, all_reads, count_left_before, done_by, Turn, turn_walk, records_so_far, left_before, AreTurns, IsListed, position_from, SMachineAt, raise_at, raise_want, raise_all, made_ready, released_to, s_machine_replay, s_machine_want, s_machine_all, standing_at, not_some, done_some, job_is, length-walk}
+use Rattle.htl_runs.proofs.Words.{eqb-true, set-get_or, slice_get_within, same_Some, Event, Tables, AreInRange, state, Job, Point, Left, job_at, last_point, finish, is_position, Finished, Round, state_by, state_of, ECode, Requirement, Exactly, ModeReads, phase_path, all_reads, count_left_before, done_by, Turn, turn_walk, records_so_far, left_before, AreTurns, IsListed, position_from, SMachineAt, raise_at, raise_want, raise_all, made_ready, released_to, s_machine_replay, s_machine_want, s_machine_all, standing_at, not_some, done_some, job_is, length-walk}
 use Rattle.htl_ecode.specs.declared.instr.EInstr.TheVariants as I
 use Rattle.htl_refine.proofs.DoneRecords as records
 use Rattle.htl_runs.proofs.frames.JobWindows.{position_some}
@@ -29,12 +29,12 @@ released_is i r open_yet = by_place (position_from 0 r.jobs i) refl
         let at : slice_get r.jobs p ≡ Some w.2 = ap (slice_get r.jobs) (let z : p ≡ w.0 = omega (arith, w.1) in z) ∙ w.3 in
         by_state p (job_at r.jobs p).present (eqb (get_or r.point.left p 0) 0) (get_or r.released p false) (ap (λ (j : Job). j.present) (job_is r.jobs p w.2 at) ∙ w.4) refl (open_yet p e)
 
-want_is : (w : Want) (r : Round) → ((i q : ℕ) → w ≡ Does (I.Release i) → position_from 0 r.jobs i ≡ Some q → state_of r q ≢ Finished) → s_machine_want w r ≡ with_flags r (raise_want r.jobs w r.released)
-want_is (Does (I.Release i)) r h = released_is i r (λ q e. h i q refl e)
+want_is : (w : Requirement) (r : Round) → ((i q : ℕ) → w ≡ Exactly (I.Release i) → position_from 0 r.jobs i ≡ Some q → state_of r q ≢ Finished) → s_machine_want w r ≡ with_flags r (raise_want r.jobs w r.released)
+want_is (Exactly (I.Release i)) r h = released_is i r (λ q e. h i q refl e)
 want_is _ r h = refl
 
 -- who is asked for isn't done
-abbrev pub AreOpen : List Want → Round → Type 0
+abbrev pub AreOpen : List Requirement → Round → Type 0
 AreOpen ws r = (i q : ℕ) → AsksFor (I.Release i) ws → position_from 0 r.jobs i ≡ Some q → state_of r q ≢ Finished
 
 finished_by_work : (a b c d : Bool) → state_by a b c ≡ Finished → state_by a b d ≡ Finished
@@ -43,7 +43,7 @@ finished_by_work true true c d e = refl
 finished_by_work true false true d e = absurd (let z : ⊥ = cc in z)
 finished_by_work true false false d e = absurd (let z : ⊥ = cc in z)
 
-pub flags_are : (ws : List Want) (r : Round) → AreOpen ws r → s_machine_all ws r ≡ with_flags r (raise_all r.jobs ws r.released)
+pub flags_are : (ws : List Requirement) (r : Round) → AreOpen ws r → s_machine_all ws r ≡ with_flags r (raise_all r.jobs ws r.released)
 flags_are [] r h = refl
 flags_are (w ∷ ws) r h =
     let bs = raise_want r.jobs w r.released in

@@ -1,6 +1,6 @@
 -- What the blocks of an instant ask for.
 use Rattle.std.proofs.Common.{◌≡◌, ℕ, zero, suc, ◌+◌, ◌-◌, ◌*◌, ◌≤◌, ◌<◌, Bool, true, false, cond, ◌&&◌, eqb, List, [], ◌∷◌, ◌++◌, length, slice_get, map, Option, Some, None, refl, sym, ap, ◌∙◌, subst, arith, ◌⊎◌, inl, inr}
-use Rattle.htl_runs.proofs.Words.{eqb-true, eq-eqb, and_parts, and_from, Inv, End, Stay, joined, numbered, up_to, Tables, comm_period, mode_module, is_concrete, release, stay_of, EInstr, meets, counts, places_at, next_offset, Want, Does, all_do, waits_for, release_of, releases, block_chain, wanted_writes, wanted_reads, all_writes, all_reads, EndIsMet, IsDue, IsRead, IsStanding, same_Some, cases_below}
+use Rattle.htl_runs.proofs.Words.{eqb-true, eq-eqb, and_parts, and_from, Inv, End, Stay, joined, numbered, up_to, Tables, comm_period, mode_module, is_concrete, release, stay_of, EInstr, meets, counts, places_at, next_offset, Requirement, Exactly, all_do, waits_for, release_of, releases, block_chain, wanted_writes, wanted_reads, all_writes, all_reads, EndIsMet, IsDue, IsRead, IsStanding, same_Some, cases_below}
 use Rattle.htl_model.specs.declared.parts.End.TheVariants as E
 use Rattle.htl_ecode.specs.declared.instr.EInstr.TheVariants as I
 
@@ -9,22 +9,22 @@ In a [] = ⊥
 In a (b ∷ bs) = (a ≡ b) ⊎ In a bs
 
 -- the wants ask for this instruction
-abbrev pub AsksFor : EInstr → List Want → Type 0
+abbrev pub AsksFor : EInstr → List Requirement → Type 0
 AsksFor j [] = ⊥
-AsksFor j (w ∷ ws) = (w ≡ Does j) ⊎ AsksFor j ws
+AsksFor j (w ∷ ws) = (w ≡ Exactly j) ⊎ AsksFor j ws
 
 -- ---- lists
 
-pub asks_left : (j : EInstr) (xs ys : List Want) → AsksFor j xs → AsksFor j (xs ++ ys)
+pub asks_left : (j : EInstr) (xs ys : List Requirement) → AsksFor j xs → AsksFor j (xs ++ ys)
 asks_left j [] ys h = absurd h
 asks_left j (x ∷ xs) ys (inl e) = inl e
 asks_left j (x ∷ xs) ys (inr h) = inr (asks_left j xs ys h)
 
-pub asks_right : (j : EInstr) (xs ys : List Want) → AsksFor j ys → AsksFor j (xs ++ ys)
+pub asks_right : (j : EInstr) (xs ys : List Requirement) → AsksFor j ys → AsksFor j (xs ++ ys)
 asks_right j [] ys h = h
 asks_right j (x ∷ xs) ys h = inr (asks_right j xs ys h)
 
-pub asks_split : (j : EInstr) (xs ys : List Want) → AsksFor j (xs ++ ys) → AsksFor j xs ⊎ AsksFor j ys
+pub asks_split : (j : EInstr) (xs ys : List Requirement) → AsksFor j (xs ++ ys) → AsksFor j xs ⊎ AsksFor j ys
 asks_split j [] ys h = inr h
 asks_split j (x ∷ xs) ys (inl e) = inl (inl e)
 asks_split j (x ∷ xs) ys (inr h) = elim (asks_split j xs ys h) [ inl a ↦ inl (inr a) | inr b ↦ inr b ]
@@ -57,7 +57,7 @@ joined_asks j f [] n h a = absurd h
 joined_asks j f (m ∷ ns) n (inl e) a = do_left j (f m) (joined f ns) (subst (λ z. AsksFor j (all_do (f z))) e a)
 joined_asks j f (m ∷ ns) n (inr h) a = do_right j (f m) (joined f ns) (joined_asks j f ns n h a)
 
-pub asks_up_to : (j : EInstr) (f : ℕ → List Want) (n : ℕ) → AsksFor j (up_to f n) → (u : ℕ) × (u < n) × AsksFor j (f u)
+pub asks_up_to : (j : EInstr) (f : ℕ → List Requirement) (n : ℕ) → AsksFor j (up_to f n) → (u : ℕ) × (u < n) × AsksFor j (f u)
 asks_up_to j f zero h = absurd h
 asks_up_to j f (suc n) h = by_part (asks_split j (up_to f n) (f n) h) (asks_up_to j f n)
   where
@@ -65,7 +65,7 @@ asks_up_to j f (suc n) h = by_part (asks_split j (up_to f n) (f n) h) (asks_up_t
     by_part (inl a) ih = let r = ih a in (r.0, omega (arith, r.1), r.2)
     by_part (inr b) ih = (n, omega arith, b)
 
-pub up_to_asks : (j : EInstr) (f : ℕ → List Want) (n u : ℕ) → u < n → AsksFor j (f u) → AsksFor j (up_to f n)
+pub up_to_asks : (j : EInstr) (f : ℕ → List Requirement) (n u : ℕ) → u < n → AsksFor j (f u) → AsksFor j (up_to f n)
 up_to_asks j f zero u h a = absurd (omega arith)
 up_to_asks j f (suc n) u h a = by_part (cases_below u n h) (λ g. up_to_asks j f n u g a)
   where
@@ -122,14 +122,14 @@ meets_is t o (E.Port p) h = absurd (let z : ⊥ = cc in z)
 
 -- ---- the calls of a mode at an offset
 
-asks_map : (j : EInstr) (g : ℕ → EInstr) (ks : List ℕ) → AsksFor j (all_do (map g ks)) → (k : ℕ) × In k ks × (Does (g k) ≡ Does j)
+asks_map : (j : EInstr) (g : ℕ → EInstr) (ks : List ℕ) → AsksFor j (all_do (map g ks)) → (k : ℕ) × In k ks × (Exactly (g k) ≡ Exactly j)
 asks_map j g [] h = absurd h
 asks_map j g (k ∷ ks) (inl e) = (k, inl refl, e)
 asks_map j g (k ∷ ks) (inr h) = let r = asks_map j g ks h in (r.0, inr r.1, r.2)
 
 map_asks : (g : ℕ → EInstr) (ks : List ℕ) (k : ℕ) → In k ks → AsksFor (g k) (all_do (map g ks))
 map_asks g [] k h = absurd h
-map_asks g (l ∷ ks) k (inl e) = inl (ap (λ z. Does (g z)) (sym e))
+map_asks g (l ∷ ks) k (inl e) = inl (ap (λ z. Exactly (g z)) (sym e))
 map_asks g (l ∷ ks) k (inr h) = inr (map_asks g ks k h)
 
 -- the calls that an instruction makes for the ends of one kind
@@ -147,7 +147,7 @@ record IsCalled (ends : Inv → List End) (t : Tables) (m o i k : ℕ) : Type 0 
   end : slice_get (ends inv) k ≡ Some (E.Comm comm instance)
   at : instance * comm_period t comm ≡ o
 
-module _ (make : ℕ → ℕ → EInstr) (ends : Inv → List End) (apart : (a b i k : ℕ) → Does (make a b) ≡ Does (make i k) → (a ≡ i) × (b ≡ k)) (t : Tables) where
+module _ (make : ℕ → ℕ → EInstr) (ends : Inv → List End) (apart : (a b i k : ℕ) → Exactly (make a b) ≡ Exactly (make i k) → (a ≡ i) × (b ≡ k)) (t : Tables) where
   item_called : (m o i k : ℕ) (n : ℕ × Inv) → slice_get t.invs n.0 ≡ Some n.1 → AsksFor (make i k) (all_do (calls_of make ends t m o n)) → IsCalled ends t m o i k
   item_called m o i k n at h = by_test (counts t m n.1) refl h
     where
@@ -188,14 +188,14 @@ module _ (make : ℕ → ℕ → EInstr) (ends : Inv → List End) (apart : (a b
 
 -- ---- what else the chains ask for
 
-pub not_waits : (j : EInstr) (o p : ℕ) (n : Option ℕ) → (Does I.Return ≡ Does j → ⊥) → AsksFor j (waits_for o p n ++ Does I.Return ∷ []) → ⊥
+pub not_waits : (j : EInstr) (o p : ℕ) (n : Option ℕ) → (Exactly I.Return ≡ Exactly j → ⊥) → AsksFor j (waits_for o p n ++ Exactly I.Return ∷ []) → ⊥
 not_waits j o p None f (inl e) = f e
 not_waits j o p None f (inr h) = h
 not_waits j o p (Some x) f (inl e) = cc
 not_waits j o p (Some x) f (inr (inl e)) = f e
 not_waits j o p (Some x) f (inr (inr h)) = h
 
-not_released : (j : EInstr) (t : Tables) (m o : ℕ) (ns : List (ℕ × Inv)) → ((i : ℕ) → Does (I.Release i) ≡ Does j → ⊥) → AsksFor j (all_do (joined (release_of t m o) ns)) → ⊥
+not_released : (j : EInstr) (t : Tables) (m o : ℕ) (ns : List (ℕ × Inv)) → ((i : ℕ) → Exactly (I.Release i) ≡ Exactly j → ⊥) → AsksFor j (all_do (joined (release_of t m o) ns)) → ⊥
 not_released j t m o ns f h = let r = asks_joined j (release_of t m o) ns h in by_test r.0 (counts t m r.0.1 && eqb (release t r.0.1) o) r.2
   where
     by_test : (n : ℕ × Inv) (b : Bool) → AsksFor j (all_do (cond b (I.Release n.0 ∷ []) [])) → ⊥
@@ -203,17 +203,17 @@ not_released j t m o ns f h = let r = asks_joined j (release_of t m o) ns h in b
     by_test n true (inr h) = h
     by_test n false h = h
 
-pub not_called : (j : EInstr) (make : ℕ → ℕ → EInstr) (ends : Inv → List End) (t : Tables) (m o : ℕ) (ns : List (ℕ × Inv)) → ((a b : ℕ) → Does (make a b) ≡ Does j → ⊥) → AsksFor j (all_do (joined (calls_of make ends t m o) ns)) → ⊥
+pub not_called : (j : EInstr) (make : ℕ → ℕ → EInstr) (ends : Inv → List End) (t : Tables) (m o : ℕ) (ns : List (ℕ × Inv)) → ((a b : ℕ) → Exactly (make a b) ≡ Exactly j → ⊥) → AsksFor j (all_do (joined (calls_of make ends t m o) ns)) → ⊥
 not_called j make ends t m o ns f h = let r = asks_joined j (calls_of make ends t m o) ns h in by_test r.0 (counts t m r.0.1) r.2
   where
     by_test : (n : ℕ × Inv) (b : Bool) → AsksFor j (all_do (cond b (map (make n.0) (places_at t o 0 (ends n.1))) [])) → ⊥
     by_test n true h = let r = asks_map j (make n.0) (places_at t o 0 (ends n.1)) h in f n.0 r.0 r.2
     by_test n false h = h
 
-write_apart : (a b i k : ℕ) → Does (I.CallWrite a b) ≡ Does (I.CallWrite i k) → (a ≡ i) × (b ≡ k)
+write_apart : (a b i k : ℕ) → Exactly (I.CallWrite a b) ≡ Exactly (I.CallWrite i k) → (a ≡ i) × (b ≡ k)
 write_apart a b i k e = (cc, cc)
 
-read_apart : (a b i k : ℕ) → Does (I.CallRead a b) ≡ Does (I.CallRead i k) → (a ≡ i) × (b ≡ k)
+read_apart : (a b i k : ℕ) → Exactly (I.CallRead a b) ≡ Exactly (I.CallRead i k) → (a ≡ i) × (b ≡ k)
 read_apart a b i k e = (cc, cc)
 
 abbrev pub written : Tables → ℕ → ℕ → List EInstr
@@ -223,16 +223,16 @@ abbrev pub copied : Tables → ℕ → ℕ → List EInstr
 copied t m o = joined (calls_of I.CallRead (λ x. x.reads) t m o) (numbered 0 t.invs)
 
 -- what a chain asks for, but for `Return`
-pub among_writes : (j : EInstr) (t : Tables) (m o : ℕ) → (Does I.Return ≡ Does j → ⊥) → AsksFor j (block_chain t m 1 o) → AsksFor j (all_do (written t m o))
+pub among_writes : (j : EInstr) (t : Tables) (m o : ℕ) → (Exactly I.Return ≡ Exactly j → ⊥) → AsksFor j (block_chain t m 1 o) → AsksFor j (all_do (written t m o))
 among_writes j t m o f h =
-    elim (asks_split j (all_do (written t m o ++ [])) (waits_for o 1 (next_offset t m 1 (suc o)) ++ Does I.Return ∷ []) h) [
+    elim (asks_split j (all_do (written t m o ++ [])) (waits_for o 1 (next_offset t m 1 (suc o)) ++ Exactly I.Return ∷ []) h) [
       | inl a ↦ elim (do_split j (written t m o) [] a) [ inl b ↦ b | inr none ↦ absurd none ]
       | inr b ↦ absurd (not_waits j o 1 (next_offset t m 1 (suc o)) f b)
     ]
 
-pub among_reads : (j : EInstr) (t : Tables) (m o : ℕ) → (Does I.Return ≡ Does j → ⊥) → AsksFor j (block_chain t m 3 o) → AsksFor j (all_do (copied t m o)) ⊎ AsksFor j (all_do (releases t m o))
+pub among_reads : (j : EInstr) (t : Tables) (m o : ℕ) → (Exactly I.Return ≡ Exactly j → ⊥) → AsksFor j (block_chain t m 3 o) → AsksFor j (all_do (copied t m o)) ⊎ AsksFor j (all_do (releases t m o))
 among_reads j t m o f h =
-    elim (asks_split j (all_do (copied t m o ++ releases t m o)) (waits_for o 3 (next_offset t m 3 (suc o)) ++ Does I.Return ∷ []) h) [
+    elim (asks_split j (all_do (copied t m o ++ releases t m o)) (waits_for o 3 (next_offset t m 3 (suc o)) ++ Exactly I.Return ∷ []) h) [
       | inl a ↦ do_split j (copied t m o) (releases t m o) a
       | inr b ↦ absurd (not_waits j o 3 (next_offset t m 3 (suc o)) f b)
     ]
@@ -242,7 +242,7 @@ write_called t m o i k h = called I.CallWrite (λ x. x.writes) write_apart t m o
 
 called_write : (t : Tables) (m o i k : ℕ) → IsCalled (λ x. x.writes) t m o i k → AsksFor (I.CallWrite i k) (block_chain t m 1 o)
 called_write t m o i k c =
-    asks_left (I.CallWrite i k) (all_do (written t m o ++ [])) (waits_for o 1 (next_offset t m 1 (suc o)) ++ Does I.Return ∷ [])
+    asks_left (I.CallWrite i k) (all_do (written t m o ++ [])) (waits_for o 1 (next_offset t m 1 (suc o)) ++ Exactly I.Return ∷ [])
     (do_left (I.CallWrite i k) (written t m o) [] (calls I.CallWrite (λ x. x.writes) write_apart t m o i k c))
 
 read_called : (t : Tables) (m o i k : ℕ) → AsksFor (I.CallRead i k) (block_chain t m 3 o) → IsCalled (λ x. x.reads) t m o i k
@@ -253,7 +253,7 @@ read_called t m o i k h = elim (among_reads (I.CallRead i k) t m o (λ e. let z 
 
 called_read : (t : Tables) (m o i k : ℕ) → IsCalled (λ x. x.reads) t m o i k → AsksFor (I.CallRead i k) (block_chain t m 3 o)
 called_read t m o i k c =
-    asks_left (I.CallRead i k) (all_do (copied t m o ++ releases t m o)) (waits_for o 3 (next_offset t m 3 (suc o)) ++ Does I.Return ∷ [])
+    asks_left (I.CallRead i k) (all_do (copied t m o ++ releases t m o)) (waits_for o 3 (next_offset t m 3 (suc o)) ++ Exactly I.Return ∷ [])
     (do_left (I.CallRead i k) (copied t m o) (releases t m o) (calls I.CallRead (λ x. x.reads) read_apart t m o i k c))
 
 -- a chain of one kind asks for no call of the other

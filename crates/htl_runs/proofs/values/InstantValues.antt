@@ -1,7 +1,7 @@
 -- The writes that are due and then the sensors give the values of the instant.
 use Rattle.std.proofs.Common.{◌≡◌, ℕ, zero, suc, ◌+◌, ◌*◌, ◌/◌, ◌≤◌, ◌<◌, cond, List, [], ◌∷◌, ◌++◌, length, get_or, slice_get, map, Option, Some, None, ℤ, pos, refl, sym, ap, ◌∙◌, subst, arith, inl, inr}
 use mathlib.Core.Path.{fun_ext}
-use Rattle.htl_runs.proofs.Words.{slice_get_within, Event, Comm, Inv, Stay, State, Write, list_to, up_to, Tables, AreInRange, state, before, stay_of, sense, out, next_value, next_values, written, written_by, write_from, first_value, first_values, state_step, seen_before, Want, Content, buffer, comm_of, effects, wanted_writes, all_writes, want_effect, shown, shown_at, IsDue, AreDistinct, values_before, IsStanding, standing_at, not_some, length-list_to, length_mapped, zero_down}
+use Rattle.htl_runs.proofs.Words.{slice_get_within, Event, Comm, Inv, Stay, State, Write, list_to, up_to, Tables, AreInRange, state, before, stay_of, sense, out, next_value, next_values, written, written_by, write_from, first_value, first_values, state_step, seen_before, Requirement, Content, buffer, comm_of, effects, wanted_writes, all_writes, want_effect, shown, shown_at, IsDue, AreDistinct, values_before, IsStanding, standing_at, not_some, length-list_to, length_mapped, zero_down}
 use Rattle.htl_emach.specs.Contents as contents
 use Rattle.htl_runs.proofs.values.BlockContents.{due_of, due_asks}
 use Rattle.htl_runs.proofs.values.WantEffects.{Written, are_written}
@@ -72,7 +72,7 @@ length-values t es zero = length_mapped (λ c. c.init) t.comms
 length-values t es (suc zero) = length-list_to _ (length t.comms)
 length-values t es (suc (suc n)) = length-list_to _ (length t.comms)
 
-pub effects_more : (t : Tables) (xs ys : List Want) (w : Content) → effects t (xs ++ ys) w ≡ effects t ys (effects t xs w)
+pub effects_more : (t : Tables) (xs ys : List Requirement) (w : Content) → effects t (xs ++ ys) w ≡ effects t ys (effects t xs w)
 effects_more t [] ys w = refl
 effects_more t (x ∷ xs) ys w = effects_more t xs ys (want_effect t x w)
 

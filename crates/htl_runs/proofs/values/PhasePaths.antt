@@ -1,6 +1,6 @@
 -- The addresses of the write phase and of the read phase do what their blocks ask for.
 use Rattle.std.proofs.Common.{◌≡◌, ℕ, suc, ◌-◌, ◌*◌, Bool, true, false, cond, ◌&&◌, ◌||◌, eqb, List, [], ◌∷◌, ◌++◌, length, map, slice_get, zero, ◌<◌, Option, Some, None, Result, Ok, inl, inr, refl, sym, ap, ◌∙◌}
-use Rattle.htl_runs.proofs.Words.{Inv, End, Stay, State, joined, numbered, up_to, Tables, comm_period, offsets, release, stay_of, ECode, EInstr, EFault, counts, counted_in, places_at, next_offset, phase_offsets, holds, Want, Does, Waits, Turns, Tests, Asks, Arrives, all_do, call_of, calls_of, release_of, releases, calls, waits_for, block_chain, Step, Reached, reach, read, steps_of, passed_by, blocks, Done, on, chain_path, block_path, due_path, writes_done, reads_done, Jumps, reach_is, anchor_is, read_is, IsBlockPhase, spelled_stands, no_block, Content, effect, want_effect, effects, wanted_writes, wanted_reads, all_writes, all_reads, effect_at, or_parts}
+use Rattle.htl_runs.proofs.Words.{Inv, End, Stay, State, joined, numbered, up_to, Tables, comm_period, offsets, release, stay_of, ECode, EInstr, EFault, counts, counted_in, places_at, next_offset, phase_offsets, holds, Requirement, Exactly, NextBlock, EndOfRound, SwitchJump, ModeJump, AtAnchor, all_do, call_of, calls_of, release_of, releases, calls, waits_for, block_chain, Step, Reached, reach, read, steps_of, passed_by, blocks, Done, on, chain_path, block_path, due_path, writes_done, reads_done, Jumps, reach_is, anchor_is, read_is, IsBlockPhase, spelled_stands, no_block, Content, effect, want_effect, effects, wanted_writes, wanted_reads, all_writes, all_reads, effect_at, or_parts}
 use Rattle.htl_model.specs.declared.parts.End.TheVariants as E
 use Rattle.htl_ecode.specs.declared.instr.EInstr.TheVariants as I
 use Rattle.htl_ecode.proofs.Spelled.{ModeReads, Stands}
@@ -28,26 +28,26 @@ module _ (t : Tables) (code : List EInstr) where
   pub same_effect : (i j : EInstr) (w : Content) → i ≡ j → effect t i w ≡ effect t j w
   same_effect i j w e = ap (λ z. effect t z w) e
 
-  pub reached_does : (a : ℕ) (x : Want) (y : Reached) (w : Content) → reach code a x ≡ Ok y → replay t code y.step.passed w ≡ want_effect t x w
-  reached_does a (Does j) y w e =
-      let r = reach_is code a (Does j) y tt e in
+  pub reached_does : (a : ℕ) (x : Requirement) (y : Reached) (w : Content) → reach code a x ≡ Ok y → replay t code y.step.passed w ≡ want_effect t x w
+  reached_does a (Exactly j) y w e =
+      let r = reach_is code a (Exactly j) y tt e in
       ap (λ zs. replay t code zs w) r.passed ∙ one_does a r.place r.jumps r.instr w r.leads r.stands ∙ same_effect r.instr j w r.meets.0
-  reached_does a (Waits d p) y w e =
-      let r = reach_is code a (Waits d p) y tt e in
+  reached_does a (NextBlock d p) y w e =
+      let r = reach_is code a (NextBlock d p) y tt e in
       ap (λ zs. replay t code zs w) r.passed ∙ one_does a r.place r.jumps r.instr w r.leads r.stands ∙ same_effect r.instr (I.Future d p y.step.target) w r.meets.0
-  reached_does a (Turns d x) y w e =
-      let r = reach_is code a (Turns d x) y tt e in
+  reached_does a (EndOfRound d x) y w e =
+      let r = reach_is code a (EndOfRound d x) y tt e in
       ap (λ zs. replay t code zs w) r.passed ∙ one_does a r.place r.jumps r.instr w r.leads r.stands ∙ same_effect r.instr (I.Future d 2 y.step.target) w r.meets.0
-  reached_does a (Tests k m x) y w e =
-      let r = reach_is code a (Tests k m x) y tt e in
+  reached_does a (SwitchJump k m x) y w e =
+      let r = reach_is code a (SwitchJump k m x) y tt e in
       ap (λ zs. replay t code zs w) r.passed ∙ one_does a r.place r.jumps r.instr w r.leads r.stands ∙ same_effect r.instr (I.JumpIf k y.step.target) w r.meets.0
-  reached_does a (Asks q) y w e =
-      let r = reach_is code a (Asks q) y tt e in
+  reached_does a (ModeJump q) y w e =
+      let r = reach_is code a (ModeJump q) y tt e in
       ap (λ zs. replay t code zs w) r.passed ∙ one_does a r.place r.jumps r.instr w r.leads r.stands ∙ same_effect r.instr (I.IfMode q y.step.target) w r.meets.0
-  reached_does a (Arrives x) y w e = jumps_do_nothing a x y.step.passed w (anchor_is code a x y e).0
+  reached_does a (AtAnchor x) y w e = jumps_do_nothing a x y.step.passed w (anchor_is code a x y e).0
 
   -- the addresses passed by a chain do to the world what the chain requires
-  pub chain_does : (ws : List Want) (a : ℕ) (ss : List Step) (w : Content) → read code a ws ≡ Ok ss → replay t code (passed_by ss) w ≡ effects t ws w
+  pub chain_does : (ws : List Requirement) (a : ℕ) (ss : List Step) (w : Content) → read code a ws ≡ Ok ss → replay t code (passed_by ss) w ≡ effects t ws w
   chain_does [] a ss w e =
       let none : [] ≡ ss = (let h : ◌≡◌ {A = Result (List Step) EFault} (Ok []) (Ok ss) = e in cc) in
       ap (λ zs. replay t code (passed_by zs) w) (sym none)
@@ -58,7 +58,7 @@ module _ (t : Tables) (code : List EInstr) where
       ∙ ap (λ z. replay t code (passed_by r.rest) z) (reached_does a x r.first w r.reaches)
       ∙ chain_does xs r.first.next r.rest (want_effect t x w) r.then
 
-waits_do_nothing : (t : Tables) (o p : ℕ) (n : Option ℕ) (w : Content) → effects t (waits_for o p n ++ Does I.Return ∷ []) w ≡ w
+waits_do_nothing : (t : Tables) (o p : ℕ) (n : Option ℕ) (w : Content) → effects t (waits_for o p n ++ Exactly I.Return ∷ []) w ≡ w
 waits_do_nothing t o p None w = refl
 waits_do_nothing t o p (Some x) w = refl
 
@@ -112,7 +112,7 @@ no_calls t m p o h = ap (λ js. js ++ cond (eqb p 1) [] (releases t m o)) (idle_
 
 idle_chain : (t : Tables) (m p o : ℕ) (w : Content) → holds o (phase_offsets t m p) ≡ false → effects t (block_chain t m p o) w ≡ w
 idle_chain t m p o w h =
-    ap (λ js. effects t (all_do js ++ (waits_for o p (next_offset t m p (suc o)) ++ Does I.Return ∷ [])) w) (no_calls t m p o h) ∙ waits_do_nothing t o p (next_offset t m p (suc o)) w
+    ap (λ js. effects t (all_do js ++ (waits_for o p (next_offset t m p (suc o)) ++ Exactly I.Return ∷ [])) w) (no_calls t m p o h) ∙ waits_do_nothing t o p (next_offset t m p (suc o)) w
 
 -- ---- the path of a block does what its chain requires
 

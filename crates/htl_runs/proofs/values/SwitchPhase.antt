@@ -1,34 +1,34 @@
 -- The addresses of the switch phase leave the world as it is.
 use Rattle.std.proofs.Common.{◌≡◌, ℕ, suc, ◌+◌, Bool, true, false, cond, eqb, List, [], ◌∷◌, ◌++◌, length, map, zero, ◌<◌, Option, Some, None, Result, Ok, Err, ℤ, inl, inr, refl, sym, ap, ◌∙◌}
-use Rattle.htl_runs.proofs.Words.{Stay, State, joined, numbered, up_to, Switch, Action, Tables, mode_period, mode_module, stay_of, ECode, EInstr, EFault, parent_of, AreInRange, IsSwitchInRange, next_offset, same_instr, Want, Does, Waits, Turns, Tests, Asks, Arrives, all_do, waits_for, enter_chain, begin_chain, decide_chain, children, asks_for, test_of, tests_of, led_to, Landing, lands, bind, fault, pass, leaving, Step, read, steps_of, passed_by, entered, block_begun, decided, turn_step, step_from, begin_path, enter_path, followed, decide_path, switch_path, switches_done, holds_in, chain_path, bind_ok, IsLanding, land_is, same_is, reach_is, read_is, Reads, ModeReads, Content, effect, want_effect, effects, slice_get_within, each_at}
+use Rattle.htl_runs.proofs.Words.{Stay, State, joined, numbered, up_to, Switch, Action, Tables, mode_period, mode_module, stay_of, ECode, EInstr, EFault, parent_of, AreInRange, IsSwitchInRange, next_offset, same_instr, Requirement, Exactly, NextBlock, EndOfRound, SwitchJump, ModeJump, AtAnchor, all_do, waits_for, enter_chain, begin_chain, decide_chain, children, asks_for, test_of, tests_of, branch_target, Resolved, resolved, bind, fault, pass, leaving, Step, read, steps_of, passed_by, entered, block_begun, decided, turn_step, step_from, begin_path, enter_path, followed, decide_path, switch_path, switches_done, holds_in, chain_path, bind_ok, IsResolved, resolve_is, same_is, reach_is, read_is, Reads, ModeReads, Content, effect, want_effect, effects, slice_get_within, each_at}
 use Rattle.htl_ecode.specs.declared.instr.EInstr.TheVariants as I
 use Rattle.htl_runs.proofs.values.BlockContents.{In, numbered_in}
 use Rattle.htl_runs.proofs.values.PhasePaths.{replay, replay_more, jumps_do_nothing, one_does, same_effect, reached_does, chain_does, addresses, addresses_on, addresses_more}
 
 -- what is required, but for calls
-abbrev pub IsQuiet : Want → Type 0
-IsQuiet (Does (I.CallWrite a b)) = ⊥
-IsQuiet (Does (I.CallRead a b)) = ⊥
+abbrev pub IsQuiet : Requirement → Type 0
+IsQuiet (Exactly (I.CallWrite a b)) = ⊥
+IsQuiet (Exactly (I.CallRead a b)) = ⊥
 IsQuiet _ = Unit {0}
 
-abbrev pub AreQuiet : List Want → Type 0
+abbrev pub AreQuiet : List Requirement → Type 0
 AreQuiet [] = Unit {0}
 AreQuiet (w ∷ ws) = IsQuiet w × AreQuiet ws
 
-quiet_want : (t : Tables) (x : Want) (w : Content) → IsQuiet x → want_effect t x w ≡ w
-quiet_want t (Does (I.CallWrite a b)) w q = absurd q
-quiet_want t (Does (I.CallRead a b)) w q = absurd q
+quiet_want : (t : Tables) (x : Requirement) (w : Content) → IsQuiet x → want_effect t x w ≡ w
+quiet_want t (Exactly (I.CallWrite a b)) w q = absurd q
+quiet_want t (Exactly (I.CallRead a b)) w q = absurd q
 quiet_want t _ w q = refl
 
-quiet_effects : (t : Tables) (ws : List Want) (w : Content) → AreQuiet ws → effects t ws w ≡ w
+quiet_effects : (t : Tables) (ws : List Requirement) (w : Content) → AreQuiet ws → effects t ws w ≡ w
 quiet_effects t [] w q = refl
 quiet_effects t (x ∷ xs) w q = ap (effects t xs) (quiet_want t x w q.0) ∙ quiet_effects t xs w q.1
 
-quiet_more : (xs ys : List Want) → AreQuiet xs → AreQuiet ys → AreQuiet (xs ++ ys)
+quiet_more : (xs ys : List Requirement) → AreQuiet xs → AreQuiet ys → AreQuiet (xs ++ ys)
 quiet_more [] ys p q = q
 quiet_more (x ∷ xs) ys p q = (p.0, quiet_more xs ys p.1 q)
 
-quiet_joined : {A : Type 0} (f : A → List Want) (ns : List A) → ((n : A) → AreQuiet (f n)) → AreQuiet (joined f ns)
+quiet_joined : {A : Type 0} (f : A → List Requirement) (ns : List A) → ((n : A) → AreQuiet (f n)) → AreQuiet (joined f ns)
 quiet_joined f [] h = tt
 quiet_joined f (n ∷ ns) h = quiet_more (f n) (joined f ns) (h n) (quiet_joined f ns h)
 
@@ -41,28 +41,28 @@ quiet_forks [] = tt
 quiet_forks (k ∷ ks) = (tt, quiet_forks ks)
 
 quiet_enter : (t : Tables) (code : ECode) (m : ℕ) → AreQuiet (enter_chain t (block_begun code m) m)
-quiet_enter t code m = (tt, quiet_more (all_do (map (λ k. I.Fork k) (children t m))) (Arrives (block_begun code m) ∷ []) (quiet_forks (children t m)) (tt, tt))
+quiet_enter t code m = (tt, quiet_more (all_do (map (λ k. I.Fork k) (children t m))) (AtAnchor (block_begun code m) ∷ []) (quiet_forks (children t m)) (tt, tt))
 
 quiet_begin : (t : Tables) (code : ECode) (m : ℕ) → AreQuiet (begin_chain t (decided code m) m)
 quiet_begin t code m =
-    quiet_more (waits_for 0 1 (next_offset t m 1 0)) (waits_for 0 3 (next_offset t m 3 0) ++ Turns (mode_period t m) (decided code m) ∷ Does I.Return ∷ []) (quiet_waits 0 1 (next_offset t m 1 0))
-    (quiet_more (waits_for 0 3 (next_offset t m 3 0)) (Turns (mode_period t m) (decided code m) ∷ Does I.Return ∷ []) (quiet_waits 0 3 (next_offset t m 3 0)) (tt, (tt, tt)))
+    quiet_more (waits_for 0 1 (next_offset t m 1 0)) (waits_for 0 3 (next_offset t m 3 0) ++ EndOfRound (mode_period t m) (decided code m) ∷ Exactly I.Return ∷ []) (quiet_waits 0 1 (next_offset t m 1 0))
+    (quiet_more (waits_for 0 3 (next_offset t m 3 0)) (EndOfRound (mode_period t m) (decided code m) ∷ Exactly I.Return ∷ []) (quiet_waits 0 3 (next_offset t m 3 0)) (tt, (tt, tt)))
 
 quiet_decide : (t : Tables) (code : ECode) (m : ℕ) → AreQuiet (decide_chain t (block_begun code m) code.enter m)
 quiet_decide t code m =
-    quiet_more (asks_for (parent_of t (mode_module t m))) (tests_of t (block_begun code m) code.enter m ++ Arrives (block_begun code m) ∷ []) (quiet_asks (parent_of t (mode_module t m)))
-    (quiet_more (tests_of t (block_begun code m) code.enter m) (Arrives (block_begun code m) ∷ []) (quiet_joined (test_of (block_begun code m) code.enter m) (numbered 0 t.switches) (λ n. quiet_test n (eqb n.1.mode m))) (tt, tt))
+    quiet_more (asks_for (parent_of t (mode_module t m))) (tests_of t (block_begun code m) code.enter m ++ AtAnchor (block_begun code m) ∷ []) (quiet_asks (parent_of t (mode_module t m)))
+    (quiet_more (tests_of t (block_begun code m) code.enter m) (AtAnchor (block_begun code m) ∷ []) (quiet_joined (test_of (block_begun code m) code.enter m) (numbered 0 t.switches) (λ n. quiet_test n (eqb n.1.mode m))) (tt, tt))
   where
     quiet_asks : (o : Option ℕ) → AreQuiet (asks_for o)
     quiet_asks None = tt
     quiet_asks (Some q) = (tt, tt)
 
-    quiet_test : (n : ℕ × Switch) (b : Bool) → AreQuiet (cond b (Tests n.0 n.1.target (led_to (block_begun code m) code.enter m n.1.target) ∷ []) [])
+    quiet_test : (n : ℕ × Switch) (b : Bool) → AreQuiet (cond b (SwitchJump n.0 n.1.target (branch_target (block_begun code m) code.enter m n.1.target) ∷ []) [])
     quiet_test n true = (tt, tt)
     quiet_test n false = tt
 
 module _ (t : Tables) (code : ECode) where
-  chain_quiet : (ws : List Want) (a : ℕ) (w : Content) → Reads code.instrs a ws → AreQuiet ws → replay t code.instrs (chain_path code a ws) w ≡ w
+  chain_quiet : (ws : List Requirement) (a : ℕ) (w : Content) → Reads code.instrs a ws → AreQuiet ws → replay t code.instrs (chain_path code a ws) w ≡ w
   chain_quiet ws a w r q =
       ap (λ z. replay t code.instrs (passed_by (steps_of z)) w) r.1 ∙ chain_does t code.instrs ws a r.0 w r.1 ∙ quiet_effects t ws w q
 
@@ -77,11 +77,11 @@ module _ (t : Tables) (code : ECode) where
   -- an instruction that was passed, with its jumps
   pass_quiet : (j : EInstr) (a : ℕ) (x : List ℕ × ℕ) (w : Content) → pass code.instrs j a ≡ Ok x → ((v : Content) → effect t j v ≡ v) → replay t code.instrs x.0 w ≡ w
   pass_quiet j a x w e quiet =
-      let b = bind_ok (lands code.instrs a) (λ l. elim (same_instr j l.instr) as (λ _. Result (List ℕ × ℕ) EFault) [ true ↦ Ok (l.jumps ++ l.place ∷ [], suc l.place) | false ↦ Err (fault Action l.place) ]) x e in
-      let l = land_is code.instrs a (length code.instrs) a b.0 b.1 in
+      let b = bind_ok (resolved code.instrs a) (λ l. elim (same_instr j l.instr) as (λ _. Result (List ℕ × ℕ) EFault) [ true ↦ Ok (l.jumps ++ l.place ∷ [], suc l.place) | false ↦ Err (fault Action l.place) ]) x e in
+      let l = resolve_is code.instrs a (length code.instrs) a b.0 b.1 in
       by_same b.0 (same_instr j b.0.instr) refl l b.2
     where
-      by_same : (l : Landing) (b : Bool) → same_instr j l.instr ≡ b → IsLanding code.instrs a l
+      by_same : (l : Resolved) (b : Bool) → same_instr j l.instr ≡ b → IsResolved code.instrs a l
           → ◌≡◌ {A = Result (List ℕ × ℕ) EFault} (elim b [ true ↦ Ok (l.jumps ++ l.place ∷ [], suc l.place) | false ↦ Err (fault Action l.place) ]) (Ok x) → replay t code.instrs x.0 w ≡ w
       by_same l false f g e = absurd (let z : ⊥ = cc in z)
       by_same l true f g e =
@@ -98,15 +98,15 @@ module _ (t : Tables) (code : ECode) where
       ∙ ap (λ z. replay t code.instrs c.0.0 z) (pass_quiet I.Leave a b.0 w b.1 (λ v. refl)) ∙ pass_quiet I.Return b.0.1 c.0 w c.1 (λ v. refl)
 
 -- each test leads to a mode that there is
-abbrev pub IsAimed : Tables → Want → Type 0
-IsAimed t (Tests k x a) = x < length t.modes
+abbrev pub IsAimed : Tables → Requirement → Type 0
+IsAimed t (SwitchJump k x a) = x < length t.modes
 IsAimed t _ = Unit {0}
 
-abbrev pub AreAimed : Tables → List Want → Type 0
+abbrev pub AreAimed : Tables → List Requirement → Type 0
 AreAimed t [] = Unit {0}
 AreAimed t (w ∷ ws) = IsAimed t w × AreAimed t ws
 
-aimed_more : (t : Tables) (xs ys : List Want) → AreAimed t xs → AreAimed t ys → AreAimed t (xs ++ ys)
+aimed_more : (t : Tables) (xs ys : List Requirement) → AreAimed t xs → AreAimed t ys → AreAimed t (xs ++ ys)
 aimed_more t [] ys p q = q
 aimed_more t (x ∷ xs) ys p q = (p.0, aimed_more t xs ys p.1 q)
 
@@ -114,17 +114,17 @@ aimed_tests : (t : Tables) (code : ECode) (m : ℕ) (ns : List (ℕ × Switch)) 
     → AreAimed t (joined (test_of (block_begun code m) code.enter m) ns)
 aimed_tests t code m [] h = tt
 aimed_tests t code m (n ∷ ns) h =
-    aimed_more t (cond (eqb n.1.mode m) (Tests n.0 n.1.target (led_to (block_begun code m) code.enter m n.1.target) ∷ []) []) (joined (test_of (block_begun code m) code.enter m) ns)
+    aimed_more t (cond (eqb n.1.mode m) (SwitchJump n.0 n.1.target (branch_target (block_begun code m) code.enter m n.1.target) ∷ []) []) (joined (test_of (block_begun code m) code.enter m) ns)
     (one (eqb n.1.mode m)) (aimed_tests t code m ns (λ k g. h k (inr g)))
   where
-    one : (b : Bool) → AreAimed t (cond b (Tests n.0 n.1.target (led_to (block_begun code m) code.enter m n.1.target) ∷ []) [])
+    one : (b : Bool) → AreAimed t (cond b (SwitchJump n.0 n.1.target (branch_target (block_begun code m) code.enter m n.1.target) ∷ []) [])
     one true = (h n (inl refl), tt)
     one false = tt
 
 aimed_decide : (t : Tables) (code : ECode) (m : ℕ) → AreInRange t → AreAimed t (decide_chain t (block_begun code m) code.enter m)
 aimed_decide t code m range =
-    aimed_more t (asks_for (parent_of t (mode_module t m))) (tests_of t (block_begun code m) code.enter m ++ Arrives (block_begun code m) ∷ []) (asks (parent_of t (mode_module t m)))
-    (aimed_more t (tests_of t (block_begun code m) code.enter m) (Arrives (block_begun code m) ∷ [])
+    aimed_more t (asks_for (parent_of t (mode_module t m))) (tests_of t (block_begun code m) code.enter m ++ AtAnchor (block_begun code m) ∷ []) (asks (parent_of t (mode_module t m)))
+    (aimed_more t (tests_of t (block_begun code m) code.enter m) (AtAnchor (block_begun code m) ∷ [])
     (aimed_tests t code m (numbered 0 t.switches)
     (λ n g. let d = numbered_in t.switches 0 n g in let r = (each_at (IsSwitchInRange t) t.switches range.switches d.0 n.1 d.2).target in slice_get_within t.modes n.1.target r.0 r.1))
     (tt, tt))
@@ -134,36 +134,36 @@ aimed_decide t code m range =
     asks (Some q) = (tt, tt)
 
 module _ (t : Tables) (code : ECode) (reads : (m : ℕ) → m < length t.modes → ModeReads t code m) where
-  followed_quiet : (m : ℕ) (holds' : ℕ → Bool) (stays : Bool) → m < length t.modes → (ws : List Want) (a : ℕ) (ss : List Step) (w : Content) → read code.instrs a ws ≡ Ok ss → AreAimed t ws → AreQuiet ws
+  followed_quiet : (m : ℕ) (holds' : ℕ → Bool) (stays : Bool) → m < length t.modes → (ws : List Requirement) (a : ℕ) (ss : List Step) (w : Content) → read code.instrs a ws ≡ Ok ss → AreAimed t ws → AreQuiet ws
       → replay t code.instrs (followed t code m holds' stays ws ss) w ≡ w
   followed_quiet m holds' stays real [] a [] w e aim q = refl
-  followed_quiet m holds' stays real (Does j ∷ ws) a [] w e aim q = refl
-  followed_quiet m holds' stays real (Waits d p ∷ ws) a [] w e aim q = refl
-  followed_quiet m holds' stays real (Turns d x ∷ ws) a [] w e aim q = refl
-  followed_quiet m holds' stays real (Asks r ∷ ws) a ss w e aim q =
-      let d = read_is code.instrs a (Asks r) ws ss e in
-      let g = reach_is code.instrs a (Asks r) d.first tt d.reaches in
+  followed_quiet m holds' stays real (Exactly j ∷ ws) a [] w e aim q = refl
+  followed_quiet m holds' stays real (NextBlock d p ∷ ws) a [] w e aim q = refl
+  followed_quiet m holds' stays real (EndOfRound d x ∷ ws) a [] w e aim q = refl
+  followed_quiet m holds' stays real (ModeJump r ∷ ws) a ss w e aim q =
+      let d = read_is code.instrs a (ModeJump r) ws ss e in
+      let g = reach_is code.instrs a (ModeJump r) d.first tt d.reaches in
       let on_it = followed t code m holds' stays ws d.rest in
       let fork : Bool → List ℕ = λ b. elim b [ true ↦ on_it | false ↦ d.first.step.side ] in
-      ap (λ z. replay t code.instrs (followed t code m holds' stays (Asks r ∷ ws) z) w) d.is
+      ap (λ z. replay t code.instrs (followed t code m holds' stays (ModeJump r ∷ ws) z) w) d.is
       ∙ replay_more t code.instrs d.first.step.passed (fork stays) w
-      ∙ ap (λ z. replay t code.instrs (fork stays) z) (reached_does t code.instrs a (Asks r) d.first w d.reaches)
+      ∙ ap (λ z. replay t code.instrs (fork stays) z) (reached_does t code.instrs a (ModeJump r) d.first w d.reaches)
       ∙ by_stay stays on_it d.first.step.side (followed_quiet m holds' stays real ws d.first.next d.rest w d.then aim.1 q.1) (leaving_quiet t code (suc g.place) d.first.step.side w g.meets.2)
     where
       by_stay : (b : Bool) (xs ys : List ℕ) → replay t code.instrs xs w ≡ w → replay t code.instrs ys w ≡ w → replay t code.instrs (elim b [ true ↦ xs | false ↦ ys ]) w ≡ w
       by_stay true xs ys f g = f
       by_stay false xs ys f g = g
-  followed_quiet m holds' stays real (Tests k x c ∷ ws) a ss w e aim q =
-      let d = read_is code.instrs a (Tests k x c) ws ss e in
-      let g = reach_is code.instrs a (Tests k x c) d.first tt d.reaches in
+  followed_quiet m holds' stays real (SwitchJump k x c ∷ ws) a ss w e aim q =
+      let d = read_is code.instrs a (SwitchJump k x c) ws ss e in
+      let g = reach_is code.instrs a (SwitchJump k x c) d.first tt d.reaches in
       let there = d.first.step.side ++ cond (eqb x m) (begin_path t code m) (enter_path t code x) in
       let side : replay t code.instrs there w ≡ w =
       replay_more t code.instrs d.first.step.side (cond (eqb x m) (begin_path t code m) (enter_path t code x)) w
       ∙ ap (λ z. replay t code.instrs (cond (eqb x m) (begin_path t code m) (enter_path t code x)) z) (jumps_do_nothing t code.instrs d.first.step.target c d.first.step.side w g.meets.2)
       ∙ by_mode (eqb x m) (begin_path t code m) (enter_path t code x) (begin_quiet t code m w (reads m real)) (enter_quiet t code x w (reads x aim.0)) in
-      ap (λ z. replay t code.instrs (followed t code m holds' stays (Tests k x c ∷ ws) z) w) d.is
+      ap (λ z. replay t code.instrs (followed t code m holds' stays (SwitchJump k x c ∷ ws) z) w) d.is
       ∙ replay_more t code.instrs d.first.step.passed (elim (holds' k) [ true ↦ there | false ↦ followed t code m holds' stays ws d.rest ]) w
-      ∙ ap (λ z. replay t code.instrs (elim (holds' k) [ true ↦ there | false ↦ followed t code m holds' stays ws d.rest ]) z) (reached_does t code.instrs a (Tests k x c) d.first w d.reaches)
+      ∙ ap (λ z. replay t code.instrs (elim (holds' k) [ true ↦ there | false ↦ followed t code m holds' stays ws d.rest ]) z) (reached_does t code.instrs a (SwitchJump k x c) d.first w d.reaches)
       ∙ by_test (holds' k) there (followed t code m holds' stays ws d.rest) side (followed_quiet m holds' stays real ws d.first.next d.rest w d.then aim.1 q.1)
     where
       by_mode : (b : Bool) (xs ys : List ℕ) → replay t code.instrs xs w ≡ w → replay t code.instrs ys w ≡ w → replay t code.instrs (cond b xs ys) w ≡ w
@@ -173,31 +173,31 @@ module _ (t : Tables) (code : ECode) (reads : (m : ℕ) → m < length t.modes �
       by_test : (b : Bool) (xs ys : List ℕ) → replay t code.instrs xs w ≡ w → replay t code.instrs ys w ≡ w → replay t code.instrs (elim b [ true ↦ xs | false ↦ ys ]) w ≡ w
       by_test true xs ys f g = f
       by_test false xs ys f g = g
-  followed_quiet m holds' stays real (Arrives x ∷ ws) a ss w e aim q =
-      let d = read_is code.instrs a (Arrives x) ws ss e in
-      ap (λ z. replay t code.instrs (followed t code m holds' stays (Arrives x ∷ ws) z) w) d.is
+  followed_quiet m holds' stays real (AtAnchor x ∷ ws) a ss w e aim q =
+      let d = read_is code.instrs a (AtAnchor x) ws ss e in
+      ap (λ z. replay t code.instrs (followed t code m holds' stays (AtAnchor x ∷ ws) z) w) d.is
       ∙ replay_more t code.instrs d.first.step.passed (begin_path t code m) w
-      ∙ ap (λ z. replay t code.instrs (begin_path t code m) z) (reached_does t code.instrs a (Arrives x) d.first w d.reaches) ∙ begin_quiet t code m w (reads m real)
+      ∙ ap (λ z. replay t code.instrs (begin_path t code m) z) (reached_does t code.instrs a (AtAnchor x) d.first w d.reaches) ∙ begin_quiet t code m w (reads m real)
   followed_quiet m holds' stays real _ a (s ∷ ss) w e aim q = refl
 
   -- the jumps from where the round's end begins to the decide list
-  turn_quiet : (ws : List Want) (a : ℕ) (ss : List Step) (w : Content) → read code.instrs a ws ≡ Ok ss → replay t code.instrs (turn_step ws ss).side w ≡ w
+  turn_quiet : (ws : List Requirement) (a : ℕ) (ss : List Step) (w : Content) → read code.instrs a ws ≡ Ok ss → replay t code.instrs (turn_step ws ss).side w ≡ w
   turn_quiet [] a [] w e = refl
   turn_quiet [] a (s ∷ ss) w e = refl
-  turn_quiet (Turns d x ∷ ws) a ss w e =
-      let r = read_is code.instrs a (Turns d x) ws ss e in
-      let g = reach_is code.instrs a (Turns d x) r.first tt r.reaches in
-      ap (λ z. replay t code.instrs (turn_step (Turns d x ∷ ws) z).side w) r.is ∙ jumps_do_nothing t code.instrs r.first.step.target x r.first.step.side w g.meets.2
-  turn_quiet (Does j ∷ ws) a ss w e =
-      let r = read_is code.instrs a (Does j) ws ss e in ap (λ z. replay t code.instrs (turn_step (Does j ∷ ws) z).side w) r.is ∙ turn_quiet ws r.first.next r.rest w r.then
-  turn_quiet (Waits d p ∷ ws) a ss w e =
-      let r = read_is code.instrs a (Waits d p) ws ss e in ap (λ z. replay t code.instrs (turn_step (Waits d p ∷ ws) z).side w) r.is ∙ turn_quiet ws r.first.next r.rest w r.then
-  turn_quiet (Tests k m x ∷ ws) a ss w e =
-      let r = read_is code.instrs a (Tests k m x) ws ss e in ap (λ z. replay t code.instrs (turn_step (Tests k m x ∷ ws) z).side w) r.is ∙ turn_quiet ws r.first.next r.rest w r.then
-  turn_quiet (Asks q ∷ ws) a ss w e =
-      let r = read_is code.instrs a (Asks q) ws ss e in ap (λ z. replay t code.instrs (turn_step (Asks q ∷ ws) z).side w) r.is ∙ turn_quiet ws r.first.next r.rest w r.then
-  turn_quiet (Arrives x ∷ ws) a ss w e =
-      let r = read_is code.instrs a (Arrives x) ws ss e in ap (λ z. replay t code.instrs (turn_step (Arrives x ∷ ws) z).side w) r.is ∙ turn_quiet ws r.first.next r.rest w r.then
+  turn_quiet (EndOfRound d x ∷ ws) a ss w e =
+      let r = read_is code.instrs a (EndOfRound d x) ws ss e in
+      let g = reach_is code.instrs a (EndOfRound d x) r.first tt r.reaches in
+      ap (λ z. replay t code.instrs (turn_step (EndOfRound d x ∷ ws) z).side w) r.is ∙ jumps_do_nothing t code.instrs r.first.step.target x r.first.step.side w g.meets.2
+  turn_quiet (Exactly j ∷ ws) a ss w e =
+      let r = read_is code.instrs a (Exactly j) ws ss e in ap (λ z. replay t code.instrs (turn_step (Exactly j ∷ ws) z).side w) r.is ∙ turn_quiet ws r.first.next r.rest w r.then
+  turn_quiet (NextBlock d p ∷ ws) a ss w e =
+      let r = read_is code.instrs a (NextBlock d p) ws ss e in ap (λ z. replay t code.instrs (turn_step (NextBlock d p ∷ ws) z).side w) r.is ∙ turn_quiet ws r.first.next r.rest w r.then
+  turn_quiet (SwitchJump k m x ∷ ws) a ss w e =
+      let r = read_is code.instrs a (SwitchJump k m x) ws ss e in ap (λ z. replay t code.instrs (turn_step (SwitchJump k m x ∷ ws) z).side w) r.is ∙ turn_quiet ws r.first.next r.rest w r.then
+  turn_quiet (ModeJump q ∷ ws) a ss w e =
+      let r = read_is code.instrs a (ModeJump q) ws ss e in ap (λ z. replay t code.instrs (turn_step (ModeJump q ∷ ws) z).side w) r.is ∙ turn_quiet ws r.first.next r.rest w r.then
+  turn_quiet (AtAnchor x ∷ ws) a ss w e =
+      let r = read_is code.instrs a (AtAnchor x) ws ss e in ap (λ z. replay t code.instrs (turn_step (AtAnchor x ∷ ws) z).side w) r.is ∙ turn_quiet ws r.first.next r.rest w r.then
 
   module _ (range : AreInRange t) where
     decide_quiet : (values : List ℤ) (stays : Bool) (m : ℕ) (w : Content) → m < length t.modes → replay t code.instrs (decide_path t code values stays m) w ≡ w

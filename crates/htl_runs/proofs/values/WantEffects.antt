@@ -1,61 +1,61 @@
 -- What a list of wants does to values and buffers, by what it asks for.
 use Rattle.std.proofs.Common.{◌≡◌, ◌≢◌, ℕ, ◌<◌, List, [], ◌∷◌, length, get_or, slice_get, set, Option, Some, None, ℤ, pos, refl, sym, ap, ◌∙◌, subst, arith, ◌⊎◌, inl, inr}
-use Rattle.htl_runs.proofs.Words.{get_or-set_same, get_or-set_other, length-set, Inv, Tables, Want, Does, Content, buffer, put_in, comm_of, call_write, call_read, want_effect, effects, HasPlaces, cases_eq}
+use Rattle.htl_runs.proofs.Words.{get_or-set_same, get_or-set_other, length-set, Inv, Tables, Requirement, Exactly, Content, buffer, put_in, comm_of, call_write, call_read, want_effect, effects, HasPlaces, cases_eq}
 use Rattle.htl_ecode.specs.declared.instr.EInstr.TheVariants as I
 use Rattle.htl_emach.specs.Contents as contents
 use Rattle.htl_runs.proofs.values.BlockContents.{AsksFor}
 
-data Kind (x : Want) : Type 1 where
-  writes : (a b : ℕ) → x ≡ Does (I.CallWrite a b) → Kind x
-  reads : (a b : ℕ) → x ≡ Does (I.CallRead a b) → Kind x
-  idles : ((t : Tables) (w : Content) → want_effect t x w ≡ w) → ((a b : ℕ) → x ≡ Does (I.CallWrite a b) → ⊥) → ((a b : ℕ) → x ≡ Does (I.CallRead a b) → ⊥) → Kind x
+data Kind (x : Requirement) : Type 1 where
+  writes : (a b : ℕ) → x ≡ Exactly (I.CallWrite a b) → Kind x
+  reads : (a b : ℕ) → x ≡ Exactly (I.CallRead a b) → Kind x
+  idles : ((t : Tables) (w : Content) → want_effect t x w ≡ w) → ((a b : ℕ) → x ≡ Exactly (I.CallWrite a b) → ⊥) → ((a b : ℕ) → x ≡ Exactly (I.CallRead a b) → ⊥) → Kind x
 
-kind_of : (x : Want) → Kind x
-kind_of (Does (I.CallWrite a b)) = writes a b refl
-kind_of (Does (I.CallRead a b)) = reads a b refl
-kind_of (Does (I.Release a)) = idles (λ t w. refl) (λ a b e. let z : ⊥ = cc in z) (λ a b e. let z : ⊥ = cc in z)
-kind_of (Does (I.Future a b d)) = idles (λ t w. refl) (λ a b e. let z : ⊥ = cc in z) (λ a b e. let z : ⊥ = cc in z)
-kind_of (Does (I.JumpIf a b)) = idles (λ t w. refl) (λ a b e. let z : ⊥ = cc in z) (λ a b e. let z : ⊥ = cc in z)
-kind_of (Does (I.Jump a)) = idles (λ t w. refl) (λ a b e. let z : ⊥ = cc in z) (λ a b e. let z : ⊥ = cc in z)
-kind_of (Does (I.IfMode a b)) = idles (λ t w. refl) (λ a b e. let z : ⊥ = cc in z) (λ a b e. let z : ⊥ = cc in z)
-kind_of (Does (I.Enter a)) = idles (λ t w. refl) (λ a b e. let z : ⊥ = cc in z) (λ a b e. let z : ⊥ = cc in z)
-kind_of (Does (I.Fork a)) = idles (λ t w. refl) (λ a b e. let z : ⊥ = cc in z) (λ a b e. let z : ⊥ = cc in z)
+kind_of : (x : Requirement) → Kind x
+kind_of (Exactly (I.CallWrite a b)) = writes a b refl
+kind_of (Exactly (I.CallRead a b)) = reads a b refl
+kind_of (Exactly (I.Release a)) = idles (λ t w. refl) (λ a b e. let z : ⊥ = cc in z) (λ a b e. let z : ⊥ = cc in z)
+kind_of (Exactly (I.Future a b d)) = idles (λ t w. refl) (λ a b e. let z : ⊥ = cc in z) (λ a b e. let z : ⊥ = cc in z)
+kind_of (Exactly (I.JumpIf a b)) = idles (λ t w. refl) (λ a b e. let z : ⊥ = cc in z) (λ a b e. let z : ⊥ = cc in z)
+kind_of (Exactly (I.Jump a)) = idles (λ t w. refl) (λ a b e. let z : ⊥ = cc in z) (λ a b e. let z : ⊥ = cc in z)
+kind_of (Exactly (I.IfMode a b)) = idles (λ t w. refl) (λ a b e. let z : ⊥ = cc in z) (λ a b e. let z : ⊥ = cc in z)
+kind_of (Exactly (I.Enter a)) = idles (λ t w. refl) (λ a b e. let z : ⊥ = cc in z) (λ a b e. let z : ⊥ = cc in z)
+kind_of (Exactly (I.Fork a)) = idles (λ t w. refl) (λ a b e. let z : ⊥ = cc in z) (λ a b e. let z : ⊥ = cc in z)
 kind_of _ = idles (λ t w. refl) (λ a b e. let z : ⊥ = cc in z) (λ a b e. let z : ⊥ = cc in z)
 
 -- ---- what isn't touched
 
-want_outputs : (t : Tables) (x : Want) (w : Content) → Kind x → (want_effect t x w).outputs ≡ w.outputs
+want_outputs : (t : Tables) (x : Requirement) (w : Content) → Kind x → (want_effect t x w).outputs ≡ w.outputs
 want_outputs t x w (writes a b e) = ap (λ z. (want_effect t z w).outputs) e
 want_outputs t x w (reads a b e) = ap (λ z. (want_effect t z w).outputs) e
 want_outputs t x w (idles f g h) = ap (λ (z : Content). z.outputs) (f t w)
 
 -- no call changes an output buffer
-pub outputs_stay : (t : Tables) (ws : List Want) (w : Content) → (effects t ws w).outputs ≡ w.outputs
+pub outputs_stay : (t : Tables) (ws : List Requirement) (w : Content) → (effects t ws w).outputs ≡ w.outputs
 outputs_stay t [] w = refl
 outputs_stay t (x ∷ xs) w = outputs_stay t xs (want_effect t x w) ∙ want_outputs t x w (kind_of x)
 
-want_inputs : (t : Tables) (x : Want) (w : Content) → ((i k : ℕ) → x ≡ Does (I.CallRead i k) → ⊥) → Kind x → (want_effect t x w).inputs ≡ w.inputs
+want_inputs : (t : Tables) (x : Requirement) (w : Content) → ((i k : ℕ) → x ≡ Exactly (I.CallRead i k) → ⊥) → Kind x → (want_effect t x w).inputs ≡ w.inputs
 want_inputs t x w n (writes a b e) = ap (λ z. (want_effect t z w).inputs) e
 want_inputs t x w n (reads a b e) = absurd (n a b e)
 want_inputs t x w n (idles f g h) = ap (λ (z : Content). z.inputs) (f t w)
 
-pub inputs_stay : (t : Tables) (ws : List Want) (w : Content) → ((i k : ℕ) → AsksFor (I.CallRead i k) ws → ⊥) → (effects t ws w).inputs ≡ w.inputs
+pub inputs_stay : (t : Tables) (ws : List Requirement) (w : Content) → ((i k : ℕ) → AsksFor (I.CallRead i k) ws → ⊥) → (effects t ws w).inputs ≡ w.inputs
 inputs_stay t [] w n = refl
 inputs_stay t (x ∷ xs) w n = inputs_stay t xs (want_effect t x w) (λ i k h. n i k (inr h)) ∙ want_inputs t x w (λ i k e. n i k (inl e)) (kind_of x)
 
-want_values : (t : Tables) (x : Want) (w : Content) → ((i k : ℕ) → x ≡ Does (I.CallWrite i k) → ⊥) → Kind x → (want_effect t x w).values ≡ w.values
+want_values : (t : Tables) (x : Requirement) (w : Content) → ((i k : ℕ) → x ≡ Exactly (I.CallWrite i k) → ⊥) → Kind x → (want_effect t x w).values ≡ w.values
 want_values t x w n (writes a b e) = absurd (n a b e)
 want_values t x w n (reads a b e) = ap (λ z. (want_effect t z w).values) e
 want_values t x w n (idles f g h) = ap (λ (z : Content). z.values) (f t w)
 
-pub values_stay : (t : Tables) (ws : List Want) (w : Content) → ((i k : ℕ) → AsksFor (I.CallWrite i k) ws → ⊥) → (effects t ws w).values ≡ w.values
+pub values_stay : (t : Tables) (ws : List Requirement) (w : Content) → ((i k : ℕ) → AsksFor (I.CallWrite i k) ws → ⊥) → (effects t ws w).values ≡ w.values
 values_stay t [] w n = refl
 values_stay t (x ∷ xs) w n = values_stay t xs (want_effect t x w) (λ i k h. n i k (inr h)) ∙ want_values t x w (λ i k e. n i k (inl e)) (kind_of x)
 
 -- ---- writes
 
 -- either nothing is written to c, which stays, or an output buffer goes to c
-abbrev pub Written : Tables → ℕ → List Want → Content → Type 0
+abbrev pub Written : Tables → ℕ → List Requirement → Content → Type 0
 Written t c ws w =
     (((i k : ℕ) → AsksFor (I.CallWrite i k) ws → comm_of (slice_get (contents.writes_at t i) k) ≡ Some c → ⊥) × (get_or (effects t ws w).values c (pos 0) ≡ get_or w.values c (pos 0)))
     ⊎ ((i k : ℕ) × AsksFor (I.CallWrite i k) ws × (comm_of (slice_get (contents.writes_at t i) k) ≡ Some c) × (get_or (effects t ws w).values c (pos 0) ≡ buffer w.outputs i k))
@@ -68,7 +68,7 @@ length_after t a b w = by_end (comm_of (slice_get (contents.writes_at t a) b))
     by_end (Some d) = length-set w.values d (buffer w.outputs a b)
 
 -- one write more in front
-write_front : (t : Tables) (c : ℕ) (x : Want) (xs : List Want) (a b : ℕ) (w : Content) → x ≡ Does (I.CallWrite a b) → c < length w.values
+write_front : (t : Tables) (c : ℕ) (x : Requirement) (xs : List Requirement) (a b : ℕ) (w : Content) → x ≡ Exactly (I.CallWrite a b) → c < length w.values
     → Written t c xs (call_write t a b w) → Written t c (x ∷ xs) w
 write_front t c x xs a b w is room (inr r) = inr (r.0, r.1, inr r.2, r.3, ap (λ z. get_or (effects t xs (want_effect t z w)).values c (pos 0)) is ∙ r.4)
 write_front t c x xs a b w is room (inl r) = by_end (comm_of (slice_get (contents.writes_at t a) b)) refl
@@ -82,7 +82,7 @@ write_front t c x xs a b w is room (inl r) = by_end (comm_of (slice_get (content
     none_now : (o : Option ℕ) → comm_of (slice_get (contents.writes_at t a) b) ≡ o → (o ≡ Some c → ⊥) → (i k : ℕ) → AsksFor (I.CallWrite i k) (x ∷ xs) → comm_of (slice_get (contents.writes_at t i) k) ≡ Some c → ⊥
     none_now o e n i k (inr h) f = r.0 i k h f
     none_now o e n i k (inl g) f =
-        let same : Does (I.CallWrite a b) ≡ Does (I.CallWrite i k) = sym is ∙ g in
+        let same : Exactly (I.CallWrite a b) ≡ Exactly (I.CallWrite i k) = sym is ∙ g in
         let first : a ≡ i = cc in
         let second : b ≡ k = cc in
         n (sym e ∙ ap (λ z. comm_of (slice_get (contents.writes_at t z) b)) first ∙ ap (λ z. comm_of (slice_get (contents.writes_at t i) z)) second ∙ f)
@@ -108,7 +108,7 @@ write_front t c x xs a b w is room (inl r) = by_end (comm_of (slice_get (content
             )
 
 -- a want that writes nothing in front
-idle_front : (t : Tables) (c : ℕ) (x : Want) (xs : List Want) (w : Content) → ((i k : ℕ) → x ≡ Does (I.CallWrite i k) → ⊥) → (want_effect t x w).values ≡ w.values → (want_effect t x w).outputs ≡ w.outputs
+idle_front : (t : Tables) (c : ℕ) (x : Requirement) (xs : List Requirement) (w : Content) → ((i k : ℕ) → x ≡ Exactly (I.CallWrite i k) → ⊥) → (want_effect t x w).values ≡ w.values → (want_effect t x w).outputs ≡ w.outputs
     → Written t c xs (want_effect t x w) → Written t c (x ∷ xs) w
 idle_front t c x xs w n v o (inr r) = inr (r.0, r.1, inr r.2, r.3, r.4 ∙ ap (λ bs. buffer bs r.0 r.1) o)
 idle_front t c x xs w n v o (inl r) = inl (none_now, r.1 ∙ ap (λ z. get_or z c (pos 0)) v)
@@ -117,7 +117,7 @@ idle_front t c x xs w n v o (inl r) = inl (none_now, r.1 ∙ ap (λ z. get_or z 
     none_now i k (inl e) f = n i k e
     none_now i k (inr h) f = r.0 i k h f
 
-pub are_written : (t : Tables) (c : ℕ) (ws : List Want) (w : Content) → c < length w.values → Written t c ws w
+pub are_written : (t : Tables) (c : ℕ) (ws : List Requirement) (w : Content) → c < length w.values → Written t c ws w
 are_written t c [] w h = inl (λ i k a e. a, refl)
 are_written t c (x ∷ xs) w h = by_kind (kind_of x) (λ v g. are_written t c xs v g)
   where
@@ -125,7 +125,7 @@ are_written t c (x ∷ xs) w h = by_kind (kind_of x) (λ v g. are_written t c xs
     by_kind (writes a b e) ih = write_front t c x xs a b w e h (ih (call_write t a b w) (omega (arith, length_after t a b w)))
     by_kind (reads a b e) ih =
         let v : (want_effect t x w).values ≡ w.values = ap (λ z. (want_effect t z w).values) e in
-        idle_front t c x xs w (λ i k f. let z : Does (I.CallRead a b) ≡ Does (I.CallWrite i k) = sym e ∙ f in cc) v (ap (λ z. (want_effect t z w).outputs) e)
+        idle_front t c x xs w (λ i k f. let z : Exactly (I.CallRead a b) ≡ Exactly (I.CallWrite i k) = sym e ∙ f in cc) v (ap (λ z. (want_effect t z w).outputs) e)
         (ih (want_effect t x w) (omega (arith, ap (λ (z : List ℤ). length z) v)))
     by_kind (idles f g k) ih =
         let v : (want_effect t x w).values ≡ w.values = ap (λ (z : Content). z.values) (f t w) in
@@ -185,12 +185,12 @@ same_read t i k c w e h =
     ∙ put_same w.inputs i k (get_or w.values c (pos 0)) h.0 h.1
 
 -- the input is read, and holds c; or it isn't, and stays
-abbrev pub Filled : Tables → ℕ → ℕ → ℕ → List Want → Content → Type 0
+abbrev pub Filled : Tables → ℕ → ℕ → ℕ → List Requirement → Content → Type 0
 Filled t i k c ws w =
     ((AsksFor (I.CallRead i k) ws → ⊥) × (buffer (effects t ws w).inputs i k ≡ buffer w.inputs i k))
     ⊎ (AsksFor (I.CallRead i k) ws × (buffer (effects t ws w).inputs i k ≡ get_or w.values c (pos 0)))
 
-pub are_filled : (t : Tables) (i k c : ℕ) (ws : List Want) (w : Content) → comm_of (slice_get (contents.reads_at t i) k) ≡ Some c → ((a b : ℕ) → AsksFor (I.CallWrite a b) ws → ⊥) → HasRoom i k w → Filled t i k c ws w
+pub are_filled : (t : Tables) (i k c : ℕ) (ws : List Requirement) (w : Content) → comm_of (slice_get (contents.reads_at t i) k) ≡ Some c → ((a b : ℕ) → AsksFor (I.CallWrite a b) ws → ⊥) → HasRoom i k w → Filled t i k c ws w
 are_filled t i k c [] w e n h = inl (λ a. a, refl)
 are_filled t i k c (x ∷ xs) w e n h = by_kind (kind_of x) (λ v g. are_filled t i k c xs v e (λ a b q. n a b (inr q)) g)
   where
@@ -198,13 +198,13 @@ are_filled t i k c (x ∷ xs) w e n h = by_kind (kind_of x) (λ v g. are_filled 
     IH = (v : Content) → HasRoom i k v → Filled t i k c xs v
 
     -- a want in front that keeps the input and the values
-    front : (v : Content) → want_effect t x w ≡ v → v.values ≡ w.values → buffer v.inputs i k ≡ buffer w.inputs i k → (x ≡ Does (I.CallRead i k) → ⊥) → Filled t i k c xs v → Filled t i k c (x ∷ xs) w
+    front : (v : Content) → want_effect t x w ≡ v → v.values ≡ w.values → buffer v.inputs i k ≡ buffer w.inputs i k → (x ≡ Exactly (I.CallRead i k) → ⊥) → Filled t i k c xs v → Filled t i k c (x ∷ xs) w
     front v is same kept other (inl r) = inl (λ a. elim a [ inl f ↦ other f | inr f ↦ r.0 f ], ap (λ z. buffer (effects t xs z).inputs i k) is ∙ r.1 ∙ kept)
     front v is same kept other (inr r) = inr (inr r.0, ap (λ z. buffer (effects t xs z).inputs i k) is ∙ r.1 ∙ ap (λ z. get_or z c (pos 0)) same)
 
-    read_here : (a b : ℕ) → x ≡ Does (I.CallRead a b) → a ≡ i → b ≡ k → Filled t i k c xs (call_read t i k w) → Filled t i k c (x ∷ xs) w
+    read_here : (a b : ℕ) → x ≡ Exactly (I.CallRead a b) → a ≡ i → b ≡ k → Filled t i k c xs (call_read t i k w) → Filled t i k c (x ∷ xs) w
     read_here a b is p q f =
-        let y : x ≡ Does (I.CallRead i k) = is ∙ ap (λ z. Does (I.CallRead z b)) p ∙ ap (λ z. Does (I.CallRead i z)) q in
+        let y : x ≡ Exactly (I.CallRead i k) = is ∙ ap (λ z. Exactly (I.CallRead z b)) p ∙ ap (λ z. Exactly (I.CallRead i z)) q in
         let go : want_effect t x w ≡ call_read t i k w = ap (λ z. want_effect t z w) y in
         elim f [
           | inl r ↦ inr (inl y, ap (λ z. buffer (effects t xs z).inputs i k) go ∙ r.1 ∙ same_read t i k c w e h)
@@ -219,7 +219,7 @@ are_filled t i k c (x ∷ xs) w e n h = by_kind (kind_of x) (λ v g. are_filled 
         elsewhere : (a ≡ i → b ≡ k → ⊥) → Filled t i k c (x ∷ xs) w
         elsewhere other =
             front (call_read t a b w) (ap (λ z. want_effect t z w) f) refl (other_read t a b i k w h.0 other)
-            (λ q. let z : Does (I.CallRead a b) ≡ Does (I.CallRead i k) = sym f ∙ q in other (let y : a ≡ i = cc in y) (let y : b ≡ k = cc in y))
+            (λ q. let z : Exactly (I.CallRead a b) ≡ Exactly (I.CallRead i k) = sym f ∙ q in other (let y : a ≡ i = cc in y) (let y : b ≡ k = cc in y))
             (ih (call_read t a b w) (room_after t a b i k w h))
 
         by_place : (a ≡ i) ⊎ (a ≢ i) → (b ≡ k) ⊎ (b ≢ k) → Filled t i k c (x ∷ xs) w
@@ -243,11 +243,11 @@ call_read_shape t a b w s = record { values = s.values; inputs = λ i x e. by_en
         let h = s.inputs i x e in
         (omega (arith, length-set w.inputs a (set (get_or w.inputs a []) b v), h.0), put_row w.inputs a b i v h.0 ∙ h.1)
 
-want_shape : (t : Tables) (x : Want) (w : Content) → Kind x → HasPlaces t w → HasPlaces t (want_effect t x w)
+want_shape : (t : Tables) (x : Requirement) (w : Content) → Kind x → HasPlaces t w → HasPlaces t (want_effect t x w)
 want_shape t x w (writes a b e) s = subst (λ z. HasPlaces t (want_effect t z w)) (sym e) (call_write_shape t a b w s)
 want_shape t x w (reads a b e) s = subst (λ z. HasPlaces t (want_effect t z w)) (sym e) (call_read_shape t a b w s)
 want_shape t x w (idles f g h) s = subst (HasPlaces t) (sym (f t w)) s
 
-pub shape_stays : (t : Tables) (ws : List Want) (w : Content) → HasPlaces t w → HasPlaces t (effects t ws w)
+pub shape_stays : (t : Tables) (ws : List Requirement) (w : Content) → HasPlaces t w → HasPlaces t (effects t ws w)
 shape_stays t [] w s = s
 shape_stays t (x ∷ xs) w s = shape_stays t xs (want_effect t x w) (want_shape t x w (kind_of x) s)

@@ -1,6 +1,6 @@
 -- What the releases of an instant tell the S machine.
 use Rattle.std.specs.Prelude.{ℕ, Bool, true, List, [], ◌∷◌, set, Option, Some, None}
-use Rattle.htl_runs.specs.Common.{Job, EInstr, Want, Does}
+use Rattle.htl_runs.specs.Common.{Job, EInstr, Requirement, Exactly}
 use Rattle.htl_ecode.specs.declared.instr.EInstr.TheVariants as I
 use Rattle.htl_runs.specs.frames.LastPositions.{position_from}
 
@@ -13,10 +13,10 @@ abbrev pub tell : List Job → EInstr → List Bool → List Bool
 tell jobs (I.Release i) bs = raise_at (position_from 0 jobs i) bs
 tell jobs _ bs = bs
 
-abbrev pub raise_want : List Job → Want → List Bool → List Bool
-raise_want jobs (Does j) bs = tell jobs j bs
+abbrev pub raise_want : List Job → Requirement → List Bool → List Bool
+raise_want jobs (Exactly j) bs = tell jobs j bs
 raise_want jobs _ bs = bs
 
-abbrev pub raise_all : List Job → List Want → List Bool → List Bool
+abbrev pub raise_all : List Job → List Requirement → List Bool → List Bool
 raise_all jobs [] bs = bs
 raise_all jobs (w ∷ ws) bs = raise_all jobs ws (raise_want jobs w bs)

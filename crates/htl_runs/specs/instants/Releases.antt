@@ -1,6 +1,6 @@
 -- The S machine while the read phase of an instant is done: its releases make jobs ready.
 use Rattle.std.specs.Prelude.{ℕ, true, List, [], ◌∷◌, slice_get, set, Option, Some, None}
-use Rattle.htl_runs.specs.Common.{PosState, Pending, Round, state_of, ECode, EInstr, Want, Does, Done}
+use Rattle.htl_runs.specs.Common.{PosState, Pending, Round, state_of, ECode, EInstr, Requirement, Exactly, Done}
 use Rattle.htl_ecode.specs.declared.instr.EInstr.TheVariants as I
 use Rattle.htl_runs.specs.frames.LastPositions.{position_from}
 
@@ -26,10 +26,10 @@ s_machine_replay code [] r = r
 s_machine_replay code (d ∷ ds) r = s_machine_replay code ds (s_machine_at (slice_get code.instrs d.address) r)
 
 -- what the instructions that a chain requires do to it
-abbrev pub s_machine_want : Want → Round → Round
-s_machine_want (Does j) r = s_machine_does j r
+abbrev pub s_machine_want : Requirement → Round → Round
+s_machine_want (Exactly j) r = s_machine_does j r
 s_machine_want _ r = r
 
-abbrev pub s_machine_all : List Want → Round → Round
+abbrev pub s_machine_all : List Requirement → Round → Round
 s_machine_all [] r = r
 s_machine_all (w ∷ ws) r = s_machine_all ws (s_machine_want w r)

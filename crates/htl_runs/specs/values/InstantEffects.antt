@@ -2,33 +2,33 @@
 use Rattle.std.specs.Prelude.{ℕ, ◌*◌, ◌-◌, ◌/◌, cond, List, [], ◌∷◌, length, get_or, slice_get, Option, Some, None, ℤ, pos}
 use Rattle.htl_runs.specs.Common.{Comm, Stay, Tables, stay_of, Content, effect}
 use Rattle.htl_model.specs.Lists.{up_to, list_to}
-use Rattle.htl_ecode.specs.Chains.{Want, Does, block_chain}
+use Rattle.htl_ecode.specs.Chains.{Requirement, Exactly, block_chain}
 
 -- what the instructions that a chain requires do
-abbrev pub want_effect : Tables → Want → Content → Content
-want_effect t (Does j) w = effect t j w
+abbrev pub want_effect : Tables → Requirement → Content → Content
+want_effect t (Exactly j) w = effect t j w
 want_effect t _ w = w
 
-abbrev pub effects : Tables → List Want → Content → Content
+abbrev pub effects : Tables → List Requirement → Content → Content
 effects t [] w = w
 effects t (x ∷ xs) w = effects t xs (want_effect t x w)
 
 -- ---- what an instant does
 
 -- what a module's block asks for at `now`, where the module is in this stay
-abbrev pub wanted_writes : Tables → ℕ → Option Stay → List Want
+abbrev pub wanted_writes : Tables → ℕ → Option Stay → List Requirement
 wanted_writes t now None = []
 wanted_writes t now (Some y) = block_chain t y.mode 1 (now - y.start)
 
-abbrev pub wanted_reads : Tables → ℕ → Option Stay → List Want
+abbrev pub wanted_reads : Tables → ℕ → Option Stay → List Requirement
 wanted_reads t now None = []
 wanted_reads t now (Some y) = block_chain t y.mode 3 (now - y.start)
 
 -- module by module
-abbrev pub all_writes : Tables → ℕ → List (Option Stay) → List Want
+abbrev pub all_writes : Tables → ℕ → List (Option Stay) → List Requirement
 all_writes t now stays = up_to (λ k. wanted_writes t now (stay_of stays k)) (length t.modules)
 
-abbrev pub all_reads : Tables → ℕ → List (Option Stay) → List Want
+abbrev pub all_reads : Tables → ℕ → List (Option Stay) → List Requirement
 all_reads t now stays = up_to (λ k. wanted_reads t now (stay_of stays k)) (length t.modules)
 
 -- what a communicator is once the sensors show their values of `now`

@@ -5,24 +5,24 @@ use Rattle.htl_espell.proofs.calls.need_invs.Goals as goal
 
 pub loop-k-preserved : goal.loop-k-preserved
 loop-k-preserved c =
-    let wants = call_wants c.args.block.now.t.now c.args.block.now.run.mode (number_of c.args.block.now.phase) c.args.block.now.offset in
+    let requirements = call_wants c.args.block.now.t.now c.args.block.now.run.mode (number_of c.args.block.now.phase) c.args.block.now.offset in
     let k = c.loop-k.k in
     let are = invs_are c.args.block.now.t.now c.parts.result.now c.as_slice-invs.result.now c.parts.ensures.value c.as_slice-invs.ensures in
     record {
       same = c.in_ok-place.ensures.same ∙ c.loop-k.invariant.same;
-      read = item_read wants c.args.code.now k c.as_slice-invs.result.now c.index-invs-k.result c.loop-k.place (is_within c.args.block.now.t.now c.as_slice-invs.result.now _ c.args.block.now.run.end k are c.requires.invs.behind c.loop-k-test.true) c.index-invs-k.is _ _
-          (c.in_ok-place.ensures.read ∙ ap (λ (z : List EInstr). next_of z c.loop-k.place (wants (k, c.index-invs-k.result))) c.loop-k.invariant.same) c.loop-k.invariant.read;
+      read = item_read requirements c.args.code.now k c.as_slice-invs.result.now c.index-invs-k.result c.loop-k.place (is_within c.args.block.now.t.now c.as_slice-invs.result.now _ c.args.block.now.run.end k are c.requires.invs.behind c.loop-k-test.true) c.index-invs-k.is _ _
+          (c.in_ok-place.ensures.read ∙ ap (λ (z : List EInstr). next_of z c.loop-k.place (requirements (k, c.index-invs-k.result))) c.loop-k.invariant.same) c.loop-k.invariant.read;
     }
 
 pub returns-in_err-place-clause-read : goal.returns-in_err-place-clause-read
 returns-in_err-place-clause-read c =
-    let wants = call_wants c.args.block.now.t.now c.args.block.now.run.mode (number_of c.args.block.now.phase) c.args.block.now.offset in
+    let requirements = call_wants c.args.block.now.t.now c.args.block.now.run.mode (number_of c.args.block.now.phase) c.args.block.now.offset in
     let k = c.loop-k.k in
     let are = invs_are c.args.block.now.t.now c.parts.result.now c.as_slice-invs.result.now c.parts.ensures.value c.as_slice-invs.ensures in
     let departs : c.from_residual.result ≡ Err c.in_err-place.field-0.0 = search rules in
     departs
-    ∙ item_departs wants c.args.code.now k c.as_slice-invs.result.now c.index-invs-k.result c.loop-k.place (is_within c.args.block.now.t.now c.as_slice-invs.result.now _ c.args.block.now.run.end k are c.requires.invs.behind c.loop-k-test.true) c.index-invs-k.is _ _
-    (c.in_err-place.ensures.read ∙ ap (λ (z : List EInstr). next_of z c.loop-k.place (wants (k, c.index-invs-k.result))) c.loop-k.invariant.same) c.loop-k.invariant.read
+    ∙ item_departs requirements c.args.code.now k c.as_slice-invs.result.now c.index-invs-k.result c.loop-k.place (is_within c.args.block.now.t.now c.as_slice-invs.result.now _ c.args.block.now.run.end k are c.requires.invs.behind c.loop-k-test.true) c.index-invs-k.is _ _
+    (c.in_err-place.ensures.read ∙ ap (λ (z : List EInstr). next_of z c.loop-k.place (requirements (k, c.index-invs-k.result))) c.loop-k.invariant.same) c.loop-k.invariant.read
 
 pub loop-k-init : goal.loop-k-init
 loop-k-init c =

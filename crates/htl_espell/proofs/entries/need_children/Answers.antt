@@ -5,19 +5,19 @@ use Rattle.htl_espell.proofs.entries.need_children.Goals as goal
 
 pub loop-k-preserved : goal.loop-k-preserved
 loop-k-preserved c =
-    let wants = child_wants c.args.mode in
+    let requirements = child_wants c.args.mode in
     let k = c.loop-k.k in
     record {
       same = c.in_ok-place.ensures.same ∙ c.loop-k.invariant.same;
-      read = item_read wants c.args.code.now k c.as_slice-modules.result.now c.index-modules-k.result c.loop-k.place (omega arith) c.index-modules-k.is _ _
-          (c.in_ok-place.ensures.read ∙ ap (λ (z : List EInstr). next_of z c.loop-k.place (wants (k, c.index-modules-k.result))) c.loop-k.invariant.same) c.loop-k.invariant.read;
+      read = item_read requirements c.args.code.now k c.as_slice-modules.result.now c.index-modules-k.result c.loop-k.place (omega arith) c.index-modules-k.is _ _
+          (c.in_ok-place.ensures.read ∙ ap (λ (z : List EInstr). next_of z c.loop-k.place (requirements (k, c.index-modules-k.result))) c.loop-k.invariant.same) c.loop-k.invariant.read;
     }
 
 pub returns-in_err-place-clause-read : goal.returns-in_err-place-clause-read
 returns-in_err-place-clause-read c =
-    let wants = child_wants c.args.mode in
+    let requirements = child_wants c.args.mode in
     let k = c.loop-k.k in
     let departs : c.from_residual.result ≡ Err c.in_err-place.field-0.0 = search rules in
     departs
-    ∙ item_departs wants c.args.code.now k c.as_slice-modules.result.now c.index-modules-k.result c.loop-k.place (omega arith) c.index-modules-k.is _ _
-    (c.in_err-place.ensures.read ∙ ap (λ (z : List EInstr). next_of z c.loop-k.place (wants (k, c.index-modules-k.result))) c.loop-k.invariant.same) c.loop-k.invariant.read
+    ∙ item_departs requirements c.args.code.now k c.as_slice-modules.result.now c.index-modules-k.result c.loop-k.place (omega arith) c.index-modules-k.is _ _
+    (c.in_err-place.ensures.read ∙ ap (λ (z : List EInstr). next_of z c.loop-k.place (requirements (k, c.index-modules-k.result))) c.loop-k.invariant.same) c.loop-k.invariant.read

@@ -1,5 +1,5 @@
 use Rattle.std.proofs.Common.{◌≤◌, ◌-◌}
-use Rattle.htl_espell.proofs.slides.position.Given as goal
+use Rattle.htl_espell.proofs.chains.position.Given as goal
 
 abbrev pub invariant-loop-low : goal.invariant-loop-low
 invariant-loop-low l = (l.low ≤ l.high) × (l.high ≤ l.len)

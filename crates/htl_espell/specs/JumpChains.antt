@@ -3,23 +3,23 @@ use Rattle.std.specs.Prelude.{ℕ, zero, suc, ◌≡◌, false, List, get_or, sl
 use Rattle.htl_ecode.specs.declared.instr.EInstr.{EInstr}
 use Rattle.htl_ecode.specs.Jumps.{jump_to}
 use Rattle.htl_ecode.specs.declared.fault.EFault.{EFault}
-use Rattle.htl_espell.specs.declared.slides.Slide.{Slide}
-use Rattle.htl_espell.specs.declared.landing.Followed.{Followed}
+use Rattle.htl_espell.specs.declared.chains.JumpChain.{JumpChain}
+use Rattle.htl_espell.specs.declared.resolving.Followed.{Followed}
 
 abbrev pub jump_at : List EInstr → ℕ → Option ℕ
 jump_at code a = elim (slice_get code a) [ Some i ↦ jump_to i | None ↦ None ]
 
 -- where so many plain jumps lead from an address
-abbrev pub slid : List EInstr → ℕ → ℕ → Option ℕ
-slid code a zero = Some a
-slid code a (suc n) = elim (jump_at code a) [ Some x ↦ slid code x n | None ↦ None ]
+abbrev pub after_jumps : List EInstr → ℕ → ℕ → Option ℕ
+after_jumps code a zero = Some a
+after_jumps code a (suc n) = elim (jump_at code a) [ Some x ↦ after_jumps code x n | None ↦ None ]
 
-abbrev pub no_slide : Slide
-no_slide = record { anchor = 0; place = 0; jumps = 0; lands = false }
+abbrev pub no_chain : JumpChain
+no_chain = record { anchor = 0; place = 0; jumps = 0; resolved = false }
 
 -- what each of these says of the code holds
-abbrev pub AreSlides : List EInstr → List Slide → Type 0
-AreSlides code cells = (k : ℕ) → slid code (get_or cells k no_slide).place (get_or cells k no_slide).jumps ≡ Some (get_or cells k no_slide).anchor
+abbrev pub AreJumpChains : List EInstr → List JumpChain → Type 0
+AreJumpChains code cells = (k : ℕ) → after_jumps code (get_or cells k no_chain).place (get_or cells k no_chain).jumps ≡ Some (get_or cells k no_chain).anchor
 
 -- where a chain leads that was followed
 abbrev pub anchor_of : Result Followed EFault → Result ℕ EFault

@@ -2,39 +2,39 @@
 ghost use Rattle.std.specs.Prelude.{◌≡◌, ◌≤◌, ◌<◌, ◌-◌, List, length, get_or, slice_get, IfSome, Some};
 ghost use Rattle.htl_ecode.specs.declared.instr.EInstr.{EInstr as Instr};
 ghost use Rattle.htl_ecode.specs.declared.instr.EInstr.TheVariants.{CallWrite};
-ghost use Rattle.htl_espell.specs.Slides.{slid, AreSlides};
+ghost use Rattle.htl_espell.specs.JumpChains.{after_jumps, AreJumpChains};
 
 use htl_ecode::EInstr;
 use std::marker::Model;
 
 /// From `place`, so many plain jumps lead to `anchor`.
 #[derive(Clone, Copy)]
-pub struct Slide {
+pub struct JumpChain {
     pub anchor: u32,
     pub place: u32,
     pub jumps: usize,
     /// Whether the chain ends at `anchor`, where an instruction stands that is no plain jump.
-    pub lands: bool,
+    pub resolved: bool,
 }
 
-impl Slide {
+impl JumpChain {
     // Chains to anchors come first, in the order of anchors and places, then those that end, in the order of places.
-    fn is_below(&self, other: &Slide) -> bool {
-        if self.lands != other.lands {
-            return other.lands;
+    fn is_below(&self, other: &JumpChain) -> bool {
+        if self.resolved != other.resolved {
+            return other.resolved;
         }
-        if !self.lands && self.anchor != other.anchor {
+        if !self.resolved && self.anchor != other.anchor {
             return self.anchor < other.anchor;
         }
         self.place < other.place
     }
 }
 
-const NO_SLIDE: Slide = Slide {
+const NO_CHAIN: JumpChain = JumpChain {
     anchor: 0,
     place: 0,
     jumps: 0,
-    lands: false,
+    resolved: false,
 };
 
 // How many are held.
@@ -51,7 +51,7 @@ const MARKS: usize = 16_384;
 #[derive(Drop)]
 pub struct Instrs<'a> {
     instrs: &'a [EInstr],
-    cells: [Slide; ROOM],
+    cells: [JumpChain; ROOM],
     len: usize,
     marks: [bool; MARKS],
 }
@@ -59,24 +59,24 @@ pub struct Instrs<'a> {
 impl<'a> Model for Instrs<'a> {
     ghost use Rattle.std.specs.Prelude.{List};
     ghost use Rattle.htl_ecode.specs.declared.instr.EInstr.{EInstr};
-    ghost use Rattle.htl_espell.specs.Slides.{AreSlides};
+    ghost use Rattle.htl_espell.specs.JumpChains.{AreJumpChains};
 
     ghost Value = { List EInstr };
 
     ghost view = { λ c. c.instrs.now };
 
-    ghost invariant = { λ c. AreSlides c.instrs.now c.cells };
+    ghost invariant = { λ c. AreJumpChains c.instrs.now c.cells };
 }
 
 // Nothing is known.
-fn no_cells() -> [Slide; ROOM]
-    ensures { (code : List Instr) → AreSlides code result }
+fn no_cells() -> [JumpChain; ROOM]
+    ensures { (code : List Instr) → AreJumpChains code result }
 {
-    [NO_SLIDE; ROOM]
+    [NO_CHAIN; ROOM]
 }
 
 // The place of the first of the first `len` that isn't below another.
-fn position(cells: &[Slide], len: usize, other: &Slide) -> usize
+fn position(cells: &[JumpChain], len: usize, other: &JumpChain) -> usize
     requires { len ≤ length cells.now }
     ensures { result ≤ len }
 {
@@ -94,10 +94,10 @@ fn position(cells: &[Slide], len: usize, other: &Slide) -> usize
 }
 
 // Moves those from place `at` up to `len` one place up.
-fn make_room(code: &[EInstr], cells: &mut [Slide], at: usize, len: usize)
+fn make_room(code: &[EInstr], cells: &mut [JumpChain], at: usize, len: usize)
     requires room { len < length cells.old }
-    requires known { AreSlides code.now cells.old }
-    ensures known { AreSlides code.now cells.new }
+    requires known { AreJumpChains code.now cells.old }
+    ensures known { AreJumpChains code.now cells.new }
     ensures len { length cells.new ≡ length cells.old }
 {
     let mut k = len;
@@ -145,8 +145,8 @@ impl<'a> Instrs<'a> {
     }
 
     // What is held of a place and an anchor, or of a place and the end of its chain, where at most so many jumps lead there.
-    fn held(&self, wanted: &Slide) -> Option<Slide>
-        ensures slid { IfSome result (λ s. slid self.now s.place s.jumps ≡ Some s.anchor) }
+    fn held(&self, wanted: &JumpChain) -> Option<JumpChain>
+        ensures after_jumps { IfSome result (λ s. after_jumps self.now s.place s.jumps ≡ Some s.anchor) }
         ensures place { IfSome result (λ s. s.place ≡ wanted.now.place) }
         ensures few { IfSome result (λ s. s.jumps ≤ wanted.now.jumps) }
     {
@@ -159,7 +159,7 @@ impl<'a> Instrs<'a> {
         }
         let found = self.cells[k];
         if found.place == wanted.place
-            && found.lands == wanted.lands
+            && found.resolved == wanted.resolved
             && found.jumps <= wanted.jumps
         {
             Some(found)
@@ -170,14 +170,14 @@ impl<'a> Instrs<'a> {
 
     /// How many plain jumps lead from a place to an anchor, where that is known and they are at most so many.
     pub fn rest_to(&self, anchor: u32, place: u32, most: usize) -> Option<usize>
-        ensures slid { IfSome result (λ n. slid self.now place n ≡ Some anchor) }
+        ensures after_jumps { IfSome result (λ n. after_jumps self.now place n ≡ Some anchor) }
         ensures few { IfSome result (λ n. n ≤ most) }
     {
-        let wanted = Slide {
+        let wanted = JumpChain {
             anchor,
             place,
             jumps: most,
-            lands: false,
+            resolved: false,
         };
         match self.held(&wanted) {
             Some(found) => if found.anchor == anchor {
@@ -192,13 +192,13 @@ impl<'a> Instrs<'a> {
     /// Where the chain from a place ends, and how many jumps are left of `most`, where that is known; else the place itself.
     pub fn skip(&self, place: u32, most: usize) -> (u32, usize)
         ensures few { result.1 ≤ most }
-        ensures slid { slid self.now place (most - result.1) ≡ Some result.0 }
+        ensures after_jumps { after_jumps self.now place (most - result.1) ≡ Some result.0 }
     {
-        let wanted = Slide {
+        let wanted = JumpChain {
             anchor: 0,
             place,
             jumps: most,
-            lands: true,
+            resolved: true,
         };
         match self.held(&wanted) {
             Some(found) => (found.anchor, most - found.jumps),
@@ -207,21 +207,21 @@ impl<'a> Instrs<'a> {
     }
 
     // Adds one; where there is no room, all others are let go.
-    fn insert(&mut self, slide: Slide)
-        requires { slid self.old slide.place slide.jumps ≡ Some slide.anchor }
+    fn insert(&mut self, chain: JumpChain)
+        requires { after_jumps self.old chain.place chain.jumps ≡ Some chain.anchor }
         ensures { self.new ≡ self.old }
     {
         let len = if self.len < ROOM { self.len } else { 0 };
-        let at = position(&self.cells, len, &slide);
+        let at = position(&self.cells, len, &chain);
         make_room(self.instrs, &mut self.cells, at, len);
-        self.cells[at] = slide;
+        self.cells[at] = chain;
         self.len = len + 1;
-        self.marks[slide.place as usize % MARKS] = true;
+        self.marks[chain.place as usize % MARKS] = true;
     }
 
     /// Notes places on the first `walked` jumps of a chain, where they are many.
-    pub fn note(&mut self, chain: Slide, walked: usize)
-        requires { slid self.old chain.place chain.jumps ≡ Some chain.anchor }
+    pub fn note(&mut self, chain: JumpChain, walked: usize)
+        requires { after_jumps self.old chain.place chain.jumps ≡ Some chain.anchor }
         ensures { self.new ≡ self.old }
     {
         if walked < 2 * APART {
@@ -234,7 +234,7 @@ impl<'a> Instrs<'a> {
             }
             match self.get(rest.place) {
                 Some(EInstr::Jump { target }) => if rest.jumps > 0 {
-                    rest = Slide {
+                    rest = JumpChain {
                         place: target,
                         jumps: rest.jumps - 1,
                         ..rest
