@@ -1,6 +1,6 @@
 -- From the parts of the patched tables to the answer.
 use Rattle.std.proofs.Common.{◌≡◌, ℕ, List, Some, None, ◌∙◌, ap}
-use Rattle.htl_patch.proofs.Words.{Tables, Fun, Comm, Inv, Mode, Module, Port, Switch, Task, first_limit, Joins, patched, AreMet, IsEarlyFault, Graft}
+use Rattle.htl_patch.proofs.Words.{Tables, Fun, Comm, Inv, Mode, Module, Port, Switch, Task, first_limit, Joins, patched, AreMatched, IsEarlyFault, Replacement}
 use Rattle.htl_patch.specs.declared.fault.PatchFault.TheVariants as fault
 
 abbrev pub made : List Comm → List Mode → List Module → List Port → List Task → List Inv → List Switch → List Fun → Tables
@@ -19,8 +19,8 @@ same_tables {a} {a'} {b} {b'} {c} {c'} {d} {d'} {e} {e'} {f} {f'} {s} {s'} {k} {
     ∙ ap (λ (z : List Switch). made a' b' c' d' e' f' z k) w
     ∙ ap (λ (z : List Fun). made a' b' c' d' e' f' s' z) x
 
-pub joined : (g : Graft) → AreMet g → first_limit (patched g) ≡ None → Joins g
+pub joined : (g : Replacement) → AreMatched g → first_limit (patched g) ≡ None → Joins g
 joined g m e = record { comms = m.comms; parents = m.parents; names = m.names; limits = e }
 
-pub limited : (g : Graft) (which count : ℕ) → AreMet g → first_limit (patched g) ≡ Some (which, count) → IsEarlyFault g (fault.Limit which count)
+pub limited : (g : Replacement) (which count : ℕ) → AreMatched g → first_limit (patched g) ≡ Some (which, count) → IsEarlyFault g (fault.Limit which count)
 limited g which count m e = (m.comms, m.parents, m.names, e)

@@ -1,7 +1,7 @@
 -- The functions of what is taken, by where they stand in their own program.
 use Rattle.std.proofs.Common.{◌≡◌, ◌≤◌, ◌<◌, ◌+◌, ◌-◌, ℕ, zero, suc, List, [], ◌∷◌, ◌++◌, length, length-append, length-drop, append_assoc, map, take, drop, get_or, slice_get, Option, Some, refl, sym, ◌∙◌, ap, arith, take-append-drop, pos}
 use Rattle.std.proofs.lemmas.List.{get_or-drop}
-use Rattle.htl_patch.proofs.Words.{length-map, AreInRange, Number, Tables, Fun, Formula, function_count, count_at, count_before, switch_function, Task, functions_of, function_of_switch, Graft, united, donor_task, output_count, output_functions, switch_functions, get_back, get_front, get_mapped, take_front}
+use Rattle.htl_patch.proofs.Words.{length-map, AreInRange, Number, Tables, Fun, Formula, function_count, count_at, count_before, switch_function, Task, functions_of, function_of_switch, Replacement, combined, donor_task, output_count, output_functions, switch_functions, get_back, get_front, get_mapped, take_front}
 use Rattle.htl_patch.proofs.Members.{none}
 use Rattle.htl_patch.proofs.Counting.{count_within, take_length}
 
@@ -52,9 +52,9 @@ task_at_place [] k less = absurd (omega (arith, less))
 task_at_place (x ∷ xs) zero less = (x, refl)
 task_at_place (x ∷ xs) (suc k) less = task_at_place xs k (omega (arith, less))
 
-module _ (g : Graft) (host : AreInRange g.host) (donor : AreInRange g.donor) where
+module _ (g : Replacement) (host : AreInRange g.host) (donor : AreInRange g.donor) where
   abbrev u : Tables
-  u = united g
+  u = combined g
 
   outputs_length : (t : Tables) → AreInRange t → length (output_functions t) ≡ output_count t
   outputs_length t r = let e = r.function_count in take_length (output_count t) 0 t.functions (omega (arith, e))

@@ -7,9 +7,9 @@ use Rattle.htl_patch.proofs.Renumbering.{inv_owner, switch_owner, invs_apart, ta
 use Rattle.htl_patch.proofs.Widths.{widths}
 use Rattle.htl_patch.proofs.Sound.{inv_key, IsSound, IsOrder}
 use Rattle.htl_patch.proofs.Counting.{all_from, all_map, apart_image, one_key, owners_rise, total, count_total, count_within, take_length, has_take, has_drop}
-use Rattle.htl_patch.proofs.Ranging.{AreParentsTaken, AreFew, mode_of, inv_of, task_of, switch_of, mode_below, inv_below, mode_taken, mode_owner_place, mode_owner_at, modes, modes_rise, modules, module_names, mode_names, ports, mode_place_at, ports_rise, port_names, tasks, tasks_rise, task_names}
+use Rattle.htl_patch.proofs.Ranging.{AreParentsTransferred, AreFew, mode_of, inv_of, task_of, switch_of, mode_below, inv_below, mode_transferred, mode_owner_place, mode_owner_at, modes, modes_rise, modules, module_names, mode_names, ports, mode_place_at, ports_rise, port_names, tasks, tasks_rise, task_names}
 
-module _ (u : Tables) (units : List ℕ) (sound : IsSound u) (order : IsOrder u units) (parents : AreParentsTaken u (numbering u units))
+module _ (u : Tables) (units : List ℕ) (sound : IsSound u) (order : IsOrder u units) (parents : AreParentsTransferred u (numbering u units))
     (few : AreFew (renumbered u (numbering u units))) where
   abbrev n : Numbering
   n = numbering u units
@@ -20,21 +20,21 @@ module _ (u : Tables) (units : List ℕ) (sound : IsSound u) (order : IsOrder u 
   -- ---- invocations
 
   -- the task of an invocation that is taken is taken
-  task_taken : (k : ℕ) (h : Has n.invs k) → Has n.tasks ((inv_of u units sound order parents few) k h).2.task
-  task_taken k h =
+  task_transferred : (k : ℕ) (h : Has n.invs k) → Has n.tasks ((inv_of u units sound order parents few) k h).2.task
+  task_transferred k h =
       let r = (inv_of u units sound order parents few) k h in
       let m = (mode_of u units sound order parents few) r.0 r.1 in
       let s = (sound.invs k r.2 r.3).task in
       let owner : s.0.«module» ≡ m.0 = s.2 ∙ ap (mode_module u) r.4 ∙ (mode_owner_at u units sound order parents few) r.0 m.2 m.3 ∙ m.4 in
       in_flat (tasks_of u) units m.0 r.2.task m.1 (in_places_0 (task_of_module m.0) u.tasks r.2.task s.0 s.1 (eq-eqb s.0.«module» m.0 owner))
 
-  port_taken : (m : ℕ) → Has n.modes m → (p : ℕ) (q : Port) → slice_get u.ports p ≡ Some q → q.mode ≡ m → Has n.ports p
-  port_taken m h p q at owner = in_flat (ports_of u) n.modes m p h (in_places_0 (port_of_mode m) u.ports p q at (eq-eqb q.mode m owner))
+  port_transferred : (m : ℕ) → Has n.modes m → (p : ℕ) (q : Port) → slice_get u.ports p ≡ Some q → q.mode ≡ m → Has n.ports p
+  port_transferred m h p q at owner = in_flat (ports_of u) n.modes m p h (in_places_0 (port_of_mode m) u.ports p q at (eq-eqb q.mode m owner))
 
   end_range : (m : ℕ) → Has n.modes m → (e : End) → IsEndInRange u m e → IsEndInRange t (place_among m n.modes) (new_end n e)
   end_range m h (E.Comm c k) r = r
   end_range m h (E.Port p) r =
-      let has = port_taken m h p r.0 r.1 r.2 in
+      let has = port_transferred m h p r.0 r.1 r.2 in
       let is : port_at u p ≡ r.0 = get_or_from_slice_get u.ports p r.0 _ r.1 in (
         new_port n (port_at u p),
         get_mapped (λ (k : ℕ). new_port n (port_at u k)) n.ports (place_among p n.ports) p (place_get n.ports p has),
@@ -54,7 +54,7 @@ module _ (u : Tables) (units : List ℕ) (sound : IsSound u) (order : IsOrder u 
         owner = (mode_below u units sound order parents few) r.2.mode mode;
         task = (
           new_task n (task_at u r.2.task),
-          task_new u units order.apart r.2.task (task_taken k h),
+          task_new u units order.apart r.2.task (task_transferred k h),
           ap (λ (x : Task). place_among x.«module» units) (get_or_from_slice_get u.tasks r.2.task s.task.0 _ s.task.1)
               ∙ ap (λ (y : ℕ). place_among y units) (s.task.2 ∙ owner r.2.mode mode)
               ∙ sym ((mode_owner_place u units sound order parents few) r.2.mode mode),
@@ -94,7 +94,7 @@ module _ (u : Tables) (units : List ℕ) (sound : IsSound u) (order : IsOrder u 
       let am : Has n.modes a.2.mode = subst (Has n.modes) (sym a.4) a.1 in
       let bm : Has n.modes b.2.mode = subst (Has n.modes) (sym b.4) b.1 in
       let mode : a.2.mode ≡ b.2.mode = place_one n.modes a.2.mode b.2.mode am bm (ap (λ (z : ℕ × ℕ). z.0) whole) in
-      let task : a.2.task ≡ b.2.task = place_one n.tasks a.2.task b.2.task (task_taken x h) (task_taken y i) (ap (λ (z : ℕ × ℕ). z.1) whole) in
+      let task : a.2.task ≡ b.2.task = place_one n.tasks a.2.task b.2.task (task_transferred x h) (task_transferred y i) (ap (λ (z : ℕ × ℕ). z.1) whole) in
       let key : inv_key a.2 ≡ inv_key b.2 = ap (λ (z : ℕ). (z, a.2.task)) mode ∙ ap (λ (z : ℕ). (b.2.mode, z)) task in
       one_key inv_key u.invs sound.invoked_once x y a.2 b.2 a.3 b.3 key))))
     where
@@ -118,7 +118,7 @@ module _ (u : Tables) (units : List ℕ) (sound : IsSound u) (order : IsOrder u 
       subst (λ (x : Switch). IsSwitchInRange t (new_switch n x)) (sym r.5)
       (record {
         owner = (mode_below u units sound order parents few) r.2.mode mode;
-        target = ((mode_taken u units sound order parents few) m.0 m.1 (λ owner. owner ≡ mode_module t (place_among r.2.mode n.modes)) r.2.target (λ x at own. place) s.target.0 s.target.1 (s.target.2 ∙ own)).1;
+        target = ((mode_transferred u units sound order parents few) m.0 m.1 (λ owner. owner ≡ mode_module t (place_among r.2.mode n.modes)) r.2.target (λ x at own. place) s.target.0 s.target.1 (s.target.2 ∙ own)).1;
         reads = s.reads;
         different = s.different;
         few_reads = s.few_reads;

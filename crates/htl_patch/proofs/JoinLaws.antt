@@ -1,6 +1,6 @@
 -- Tests of what is taken over: by places, and by the invocations that stand for others.
 use Rattle.std.proofs.Common.{◌≡◌, ◌<◌, ◌+◌, ℕ, zero, suc, Bool, true, false, cond, not, ◌&&◌, ◌||◌, eqb, ltb, List, [], ◌∷◌, ◌++◌, length, length-append, map, drop, get_or, slice_get, Option, Some, None, refl, sym, ◌∙◌, ap, subst, arith}
-use Rattle.htl_patch.proofs.Words.{nat_tests, length-map, slice_get-get_or, list_any, numbered, first_some, AreInRange, IsModeInRange, IsInvInRange, Tables, mode_module, Inv, Mode, Module, length-list_to, get_list_to, call_for, calls_for, first, is_taken, inv_module, is_met, is_stray_parent, module_name, is_kept_name, twice_at, order, ArePlacesOf, place_among, Graft, calls_named, call_name, belongs_to_mode, donor_parent, united, donor_module, all_at, eqb_flips, and_none, and_with_true}
+use Rattle.htl_patch.proofs.Words.{nat_tests, length-map, slice_get-get_or, list_any, numbered, first_some, AreInRange, IsModeInRange, IsInvInRange, Tables, mode_module, Inv, Mode, Module, length-list_to, get_list_to, call_for, calls_for, first, is_transferred, inv_module, is_matched, is_unmatched_parent, module_name, is_kept_name, twice_at, order, ArePlacesOf, place_among, Replacement, calls_named, call_name, belongs_to_mode, donor_parent, combined, donor_module, all_at, eqb_flips, and_none, and_with_true}
 
 below_some : (n : ℕ) → ltb 0 (suc n) ≡ true
 below_some n = grind (arith, nat_tests)
@@ -8,27 +8,27 @@ below_some n = grind (arith, nat_tests)
 below_next : (a b : ℕ) → ltb (suc a) (suc b) ≡ ltb a b
 below_next a b = grind (arith, nat_tests)
 
-taken_place : (m : ℕ) (xs : List ℕ) → ltb (place_among m xs) (length xs) ≡ list_any (eqb m) xs
-taken_place m [] = none 0 (omega arith)
+transferred_place : (m : ℕ) (xs : List ℕ) → ltb (place_among m xs) (length xs) ≡ list_any (eqb m) xs
+transferred_place m [] = none 0 (omega arith)
   where
     none : (a : ℕ) → a ≡ 0 → ltb a 0 ≡ false
     none a e = grind (arith, nat_tests)
-taken_place m (x ∷ xs) = by (eqb x m) (taken_place m xs) ∙ ap (λ (b : Bool). b || list_any (eqb m) xs) (eqb_flips x m)
+transferred_place m (x ∷ xs) = by (eqb x m) (transferred_place m xs) ∙ ap (λ (b : Bool). b || list_any (eqb m) xs) (eqb_flips x m)
   where
     by : (b : Bool) → ltb (place_among m xs) (length xs) ≡ list_any (eqb m) xs → ltb (cond b 0 (suc (place_among m xs))) (suc (length xs)) ≡ (b || list_any (eqb m) xs)
     by true later = below_some (length xs)
     by false later = below_next (place_among m xs) (length xs) ∙ later
 
 -- a module is taken where it has a place
-pub taken_is : (g : Graft) (k before : ℕ) (units places : List ℕ) → k < length g.donor.modules → before ≡ length g.host.modules → units ≡ order g
-    → ArePlacesOf (length (united g).modules) (order g) places → ltb (get_or places (before + k) 0) (length units) ≡ is_taken g k
-taken_is g k before units places less is all a =
+pub transferred_is : (g : Replacement) (k before : ℕ) (units places : List ℕ) → k < length g.donor.modules → before ≡ length g.host.modules → units ≡ order g
+    → ArePlacesOf (length (combined g).modules) (order g) places → ltb (get_or places (before + k) 0) (length units) ≡ is_transferred g k
+transferred_is g k before units places less is all a =
     let both = length-append g.host.modules (map (donor_module g) g.donor.modules) in
     let back = length-map g.donor.modules (donor_module g) in
     ap (λ (n : ℕ). ltb (get_or places (n + k) 0) (length units)) is
     ∙ ap (λ (n : ℕ). ltb n (length units)) (a.at (length g.host.modules + k) (omega (arith, less, both, back)))
     ∙ ap (λ (xs : List ℕ). ltb (place_among (length g.host.modules + k) (order g)) (length xs)) all
-    ∙ taken_place (length g.host.modules + k) (order g)
+    ∙ transferred_place (length g.host.modules + k) (order g)
 
 -- the module of a mode is a module
 pub unit_within : (t : Tables) (m : ℕ) → AreInRange t → m < length t.modes → mode_module t m < length t.modules
@@ -45,7 +45,7 @@ unit_within t m r less = by (slice_get t.modes m) refl
 
 -- ---- the invocations that stand for others
 
-module _ (g : Graft) (calls : List (Option ℕ)) (are : calls ≡ calls_for g) (p : ℕ) (less : p < length g.donor.invs) where
+module _ (g : Replacement) (calls : List (Option ℕ)) (are : calls ≡ calls_for g) (p : ℕ) (less : p < length g.donor.invs) where
   pub calls_within : p < length calls
   calls_within = let size = ap length are in let n = length-list_to (call_for g) (length g.donor.invs) in omega (arith, size, n, less)
 
@@ -53,45 +53,45 @@ module _ (g : Graft) (calls : List (Option ℕ)) (are : calls ≡ calls_for g) (
   call_is o e = sym (ap (λ (os : List (Option ℕ)). get_or os p None) are ∙ get_list_to (call_for g) (length g.donor.invs) p None less) ∙ e
 
   -- none stands for it where it isn't met by name
-  pub met_is : is_met g p ≡ elim (call_for g p) as (λ _. Bool) [ Some k ↦ true | None ↦ false ]
-  met_is = by (belongs_to_mode g.donor g.from p) (calls_named g.host g.into (call_name g.donor p))
+  pub matched_at : is_matched g p ≡ elim (call_for g p) as (λ _. Bool) [ Some k ↦ true | None ↦ false ]
+  matched_at = by (belongs_to_mode g.donor g.replacing_mode p) (calls_named g.host g.patched_mode (call_name g.donor p))
     where
       by : (b : Bool) (ks : List ℕ) → (b && not (eqb (length ks) 0)) ≡ elim (cond b (first ks) None) as (λ _. Bool) [ Some k ↦ true | None ↦ false ]
       by false ks = refl
       by true [] = refl
       by true (k ∷ ks) = let e : eqb (length (k ∷ ks)) 0 ≡ false = grind (arith, nat_tests) in ap not e
 
-  pub stray_met : (k : ℕ) → call_for g p ≡ Some k → is_stray_parent g (Some p) ≡ false
-  stray_met k e =
-      ap (λ (b : Bool). not (is_taken g (inv_module g.donor p)) && not b) (met_is ∙ ap (λ (o : Option ℕ). elim o as (λ _. Bool) [ Some k ↦ true | None ↦ false ]) e)
-      ∙ and_none (not (is_taken g (inv_module g.donor p)))
+  pub matched_is_none : (k : ℕ) → call_for g p ≡ Some k → is_unmatched_parent g (Some p) ≡ false
+  matched_is_none k e =
+      ap (λ (b : Bool). not (is_transferred g (inv_module g.donor p)) && not b) (matched_at ∙ ap (λ (o : Option ℕ). elim o as (λ _. Bool) [ Some k ↦ true | None ↦ false ]) e)
+      ∙ and_none (not (is_transferred g (inv_module g.donor p)))
 
-  pub stray_unmet : (t : Bool) → call_for g p ≡ None → t ≡ is_taken g (inv_module g.donor p) → is_stray_parent g (Some p) ≡ not t
-  stray_unmet t e is =
-      ap (λ (b : Bool). not (is_taken g (inv_module g.donor p)) && not b) (met_is ∙ ap (λ (o : Option ℕ). elim o as (λ _. Bool) [ Some k ↦ true | None ↦ false ]) e)
+  pub unmatched_is : (t : Bool) → call_for g p ≡ None → t ≡ is_transferred g (inv_module g.donor p) → is_unmatched_parent g (Some p) ≡ not t
+  unmatched_is t e is =
+      ap (λ (b : Bool). not (is_transferred g (inv_module g.donor p)) && not b) (matched_at ∙ ap (λ (o : Option ℕ). elim o as (λ _. Bool) [ Some k ↦ true | None ↦ false ]) e)
       ∙ ap (λ (b : Bool). not b && true) (sym is) ∙ and_with_true (not t)
 
 -- the parent that stands for one in the donor's mode
-moved_call : (g : Graft) (p : ℕ) → belongs_to_mode g.donor g.from p ≡ true → donor_parent g p ≡ elim (call_for g p) as (λ _. ℕ) [ Some k ↦ k | None ↦ 0 ]
+moved_call : (g : Replacement) (p : ℕ) → belongs_to_mode g.donor g.replacing_mode p ≡ true → donor_parent g p ≡ elim (call_for g p) as (λ _. ℕ) [ Some k ↦ k | None ↦ 0 ]
 moved_call g p e =
-    ap (λ (b : Bool). cond b (get_or (calls_named g.host g.into (call_name g.donor p)) 0 0) (length g.host.invs + p)) e
-    ∙ by (calls_named g.host g.into (call_name g.donor p))
-    ∙ sym (ap (λ (b : Bool). elim (cond b (first (calls_named g.host g.into (call_name g.donor p))) None) as (λ _. ℕ) [ Some k ↦ k | None ↦ 0 ]) e)
+    ap (λ (b : Bool). cond b (get_or (calls_named g.host g.patched_mode (call_name g.donor p)) 0 0) (length g.host.invs + p)) e
+    ∙ by (calls_named g.host g.patched_mode (call_name g.donor p))
+    ∙ sym (ap (λ (b : Bool). elim (cond b (first (calls_named g.host g.patched_mode (call_name g.donor p))) None) as (λ _. ℕ) [ Some k ↦ k | None ↦ 0 ]) e)
   where
     by : (ks : List ℕ) → get_or ks 0 0 ≡ elim (first ks) as (λ _. ℕ) [ Some k ↦ k | None ↦ 0 ]
     by [] = refl
     by (k ∷ ks) = refl
 
-pub moved_met : (g : Graft) (p k : ℕ) → call_for g p ≡ Some k → belongs_to_mode g.donor g.from p ≡ true → donor_parent g p ≡ k
-moved_met g p k e on = moved_call g p on ∙ ap (λ (o : Option ℕ). elim o as (λ _. ℕ) [ Some k ↦ k | None ↦ 0 ]) e
+pub moved_matched : (g : Replacement) (p k : ℕ) → call_for g p ≡ Some k → belongs_to_mode g.donor g.replacing_mode p ≡ true → donor_parent g p ≡ k
+moved_matched g p k e on = moved_call g p on ∙ ap (λ (o : Option ℕ). elim o as (λ _. ℕ) [ Some k ↦ k | None ↦ 0 ]) e
 
-pub moved_unmet : (g : Graft) (p : ℕ) → call_for g p ≡ None → belongs_to_mode g.donor g.from p ≡ true → donor_parent g p ≡ 0
-moved_unmet g p e on = moved_call g p on ∙ ap (λ (o : Option ℕ). elim o as (λ _. ℕ) [ Some k ↦ k | None ↦ 0 ]) e
+pub moved_unmatched : (g : Replacement) (p : ℕ) → call_for g p ≡ None → belongs_to_mode g.donor g.replacing_mode p ≡ true → donor_parent g p ≡ 0
+moved_unmatched g p e on = moved_call g p on ∙ ap (λ (o : Option ℕ). elim o as (λ _. ℕ) [ Some k ↦ k | None ↦ 0 ]) e
 
 -- another stays
-pub moved_own : (g : Graft) (p before : ℕ) → before ≡ length g.host.invs → belongs_to_mode g.donor g.from p ≡ false → donor_parent g p ≡ before + p
+pub moved_own : (g : Replacement) (p before : ℕ) → before ≡ length g.host.invs → belongs_to_mode g.donor g.replacing_mode p ≡ false → donor_parent g p ≡ before + p
 moved_own g p before is off =
-    ap (λ (b : Bool). cond b (get_or (calls_named g.host g.into (call_name g.donor p)) 0 0) (length g.host.invs + p)) off ∙ ap (λ (n : ℕ). n + p) (sym is)
+    ap (λ (b : Bool). cond b (get_or (calls_named g.host g.patched_mode (call_name g.donor p)) 0 0) (length g.host.invs + p)) off ∙ ap (λ (n : ℕ). n + p) (sym is)
 
 -- the module of an invocation is a module
 pub inv_unit : (t : Tables) (xs : List Inv) (p unit : ℕ) (x : Inv) → AreInRange t → xs ≡ t.invs → p < length t.invs → x ≡ get_or xs p x → unit ≡ mode_module t (get_or xs p x).mode
@@ -112,8 +112,8 @@ front_step test zero (x ∷ xs) d less n = refl
 front_step test (suc k) (x ∷ xs) d less n = front_step test k xs d (omega (arith, less)) n
 
 -- a module that isn't told twice is passed
-pub twice_next : (g : Graft) (xs : List Module) (k : ℕ) (r : Bool) (all : Option ℕ) → xs ≡ g.donor.modules → k < length xs
-    → r ≡ (is_taken g k && is_kept_name g (module_name g.donor k)) → r ≡ false → first_some (twice_at g) (numbered k (drop k xs)) ≡ all
+pub twice_next : (g : Replacement) (xs : List Module) (k : ℕ) (r : Bool) (all : Option ℕ) → xs ≡ g.donor.modules → k < length xs
+    → r ≡ (is_transferred g k && is_kept_name g (module_name g.donor k)) → r ≡ false → first_some (twice_at g) (numbered k (drop k xs)) ≡ all
     → first_some (twice_at g) (numbered (k + 1) (drop (k + 1) xs)) ≡ all
 twice_next g xs k r all same less is off going =
     let none : Module = record { name = []; parent = None; start = 0 } in
@@ -123,15 +123,15 @@ twice_next g xs k r all same less is off going =
     let name : module_name g.donor k ≡ x.name =
     ap (λ (ms : List Module). elim (slice_get ms k) as (λ _. List ℕ) [ Some m ↦ m.name | None ↦ [] ]) (sym same)
     ∙ ap (λ (o : Option Module). elim o as (λ _. List ℕ) [ Some m ↦ m.name | None ↦ [] ]) (slice_get-get_or xs k none less) in
-    let test : (is_taken g k && is_kept_name g x.name) ≡ false = ap (λ (n : List ℕ). is_taken g k && is_kept_name g n) (sym name) ∙ sym is ∙ off in
+    let test : (is_transferred g k && is_kept_name g x.name) ≡ false = ap (λ (n : List ℕ). is_transferred g k && is_kept_name g n) (sym name) ∙ sym is ∙ off in
     ap (λ (n : ℕ). first_some (twice_at g) (numbered n (drop n xs))) next
     ∙ sym (front_step (twice_at g) k xs none less k
     ∙ ap (λ (b : Bool). elim (cond b (Some k) None) as (λ _. Option ℕ) [ Some y ↦ Some y | None ↦ rest ]) test)
     ∙ going
 
 -- the first that is
-pub twice_found : (g : Graft) (xs : List Module) (k : ℕ) (r : Bool) (all : Option ℕ) → xs ≡ g.donor.modules → k < length xs
-    → r ≡ (is_taken g k && is_kept_name g (module_name g.donor k)) → r ≡ true → first_some (twice_at g) (numbered k (drop k xs)) ≡ all → Some k ≡ all
+pub twice_found : (g : Replacement) (xs : List Module) (k : ℕ) (r : Bool) (all : Option ℕ) → xs ≡ g.donor.modules → k < length xs
+    → r ≡ (is_transferred g k && is_kept_name g (module_name g.donor k)) → r ≡ true → first_some (twice_at g) (numbered k (drop k xs)) ≡ all → Some k ≡ all
 twice_found g xs k r all same less is on going =
     let none : Module = record { name = []; parent = None; start = 0 } in
     let x = get_or xs k none in
@@ -139,7 +139,7 @@ twice_found g xs k r all same less is on going =
     let name : module_name g.donor k ≡ x.name =
     ap (λ (ms : List Module). elim (slice_get ms k) as (λ _. List ℕ) [ Some m ↦ m.name | None ↦ [] ]) (sym same)
     ∙ ap (λ (o : Option Module). elim o as (λ _. List ℕ) [ Some m ↦ m.name | None ↦ [] ]) (slice_get-get_or xs k none less) in
-    let test : (is_taken g k && is_kept_name g x.name) ≡ true = ap (λ (n : List ℕ). is_taken g k && is_kept_name g n) (sym name) ∙ sym is ∙ on in
+    let test : (is_transferred g k && is_kept_name g x.name) ≡ true = ap (λ (n : List ℕ). is_transferred g k && is_kept_name g n) (sym name) ∙ sym is ∙ on in
     sym (front_step (twice_at g) k xs none less k ∙ ap (λ (b : Bool). elim (cond b (Some k) None) as (λ _. Option ℕ) [ Some y ↦ Some y | None ↦ rest ]) test) ∙ going
 
 -- ---- places

@@ -10,10 +10,10 @@ pub mod Examples
 pub mod Forest
 pub mod FunctionLists
 pub mod FunctionParts
-pub mod Grafting
+pub mod Replacing
 pub mod InRange
 pub mod JoinLaws
-pub mod KidLaws
+pub mod ChildLaws
 pub mod LevelLaws
 pub mod LimitLaws
 pub mod Limiting
@@ -31,7 +31,7 @@ pub mod Rooted
 pub mod Sound
 pub mod StackLaws
 pub mod Stopping
-pub mod Taking
-pub mod Uniting
+pub mod Transfers
+pub mod CombinedTables
 pub mod Widths
 pub mod Words

@@ -1,6 +1,6 @@
 -- The items of both programs with their new numbers, by where they lie in memory.
 use Rattle.std.proofs.Common.{◌≡◌, ◌≤◌, ◌<◌, ◌+◌, ◌-◌, ℕ, Bool, true, false, cond, eqb, List, [], ◌++◌, length, length-append, map, get_or, slice_get, Option, Some, None, IfSome, option_map, sym, ◌∙◌, ap, subst, arith}
-use Rattle.htl_patch.proofs.Words.{length-map, slice_get_within, get_or_from_slice_get, AreInRange, IsModeInRange, IsPortInRange, IsTaskInRange, IsInvInRange, IsSwitchInRange, IsModeThat, Tables, Inv, Mode, Module, Port, Switch, Task, ArePlaces, HasPlaces, placed_mode, placed_module, placed_port, placed_task, placed_inv, placed_switch, Numbering, mode_at, module_at, port_at, task_at, inv_at, switch_at, new_mode, new_module, new_port, new_task, new_inv, new_switch, Graft, united, donor_mode, donor_module, donor_port, donor_task, donor_inv, donor_switch, refined_mode, donor_parent, NewNumbers, all_at, get_back, get_front, get_mapped}
+use Rattle.htl_patch.proofs.Words.{length-map, slice_get_within, get_or_from_slice_get, AreInRange, IsModeInRange, IsPortInRange, IsTaskInRange, IsInvInRange, IsSwitchInRange, IsModeThat, Tables, Inv, Mode, Module, Port, Switch, Task, ArePlaces, HasPlaces, placed_mode, placed_module, placed_port, placed_task, placed_inv, placed_switch, Numbering, mode_at, module_at, port_at, task_at, inv_at, switch_at, new_mode, new_module, new_port, new_task, new_inv, new_switch, Replacement, combined, donor_mode, donor_module, donor_port, donor_task, donor_inv, donor_switch, refined_mode, donor_parent, NewNumbers, all_at, get_back, get_front, get_mapped}
 use Rattle.htl_base.specs.declared.Ty.TheVariants as ty
 use Rattle.htl_patch.proofs.PlacedLaws.{has_item, units_size, modes_size, host_mode, guest_mode, host_task, guest_task, host_module, guest_module, refined_within, host_port, guest_port, host_switch, guest_switch, host_inv, guest_inv, host_has_places, guest_has_places}
 
@@ -24,15 +24,15 @@ there f xs front ys back k x d same other le less is =
     (at, get_or_from_slice_get (xs ++ map f ys) k (f x) d moved)
 
 -- the mode that a module of the donor refines has a small number
-pub refined_small : (g : Graft) (host : AreInRange g.host) (donor : AreInRange g.donor) (parent : Option ℕ) (k : ℕ) → g.into < length g.host.modes
+pub refined_small : (g : Replacement) (host : AreInRange g.host) (donor : AreInRange g.donor) (parent : Option ℕ) (k : ℕ) → g.patched_mode < length g.host.modes
     → IfSome parent (λ m. m < length g.donor.modes) → parent ≡ Some k → refined_mode g k < 65536
-refined_small g host donor parent k into within is = by (eqb k g.from) (subst (λ (o : Option ℕ). IfSome o (λ m. m < length g.donor.modes)) is within) host.few_modes donor.few_modes
+refined_small g host donor parent k into within is = by (eqb k g.replacing_mode) (subst (λ (o : Option ℕ). IfSome o (λ m. m < length g.donor.modes)) is within) host.few_modes donor.few_modes
   where
-    by : (b : Bool) → k < length g.donor.modes → length g.host.modes ≤ 256 → length g.donor.modes ≤ 256 → cond b g.into (length g.host.modes + k) < 65536
+    by : (b : Bool) → k < length g.donor.modes → length g.host.modes ≤ 256 → length g.donor.modes ≤ 256 → cond b g.patched_mode (length g.host.modes + k) < 65536
     by true low a d = omega (arith, into, a)
     by false low a d = omega (arith, low, a, d)
 
-module _ (g : Graft) (host : AreInRange g.host) (donor : AreInRange g.donor) (n : Numbering) (p : NewNumbers) (are : ArePlaces (united g) n p) where
+module _ (g : Replacement) (host : AreInRange g.host) (donor : AreInRange g.donor) (n : Numbering) (p : NewNumbers) (are : ArePlaces (combined g) n p) where
   abbrev h : ℕ
   h = length g.host.modules
 
@@ -40,7 +40,7 @@ module _ (g : Graft) (host : AreInRange g.host) (donor : AreInRange g.donor) (n 
   hm = length g.host.modes
 
   pub mode_here : (front : List Mode) (k : ℕ) (x : Mode) (places : List ℕ) → front ≡ g.host.modes → k < length front → x ≡ get_or front k x → places ≡ p.units.items
-      → (0 + x.«module» < length places) × (placed_mode places 0 x ≡ new_mode n (mode_at (united g) k))
+      → (0 + x.«module» < length places) × (placed_mode places 0 x ≡ new_mode n (mode_at (combined g) k))
   mode_here front k x places same less is are_places =
       let none : Mode = record { name = []; «module» = 0; period = 0 } in
       let it = here g.host.modes (map (donor_mode g) g.donor.modes) front k x none same less is in
@@ -51,9 +51,9 @@ module _ (g : Graft) (host : AreInRange g.host) (donor : AreInRange g.donor) (n 
         ap (λ (ps : List ℕ). placed_mode ps 0 x) are_places ∙ host_mode g host donor n p are x own ∙ ap (new_mode n) (sym it.1),
       )
 
-  pub mode_there : (front back : List Mode) (k before : ℕ) (x : Mode) (places : List ℕ) → front ≡ g.host.modes → back ≡ g.donor.modes → length front ≤ k → k < length (united g).modes
+  pub mode_there : (front back : List Mode) (k before : ℕ) (x : Mode) (places : List ℕ) → front ≡ g.host.modes → back ≡ g.donor.modes → length front ≤ k → k < length (combined g).modes
       → x ≡ get_or back (k - length front) x → places ≡ p.units.items → before ≡ h
-      → (before + x.«module» < length places) × (placed_mode places before x ≡ new_mode n (mode_at (united g) k))
+      → (before + x.«module» < length places) × (placed_mode places before x ≡ new_mode n (mode_at (combined g) k))
   mode_there front back k before x places same other le less is are_places begins =
       let none : Mode = record { name = []; «module» = 0; period = 0 } in
       let it = there (donor_mode g) g.host.modes front g.donor.modes back k x none same other le less is in
@@ -68,7 +68,7 @@ module _ (g : Graft) (host : AreInRange g.host) (donor : AreInRange g.donor) (n 
       )
 
   pub task_here : (front : List Task) (k : ℕ) (x : Task) (places : List ℕ) → front ≡ g.host.tasks → k < length front → x ≡ get_or front k x → places ≡ p.units.items
-      → (0 + x.«module» < length places) × (placed_task places 0 x ≡ new_task n (task_at (united g) k))
+      → (0 + x.«module» < length places) × (placed_task places 0 x ≡ new_task n (task_at (combined g) k))
   task_here front k x places same less is are_places =
       let none : Task = record { name = []; «module» = 0; is_abstract = false; worst = 0; inputs = []; outputs = [] } in
       let it = here g.host.tasks (map (donor_task g) g.donor.tasks) front k x none same less is in
@@ -79,9 +79,9 @@ module _ (g : Graft) (host : AreInRange g.host) (donor : AreInRange g.donor) (n 
         ap (λ (ps : List ℕ). placed_task ps 0 x) are_places ∙ host_task g host donor n p are x own ∙ ap (new_task n) (sym it.1),
       )
 
-  pub task_there : (front back : List Task) (k before : ℕ) (x : Task) (places : List ℕ) → front ≡ g.host.tasks → back ≡ g.donor.tasks → length front ≤ k → k < length (united g).tasks
+  pub task_there : (front back : List Task) (k before : ℕ) (x : Task) (places : List ℕ) → front ≡ g.host.tasks → back ≡ g.donor.tasks → length front ≤ k → k < length (combined g).tasks
       → x ≡ get_or back (k - length front) x → places ≡ p.units.items → before ≡ h
-      → (before + x.«module» < length places) × (placed_task places before x ≡ new_task n (task_at (united g) k))
+      → (before + x.«module» < length places) × (placed_task places before x ≡ new_task n (task_at (combined g) k))
   task_there front back k before x places same other le less is are_places begins =
       let none : Task = record { name = []; «module» = 0; is_abstract = false; worst = 0; inputs = []; outputs = [] } in
       let it = there (donor_task g) g.host.tasks front g.donor.tasks back k x none same other le less is in
@@ -96,7 +96,7 @@ module _ (g : Graft) (host : AreInRange g.host) (donor : AreInRange g.donor) (n 
       )
 
   pub port_here : (front : List Port) (k : ℕ) (x : Port) (places : List ℕ) → front ≡ g.host.ports → k < length front → x ≡ get_or front k x → places ≡ p.modes.items
-      → (0 + x.mode < length places) × (placed_port places 0 x ≡ new_port n (port_at (united g) k))
+      → (0 + x.mode < length places) × (placed_port places 0 x ≡ new_port n (port_at (combined g) k))
   port_here front k x places same less is are_places =
       let none : Port = record { name = []; mode = 0; ty = ty.Int } in
       let it = here g.host.ports (map (donor_port g) g.donor.ports) front k x none same less is in
@@ -107,9 +107,9 @@ module _ (g : Graft) (host : AreInRange g.host) (donor : AreInRange g.donor) (n 
         ap (λ (ps : List ℕ). placed_port ps 0 x) are_places ∙ host_port g host donor n p are x own ∙ ap (new_port n) (sym it.1),
       )
 
-  pub port_there : (front back : List Port) (k before : ℕ) (x : Port) (places : List ℕ) → front ≡ g.host.ports → back ≡ g.donor.ports → length front ≤ k → k < length (united g).ports
+  pub port_there : (front back : List Port) (k before : ℕ) (x : Port) (places : List ℕ) → front ≡ g.host.ports → back ≡ g.donor.ports → length front ≤ k → k < length (combined g).ports
       → x ≡ get_or back (k - length front) x → places ≡ p.modes.items → before ≡ hm
-      → (before + x.mode < length places) × (placed_port places before x ≡ new_port n (port_at (united g) k))
+      → (before + x.mode < length places) × (placed_port places before x ≡ new_port n (port_at (combined g) k))
   port_there front back k before x places same other le less is are_places begins =
       let none : Port = record { name = []; mode = 0; ty = ty.Int } in
       let it = there (donor_port g) g.host.ports front g.donor.ports back k x none same other le less is in
@@ -124,7 +124,7 @@ module _ (g : Graft) (host : AreInRange g.host) (donor : AreInRange g.donor) (n 
       )
 
   pub switch_here : (front : List Switch) (k : ℕ) (x : Switch) (places : List ℕ) → front ≡ g.host.switches → k < length front → x ≡ get_or front k x → places ≡ p.modes.items
-      → (0 + x.mode < length places) × (0 + x.target < length places) × (placed_switch places 0 x ≡ new_switch n (switch_at (united g) k))
+      → (0 + x.mode < length places) × (0 + x.target < length places) × (placed_switch places 0 x ≡ new_switch n (switch_at (combined g) k))
   switch_here front k x places same less is are_places =
       let none : Switch = record { mode = 0; target = 0; reads = [] } in
       let it = here g.host.switches (map (donor_switch g) g.donor.switches) front k x none same less is in
@@ -138,8 +138,8 @@ module _ (g : Graft) (host : AreInRange g.host) (donor : AreInRange g.donor) (n 
       )
 
   pub switch_there : (front back : List Switch) (k before : ℕ) (x : Switch) (places : List ℕ) → front ≡ g.host.switches → back ≡ g.donor.switches → length front ≤ k
-      → k < length (united g).switches → x ≡ get_or back (k - length front) x → places ≡ p.modes.items → before ≡ hm
-      → (before + x.mode < length places) × (before + x.target < length places) × (placed_switch places before x ≡ new_switch n (switch_at (united g) k))
+      → k < length (combined g).switches → x ≡ get_or back (k - length front) x → places ≡ p.modes.items → before ≡ hm
+      → (before + x.mode < length places) × (before + x.target < length places) × (placed_switch places before x ≡ new_switch n (switch_at (combined g) k))
   switch_there front back k before x places same other le less is are_places begins =
       let none : Switch = record { mode = 0; target = 0; reads = [] } in
       let it = there (donor_switch g) g.host.switches front g.donor.switches back k x none same other le less is in
@@ -164,7 +164,7 @@ module _ (g : Graft) (host : AreInRange g.host) (donor : AreInRange g.donor) (n 
   wide (Some k) m l le r = omega (arith, le, r)
 
   pub module_here : (front : List Module) (k : ℕ) (x : Module) (places : List ℕ) → front ≡ g.host.modules → k < length front → x ≡ get_or front k x → places ≡ p.modes.items
-      → (0 + x.start < length places) × IfSome x.parent (λ k. k < length places) × (placed_module places 0 x.parent x ≡ new_module n (module_at (united g) k))
+      → (0 + x.start < length places) × IfSome x.parent (λ k. k < length places) × (placed_module places 0 x.parent x ≡ new_module n (module_at (combined g) k))
   module_here front k x places same less is are_places =
       let none : Module = record { name = []; parent = None; start = 0 } in
       let it = here g.host.modules (map (donor_module g) g.donor.modules) front k x none same less is in
@@ -180,16 +180,16 @@ module _ (g : Graft) (host : AreInRange g.host) (donor : AreInRange g.donor) (n 
 
   -- the parent of a module of the donor is a mode there
   pub guest_parent_in : (front back : List Module) (k : ℕ) (x : Module) → front ≡ g.host.modules → back ≡ g.donor.modules → length front ≤ k
-      → k < length (united g).modules → x ≡ get_or back (k - length front) x → IfSome x.parent (λ k. k < length g.donor.modes)
+      → k < length (combined g).modules → x ≡ get_or back (k - length front) x → IfSome x.parent (λ k. k < length g.donor.modes)
   guest_parent_in front back k x same other le less is =
       let none : Module = record { name = []; parent = None; start = 0 } in
       let it = there (donor_module g) g.host.modules front g.donor.modules back k x none same other le less is in
       let r = donor.modules (k - length front) x it.0 in
       parent_in g.donor (λ owner. owner < k - length front) x.parent r.parent
 
-  pub module_there : (front back : List Module) (k before : ℕ) (x : Module) (parent : Option ℕ) (places : List ℕ) → g.into < hm → front ≡ g.host.modules → back ≡ g.donor.modules → length front ≤ k
-      → k < length (united g).modules → x ≡ get_or back (k - length front) x → places ≡ p.modes.items → before ≡ hm → parent ≡ option_map (refined_mode g) x.parent
-      → (before + x.start < length places) × IfSome parent (λ k. k < length places) × (placed_module places before parent x ≡ new_module n (module_at (united g) k))
+  pub module_there : (front back : List Module) (k before : ℕ) (x : Module) (parent : Option ℕ) (places : List ℕ) → g.patched_mode < hm → front ≡ g.host.modules → back ≡ g.donor.modules → length front ≤ k
+      → k < length (combined g).modules → x ≡ get_or back (k - length front) x → places ≡ p.modes.items → before ≡ hm → parent ≡ option_map (refined_mode g) x.parent
+      → (before + x.start < length places) × IfSome parent (λ k. k < length places) × (placed_module places before parent x ≡ new_module n (module_at (combined g) k))
   module_there front back k before x parent places into same other le less is are_places begins refined =
       let none : Module = record { name = []; parent = None; start = 0 } in
       let it = there (donor_module g) g.host.modules front g.donor.modules back k x none same other le less is in
@@ -202,7 +202,7 @@ module _ (g : Graft) (host : AreInRange g.host) (donor : AreInRange g.donor) (n 
       let within = refined_within g host donor n p are x.parent into above in (
         omega (arith, start, sizes, view, begins),
         subst (λ (o : Option ℕ). IfSome o (λ k. k < length places)) (sym refined)
-            (wide (option_map (refined_mode g) x.parent) (length (united g).modes) (length places) (omega (arith, size, view)) within),
+            (wide (option_map (refined_mode g) x.parent) (length (combined g).modes) (length places) (omega (arith, size, view)) within),
         ap (λ (ps : List ℕ). placed_module ps before parent x) are_places
             ∙ ap (λ (b : ℕ). placed_module p.modes.items b parent x) begins
             ∙ ap (λ (o : Option ℕ). placed_module p.modes.items hm o x) refined
@@ -211,7 +211,7 @@ module _ (g : Graft) (host : AreInRange g.host) (donor : AreInRange g.donor) (n 
       )
 
   pub inv_here : (front : List Inv) (k : ℕ) (x : Inv) → front ≡ g.host.invs → k < length front → x ≡ get_or front k x
-      → HasPlaces p 0 0 0 x.parent x × (placed_inv p 0 0 0 x.parent x ≡ new_inv n (inv_at (united g) k))
+      → HasPlaces p 0 0 0 x.parent x × (placed_inv p 0 0 0 x.parent x ≡ new_inv n (inv_at (combined g) k))
   inv_here front k x same less is =
       let none : Inv = record { mode = 0; task = 0; parent = None; reads = []; writes = [] } in
       let it = here g.host.invs (map (donor_inv g) g.donor.invs) front k x none same less is in
@@ -219,16 +219,16 @@ module _ (g : Graft) (host : AreInRange g.host) (donor : AreInRange g.donor) (n 
       (host_has_places g host donor n p are x r, host_inv g host donor n p are x r ∙ ap (new_inv n) (sym it.1))
 
   pub inv_parent_in : (front back : List Inv) (k : ℕ) (x : Inv) → front ≡ g.host.invs → back ≡ g.donor.invs → length front ≤ k
-      → k < length (united g).invs → x ≡ get_or back (k - length front) x → IfSome x.parent (λ k. k < length g.donor.invs)
+      → k < length (combined g).invs → x ≡ get_or back (k - length front) x → IfSome x.parent (λ k. k < length g.donor.invs)
   inv_parent_in front back k x same other le less is =
       let none : Inv = record { mode = 0; task = 0; parent = None; reads = []; writes = [] } in
       let it = there (donor_inv g) g.host.invs front g.donor.invs back k x none same other le less is in
       (all_at (IsInvInRange g.donor) g.donor.invs (k - length front) x donor.invs it.0).parent
 
   pub inv_there : (front back : List Inv) (k modes tasks ports : ℕ) (x : Inv) (parent : Option ℕ) → front ≡ g.host.invs → back ≡ g.donor.invs → length front ≤ k
-      → k < length (united g).invs → x ≡ get_or back (k - length front) x → modes ≡ hm → tasks ≡ length g.host.tasks → ports ≡ length g.host.ports
+      → k < length (combined g).invs → x ≡ get_or back (k - length front) x → modes ≡ hm → tasks ≡ length g.host.tasks → ports ≡ length g.host.ports
       → parent ≡ option_map (donor_parent g) x.parent
-      → HasPlaces p modes tasks ports parent x × (placed_inv p modes tasks ports parent x ≡ new_inv n (inv_at (united g) k))
+      → HasPlaces p modes tasks ports parent x × (placed_inv p modes tasks ports parent x ≡ new_inv n (inv_at (combined g) k))
   inv_there front back k modes tasks ports x parent same other le less is begin_modes begin_tasks begin_ports stands =
       let none : Inv = record { mode = 0; task = 0; parent = None; reads = []; writes = [] } in
       let it = there (donor_inv g) g.host.invs front g.donor.invs back k x none same other le less is in

@@ -1,9 +1,9 @@
 -- The old numbers of what is taken, by lists of owners; each is that of an item.
 use Rattle.std.proofs.Common.{◌≡◌, ◌≤◌, ◌<◌, ℕ, zero, suc, List, [], ◌∷◌, ◌++◌, length, map, All, length-append, refl, ◌∙◌, ap, subst, arith}
-use Rattle.htl_patch.proofs.Words.{flat_map, length-map, slice_get_within, same_Some, Inv, Mode, Port, Switch, Task, root_modules, modes_of, invs_of, Tables, is_owner, owned_by, mode_owners, port_owners, task_owners, inv_owners, switch_owners, mode_kids, kids, below, order, new_numbers, ports_of, tasks_of, switches_of, Graft, donor_module, united, get_front}
+use Rattle.htl_patch.proofs.Words.{flat_map, length-map, slice_get_within, same_Some, Inv, Mode, Port, Switch, Task, root_modules, modes_of, invs_of, Tables, is_owner, owned_by, mode_owners, port_owners, task_owners, inv_owners, switch_owners, mode_children, children, below, order, new_numbers, ports_of, tasks_of, switches_of, Replacement, donor_module, combined, get_front}
 use Rattle.htl_patch.proofs.BothOwners.{modes_few, tasks_few, ports_few, invs_few, switches_few}
 use Rattle.htl_patch.proofs.CountLaws.{few_apart}
-use Rattle.htl_patch.proofs.Grafting.{CanGraft, host_root, kid_there, order_apart}
+use Rattle.htl_patch.proofs.Replacing.{CanReplace, host_root, child_there, order_apart}
 use Rattle.htl_patch.proofs.Members.{Has, none, of_flat, places_map}
 use Rattle.htl_patch.proofs.Counting.{all_from}
 use Rattle.htl_patch.proofs.Renumbering.{mode_there, task_there, port_there, inv_there, switch_there, modes_apart, tasks_apart, ports_apart, invs_apart, switches_apart}
@@ -55,32 +55,32 @@ module _ (t : Tables) (us : List ℕ) where
       all_from (λ m. m < length t.switches) (flat_map (switches_of t) us)
       (λ m h. (let r = of_flat (switches_of t) us m h in let s = switch_there t r.0 m r.2 in slice_get_within t.switches m s.0 s.1))
 
-module _ (g : Graft) (c : CanGraft g) where
-  kid_within : (y z : ℕ) → Has (kids g y) z → z < length (united g).modules
-  kid_within y z h =
-      let s = of_flat (mode_kids g) (modes_of (united g) y) z h in
-      let m = kid_there g c s.0 z s.2 in slice_get_within (united g).modules z m.0 m.1
+module _ (g : Replacement) (c : CanReplace g) where
+  child_within : (y z : ℕ) → Has (children g y) z → z < length (combined g).modules
+  child_within y z h =
+      let s = of_flat (mode_children g) (modes_of (combined g) y) z h in
+      let m = child_there g c s.0 z s.2 in slice_get_within (combined g).modules z m.0 m.1
 
-  below_within : (n y x : ℕ) → y < length (united g).modules → Has (below (kids g) n y) x → x < length (united g).modules
-  below_within zero y x less (zero, e) = subst (λ m. m < length (united g).modules) (same_Some y x e) less
+  below_within : (n y x : ℕ) → y < length (combined g).modules → Has (below (children g) n y) x → x < length (combined g).modules
+  below_within zero y x less (zero, e) = subst (λ m. m < length (combined g).modules) (same_Some y x e) less
   below_within zero y x less (suc j, e) = absurd (none x j e)
-  below_within (suc n) y x less (zero, e) = subst (λ m. m < length (united g).modules) (same_Some y x e) less
+  below_within (suc n) y x less (zero, e) = subst (λ m. m < length (combined g).modules) (same_Some y x e) less
   below_within (suc n) y x less (suc j, e) =
-      let r = of_flat (below (kids g) n) (kids g y) x (j, e) in below_within n r.0 x (kid_within y r.0 r.1) r.2
+      let r = of_flat (below (children g) n) (children g y) x (j, e) in below_within n r.0 x (child_within y r.0 r.1) r.2
 
   -- the modules that are taken are modules
-  pub order_within : All (λ x. x < length (united g).modules) (order g)
+  pub order_within : All (λ x. x < length (combined g).modules) (order g)
   order_within =
-      all_from (λ x. x < length (united g).modules) (order g)
-      (λ x h. (let r = of_flat (below (kids g) 14) (root_modules g.host) x h in
+      all_from (λ x. x < length (combined g).modules) (order g)
+      (λ x h. (let r = of_flat (below (children g) 14) (root_modules g.host) x h in
       let s = host_root g c r.0 r.1 in
       below_within 14 r.0 x
-      (slice_get_within (united g).modules r.0 s.0 (get_front g.host.modules (map (donor_module g) g.donor.modules) r.0 s.0 s.1)) r.2))
+      (slice_get_within (combined g).modules r.0 s.0 (get_front g.host.modules (map (donor_module g) g.donor.modules) r.0 s.0 s.1)) r.2))
 
   -- not too many numbers are taken
   pub few_units : length (new_numbers g).modules ≤ 16384
   few_units =
-      let most = few_apart (order g) (length (united g).modules) (order_apart g c) order_within in
+      let most = few_apart (order g) (length (combined g).modules) (order_apart g c) order_within in
       let both = length-append g.host.modules (map (donor_module g) g.donor.modules) in
       let back = length-map g.donor.modules (donor_module g) in
       let a = c.host.few_modules in
@@ -88,30 +88,30 @@ module _ (g : Graft) (c : CanGraft g) where
 
   pub few_modes : length (new_numbers g).modes ≤ 16384
   few_modes =
-      let most = few_apart (new_numbers g).modes (length (united g).modes) (modes_apart (united g) (order g) (order_apart g c)) (modes_within (united g) (order g)) in
+      let most = few_apart (new_numbers g).modes (length (combined g).modes) (modes_apart (combined g) (order g) (order_apart g c)) (modes_within (combined g) (order g)) in
       let few = modes_few g c.host c.donor in
-      let size = length-map (united g).modes (λ (x : Mode). x.«module») in omega (arith, most, few, size)
+      let size = length-map (combined g).modes (λ (x : Mode). x.«module») in omega (arith, most, few, size)
 
   pub few_tasks : length (new_numbers g).tasks ≤ 16384
   few_tasks =
-      let most = few_apart (new_numbers g).tasks (length (united g).tasks) (tasks_apart (united g) (order g) (order_apart g c)) (tasks_within (united g) (order g)) in
+      let most = few_apart (new_numbers g).tasks (length (combined g).tasks) (tasks_apart (combined g) (order g) (order_apart g c)) (tasks_within (combined g) (order g)) in
       let few = tasks_few g c.host c.donor in
-      let size = length-map (united g).tasks (λ (x : Task). x.«module») in omega (arith, most, few, size)
+      let size = length-map (combined g).tasks (λ (x : Task). x.«module») in omega (arith, most, few, size)
 
   pub few_ports : length (new_numbers g).ports ≤ 16384
   few_ports =
-      let most = few_apart (new_numbers g).ports (length (united g).ports) (ports_apart (united g) (order g) (order_apart g c)) (ports_within (united g) (new_numbers g).modes) in
+      let most = few_apart (new_numbers g).ports (length (combined g).ports) (ports_apart (combined g) (order g) (order_apart g c)) (ports_within (combined g) (new_numbers g).modes) in
       let few = ports_few g c.host c.donor in
-      let size = length-map (united g).ports (λ (x : Port). x.mode) in omega (arith, most, few, size)
+      let size = length-map (combined g).ports (λ (x : Port). x.mode) in omega (arith, most, few, size)
 
   pub few_invs : length (new_numbers g).invs ≤ 16384
   few_invs =
-      let most = few_apart (new_numbers g).invs (length (united g).invs) (invs_apart (united g) (order g) (order_apart g c)) (invs_within (united g) (new_numbers g).modes) in
+      let most = few_apart (new_numbers g).invs (length (combined g).invs) (invs_apart (combined g) (order g) (order_apart g c)) (invs_within (combined g) (new_numbers g).modes) in
       let few = invs_few g c.host c.donor in
-      let size = length-map (united g).invs (λ (x : Inv). x.mode) in omega (arith, most, few, size)
+      let size = length-map (combined g).invs (λ (x : Inv). x.mode) in omega (arith, most, few, size)
 
   pub few_switches : length (new_numbers g).switches ≤ 16384
   few_switches =
-      let most = few_apart (new_numbers g).switches (length (united g).switches) (switches_apart (united g) (order g) (order_apart g c)) (switches_within (united g) (new_numbers g).modes) in
+      let most = few_apart (new_numbers g).switches (length (combined g).switches) (switches_apart (combined g) (order g) (order_apart g c)) (switches_within (combined g) (new_numbers g).modes) in
       let few = switches_few g c.host c.donor in
-      let size = length-map (united g).switches (λ (x : Switch). x.mode) in omega (arith, most, few, size)
+      let size = length-map (combined g).switches (λ (x : Switch). x.mode) in omega (arith, most, few, size)

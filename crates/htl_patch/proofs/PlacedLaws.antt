@@ -1,6 +1,6 @@
 -- Items with the new numbers that lists of new numbers tell are the renumbered ones.
 use Rattle.std.proofs.Common.{◌≡◌, ◌≤◌, ◌<◌, ◌+◌, ◌-◌, ℕ, zero, cond, Bool, true, false, eqb, List, [], ◌∷◌, ◌++◌, length, length-append, map, get_or, slice_get, Option, Some, None, IfSome, option_map, All, refl, sym, ◌∙◌, ap, arith}
-use Rattle.htl_patch.proofs.Words.{length-map, slice_get_within, slice_get-get_or, AreInRange, IsInvInRange, IsEndInRange, Tables, End, Inv, Mode, Module, Port, Switch, Task, ArePlacesOf, ArePlaces, HasPlace, HasPlaces, placed, placed_mode, placed_module, placed_port, placed_task, placed_end, placed_inv, placed_switch, Numbering, place_among, new_mode, new_module, new_port, new_task, new_end, new_inv, new_switch, Graft, united, donor_mode, donor_module, donor_port, donor_task, donor_end, donor_inv, donor_switch, refined_mode, donor_parent, calls_named, call_name, is_call, belongs_to_mode, NewNumbers, all_at}
+use Rattle.htl_patch.proofs.Words.{length-map, slice_get_within, slice_get-get_or, AreInRange, IsInvInRange, IsEndInRange, Tables, End, Inv, Mode, Module, Port, Switch, Task, ArePlacesOf, ArePlaces, HasPlace, HasPlaces, placed, placed_mode, placed_module, placed_port, placed_task, placed_end, placed_inv, placed_switch, Numbering, place_among, new_mode, new_module, new_port, new_task, new_end, new_inv, new_switch, Replacement, combined, donor_mode, donor_module, donor_port, donor_task, donor_end, donor_inv, donor_switch, refined_mode, donor_parent, calls_named, call_name, is_call, belongs_to_mode, NewNumbers, all_at}
 use Rattle.htl_model.specs.declared.parts.End.TheVariants as E
 use Rattle.htl_patch.proofs.Members.{Has, map_map, map_on, of_places_0}
 
@@ -12,7 +12,7 @@ has_item xs k x less is = slice_get-get_or xs k x less ∙ ap (λ y. Some y) (sy
 all_places : (P : End → Type 0) (Q : End → Type 0) (es : List End) → All P es → ((e : End) → P e → Q e) → All Q es
 all_places P Q es p f k d less = f (get_or es k d) (p k d less)
 
-module _ (g : Graft) (host : AreInRange g.host) (donor : AreInRange g.donor) (n : Numbering) (p : NewNumbers) (are : ArePlaces (united g) n p) where
+module _ (g : Replacement) (host : AreInRange g.host) (donor : AreInRange g.donor) (n : Numbering) (p : NewNumbers) (are : ArePlaces (combined g) n p) where
   abbrev h : ℕ
   h = length g.host.modules
 
@@ -22,19 +22,19 @@ module _ (g : Graft) (host : AreInRange g.host) (donor : AreInRange g.donor) (n 
   in_both : {A B : Type 0} (f : B → A) (xs : List A) (ys : List B) → length (xs ++ map f ys) ≡ length xs + length ys
   in_both f xs ys = length-append xs (map f ys) ∙ ap (λ (n : ℕ). length xs + n) (length-map ys f)
 
-  units_count : length (united g).modules ≡ h + length g.donor.modules
+  units_count : length (combined g).modules ≡ h + length g.donor.modules
   units_count = in_both (donor_module g) g.host.modules g.donor.modules
 
-  modes_count : length (united g).modes ≡ hm + length g.donor.modes
+  modes_count : length (combined g).modes ≡ hm + length g.donor.modes
   modes_count = in_both (donor_mode g) g.host.modes g.donor.modes
 
-  ports_count : length (united g).ports ≡ length g.host.ports + length g.donor.ports
+  ports_count : length (combined g).ports ≡ length g.host.ports + length g.donor.ports
   ports_count = in_both (donor_port g) g.host.ports g.donor.ports
 
-  tasks_count : length (united g).tasks ≡ length g.host.tasks + length g.donor.tasks
+  tasks_count : length (combined g).tasks ≡ length g.host.tasks + length g.donor.tasks
   tasks_count = in_both (donor_task g) g.host.tasks g.donor.tasks
 
-  invs_count : length (united g).invs ≡ length g.host.invs + length g.donor.invs
+  invs_count : length (combined g).invs ≡ length g.host.invs + length g.donor.invs
   invs_count = in_both (donor_inv g) g.host.invs g.donor.invs
 
   -- the new number of an item of the host, and of one of the donor
@@ -42,13 +42,13 @@ module _ (g : Graft) (host : AreInRange g.host) (donor : AreInRange g.donor) (n 
   front count keys places k a less = let same : 0 + k ≡ k = omega arith in ap (λ (m : ℕ). get_or places m 0) same ∙ a.at k less
 
   unit_front : (k : ℕ) → k < h → placed p.units.items 0 k ≡ place_among k n.modules
-  unit_front k less = front (length (united g).modules) n.modules p.units.items k are.units (omega (arith, less, units_count))
+  unit_front k less = front (length (combined g).modules) n.modules p.units.items k are.units (omega (arith, less, units_count))
 
   unit_back : (k : ℕ) → k < length g.donor.modules → placed p.units.items h k ≡ place_among (h + k) n.modules
   unit_back k less = are.units.at (h + k) (omega (arith, less, units_count))
 
   mode_front : (k : ℕ) → k < hm → placed p.modes.items 0 k ≡ place_among k n.modes
-  mode_front k less = front (length (united g).modes) n.modes p.modes.items k are.modes (omega (arith, less, modes_count))
+  mode_front k less = front (length (combined g).modes) n.modes p.modes.items k are.modes (omega (arith, less, modes_count))
 
   mode_back : (k : ℕ) → k < length g.donor.modes → placed p.modes.items hm k ≡ place_among (hm + k) n.modes
   mode_back k less = are.modes.at (hm + k) (omega (arith, less, modes_count))
@@ -77,7 +77,7 @@ module _ (g : Graft) (host : AreInRange g.host) (donor : AreInRange g.donor) (n 
 
   -- ---- modules
 
-  parent_placed : (o : Option ℕ) → IfSome o (λ k. k < length (united g).modes) → option_map (λ (k : ℕ). get_or p.modes.items k 0) o ≡ option_map (λ (k : ℕ). place_among k n.modes) o
+  parent_placed : (o : Option ℕ) → IfSome o (λ k. k < length (combined g).modes) → option_map (λ (k : ℕ). get_or p.modes.items k 0) o ≡ option_map (λ (k : ℕ). place_among k n.modes) o
   parent_placed None less = refl
   parent_placed (Some k) less = ap (λ (m : ℕ). Some m) (are.modes.at k less)
 
@@ -89,20 +89,20 @@ module _ (g : Graft) (host : AreInRange g.host) (donor : AreInRange g.donor) (n 
       ap (λ (o : Option ℕ). make_module x o (placed p.modes.items 0 x.start)) (parent_placed x.parent (wider x.parent parent))
       ∙ ap (make_module x (option_map (λ (k : ℕ). place_among k n.modes) x.parent)) (mode_front x.start start)
     where
-      wider : (o : Option ℕ) → IfSome o (λ k. k < hm) → IfSome o (λ k. k < length (united g).modes)
+      wider : (o : Option ℕ) → IfSome o (λ k. k < hm) → IfSome o (λ k. k < length (combined g).modes)
       wider None less = tt
       wider (Some k) less = omega (arith, less, modes_count)
 
   -- the mode that is refined is one of both
-  pub refined_within : (o : Option ℕ) → g.into < hm → IfSome o (λ k. k < length g.donor.modes) → IfSome (option_map (refined_mode g) o) (λ k. k < length (united g).modes)
+  pub refined_within : (o : Option ℕ) → g.patched_mode < hm → IfSome o (λ k. k < length g.donor.modes) → IfSome (option_map (refined_mode g) o) (λ k. k < length (combined g).modes)
   refined_within None into less = tt
-  refined_within (Some k) into less = by (eqb k g.from)
+  refined_within (Some k) into less = by (eqb k g.replacing_mode)
     where
-      by : (b : Bool) → cond b g.into (hm + k) < length (united g).modes
+      by : (b : Bool) → cond b g.patched_mode (hm + k) < length (combined g).modes
       by true = omega (arith, into, modes_count)
       by false = omega (arith, less, modes_count)
 
-  pub guest_module : (x : Module) → g.into < hm → x.start < length g.donor.modes → IfSome x.parent (λ k. k < length g.donor.modes)
+  pub guest_module : (x : Module) → g.patched_mode < hm → x.start < length g.donor.modes → IfSome x.parent (λ k. k < length g.donor.modes)
       → placed_module p.modes.items hm (option_map (refined_mode g) x.parent) x ≡ new_module n (donor_module g x)
   guest_module x into start parent =
       ap (λ (o : Option ℕ). make_module x o (placed p.modes.items hm x.start)) (parent_placed (option_map (refined_mode g) x.parent) (refined_within x.parent into parent))
@@ -138,7 +138,7 @@ module _ (g : Graft) (host : AreInRange g.host) (donor : AreInRange g.donor) (n 
   host_end m (E.Comm c k) r = refl
   host_end m (E.Port q) r =
       let w = slice_get_within g.host.ports q r.0 r.1 in
-      ap (λ (k : ℕ). E.Port k) (front (length (united g).ports) n.ports p.ports.items q are.ports (omega (arith, w, ports_count)))
+      ap (λ (k : ℕ). E.Port k) (front (length (combined g).ports) n.ports p.ports.items q are.ports (omega (arith, w, ports_count)))
 
   guest_end : (m : ℕ) (e : End) → IsEndInRange g.donor m e → placed_end p.ports.items (length g.host.ports) e ≡ new_end n (donor_end g e)
   guest_end m (E.Comm c k) r = refl
@@ -154,7 +154,7 @@ module _ (g : Graft) (host : AreInRange g.host) (donor : AreInRange g.donor) (n 
       map_on (placed_end p.ports.items (length g.host.ports)) (λ e. new_end n (donor_end g e)) es (λ e i. guest_end m e (all_at (IsEndInRange g.donor m) es i.0 e all i.1))
       ∙ sym (map_map (new_end n) (donor_end g) es)
 
-  inv_placed : (o : Option ℕ) → IfSome o (λ k. k < length (united g).invs) → option_map (λ (k : ℕ). get_or p.invs.items k 0) o ≡ option_map (λ (k : ℕ). place_among k n.invs) o
+  inv_placed : (o : Option ℕ) → IfSome o (λ k. k < length (combined g).invs) → option_map (λ (k : ℕ). get_or p.invs.items k 0) o ≡ option_map (λ (k : ℕ). place_among k n.invs) o
   inv_placed None less = refl
   inv_placed (Some k) less = ap (λ (m : ℕ). Some m) (are.invs.at k less)
 
@@ -171,9 +171,9 @@ module _ (g : Graft) (host : AreInRange g.host) (donor : AreInRange g.donor) (n 
       ∙ ap (make_inv mode' task' parent' reads') e
 
   task_front : (k : ℕ) → k < length g.host.tasks → placed p.tasks.items 0 k ≡ place_among k n.tasks
-  task_front k less = front (length (united g).tasks) n.tasks p.tasks.items k are.tasks (omega (arith, less, tasks_count))
+  task_front k less = front (length (combined g).tasks) n.tasks p.tasks.items k are.tasks (omega (arith, less, tasks_count))
 
-  host_parent : (o : Option ℕ) → IfSome o (λ k. k < length g.host.invs) → IfSome o (λ k. k < length (united g).invs)
+  host_parent : (o : Option ℕ) → IfSome o (λ k. k < length g.host.invs) → IfSome o (λ k. k < length (combined g).invs)
   host_parent None less = tt
   host_parent (Some k) less = omega (arith, less, invs_count)
 
@@ -182,14 +182,14 @@ module _ (g : Graft) (host : AreInRange g.host) (donor : AreInRange g.donor) (n 
   calls_low (k ∷ ks) m all less = all k (0, refl)
 
   -- what stands for a parent of the donor is an invocation of both
-  guest_parent : (o : Option ℕ) → IfSome o (λ k. k < length g.donor.invs) → IfSome (option_map (donor_parent g) o) (λ k. k < length (united g).invs)
+  guest_parent : (o : Option ℕ) → IfSome o (λ k. k < length g.donor.invs) → IfSome (option_map (donor_parent g) o) (λ k. k < length (combined g).invs)
   guest_parent None less = tt
-  guest_parent (Some k) less = by (belongs_to_mode g.donor g.from k)
+  guest_parent (Some k) less = by (belongs_to_mode g.donor g.replacing_mode k)
     where
-      by : (b : Bool) → cond b (get_or (calls_named g.host g.into (call_name g.donor k)) 0 0) (length g.host.invs + k) < length (united g).invs
+      by : (b : Bool) → cond b (get_or (calls_named g.host g.patched_mode (call_name g.donor k)) 0 0) (length g.host.invs + k) < length (combined g).invs
       by true =
-          calls_low (calls_named g.host g.into (call_name g.donor k)) (length (united g).invs)
-          (λ m i. (let r = of_places_0 (is_call g.host g.into (call_name g.donor k)) g.host.invs m i in let w = slice_get_within g.host.invs m r.0 r.1 in omega (arith, w, invs_count)))
+          calls_low (calls_named g.host g.patched_mode (call_name g.donor k)) (length (combined g).invs)
+          (λ m i. (let r = of_places_0 (is_call g.host g.patched_mode (call_name g.donor k)) g.host.invs m i in let w = slice_get_within g.host.invs m r.0 r.1 in omega (arith, w, invs_count)))
           (omega (arith, less, invs_count))
       by false = omega (arith, less, invs_count)
 
@@ -220,7 +220,7 @@ module _ (g : Graft) (host : AreInRange g.host) (donor : AreInRange g.donor) (n 
   ends_places : (m before count : ℕ) (t : Tables) (es : List End) → before + length t.ports ≤ count → All (IsEndInRange t m) es → All (HasPlace count before) es
   ends_places m before count t es le all = all_places (IsEndInRange t m) (HasPlace count before) es all (λ e r. end_place m before count t e le r)
 
-  wide_parent : (o : Option ℕ) → IfSome o (λ k. k < length (united g).invs) → IfSome o (λ k. k < length p.invs.items)
+  wide_parent : (o : Option ℕ) → IfSome o (λ k. k < length (combined g).invs) → IfSome o (λ k. k < length p.invs.items)
   wide_parent None less = tt
   wide_parent (Some k) less = let size = are.invs.size in omega (arith, less, size)
 

@@ -2,27 +2,27 @@
 use Rattle.std.specs.Prelude.{◌≡◌, ℕ, List, Option, Some, None, Result, Ok, Err}
 use Rattle.htl_model.specs.Tables.{Tables}
 use Rattle.htl_object.specs.declared.object.Object.{Object}
-use Rattle.htl_patch.specs.Joining.{graft_of}
+use Rattle.htl_patch.specs.Joining.{replacement_of}
 use Rattle.htl_patch.specs.Object.{patched_object, CanPatch}
 use Rattle.htl_patch.specs.Patched.{patched}
 use Rattle.htl_patch.specs.Stops.{IsPatchFault, IsHandedBack}
-use Rattle.htl_patch.specs.United.{Graft}
+use Rattle.htl_patch.specs.Combined.{Replacement}
 use Rattle.htl_patch.specs.declared.fault.PatchFault.{PatchFault}
 use Rattle.htl_patch.specs.declared.fault.PatchStop.{PatchStop}
 use Rattle.htl_patch.specs.declared.fault.PatchStop.TheVariants as stop
 
 -- the object in which the refinement of the mode of these names is the donor's
 abbrev pub IsPatched : Object → Object → List ℕ → List ℕ → Object → Type 0
-IsPatched o donor unit mode l = (g : Graft) × CanPatch o donor unit mode g × (l ≡ patched_object o g)
+IsPatched o donor unit mode l = (g : Replacement) × CanPatch o donor unit mode g × (l ≡ patched_object o g)
 
 -- the new tables, where there are any, come with the form rule that they break, and with nothing else
-abbrev pub IsHandedBackBy : Option Graft → PatchFault → Option Tables → Type 0
+abbrev pub IsHandedBackBy : Option Replacement → PatchFault → Option Tables → Type 0
 IsHandedBackBy None f t = t ≡ None
 IsHandedBackBy (Some g) f t = IsHandedBack (patched g) f t
 
 -- the first fault; want of memory is free
 abbrev pub IsPatchStop : Object → Object → List ℕ → List ℕ → PatchStop → Type 0
-IsPatchStop o donor unit mode (stop.Refused f t) = IsPatchFault o donor unit mode f × IsHandedBackBy (graft_of o.tables donor.tables unit mode) f t
+IsPatchStop o donor unit mode (stop.Refused f t) = IsPatchFault o donor unit mode f × IsHandedBackBy (replacement_of o.tables donor.tables unit mode) f t
 IsPatchStop o donor unit mode stop.Memory = Unit {0}
 
 -- this object, unless memory runs out

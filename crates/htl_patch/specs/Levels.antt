@@ -7,8 +7,8 @@ use Rattle.htl_model.specs.Tables.{Tables}
 use Rattle.htl_patch.specs.Renumbered.{Numbering}
 
 -- tables of modules and modes alone, which tell the levels
-abbrev pub upright : List Module → List Mode → Tables
-upright units modes = record { comms = []; modes = modes; modules = units; ports = []; tasks = []; invs = []; switches = []; functions = [] }
+abbrev pub module_mode_tables : List Module → List Mode → Tables
+module_mode_tables units modes = record { comms = []; modes = modes; modules = units; ports = []; tasks = []; invs = []; switches = []; functions = [] }
 
 -- each with its limit; no mode has too many invocations
 abbrev pub sizes_of : Numbering → ℕ → List (ℕ × ℕ)

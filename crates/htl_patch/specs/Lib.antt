@@ -11,4 +11,4 @@ pub mod Placed
 pub mod Renumbered
 pub mod Stack
 pub mod Stops
-pub mod United
+pub mod Combined

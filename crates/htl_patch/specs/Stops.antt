@@ -8,55 +8,55 @@ use Rattle.htl_model.specs.Broken.{Formed, IsFirstBroken}
 use Rattle.htl_model.specs.FunctionTypes.{FitPlaces}
 use Rattle.htl_model.specs.Tables.{Tables}
 use Rattle.htl_object.specs.declared.object.Object.{Object}
-use Rattle.htl_patch.specs.Joining.{graft_of, IsFirstDifference, first_stray, first_twice, first_limit, Joins}
+use Rattle.htl_patch.specs.Joining.{replacement_of, IsFirstDifference, first_unmatched, first_twice, first_limit, Joins}
 use Rattle.htl_patch.specs.Patched.{patched}
-use Rattle.htl_patch.specs.United.{Graft}
+use Rattle.htl_patch.specs.Combined.{Replacement}
 use Rattle.htl_patch.specs.declared.fault.PatchFault.{PatchFault}
 use Rattle.htl_patch.specs.declared.fault.PatchFault.TheVariants as fault
 use Rattle.htl_patch.specs.declared.fault.PatchStop.{PatchStop}
 use Rattle.htl_patch.specs.declared.fault.PatchStop.TheVariants as stop
 
--- ---- the first fault of a graft
+-- ---- the first fault of a replacement
 
 -- why the refinement isn't taken over: the first cause, each presupposing that none of those before it stands
-abbrev pub IsGraftFault : Graft → PatchFault → Type 0
-IsGraftFault g (fault.Comms place) = IsFirstDifference g.host.comms g.donor.comms place
-IsGraftFault g (fault.Parent inv) = (g.host.comms ≡ g.donor.comms) × (first_stray g ≡ Some inv)
-IsGraftFault g (fault.Twice unit) = (g.host.comms ≡ g.donor.comms) × (first_stray g ≡ None) × (first_twice g ≡ Some unit)
-IsGraftFault g (fault.Limit which count) =
-    (g.host.comms ≡ g.donor.comms) × (first_stray g ≡ None) × (first_twice g ≡ None) × (first_limit (patched g) ≡ Some (which, count))
-IsGraftFault g (fault.IllFormed f) = Joins g × IsFirstBroken (patched g) f
-IsGraftFault g (fault.Function k) = Joins g × Formed (patched g) × IsFirstUnfit (patched g) k
-IsGraftFault g _ = ⊥
+abbrev pub IsReplacementFault : Replacement → PatchFault → Type 0
+IsReplacementFault g (fault.Comms place) = IsFirstDifference g.host.comms g.donor.comms place
+IsReplacementFault g (fault.Parent inv) = (g.host.comms ≡ g.donor.comms) × (first_unmatched g ≡ Some inv)
+IsReplacementFault g (fault.Twice unit) = (g.host.comms ≡ g.donor.comms) × (first_unmatched g ≡ None) × (first_twice g ≡ Some unit)
+IsReplacementFault g (fault.Limit which count) =
+    (g.host.comms ≡ g.donor.comms) × (first_unmatched g ≡ None) × (first_twice g ≡ None) × (first_limit (patched g) ≡ Some (which, count))
+IsReplacementFault g (fault.IllFormed f) = Joins g × IsFirstBroken (patched g) f
+IsReplacementFault g (fault.Function k) = Joins g × Formed (patched g) × IsFirstUnfit (patched g) k
+IsReplacementFault g _ = ⊥
 
 -- communicators, parents and names have no fault
-pub record AreMet (g : Graft) : Type 0 where
+pub record AreMatched (g : Replacement) : Type 0 where
   pub comms : g.host.comms ≡ g.donor.comms
-  pub parents : first_stray g ≡ None
+  pub parents : first_unmatched g ≡ None
   pub names : first_twice g ≡ None
 
 -- the first fault of them
-abbrev pub IsJoinFault : Graft → PatchFault → Type 0
-IsJoinFault g (fault.Comms place) = IsGraftFault g (fault.Comms place)
-IsJoinFault g (fault.Parent inv) = IsGraftFault g (fault.Parent inv)
-IsJoinFault g (fault.Twice unit) = IsGraftFault g (fault.Twice unit)
+abbrev pub IsJoinFault : Replacement → PatchFault → Type 0
+IsJoinFault g (fault.Comms place) = IsReplacementFault g (fault.Comms place)
+IsJoinFault g (fault.Parent inv) = IsReplacementFault g (fault.Parent inv)
+IsJoinFault g (fault.Twice unit) = IsReplacementFault g (fault.Twice unit)
 IsJoinFault g _ = ⊥
 
 -- the first fault, where it comes before the form rules
-abbrev pub IsEarlyFault : Graft → PatchFault → Type 0
-IsEarlyFault g (fault.Comms place) = IsGraftFault g (fault.Comms place)
-IsEarlyFault g (fault.Parent inv) = IsGraftFault g (fault.Parent inv)
-IsEarlyFault g (fault.Twice unit) = IsGraftFault g (fault.Twice unit)
-IsEarlyFault g (fault.Limit which count) = IsGraftFault g (fault.Limit which count)
+abbrev pub IsEarlyFault : Replacement → PatchFault → Type 0
+IsEarlyFault g (fault.Comms place) = IsReplacementFault g (fault.Comms place)
+IsEarlyFault g (fault.Parent inv) = IsReplacementFault g (fault.Parent inv)
+IsEarlyFault g (fault.Twice unit) = IsReplacementFault g (fault.Twice unit)
+IsEarlyFault g (fault.Limit which count) = IsReplacementFault g (fault.Limit which count)
 IsEarlyFault g _ = ⊥
 
 -- one of the two has no mode of these names, or both have one and this is the first fault
-abbrev pub IsFaultBy : Option Graft → PatchFault → Type 0
+abbrev pub IsFaultBy : Option Replacement → PatchFault → Type 0
 IsFaultBy None f = f ≡ fault.Mode
-IsFaultBy (Some g) f = IsGraftFault g f
+IsFaultBy (Some g) f = IsReplacementFault g f
 
 abbrev pub IsPatchFault : Object → Object → List ℕ → List ℕ → PatchFault → Type 0
-IsPatchFault o donor unit mode f = IsFaultBy (graft_of o.tables donor.tables unit mode) f
+IsPatchFault o donor unit mode f = IsFaultBy (replacement_of o.tables donor.tables unit mode) f
 
 -- the new tables come with the form rule that they break, and with nothing else
 abbrev pub IsHandedBack : Tables → PatchFault → Option Tables → Type 0

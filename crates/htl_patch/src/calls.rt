@@ -3,10 +3,10 @@ ghost use Rattle.std.specs.Prelude.{◌≡◌, ◌<◌, length, IfOk};
 ghost use Rattle.std.specs.Str.{bytes_eq};
 ghost use Rattle.htl_patch.specs.Calls.{call_for as call_for_of, calls_for as calls_for_of};
 ghost use Rattle.htl_patch.specs.Joining.{first};
-ghost use Rattle.htl_patch.specs.United.{is_call as is_call_of, calls_named, task_name};
+ghost use Rattle.htl_patch.specs.Combined.{is_call as is_call_of, calls_named, task_name};
 
-use crate::graft::Graft;
 use crate::lists::{invs, tasks};
+use crate::replacement::Replacement;
 use htl_base::Name;
 use htl_model::{Inv, Tables};
 use std::alloc::{AllocError, Global};
@@ -45,20 +45,24 @@ fn call_named(t: &Tables, mode: u16, name: &Name) -> Option<u16>
 }
 
 // The host's invocation that stands for one of the donor's.
-fn call_for(g: &Graft<'_>, p: usize) -> Option<u16>
+fn call_for(g: &Replacement<'_>, p: usize) -> Option<u16>
     requires { p < length g.now.donor.invs }
     ensures { result ≡ call_for_of g.now p }
 {
     let x = &invs(g.donor)[p];
-    if x.mode != g.from {
+    if x.mode != g.replacing_mode {
         return None;
     }
-    call_named(g.host, g.into, &tasks(g.donor)[x.task as usize].name)
+    call_named(
+        g.host,
+        g.patched_mode,
+        &tasks(g.donor)[x.task as usize].name,
+    )
 }
 
 /// For each invocation of the donor the host's that stands for it. One pass over the host's invocations for each invocation of the
 /// donor's mode, of which there are at most 128.
-pub(crate) fn calls_for(alloc: Global, g: &Graft<'_>) -> Result<Vec<Option<u16>>, AllocError>
+pub(crate) fn calls_for(alloc: Global, g: &Replacement<'_>) -> Result<Vec<Option<u16>>, AllocError>
     ensures { IfOk result (λ v. v.items ≡ calls_for_of g.now) }
 {
     let count = invs(g.donor).len();

@@ -6,11 +6,11 @@ ghost use Rattle.htl_object.specs.Ranges.{IsFunctionCode};
 ghost use Rattle.htl_patch.specs.Firsts.{firsts_of};
 ghost use Rattle.htl_patch.specs.Patched.{new_numbers, patched};
 ghost use Rattle.htl_patch.specs.Renumbered.{functions_of, function_of_switch};
-ghost use Rattle.htl_patch.specs.United.{united};
+ghost use Rattle.htl_patch.specs.Combined.{combined};
 
-use crate::graft::Graft;
 use crate::lists::{switches, tasks};
 use crate::numbers::OldNumbers;
+use crate::replacement::Replacement;
 use htl_base::Seq;
 use htl_model::lookup::function_count;
 use htl_model::{Code, Function, Tables};
@@ -114,7 +114,7 @@ pub(crate) struct FirstFunctions<'a> {
 // Puts the functions of a task of both programs behind others.
 fn push_output(
     alloc: Global,
-    g: &Graft<'_>,
+    g: &Replacement<'_>,
     firsts: &FirstFunctions<'_>,
     k: usize,
     into: &mut Vec<Function>,
@@ -123,8 +123,8 @@ fn push_output(
     requires donor_coded { All IsFunctionCode g.now.donor.functions }
     requires firsts { firsts.now.host.now ≡ firsts_of g.now.host }
     requires donor_firsts { firsts.now.donor.now ≡ firsts_of g.now.donor }
-    requires within { k < length (united g.now).tasks }
-    ensures { OnOk result (map fun_of into.new.items ≡ map fun_of into.old.items ++ functions_of (united g.now) k) }
+    requires within { k < length (combined g.now).tasks }
+    ensures { OnOk result (map fun_of into.new.items ≡ map fun_of into.old.items ++ functions_of (combined g.now) k) }
 {
     g.keeps_ranges();
     let front = tasks(g.host);
@@ -138,7 +138,7 @@ fn push_output(
 // Puts the functions of tasks behind others, task by task.
 fn push_outputs(
     alloc: Global,
-    g: &Graft<'_>,
+    g: &Replacement<'_>,
     firsts: &FirstFunctions<'_>,
     keys: &[u16],
     into: &mut Vec<Function>,
@@ -147,8 +147,8 @@ fn push_outputs(
     requires donor_coded { All IsFunctionCode g.now.donor.functions }
     requires firsts { firsts.now.host.now ≡ firsts_of g.now.host }
     requires donor_firsts { firsts.now.donor.now ≡ firsts_of g.now.donor }
-    requires within { All (λ x. x < length (united g.now).tasks) keys.now }
-    ensures { OnOk result (map fun_of into.new.items ≡ map fun_of into.old.items ++ flat_map (functions_of (united g.now)) keys.now) }
+    requires within { All (λ x. x < length (combined g.now).tasks) keys.now }
+    ensures { OnOk result (map fun_of into.new.items ≡ map fun_of into.old.items ++ flat_map (functions_of (combined g.now)) keys.now) }
 {
     for k in 0..keys.len() {
         push_output(alloc, g, firsts, keys[k] as usize, into)?;
@@ -185,14 +185,14 @@ fn push_of_switch(
 // Puts the function of a switch of both programs behind others.
 fn push_switch(
     alloc: Global,
-    g: &Graft<'_>,
+    g: &Replacement<'_>,
     k: usize,
     into: &mut Vec<Function>,
 ) -> Result<(), AllocError>
     requires coded { All IsFunctionCode g.now.host.functions }
     requires donor_coded { All IsFunctionCode g.now.donor.functions }
-    requires within { k < length (united g.now).switches }
-    ensures { OnOk result (map fun_of into.new.items ≡ map fun_of into.old.items ++ function_of_switch (united g.now) k ∷ []) }
+    requires within { k < length (combined g.now).switches }
+    ensures { OnOk result (map fun_of into.new.items ≡ map fun_of into.old.items ++ function_of_switch (combined g.now) k ∷ []) }
 {
     g.keeps_ranges();
     let front = switches(g.host);
@@ -206,14 +206,14 @@ fn push_switch(
 // Puts the functions of switches behind others.
 fn push_switches(
     alloc: Global,
-    g: &Graft<'_>,
+    g: &Replacement<'_>,
     keys: &[u16],
     into: &mut Vec<Function>,
 ) -> Result<(), AllocError>
     requires coded { All IsFunctionCode g.now.host.functions }
     requires donor_coded { All IsFunctionCode g.now.donor.functions }
-    requires within { All (λ x. x < length (united g.now).switches) keys.now }
-    ensures { OnOk result (map fun_of into.new.items ≡ map fun_of into.old.items ++ map (function_of_switch (united g.now)) keys.now) }
+    requires within { All (λ x. x < length (combined g.now).switches) keys.now }
+    ensures { OnOk result (map fun_of into.new.items ≡ map fun_of into.old.items ++ map (function_of_switch (combined g.now)) keys.now) }
 {
     for k in 0..keys.len() {
         push_switch(alloc, g, keys[k] as usize, into)?;
@@ -224,7 +224,7 @@ fn push_switches(
 /// The functions of the patched tables: of each task that is taken those of its outputs, then of each switch its own.
 pub(crate) fn new_functions(
     alloc: Global,
-    g: &Graft<'_>,
+    g: &Replacement<'_>,
     n: &OldNumbers,
 ) -> Result<Vec<Function>, AllocError>
     requires coded { All IsFunctionCode g.now.host.functions }

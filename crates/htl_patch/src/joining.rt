@@ -3,79 +3,94 @@ ghost use Rattle.std.specs.Prelude.{◌≡◌, ◌<◌, ◌≤◌, ◌+◌, leng
 ghost use Rattle.std.specs.Str.{bytes_eq};
 ghost use Rattle.htl_model.specs.Ranges.{IsInvInRange};
 ghost use Rattle.htl_patch.specs.Calls.{calls_for};
-ghost use Rattle.htl_patch.specs.Joining.{is_taken as is_taken_of, is_stray_parent as is_stray_parent_of, is_stray as is_stray_of, first_stray as first_stray_of, is_kept_name as is_kept_name_of, module_name, first_twice as first_twice_of};
+ghost use Rattle.htl_patch.specs.Joining.{is_transferred as is_transferred_of, is_unmatched_parent as is_unmatched_parent_of, is_unmatched as is_unmatched_of, first_unmatched as first_unmatched_of, is_kept_name as is_kept_name_of, module_name, first_twice as first_twice_of};
 ghost use Rattle.htl_patch.specs.Patched.{order};
 ghost use Rattle.htl_patch.specs.Placed.{ArePlacesOf};
-ghost use Rattle.htl_patch.specs.Stops.{AreMet, IsJoinFault};
-ghost use Rattle.htl_patch.specs.United.{united};
+ghost use Rattle.htl_patch.specs.Stops.{AreMatched, IsJoinFault};
+ghost use Rattle.htl_patch.specs.Combined.{combined};
 
 use crate::fault::PatchFault;
 use crate::finding::first_difference;
-use crate::graft::Graft;
 use crate::lists::{comms, invs, modules};
+use crate::replacement::Replacement;
 use htl_base::Name;
 use htl_model::lookup::mode_module;
 use htl_model::{Inv, Tables};
 
 /// The modules that are taken in the new order, and the place of each module among them.
 #[derive(Clone, Copy)]
-pub(crate) struct Taken<'a> {
+pub(crate) struct Transferred<'a> {
     pub units: &'a [u16],
     pub places: &'a [u16],
 }
 
 // Whether a module of the donor is taken over.
-fn is_taken(g: &Graft<'_>, taken: &Taken<'_>, unit: usize) -> bool
-    requires units { taken.now.units.now ≡ order g.now }
-    requires places { ArePlacesOf (length (united g.now).modules) (order g.now) taken.now.places.now }
+fn is_transferred(g: &Replacement<'_>, transferred: &Transferred<'_>, unit: usize) -> bool
+    requires units { transferred.now.units.now ≡ order g.now }
+    requires places { ArePlacesOf (length (combined g.now).modules) (order g.now) transferred.now.places.now }
     requires unit { unit < length g.now.donor.modules }
-    ensures { result ≡ is_taken_of g.now unit }
+    ensures { result ≡ is_transferred_of g.now unit }
 {
-    let place = taken.places[modules(g.host).len() + unit] as usize;
-    place < taken.units.len()
+    let place = transferred.places[modules(g.host).len() + unit] as usize;
+    place < transferred.units.len()
 }
 
 // Whether a parent in the donor isn't taken over, and none of the host's mode stands for it.
-fn is_stray_parent(g: &Graft<'_>, taken: &Taken<'_>, calls: &[Option<u16>], p: usize) -> bool
-    requires units { taken.now.units.now ≡ order g.now }
-    requires places { ArePlacesOf (length (united g.now).modules) (order g.now) taken.now.places.now }
+fn is_unmatched_parent(
+    g: &Replacement<'_>,
+    transferred: &Transferred<'_>,
+    calls: &[Option<u16>],
+    p: usize,
+) -> bool
+    requires units { transferred.now.units.now ≡ order g.now }
+    requires places { ArePlacesOf (length (combined g.now).modules) (order g.now) transferred.now.places.now }
     requires calls { calls.now ≡ calls_for g.now }
     requires p { p < length g.now.donor.invs }
-    ensures { result ≡ is_stray_parent_of g.now (Some p) }
+    ensures { result ≡ is_unmatched_parent_of g.now (Some p) }
 {
     let unit = mode_module(g.donor, invs(g.donor)[p].mode) as usize;
     match calls[p] {
         Some(_) => false,
-        None => !is_taken(g, taken, unit),
+        None => !is_transferred(g, transferred, unit),
     }
 }
 
 // Whether an invocation of the donor is taken over, and its parent strays.
-fn is_stray(g: &Graft<'_>, taken: &Taken<'_>, calls: &[Option<u16>], x: &Inv) -> bool
-    requires units { taken.now.units.now ≡ order g.now }
-    requires places { ArePlacesOf (length (united g.now).modules) (order g.now) taken.now.places.now }
+fn is_unmatched(
+    g: &Replacement<'_>,
+    transferred: &Transferred<'_>,
+    calls: &[Option<u16>],
+    x: &Inv,
+) -> bool
+    requires units { transferred.now.units.now ≡ order g.now }
+    requires places { ArePlacesOf (length (combined g.now).modules) (order g.now) transferred.now.places.now }
     requires calls { calls.now ≡ calls_for g.now }
     requires range { IsInvInRange g.now.donor x.now }
-    ensures { result ≡ is_stray_of g.now x.now }
+    ensures { result ≡ is_unmatched_of g.now x.now }
 {
     g.keeps_ranges();
     let unit = mode_module(g.donor, x.mode) as usize;
     match x.parent {
-        Some(p) => is_taken(g, taken, unit) && is_stray_parent(g, taken, calls, p as usize),
+        Some(p) => is_transferred(g, transferred, unit)
+            && is_unmatched_parent(g, transferred, calls, p as usize),
         None => false,
     }
 }
 
 /// The first invocation of the donor that is taken over, and whose parent neither is nor has one of the host's mode that stands for it.
-pub(crate) fn first_stray(g: &Graft<'_>, taken: &Taken<'_>, calls: &[Option<u16>]) -> Option<u16>
-    requires units { taken.now.units.now ≡ order g.now }
-    requires places { ArePlacesOf (length (united g.now).modules) (order g.now) taken.now.places.now }
+pub(crate) fn first_unmatched(
+    g: &Replacement<'_>,
+    transferred: &Transferred<'_>,
+    calls: &[Option<u16>],
+) -> Option<u16>
+    requires units { transferred.now.units.now ≡ order g.now }
+    requires places { ArePlacesOf (length (combined g.now).modules) (order g.now) transferred.now.places.now }
     requires calls { calls.now ≡ calls_for g.now }
-    ensures { result ≡ first_stray_of g.now }
+    ensures { result ≡ first_unmatched_of g.now }
 {
     let all = invs(g.donor);
     for k in 0..all.len() {
-        if is_stray(g, taken, calls, &all[k]) {
+        if is_unmatched(g, transferred, calls, &all[k]) {
             return Some(k as u16);
         }
     }
@@ -91,7 +106,7 @@ fn has_name(t: &Tables, unit: usize, name: &Name) -> bool
 }
 
 // Whether a module of both is one of the host's, and has the name.
-fn has_host_name(g: &Graft<'_>, unit: u16, name: &Name) -> bool
+fn has_host_name(g: &Replacement<'_>, unit: u16, name: &Name) -> bool
     ensures { result ≡ (ltb unit (length g.now.host.modules) && bytes_eq (module_name g.now.host unit) name.now) }
 {
     if (unit as usize) < modules(g.host).len() {
@@ -102,7 +117,7 @@ fn has_host_name(g: &Graft<'_>, unit: u16, name: &Name) -> bool
 }
 
 // Whether a module of the host that stays has the name.
-fn is_kept_name(g: &Graft<'_>, units: &[u16], name: &Name) -> bool
+fn is_kept_name(g: &Replacement<'_>, units: &[u16], name: &Name) -> bool
     requires { units.now ≡ order g.now }
     ensures { result ≡ is_kept_name_of g.now name.now }
 {
@@ -110,28 +125,28 @@ fn is_kept_name(g: &Graft<'_>, units: &[u16], name: &Name) -> bool
 }
 
 // Whether a module of the donor is taken over, and has the name of one of the host's that stays.
-fn is_twice(g: &Graft<'_>, taken: &Taken<'_>, unit: usize) -> bool
-    requires units { taken.now.units.now ≡ order g.now }
-    requires places { ArePlacesOf (length (united g.now).modules) (order g.now) taken.now.places.now }
+fn is_twice(g: &Replacement<'_>, transferred: &Transferred<'_>, unit: usize) -> bool
+    requires units { transferred.now.units.now ≡ order g.now }
+    requires places { ArePlacesOf (length (combined g.now).modules) (order g.now) transferred.now.places.now }
     requires unit { unit < length g.now.donor.modules }
-    ensures { result ≡ (is_taken_of g.now unit && is_kept_name_of g.now (module_name g.now.donor unit)) }
+    ensures { result ≡ (is_transferred_of g.now unit && is_kept_name_of g.now (module_name g.now.donor unit)) }
 {
-    if is_taken(g, taken, unit) {
-        is_kept_name(g, taken.units, &modules(g.donor)[unit].name)
+    if is_transferred(g, transferred, unit) {
+        is_kept_name(g, transferred.units, &modules(g.donor)[unit].name)
     } else {
         false
     }
 }
 
 /// The first module of the donor that is taken over, and has the name of one of the host's that stays.
-pub(crate) fn first_twice(g: &Graft<'_>, taken: &Taken<'_>) -> Option<u16>
-    requires units { taken.now.units.now ≡ order g.now }
-    requires places { ArePlacesOf (length (united g.now).modules) (order g.now) taken.now.places.now }
+pub(crate) fn first_twice(g: &Replacement<'_>, transferred: &Transferred<'_>) -> Option<u16>
+    requires units { transferred.now.units.now ≡ order g.now }
+    requires places { ArePlacesOf (length (combined g.now).modules) (order g.now) transferred.now.places.now }
     ensures { result ≡ first_twice_of g.now }
 {
     let all = modules(g.donor);
     for k in 0..all.len() {
-        if is_twice(g, taken, k) {
+        if is_twice(g, transferred, k) {
             return Some(k as u16);
         }
     }
@@ -140,22 +155,22 @@ pub(crate) fn first_twice(g: &Graft<'_>, taken: &Taken<'_>) -> Option<u16>
 
 /// The first fault of communicators, parents and names.
 pub(crate) fn join_fault(
-    g: &Graft<'_>,
-    taken: &Taken<'_>,
+    g: &Replacement<'_>,
+    transferred: &Transferred<'_>,
     calls: &[Option<u16>],
 ) -> Option<PatchFault>
-    requires units { taken.now.units.now ≡ order g.now }
-    requires places { ArePlacesOf (length (united g.now).modules) (order g.now) taken.now.places.now }
+    requires units { transferred.now.units.now ≡ order g.now }
+    requires places { ArePlacesOf (length (combined g.now).modules) (order g.now) transferred.now.places.now }
     requires calls { calls.now ≡ calls_for g.now }
-    ensures { MatchOption result (AreMet g.now) (IsJoinFault g.now) }
+    ensures { MatchOption result (AreMatched g.now) (IsJoinFault g.now) }
 {
     if let Some(place) = first_difference(comms(g.host), comms(g.donor)) {
         return Some(PatchFault::Comms { place });
     }
-    if let Some(inv) = first_stray(g, taken, calls) {
+    if let Some(inv) = first_unmatched(g, transferred, calls) {
         return Some(PatchFault::Parent { inv });
     }
-    match first_twice(g, taken) {
+    match first_twice(g, transferred) {
         Some(module) => Some(PatchFault::Twice { module }),
         None => None,
     }

@@ -6,7 +6,6 @@ mod fault;
 mod finding;
 mod finishing;
 mod functions;
-mod graft;
 mod joining;
 pub mod laws;
 mod limits;
@@ -18,6 +17,7 @@ mod owned;
 mod owners;
 mod patching;
 mod places;
+mod replacement;
 mod tables;
 mod unit_items;
 

@@ -4,7 +4,7 @@ ghost use Rattle.htl_model.specs.Lists.{list_to};
 ghost use Rattle.htl_model.specs.Ranges.{parent_of};
 ghost use Rattle.htl_model.specs.Tables.{mode_module, greatest};
 ghost use Rattle.htl_patch.specs.Joining.{level as level_of, exceeded as exceeded_of};
-ghost use Rattle.htl_patch.specs.Levels.{upright, sizes_of, AreFewNumbers};
+ghost use Rattle.htl_patch.specs.Levels.{module_mode_tables, sizes_of, AreFewNumbers};
 
 use crate::numbers::OldNumbers;
 use htl_base::limits::{
@@ -14,7 +14,7 @@ use htl_base::limits::{
 use htl_model::{Mode, Module};
 
 fn parent(modules: &[Module], modes: &[Mode], unit: usize) -> Option<u16>
-    ensures { result ≡ parent_of (upright modules.now modes.now) unit }
+    ensures { result ≡ parent_of (module_mode_tables modules.now modes.now) unit }
 {
     if unit < modules.len() {
         modules[unit].parent
@@ -24,7 +24,7 @@ fn parent(modules: &[Module], modes: &[Mode], unit: usize) -> Option<u16>
 }
 
 fn module_of(modules: &[Module], modes: &[Mode], mode: u16) -> u16
-    ensures { result ≡ mode_module (upright modules.now modes.now) mode }
+    ensures { result ≡ mode_module (module_mode_tables modules.now modes.now) mode }
 {
     if (mode as usize) < modes.len() {
         modes[mode as usize].module
@@ -36,7 +36,7 @@ fn module_of(modules: &[Module], modes: &[Mode], mode: u16) -> u16
 // How many levels a module is down, a root module being on the first, counted up to so many steps.
 fn level(modules: &[Module], modes: &[Mode], unit: usize, steps: u32) -> u32
     requires { steps ≤ 16 }
-    ensures value { result ≡ level_of steps (upright modules.now modes.now) unit }
+    ensures value { result ≡ level_of steps (module_mode_tables modules.now modes.now) unit }
     ensures most { result ≤ 17 }
 {
     let mut here = unit;
@@ -54,7 +54,7 @@ fn level(modules: &[Module], modes: &[Mode], unit: usize, steps: u32) -> u32
 /// How many levels there are, each counted up to so many steps.
 pub(crate) fn levels(modules: &[Module], modes: &[Mode], steps: u32) -> u32
     requires { steps ≤ 16 }
-    ensures value { result ≡ greatest 0 (list_to (level_of steps (upright modules.now modes.now)) (length modules.now)) }
+    ensures value { result ≡ greatest 0 (list_to (level_of steps (module_mode_tables modules.now modes.now)) (length modules.now)) }
     ensures most { result ≤ 17 }
 {
     let mut most = 0;

@@ -4,11 +4,11 @@ ghost use Rattle.htl_patch.specs.Patched.{new_numbers};
 ghost use Rattle.htl_patch.specs.Calls.{calls_for};
 ghost use Rattle.htl_patch.specs.Placed.{ArePlaces, HasPlace, HasPlaces, placed_end, placed_inv, placed_port, placed_switch};
 ghost use Rattle.htl_patch.specs.Renumbered.{inv_at, port_at, switch_at, new_inv as new_inv_of, new_port as new_port_of, new_switch as new_switch_of};
-ghost use Rattle.htl_patch.specs.United.{united, donor_parent, belongs_to_mode as is_of_mode_of};
+ghost use Rattle.htl_patch.specs.Combined.{combined, donor_parent, belongs_to_mode as is_of_mode_of};
 
-use crate::graft::Graft;
 use crate::lists::{invs, modes, ports, switches, tasks};
 use crate::numbers::NewNumbers;
+use crate::replacement::Replacement;
 use crate::unit_items::new_number;
 use htl_base::Seq;
 use htl_model::{End, Inv, Port, Switch, Tables};
@@ -26,10 +26,10 @@ fn copied_port(x: &Port, modes: &[u16], before: usize) -> Port
     }
 }
 
-fn new_port(g: &Graft<'_>, p: &NewNumbers, k: usize) -> Port
-    requires places { ArePlaces (united g.now) (new_numbers g.now) p.now }
-    requires within { k < length (united g.now).ports }
-    ensures { result ≡ new_port_of (new_numbers g.now) (port_at (united g.now) k) }
+fn new_port(g: &Replacement<'_>, p: &NewNumbers, k: usize) -> Port
+    requires places { ArePlaces (combined g.now) (new_numbers g.now) p.now }
+    requires within { k < length (combined g.now).ports }
+    ensures { result ≡ new_port_of (new_numbers g.now) (port_at (combined g.now) k) }
 {
     g.keeps_ranges();
     let before = modes(g.host).len();
@@ -44,13 +44,13 @@ fn new_port(g: &Graft<'_>, p: &NewNumbers, k: usize) -> Port
 /// The ports with these old numbers, with their new numbers.
 pub(crate) fn new_ports(
     alloc: Global,
-    g: &Graft<'_>,
+    g: &Replacement<'_>,
     p: &NewNumbers,
     keys: &[u16],
 ) -> Result<Vec<Port>, AllocError>
-    requires places { ArePlaces (united g.now) (new_numbers g.now) p.now }
-    requires within { All (λ x. x < length (united g.now).ports) keys.now }
-    ensures { IfOk result (λ v. v.items ≡ map (λ x. new_port_of (new_numbers g.now) (port_at (united g.now) x)) keys.now) }
+    requires places { ArePlaces (combined g.now) (new_numbers g.now) p.now }
+    requires within { All (λ x. x < length (combined g.now).ports) keys.now }
+    ensures { IfOk result (λ v. v.items ≡ map (λ x. new_port_of (new_numbers g.now) (port_at (combined g.now) x)) keys.now) }
 {
     let mut found = Vec::new(alloc);
     for k in 0..keys.len() {
@@ -127,13 +127,13 @@ fn is_of_mode(t: &Tables, mode: u16, k: usize) -> bool
 }
 
 // The invocation of both in whose place one of the donor stands, by the one in whose place it stands there.
-fn moved(g: &Graft<'_>, calls: &[Option<u16>], k: u16) -> u16
+fn moved(g: &Replacement<'_>, calls: &[Option<u16>], k: u16) -> u16
     requires calls { calls.now ≡ calls_for g.now }
     requires within { k < length g.now.donor.invs }
     ensures { result ≡ donor_parent g.now k }
 {
     g.keeps_ranges();
-    if is_of_mode(g.donor, g.from, k as usize) {
+    if is_of_mode(g.donor, g.replacing_mode, k as usize) {
         match calls[k as usize] {
             Some(call) => call,
             None => 0,
@@ -143,7 +143,7 @@ fn moved(g: &Graft<'_>, calls: &[Option<u16>], k: u16) -> u16
     }
 }
 
-fn moved_parent(g: &Graft<'_>, calls: &[Option<u16>], parent: Option<u16>) -> Option<u16>
+fn moved_parent(g: &Replacement<'_>, calls: &[Option<u16>], parent: Option<u16>) -> Option<u16>
     requires calls { calls.now ≡ calls_for g.now }
     requires within { IfSome parent (λ k. k < length g.now.donor.invs) }
     ensures { result ≡ option_map (donor_parent g.now) parent }
@@ -156,15 +156,15 @@ fn moved_parent(g: &Graft<'_>, calls: &[Option<u16>], parent: Option<u16>) -> Op
 
 fn new_inv(
     alloc: Global,
-    g: &Graft<'_>,
+    g: &Replacement<'_>,
     p: &NewNumbers,
     calls: &[Option<u16>],
     k: usize,
 ) -> Result<Inv, AllocError>
-    requires places { ArePlaces (united g.now) (new_numbers g.now) p.now }
+    requires places { ArePlaces (combined g.now) (new_numbers g.now) p.now }
     requires calls { calls.now ≡ calls_for g.now }
-    requires within { k < length (united g.now).invs }
-    ensures { IfOk result (λ y. y ≡ new_inv_of (new_numbers g.now) (inv_at (united g.now) k)) }
+    requires within { k < length (combined g.now).invs }
+    ensures { IfOk result (λ y. y ≡ new_inv_of (new_numbers g.now) (inv_at (combined g.now) k)) }
 {
     g.keeps_ranges();
     let front = invs(g.host);
@@ -189,15 +189,15 @@ fn new_inv(
 /// The invs with these old numbers, with their new numbers.
 pub(crate) fn new_invs(
     alloc: Global,
-    g: &Graft<'_>,
+    g: &Replacement<'_>,
     p: &NewNumbers,
     calls: &[Option<u16>],
     keys: &[u16],
 ) -> Result<Vec<Inv>, AllocError>
-    requires places { ArePlaces (united g.now) (new_numbers g.now) p.now }
+    requires places { ArePlaces (combined g.now) (new_numbers g.now) p.now }
     requires calls { calls.now ≡ calls_for g.now }
-    requires within { All (λ x. x < length (united g.now).invs) keys.now }
-    ensures { IfOk result (λ v. v.items ≡ map (λ x. new_inv_of (new_numbers g.now) (inv_at (united g.now) x)) keys.now) }
+    requires within { All (λ x. x < length (combined g.now).invs) keys.now }
+    ensures { IfOk result (λ v. v.items ≡ map (λ x. new_inv_of (new_numbers g.now) (inv_at (combined g.now) x)) keys.now) }
 {
     let mut found = Vec::new(alloc);
     for k in 0..keys.len() {
@@ -225,10 +225,15 @@ fn copied_switch(
     })
 }
 
-fn new_switch(alloc: Global, g: &Graft<'_>, p: &NewNumbers, k: usize) -> Result<Switch, AllocError>
-    requires places { ArePlaces (united g.now) (new_numbers g.now) p.now }
-    requires within { k < length (united g.now).switches }
-    ensures { IfOk result (λ y. y ≡ new_switch_of (new_numbers g.now) (switch_at (united g.now) k)) }
+fn new_switch(
+    alloc: Global,
+    g: &Replacement<'_>,
+    p: &NewNumbers,
+    k: usize,
+) -> Result<Switch, AllocError>
+    requires places { ArePlaces (combined g.now) (new_numbers g.now) p.now }
+    requires within { k < length (combined g.now).switches }
+    ensures { IfOk result (λ y. y ≡ new_switch_of (new_numbers g.now) (switch_at (combined g.now) k)) }
 {
     g.keeps_ranges();
     let before = modes(g.host).len();
@@ -243,13 +248,13 @@ fn new_switch(alloc: Global, g: &Graft<'_>, p: &NewNumbers, k: usize) -> Result<
 /// The switches with these old numbers, with their new numbers.
 pub(crate) fn new_switches(
     alloc: Global,
-    g: &Graft<'_>,
+    g: &Replacement<'_>,
     p: &NewNumbers,
     keys: &[u16],
 ) -> Result<Vec<Switch>, AllocError>
-    requires places { ArePlaces (united g.now) (new_numbers g.now) p.now }
-    requires within { All (λ x. x < length (united g.now).switches) keys.now }
-    ensures { IfOk result (λ v. v.items ≡ map (λ x. new_switch_of (new_numbers g.now) (switch_at (united g.now) x)) keys.now) }
+    requires places { ArePlaces (combined g.now) (new_numbers g.now) p.now }
+    requires within { All (λ x. x < length (combined g.now).switches) keys.now }
+    ensures { IfOk result (λ v. v.items ≡ map (λ x. new_switch_of (new_numbers g.now) (switch_at (combined g.now) x)) keys.now) }
 {
     let mut found = Vec::new(alloc);
     for k in 0..keys.len() {

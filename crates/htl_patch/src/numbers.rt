@@ -5,14 +5,14 @@ ghost use Rattle.htl_model.specs.Selections.{modes_of, invs_of};
 ghost use Rattle.htl_patch.specs.Patched.{order as order_of, new_numbers};
 ghost use Rattle.htl_patch.specs.Placed.{ArePlaces};
 ghost use Rattle.htl_patch.specs.Renumbered.{place_among, ports_of, tasks_of, switches_of};
-ghost use Rattle.htl_patch.specs.United.{united};
+ghost use Rattle.htl_patch.specs.Combined.{combined};
 
-use crate::graft::{Graft, mode_count, module_count};
 use crate::lists::{invs, modes, modules, ports, switches, tasks};
 use crate::order::order;
 use crate::owned::owned;
 use crate::owners::owners_of;
 use crate::places::places;
+use crate::replacement::{Replacement, mode_count, module_count};
 use std::alloc::{AllocError, Global};
 use std::marker::Model;
 
@@ -76,9 +76,9 @@ impl Drop for NewNumbers {
 }
 
 // The modes of modules, by module.
-fn modes_in(alloc: Global, g: &Graft<'_>, keys: &[u16]) -> Result<Vec<u16>, AllocError>
-    requires { All (λ x. x < length (united g.now).modules) keys.now }
-    ensures { IfOk result (λ v. v.items ≡ flat_map (modes_of (united g.now)) keys.now) }
+fn modes_in(alloc: Global, g: &Replacement<'_>, keys: &[u16]) -> Result<Vec<u16>, AllocError>
+    requires { All (λ x. x < length (combined g.now).modules) keys.now }
+    ensures { IfOk result (λ v. v.items ≡ flat_map (modes_of (combined g.now)) keys.now) }
 {
     let before = modules(g.host).len() as u16;
     let owners = owners_of(alloc, modes(g.host), modes(g.donor), before)?;
@@ -87,9 +87,9 @@ fn modes_in(alloc: Global, g: &Graft<'_>, keys: &[u16]) -> Result<Vec<u16>, Allo
 }
 
 // The ports of modes, by mode.
-fn ports_in(alloc: Global, g: &Graft<'_>, keys: &[u16]) -> Result<Vec<u16>, AllocError>
-    requires { All (λ x. x < length (united g.now).modes) keys.now }
-    ensures { IfOk result (λ v. v.items ≡ flat_map (ports_of (united g.now)) keys.now) }
+fn ports_in(alloc: Global, g: &Replacement<'_>, keys: &[u16]) -> Result<Vec<u16>, AllocError>
+    requires { All (λ x. x < length (combined g.now).modes) keys.now }
+    ensures { IfOk result (λ v. v.items ≡ flat_map (ports_of (combined g.now)) keys.now) }
 {
     let before = modes(g.host).len() as u16;
     let owners = owners_of(alloc, ports(g.host), ports(g.donor), before)?;
@@ -98,9 +98,9 @@ fn ports_in(alloc: Global, g: &Graft<'_>, keys: &[u16]) -> Result<Vec<u16>, Allo
 }
 
 // The tasks of modules, by module.
-fn tasks_in(alloc: Global, g: &Graft<'_>, keys: &[u16]) -> Result<Vec<u16>, AllocError>
-    requires { All (λ x. x < length (united g.now).modules) keys.now }
-    ensures { IfOk result (λ v. v.items ≡ flat_map (tasks_of (united g.now)) keys.now) }
+fn tasks_in(alloc: Global, g: &Replacement<'_>, keys: &[u16]) -> Result<Vec<u16>, AllocError>
+    requires { All (λ x. x < length (combined g.now).modules) keys.now }
+    ensures { IfOk result (λ v. v.items ≡ flat_map (tasks_of (combined g.now)) keys.now) }
 {
     let before = modules(g.host).len() as u16;
     let owners = owners_of(alloc, tasks(g.host), tasks(g.donor), before)?;
@@ -109,9 +109,9 @@ fn tasks_in(alloc: Global, g: &Graft<'_>, keys: &[u16]) -> Result<Vec<u16>, Allo
 }
 
 // The invocations of modes, by mode.
-fn invs_in(alloc: Global, g: &Graft<'_>, keys: &[u16]) -> Result<Vec<u16>, AllocError>
-    requires { All (λ x. x < length (united g.now).modes) keys.now }
-    ensures { IfOk result (λ v. v.items ≡ flat_map (invs_of (united g.now)) keys.now) }
+fn invs_in(alloc: Global, g: &Replacement<'_>, keys: &[u16]) -> Result<Vec<u16>, AllocError>
+    requires { All (λ x. x < length (combined g.now).modes) keys.now }
+    ensures { IfOk result (λ v. v.items ≡ flat_map (invs_of (combined g.now)) keys.now) }
 {
     let before = modes(g.host).len() as u16;
     let owners = owners_of(alloc, invs(g.host), invs(g.donor), before)?;
@@ -120,9 +120,9 @@ fn invs_in(alloc: Global, g: &Graft<'_>, keys: &[u16]) -> Result<Vec<u16>, Alloc
 }
 
 // The switches of modes, by mode.
-fn switches_in(alloc: Global, g: &Graft<'_>, keys: &[u16]) -> Result<Vec<u16>, AllocError>
-    requires { All (λ x. x < length (united g.now).modes) keys.now }
-    ensures { IfOk result (λ v. v.items ≡ flat_map (switches_of (united g.now)) keys.now) }
+fn switches_in(alloc: Global, g: &Replacement<'_>, keys: &[u16]) -> Result<Vec<u16>, AllocError>
+    requires { All (λ x. x < length (combined g.now).modes) keys.now }
+    ensures { IfOk result (λ v. v.items ≡ flat_map (switches_of (combined g.now)) keys.now) }
 {
     let before = modes(g.host).len() as u16;
     let owners = owners_of(alloc, switches(g.host), switches(g.donor), before)?;
@@ -131,9 +131,9 @@ fn switches_in(alloc: Global, g: &Graft<'_>, keys: &[u16]) -> Result<Vec<u16>, A
 }
 
 /// The old numbers in the new order. The time is linear in both programs.
-pub(crate) fn old_numbers(alloc: Global, g: &Graft<'_>) -> Result<OldNumbers, AllocError>
-    requires into { g.now.into < length g.now.host.modes }
-    requires from { g.now.from < length g.now.donor.modes }
+pub(crate) fn old_numbers(alloc: Global, g: &Replacement<'_>) -> Result<OldNumbers, AllocError>
+    requires into { g.now.patched_mode < length g.now.host.modes }
+    requires from { g.now.replacing_mode < length g.now.donor.modes }
     ensures { IfOk result (λ n. n ≡ new_numbers g.now) }
 {
     g.keeps_ranges();
@@ -156,13 +156,13 @@ pub(crate) fn old_numbers(alloc: Global, g: &Graft<'_>) -> Result<OldNumbers, Al
 /// The new numbers of what has these old ones. The time is linear in both programs.
 pub(crate) fn renumber(
     alloc: Global,
-    g: &Graft<'_>,
+    g: &Replacement<'_>,
     n: &OldNumbers,
 ) -> Result<NewNumbers, AllocError>
-    requires into { g.now.into < length g.now.host.modes }
-    requires from { g.now.from < length g.now.donor.modes }
+    requires into { g.now.patched_mode < length g.now.host.modes }
+    requires from { g.now.replacing_mode < length g.now.donor.modes }
     requires numbers { n.now ≡ new_numbers g.now }
-    ensures { IfOk result (ArePlaces (united g.now) (new_numbers g.now)) }
+    ensures { IfOk result (ArePlaces (combined g.now) (new_numbers g.now)) }
 {
     g.keeps_ranges();
     let units = places(alloc, n.units.as_slice(), module_count(g))?;

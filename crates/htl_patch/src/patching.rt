@@ -5,14 +5,14 @@ ghost use Rattle.htl_object.specs.Ranges.{IsInRange};
 ghost use Rattle.htl_patch.specs.Answering.{IsPatched, IsPatchStop, IsPatchedAs, PatchIsRefusedFor};
 ghost use Rattle.htl_patch.specs.Object.{patched_object, CanPatch};
 ghost use Rattle.htl_patch.specs.Stops.{IsPatchFault};
-ghost use Rattle.htl_patch.specs.United.{Graft as GraftOf};
+ghost use Rattle.htl_patch.specs.Combined.{Replacement as GraftOf};
 ghost use Rattle.htl_patch.specs.declared.fault.PatchFault.{PatchFault as FaultOf};
 
 use crate::fault::{PatchFault, PatchStop};
 use crate::finding::mode_named;
 use crate::finishing::accept;
-use crate::graft::Graft;
-use crate::tables::grafted;
+use crate::replacement::Replacement;
+use crate::tables::with_replacement;
 use htl_base::Name;
 use htl_load::Loaded;
 use htl_object::Object;
@@ -40,13 +40,13 @@ fn replaced(
         Some(from) => from,
         None => return Err(PatchStop::Refused(PatchFault::Mode, None)),
     };
-    let g = Graft {
+    let g = Replacement {
         host,
         donor: &donor.tables,
-        into,
-        from,
+        patched_mode: into,
+        replacing_mode: from,
     };
-    let made = match grafted(alloc, &g) {
+    let made = match with_replacement(alloc, &g) {
         Ok(made) => made,
         Err(_) => return Err(PatchStop::Memory),
     };

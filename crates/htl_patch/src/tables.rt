@@ -7,18 +7,18 @@ ghost use Rattle.htl_patch.specs.Calls.{calls_for as calls_for_of};
 ghost use Rattle.htl_patch.specs.Joining.{Joins};
 ghost use Rattle.htl_patch.specs.Patched.{new_numbers, patched};
 ghost use Rattle.htl_patch.specs.Placed.{ArePlaces};
-ghost use Rattle.htl_patch.specs.Stops.{AreMet, IsEarlyFault};
-ghost use Rattle.htl_patch.specs.United.{united};
+ghost use Rattle.htl_patch.specs.Stops.{AreMatched, IsEarlyFault};
+ghost use Rattle.htl_patch.specs.Combined.{combined};
 
 use crate::calls::calls_for;
 use crate::fault::PatchFault;
 use crate::functions::new_functions;
-use crate::graft::Graft;
-use crate::joining::{Taken, join_fault};
+use crate::joining::{Transferred, join_fault};
 use crate::limits::{first_limit, levels};
 use crate::lists::comms;
 use crate::mode_items::{new_invs, new_ports, new_switches};
 use crate::numbers::{NewNumbers, OldNumbers, old_numbers, renumber};
+use crate::replacement::Replacement;
 use crate::unit_items::{new_modes, new_modules, new_tasks};
 use htl_base::Seq;
 use htl_model::{Comm, Mode, Module, Parts, Tables};
@@ -49,14 +49,14 @@ struct Heads {
 
 fn heads_of(
     alloc: Global,
-    g: &Graft<'_>,
+    g: &Replacement<'_>,
     n: &OldNumbers,
     p: &NewNumbers,
 ) -> Result<Heads, AllocError>
-    requires into { g.now.into < length g.now.host.modes }
-    requires from { g.now.from < length g.now.donor.modes }
+    requires into { g.now.patched_mode < length g.now.host.modes }
+    requires from { g.now.replacing_mode < length g.now.donor.modes }
     requires numbers { n.now ≡ new_numbers g.now }
-    requires places { ArePlaces (united g.now) (new_numbers g.now) p.now }
+    requires places { ArePlaces (combined g.now) (new_numbers g.now) p.now }
     ensures modules { IfOk result (λ h. h.modules.items ≡ (patched g.now).modules) }
     ensures modes { IfOk result (λ h. h.modes.items ≡ (patched g.now).modes) }
 {
@@ -69,14 +69,14 @@ fn heads_of(
 // The patched tables, of which it is known that they are in range.
 fn assembled(
     alloc: Global,
-    g: &Graft<'_>,
+    g: &Replacement<'_>,
     n: &OldNumbers,
     p: &NewNumbers,
     calls: &[Option<u16>],
     heads: Heads,
 ) -> Result<Tables, AllocError>
     requires numbers { n.now ≡ new_numbers g.now }
-    requires places { ArePlaces (united g.now) (new_numbers g.now) p.now }
+    requires places { ArePlaces (combined g.now) (new_numbers g.now) p.now }
     requires calls { calls.now ≡ calls_for_of g.now }
     requires coded { All IsFunctionCode g.now.host.functions }
     requires donor_coded { All IsFunctionCode g.now.donor.functions }
@@ -106,20 +106,20 @@ fn assembled(
 // The patched tables of a refinement whose parents and names are met, or the first limit that they exceed.
 fn limited(
     alloc: Global,
-    g: &Graft<'_>,
+    g: &Replacement<'_>,
     n: &OldNumbers,
     p: &NewNumbers,
     calls: &[Option<u16>],
 ) -> Result<Result<Tables, PatchFault>, AllocError>
-    requires into { g.now.into < length g.now.host.modes }
-    requires from { g.now.from < length g.now.donor.modes }
+    requires into { g.now.patched_mode < length g.now.host.modes }
+    requires from { g.now.replacing_mode < length g.now.donor.modes }
     requires formed { Formed g.now.host }
     requires coded { All IsFunctionCode g.now.host.functions }
     requires donor_coded { All IsFunctionCode g.now.donor.functions }
     requires numbers { n.now ≡ new_numbers g.now }
-    requires places { ArePlaces (united g.now) (new_numbers g.now) p.now }
+    requires places { ArePlaces (combined g.now) (new_numbers g.now) p.now }
     requires calls { calls.now ≡ calls_for_of g.now }
-    requires met { AreMet g.now }
+    requires matched { AreMatched g.now }
     ensures { IfOk result (λ r. MatchResult r (λ t. (t ≡ patched g.now) × Joins g.now) (IsEarlyFault g.now)) }
 {
     g.keeps_ranges();
@@ -133,12 +133,12 @@ fn limited(
 }
 
 /// The tables in which the refinement of the host's mode is the donor's, or the first fault for which it isn't taken over.
-pub(crate) fn grafted(
+pub(crate) fn with_replacement(
     alloc: Global,
-    g: &Graft<'_>,
+    g: &Replacement<'_>,
 ) -> Result<Result<Tables, PatchFault>, AllocError>
-    requires into { g.now.into < length g.now.host.modes }
-    requires from { g.now.from < length g.now.donor.modes }
+    requires into { g.now.patched_mode < length g.now.host.modes }
+    requires from { g.now.replacing_mode < length g.now.donor.modes }
     requires formed { Formed g.now.host }
     requires coded { All IsFunctionCode g.now.host.functions }
     requires donor_coded { All IsFunctionCode g.now.donor.functions }
@@ -147,11 +147,11 @@ pub(crate) fn grafted(
     let n = old_numbers(alloc, g)?;
     let p = renumber(alloc, g, &n)?;
     let calls = calls_for(alloc, g)?;
-    let taken = Taken {
+    let transferred = Transferred {
         units: n.units.as_slice(),
         places: p.units.as_slice(),
     };
-    if let Some(fault) = join_fault(g, &taken, calls.as_slice()) {
+    if let Some(fault) = join_fault(g, &transferred, calls.as_slice()) {
         return Ok(Err(fault));
     }
     limited(alloc, g, &n, &p, calls.as_slice())

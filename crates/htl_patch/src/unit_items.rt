@@ -3,11 +3,11 @@ ghost use Rattle.std.specs.Prelude.{◌≡◌, ◌<◌, ◌≤◌, ◌+◌, All,
 ghost use Rattle.htl_patch.specs.Patched.{new_numbers};
 ghost use Rattle.htl_patch.specs.Placed.{ArePlaces, placed_mode, placed_module, placed_task};
 ghost use Rattle.htl_patch.specs.Renumbered.{mode_at, module_at, task_at, new_mode as new_mode_of, new_module as new_module_of, new_task as new_task_of};
-ghost use Rattle.htl_patch.specs.United.{united, refined_mode};
+ghost use Rattle.htl_patch.specs.Combined.{combined, refined_mode};
 
-use crate::graft::{Graft, refined};
 use crate::lists::{modes, modules, tasks};
 use crate::numbers::NewNumbers;
+use crate::replacement::{Replacement, refined};
 use htl_base::Seq;
 use htl_model::{Mode, Module, Task};
 use std::alloc::{AllocError, Global};
@@ -24,10 +24,10 @@ fn copied_mode(x: &Mode, units: &[u16], before: usize) -> Mode
     }
 }
 
-fn new_mode(g: &Graft<'_>, p: &NewNumbers, k: usize) -> Mode
-    requires places { ArePlaces (united g.now) (new_numbers g.now) p.now }
-    requires within { k < length (united g.now).modes }
-    ensures { result ≡ new_mode_of (new_numbers g.now) (mode_at (united g.now) k) }
+fn new_mode(g: &Replacement<'_>, p: &NewNumbers, k: usize) -> Mode
+    requires places { ArePlaces (combined g.now) (new_numbers g.now) p.now }
+    requires within { k < length (combined g.now).modes }
+    ensures { result ≡ new_mode_of (new_numbers g.now) (mode_at (combined g.now) k) }
 {
     g.keeps_ranges();
     let before = modules(g.host).len();
@@ -42,13 +42,13 @@ fn new_mode(g: &Graft<'_>, p: &NewNumbers, k: usize) -> Mode
 /// The modes with these old numbers, with their new numbers.
 pub(crate) fn new_modes(
     alloc: Global,
-    g: &Graft<'_>,
+    g: &Replacement<'_>,
     p: &NewNumbers,
     keys: &[u16],
 ) -> Result<Vec<Mode>, AllocError>
-    requires places { ArePlaces (united g.now) (new_numbers g.now) p.now }
-    requires within { All (λ x. x < length (united g.now).modes) keys.now }
-    ensures { IfOk result (λ v. v.items ≡ map (λ x. new_mode_of (new_numbers g.now) (mode_at (united g.now) x)) keys.now) }
+    requires places { ArePlaces (combined g.now) (new_numbers g.now) p.now }
+    requires within { All (λ x. x < length (combined g.now).modes) keys.now }
+    ensures { IfOk result (λ v. v.items ≡ map (λ x. new_mode_of (new_numbers g.now) (mode_at (combined g.now) x)) keys.now) }
 {
     let mut found = Vec::new(alloc);
     for k in 0..keys.len() {
@@ -82,8 +82,8 @@ fn copied_module(x: &Module, parent: Option<u16>, modes: &[u16], before: usize) 
 }
 
 // The mode that a module of the donor refines, by the mode that it refines there.
-fn refined_parent(g: &Graft<'_>, parent: Option<u16>) -> Option<u16>
-    requires into { g.now.into < length g.now.host.modes }
+fn refined_parent(g: &Replacement<'_>, parent: Option<u16>) -> Option<u16>
+    requires into { g.now.patched_mode < length g.now.host.modes }
     requires parent { IfSome parent (λ k. k < length g.now.donor.modes) }
     ensures { result ≡ option_map (refined_mode g.now) parent }
 {
@@ -94,11 +94,11 @@ fn refined_parent(g: &Graft<'_>, parent: Option<u16>) -> Option<u16>
     }
 }
 
-fn new_module(g: &Graft<'_>, p: &NewNumbers, k: usize) -> Module
-    requires places { ArePlaces (united g.now) (new_numbers g.now) p.now }
-    requires within { k < length (united g.now).modules }
-    requires into { g.now.into < length g.now.host.modes }
-    ensures { result ≡ new_module_of (new_numbers g.now) (module_at (united g.now) k) }
+fn new_module(g: &Replacement<'_>, p: &NewNumbers, k: usize) -> Module
+    requires places { ArePlaces (combined g.now) (new_numbers g.now) p.now }
+    requires within { k < length (combined g.now).modules }
+    requires into { g.now.patched_mode < length g.now.host.modes }
+    ensures { result ≡ new_module_of (new_numbers g.now) (module_at (combined g.now) k) }
 {
     g.keeps_ranges();
     let before = modes(g.host).len();
@@ -115,14 +115,14 @@ fn new_module(g: &Graft<'_>, p: &NewNumbers, k: usize) -> Module
 /// The modules with these old numbers, with their new numbers.
 pub(crate) fn new_modules(
     alloc: Global,
-    g: &Graft<'_>,
+    g: &Replacement<'_>,
     p: &NewNumbers,
     keys: &[u16],
 ) -> Result<Vec<Module>, AllocError>
-    requires places { ArePlaces (united g.now) (new_numbers g.now) p.now }
-    requires into { g.now.into < length g.now.host.modes }
-    requires within { All (λ x. x < length (united g.now).modules) keys.now }
-    ensures { IfOk result (λ v. v.items ≡ map (λ x. new_module_of (new_numbers g.now) (module_at (united g.now) x)) keys.now) }
+    requires places { ArePlaces (combined g.now) (new_numbers g.now) p.now }
+    requires into { g.now.patched_mode < length g.now.host.modes }
+    requires within { All (λ x. x < length (combined g.now).modules) keys.now }
+    ensures { IfOk result (λ v. v.items ≡ map (λ x. new_module_of (new_numbers g.now) (module_at (combined g.now) x)) keys.now) }
 {
     let mut found = Vec::new(alloc);
     for k in 0..keys.len() {
@@ -148,10 +148,15 @@ fn copied_task(alloc: Global, x: &Task, units: &[u16], before: usize) -> Result<
     })
 }
 
-fn new_task(alloc: Global, g: &Graft<'_>, p: &NewNumbers, k: usize) -> Result<Task, AllocError>
-    requires places { ArePlaces (united g.now) (new_numbers g.now) p.now }
-    requires within { k < length (united g.now).tasks }
-    ensures { IfOk result (λ y. y ≡ new_task_of (new_numbers g.now) (task_at (united g.now) k)) }
+fn new_task(
+    alloc: Global,
+    g: &Replacement<'_>,
+    p: &NewNumbers,
+    k: usize,
+) -> Result<Task, AllocError>
+    requires places { ArePlaces (combined g.now) (new_numbers g.now) p.now }
+    requires within { k < length (combined g.now).tasks }
+    ensures { IfOk result (λ y. y ≡ new_task_of (new_numbers g.now) (task_at (combined g.now) k)) }
 {
     g.keeps_ranges();
     let before = modules(g.host).len();
@@ -166,13 +171,13 @@ fn new_task(alloc: Global, g: &Graft<'_>, p: &NewNumbers, k: usize) -> Result<Ta
 /// The tasks with these old numbers, with their new numbers.
 pub(crate) fn new_tasks(
     alloc: Global,
-    g: &Graft<'_>,
+    g: &Replacement<'_>,
     p: &NewNumbers,
     keys: &[u16],
 ) -> Result<Vec<Task>, AllocError>
-    requires places { ArePlaces (united g.now) (new_numbers g.now) p.now }
-    requires within { All (λ x. x < length (united g.now).tasks) keys.now }
-    ensures { IfOk result (λ v. v.items ≡ map (λ x. new_task_of (new_numbers g.now) (task_at (united g.now) x)) keys.now) }
+    requires places { ArePlaces (combined g.now) (new_numbers g.now) p.now }
+    requires within { All (λ x. x < length (combined g.now).tasks) keys.now }
+    ensures { IfOk result (λ v. v.items ≡ map (λ x. new_task_of (new_numbers g.now) (task_at (combined g.now) x)) keys.now) }
 {
     let mut found = Vec::new(alloc);
     for k in 0..keys.len() {

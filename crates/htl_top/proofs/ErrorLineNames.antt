@@ -104,7 +104,7 @@ patched_maps : (name unit mode donor : List ℕ) (holds : Option Holdings) → M
 patched_maps name unit mode donor holds Fact Other f a =
     let b = a.fact in
     let p = b.fact in
-    let q : HasPatchedTables a.object unit mode b.bytes Other = record { donor = p.donor; has = p.has; graft = p.graft; modes = p.modes; fact = f (patched p.graft) p.fact } in
+    let q : HasPatchedTables a.object unit mode b.bytes Other = record { donor = p.donor; has = p.has; replacement = p.replacement; modes = p.modes; fact = f (patched p.replacement) p.fact } in
     record { bytes = a.bytes; file = a.file; object = a.object; has = a.has; accepted = a.accepted; fact = record { bytes = b.bytes; file = b.file; fact = q } }
 
 source_of_maps : (command : Option Command) (holds : Option Holdings) (rest : Option (List ℕ)) → Maps (HasSource command holds rest)

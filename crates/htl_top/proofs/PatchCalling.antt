@@ -1,6 +1,6 @@
 -- From the answer of a command to the clauses of the top call on `patch`.
 use Rattle.std.proofs.Common.{◌≡◌, ◌≤◌, ◌<◌, ℕ, List, length, Option, None, Some, subst, inl, inr}
-use Rattle.htl_top.proofs.Vocabulary.{append_known, Rose, AppendsPrefix, HasBytes, object_bytes, Object, CanPatch, Graft, PatchFault, Files, Streams, IsCall, IsGiven, IsOrMemory, IsReadyFile, IsReadyObject, AreFilesOf, HasPatch, IsDonorFault, IsDonorTold, IsPatchCause, IsPatching, Command, Go, Compile, CompileWith, Bulk, Slack, Audit, Patch, Outcome, Done, Usage, Unpatched, Shelf, Write, TooLong}
+use Rattle.htl_top.proofs.Vocabulary.{append_known, Rose, AppendsPrefix, HasBytes, object_bytes, Object, CanPatch, Replacement, PatchFault, Files, Streams, IsCall, IsGiven, IsOrMemory, IsReadyFile, IsReadyObject, AreFilesOf, HasPatch, IsDonorFault, IsDonorTold, IsPatchCause, IsPatching, Command, Go, Compile, CompileWith, Bulk, Slack, Audit, Patch, Outcome, Done, Usage, Unpatched, Shelf, Write, TooLong}
 use Rattle.htl_top.proofs.Patching as patching
 
 unpatched_usage : (f : PatchFault) → Unpatched f ≡ Usage → ⊥
@@ -52,7 +52,7 @@ module _ (shelf : Files) (old new : Streams) where
   faulty_donor command outcome call name unit mode donor bytes o is ready gift small f faulty =
       patching.faulty_donor unit mode (Some name) (Some donor) shelf old new o ready bytes gift small f faulty outcome (asks command name unit mode donor outcome is call)
 
-  pub patch_complete : (command : Option Command) (outcome : Outcome) → IsCall command shelf old new outcome → (name unit mode donor bytes : List ℕ) (o d : Object) (g : Graft)
+  pub patch_complete : (command : Option Command) (outcome : Outcome) → IsCall command shelf old new outcome → (name unit mode donor bytes : List ℕ) (o d : Object) (g : Replacement)
       → command ≡ Some (Patch name unit mode donor) → IsReadyObject (Some name) shelf.holds shelf.before shelf.after o → IsGiven (Some donor) shelf.holds shelf.before shelf.after bytes
       → length bytes ≤ 16777216 → HasBytes bytes d → CanPatch o d unit mode g → (Rose old.write_faults new.write_faults → ⊥) → IsOrMemory outcome Done
   patch_complete command outcome call name unit mode donor bytes o d g is ready gift small has can still =

@@ -1,6 +1,6 @@
 -- What a donor's bytes come to: the new object, or the first fault.
 use Rattle.std.proofs.Common.{◌≡◌, ◌⊎◌, ℕ, List, Option, Some, None, refl, sym, ap, ◌∙◌, subst, inl, inr}
-use Rattle.htl_top.proofs.Vocabulary.{Rose, Holdings, HasBytes, Tables, IsAccepted, first_bad, IsObject, object_bytes, Malformed, Object, one_patch_fault, patch_not_refused, IsHandedBackBy, IsPatchStop, graft_of, patched_object, CanPatch, IsFaultBy, IsPatchFault, Graft, PatchFault, PatchStop, IsBeforeRun, IsWritten, IsOrMemory, IsObjectFile, HasPatchedTables, IsBadDonor, IsDonorFault, IsDonorTold, IsObjectPut, IsPatchedTables, RefusesDonor, SpeaksOfPatch, new_tables, unpatched_as, SpeaksOf, Outcome, one_bad_field}
+use Rattle.htl_top.proofs.Vocabulary.{Rose, Holdings, HasBytes, Tables, IsAccepted, first_bad, IsObject, object_bytes, Malformed, Object, one_patch_fault, patch_not_refused, IsHandedBackBy, IsPatchStop, replacement_of, patched_object, CanPatch, IsFaultBy, IsPatchFault, Replacement, PatchFault, PatchStop, IsBeforeRun, IsWritten, IsOrMemory, IsObjectFile, HasPatchedTables, IsBadDonor, IsDonorFault, IsDonorTold, IsObjectPut, IsPatchedTables, RefusesDonor, SpeaksOfPatch, new_tables, unpatched_as, SpeaksOf, Outcome, one_bad_field}
 use Rattle.htl_patch.specs.declared.fault.PatchFault.TheVariants as fault
 use Rattle.htl_patch.specs.declared.fault.PatchStop.TheVariants as stop
 use Rattle.htl_top.proofs.ObjectAnswering.{one_of_bytes, object_or_bad}
@@ -24,7 +24,7 @@ module _ (o : Object) (unit mode bytes : List ℕ) where
   -- ---- the faults
 
   -- a donor that can be taken over has none
-  pub not_faulty : (d : Object) (g : Graft) → HasBytes bytes d → CanPatch o d unit mode g → (f : PatchFault) → IsDonorFault o unit mode bytes f → ⊥
+  pub not_faulty : (d : Object) (g : Replacement) → HasBytes bytes d → CanPatch o d unit mode g → (f : PatchFault) → IsDonorFault o unit mode bytes f → ⊥
   not_faulty d g has can f is = elim is [
     | inl b ↦ object_or_bad bytes d b.field has b.first
     | inr r ↦ patch_not_refused o d unit mode g f can (subst (λ (x : Object). IsPatchFault o x unit mode f) (one_of_bytes bytes r.donor d r.has has) r.refused)
@@ -44,7 +44,7 @@ module _ (o : Object) (unit mode bytes : List ℕ) where
 
   -- ---- the new object is written
 
-  pub IsDonorTold-put : (d p : Object) (g : Graft) → HasBytes bytes d → CanPatch o d unit mode g → p ≡ patched_object o g → (old new : Option (List ℕ)) (before now : ℕ)
+  pub IsDonorTold-put : (d p : Object) (g : Replacement) → HasBytes bytes d → CanPatch o d unit mode g → p ≡ patched_object o g → (old new : Option (List ℕ)) (before now : ℕ)
       (given outcome : Outcome) → outcome ≡ given → IsObjectPut p old new before now given → IsDonorTold o unit mode bytes old new before now outcome
   IsDonorTold-put d p g has can same old new before now given outcome is put =
       subst (λ (x : Outcome). IsDonorTold o unit mode bytes old new before now x) (sym is) (by (subst (λ (x : Object). IsObjectPut x old new before now given) same put))
@@ -53,22 +53,22 @@ module _ (o : Object) (unit mode bytes : List ℕ) where
       by (inl w) = elim w.2 [
         | inl d1 ↦
             subst (λ (x : Outcome). IsDonorTold o unit mode bytes old new before now x) (sym d1.0)
-            (record { donor = d; has = has; graft = g; can = can; object = w.0; accepted = w.1; fact = d1.1 })
+            (record { donor = d; has = has; replacement = g; can = can; object = w.0; accepted = w.1; fact = d1.1 })
         | inr d2 ↦
             subst (λ (x : Outcome). IsDonorTold o unit mode bytes old new before now x) (sym d2.0)
-            (d2.1, record { donor = d; has = has; graft = g; can = can; object = w.0; accepted = w.1; fact = d2.2 })
+            (d2.1, record { donor = d; has = has; replacement = g; can = can; object = w.0; accepted = w.1; fact = d2.2 })
       ]
       by (inr m) = subst (λ (x : Outcome). IsDonorTold o unit mode bytes old new before now x) (sym m.0) m.1
 
   -- the line of a fault has names of the new tables
   pub SpeaksOfPatch-back : (d : Object) → HasBytes bytes d → (f : PatchFault) (told : Option Tables) → IsPatchFault o d unit mode f
-      → IsHandedBackBy (graft_of o.tables d.tables unit mode) f told → SpeaksOfPatch (HasPatchedTables o unit mode bytes) f told
-  SpeaksOfPatch-back d has (fault.IllFormed f) told is back = by (graft_of o.tables d.tables unit mode) refl is back
+      → IsHandedBackBy (replacement_of o.tables d.tables unit mode) f told → SpeaksOfPatch (HasPatchedTables o unit mode bytes) f told
+  SpeaksOfPatch-back d has (fault.IllFormed f) told is back = by (replacement_of o.tables d.tables unit mode) refl is back
     where
-      by : (x : Option Graft) → graft_of o.tables d.tables unit mode ≡ x → IsFaultBy x (fault.IllFormed f) → IsHandedBackBy x (fault.IllFormed f) told
+      by : (x : Option Replacement) → replacement_of o.tables d.tables unit mode ≡ x → IsFaultBy x (fault.IllFormed f) → IsHandedBackBy x (fault.IllFormed f) told
           → HasPatchedTables o unit mode bytes (λ t. told ≡ Some t)
       by None e p q = absurd (let no : fault.IllFormed f ≡ fault.Mode = p in cc)
-      by (Some g) e p q = record { donor = d; has = has; graft = g; modes = e; fact = q }
+      by (Some g) e p q = record { donor = d; has = has; replacement = g; modes = e; fact = q }
   SpeaksOfPatch-back d has _ told is back = tt
 
   -- the donor's refinement isn't taken over
@@ -103,14 +103,14 @@ module _ (o : Object) (unit mode bytes : List ℕ) where
     -- the fault is told
     pub told_faulty : IsAccepted o → (f : PatchFault) → IsDonorFault o unit mode bytes f → (outcome : Outcome) → IsDonorTold o unit mode bytes old new before now outcome
         → IsOrMemory outcome (Patch f)
-    told_faulty accepted f is Done told = absurd (not_faulty told.donor told.graft told.has told.can f is)
-    told_faulty accepted f is Write told = absurd (not_faulty told.1.donor told.1.graft told.1.has told.1.can f is)
+    told_faulty accepted f is Done told = absurd (not_faulty told.donor told.replacement told.has told.can f is)
+    told_faulty accepted f is Write told = absurd (not_faulty told.1.donor told.1.replacement told.1.has told.1.can f is)
     told_faulty accepted f is (Patch h) told = inl (ap (λ (x : PatchFault). Patch x) (one_donor_fault accepted h f told.0 is))
     told_faulty accepted f is Memory told = inr refl
     told_faulty accepted f is _ told = absurd told
 
     -- the new object is written whole, where the output doesn't fail
-    pub told_done : (d : Object) (g : Graft) → HasBytes bytes d → CanPatch o d unit mode g → (Rose before now → ⊥) → (outcome : Outcome)
+    pub told_done : (d : Object) (g : Replacement) → HasBytes bytes d → CanPatch o d unit mode g → (Rose before now → ⊥) → (outcome : Outcome)
         → IsDonorTold o unit mode bytes old new before now outcome → IsOrMemory outcome Done
     told_done d g has can still Done told = inl refl
     told_done d g has can still Write told = absurd (still told.0)

@@ -1,6 +1,6 @@
 -- What `patch` answers of the two files that it names.
 use Rattle.std.proofs.Common.{arith, ◌≡◌, ◌≤◌, ◌<◌, ◌⊎◌, ℕ, List, length, Option, Some, Err, refl, sym, ap, subst, inl, inr}
-use Rattle.htl_top.proofs.Vocabulary.{MAX_OBJECT, CompileFault, Rose, Holdings, HasBytes, RefusesBytes, ObjectFault, Tables, IsAccepted, Object, CanPatch, Graft, PatchFault, PlatformFault, Files, Streams, IsBeforeRun, IsFaultOf, IsLongFile, IsGiven, IsOrMemory, IsObjectFile, IsObjectRead, IsObjectTables, IsRefusedFile, IsReadyObject, IsUnhad, IsFileOf, IsHad, AreFilesOf, IsDonorFault, IsDonorTold, IsPatchOfFiles, IsPatching, object_tables, unloaded_as, answer_of, SpeaksOf, ObjectStop, Outcome, Failed, TooLong}
+use Rattle.htl_top.proofs.Vocabulary.{MAX_OBJECT, CompileFault, Rose, Holdings, HasBytes, RefusesBytes, ObjectFault, Tables, IsAccepted, Object, CanPatch, Replacement, PatchFault, PlatformFault, Files, Streams, IsBeforeRun, IsFaultOf, IsLongFile, IsGiven, IsOrMemory, IsObjectFile, IsObjectRead, IsObjectTables, IsRefusedFile, IsReadyObject, IsUnhad, IsFileOf, IsHad, AreFilesOf, IsDonorFault, IsDonorTold, IsPatchOfFiles, IsPatching, object_tables, unloaded_as, answer_of, SpeaksOf, ObjectStop, Outcome, Failed, TooLong}
 use Rattle.htl_compile.specs.declared.compiling.CompileFault.TheVariants as compile
 use Rattle.htl_top.proofs.GivenFiles as files
 use Rattle.htl_top.proofs.ErrorLineNames.{SpeaksOfObject-file}
@@ -173,7 +173,7 @@ module _ (unit mode : List ℕ) (name donor : Option (List ℕ)) (shelf : Files)
     | inr m ↦ inr m
   ]
 
-  pub complete : (o d : Object) (g : Graft) (is : IsReadyObject name shelf.holds shelf.before shelf.after o) (others : List ℕ) → IsGiven donor shelf.holds shelf.before shelf.after others
+  pub complete : (o d : Object) (g : Replacement) (is : IsReadyObject name shelf.holds shelf.before shelf.after o) (others : List ℕ) → IsGiven donor shelf.holds shelf.before shelf.after others
       → length others ≤ 16777216 → HasBytes others d → CanPatch o d unit mode g → (Rose old.write_faults new.write_faults → ⊥) → (outcome : Outcome) → Called outcome → IsOrMemory outcome Done
   complete o d g is others gift small has can still outcome call = elim (ready o is others gift small outcome call) [
     | inl t ↦ objects.told_done o unit mode others old.written new.written old.write_faults new.write_faults d g has can still outcome t

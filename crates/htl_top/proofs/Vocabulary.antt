@@ -67,7 +67,7 @@ pub use Rattle.htl_parse.proofs.Reparsing.{source-again}
 pub use Rattle.htl_parse.proofs.Words.{AreAlike, AreSpellable, Level, Spelling, Spells, add, and, atom, bare_comm, bare_const, bare_program, brackets, choice, cmp, comm_tokens, compare, conj, drop_all, each, invoke_tokens, mode_tokens, module_tokens, multiply, name, or, prefix, printed-tokens, printed_bytes, prod, source_tokens, sum, task_tokens, unary}
 pub use Rattle.htl_patch.proofs.OneStop.{one_patch_fault}
 pub use Rattle.htl_patch.proofs.Stopping.{patch_not_refused}
-pub use Rattle.htl_patch.proofs.Words.{CanPatch, Graft, IsFaultBy, IsHandedBackBy, IsPatchFault, IsPatchStop, Option, bytes_eq, bytes_eq-Decides, call, count_places, graft_of, mode, mode_in, patched, patched_object, places_in}
+pub use Rattle.htl_patch.proofs.Words.{CanPatch, Replacement, IsFaultBy, IsHandedBackBy, IsPatchFault, IsPatchStop, Option, bytes_eq, bytes_eq-Decides, call, count_places, replacement_of, mode, mode_in, patched, patched_object, places_in}
 pub use Rattle.htl_patch.specs.declared.fault.PatchFault.{PatchFault}
 pub use Rattle.htl_patch.specs.declared.fault.PatchStop.{PatchStop}
 pub use Rattle.htl_platform.proofs.Words.{is_identifier, is_reserved}

@@ -4,11 +4,11 @@ use Rattle.htl_top.specs.Common.{append_known, Rose, AppendsPrefix, Holdings, Ha
 use Rattle.htl_object.specs.Files.{first_bad}
 use Rattle.htl_object.specs.Objects.{IsObject, object_bytes}
 use Rattle.htl_object.specs.declared.malformed.Malformed.{Malformed}
-use Rattle.htl_patch.specs.Joining.{graft_of}
+use Rattle.htl_patch.specs.Joining.{replacement_of}
 use Rattle.htl_patch.specs.Object.{patched_object, CanPatch}
 use Rattle.htl_patch.specs.Patched.{patched}
 use Rattle.htl_patch.specs.Stops.{IsPatchFault}
-use Rattle.htl_patch.specs.United.{Graft}
+use Rattle.htl_patch.specs.Combined.{Replacement}
 use Rattle.htl_patch.specs.declared.fault.PatchFault.TheVariants as fault
 use Rattle.htl_top.specs.Answers.{Files, Streams, IsWritten}
 use Rattle.htl_top.specs.Fetching.{IsUnhad}
@@ -25,19 +25,19 @@ use Rattle.htl_top.specs.declared.outcome.Outcome.TheVariants.{Done, IllFormed, 
 pub record HasPatch (o : Object) (unit mode bytes : List ℕ) (Fact : Object → Type 0) : Type 0 where
   pub donor : Object
   pub has : HasBytes bytes donor
-  pub graft : Graft
-  pub can : CanPatch o donor unit mode graft
-  pub object : IsObject (patched_object o graft)
-  pub accepted : IsAccepted (patched_object o graft)
-  pub fact : Fact (patched_object o graft)
+  pub replacement : Replacement
+  pub can : CanPatch o donor unit mode replacement
+  pub object : IsObject (patched_object o replacement)
+  pub accepted : IsAccepted (patched_object o replacement)
+  pub fact : Fact (patched_object o replacement)
 
 -- The bytes are a donor that has a mode of the names as the object has, and the fact holds of the tables with its refinement.
 pub record HasPatchedTables (o : Object) (unit mode bytes : List ℕ) (Fact : Tables → Type 0) : Type 0 where
   pub donor : Object
   pub has : HasBytes bytes donor
-  pub graft : Graft
-  pub modes : graft_of o.tables donor.tables unit mode ≡ Some graft
-  pub fact : Fact (patched graft)
+  pub replacement : Replacement
+  pub modes : replacement_of o.tables donor.tables unit mode ≡ Some replacement
+  pub fact : Fact (patched replacement)
 
 -- No object has the bytes, and this tells their first bad field.
 pub record IsBadDonor (bytes : List ℕ) (f : PatchFault) : Type 0 where

@@ -32,7 +32,7 @@ ghost use Rattle.htl_model.specs.declared.form_fault.FormFault.{FormFault};
 ghost use Rattle.htl_object.specs.declared.object.Object.{Object};
 ghost use Rattle.htl_object.specs.Objects.{object_bytes};
 ghost use Rattle.htl_patch.specs.Object.{CanPatch};
-ghost use Rattle.htl_patch.specs.United.{Graft};
+ghost use Rattle.htl_patch.specs.Combined.{Replacement};
 ghost use Rattle.htl_patch.specs.declared.fault.PatchFault.{PatchFault};
 ghost use Rattle.htl_platform.specs.Applied.{with_worst};
 ghost use Rattle.htl_platform.specs.Platforms.{platform_of};
@@ -334,7 +334,7 @@ pub fn htl<S: Shelf, R: Source, W: Sink, E: Sink>(
     ensures faulty_donor { (name unit mode donor bytes : List ℕ) (o : Object) → command_in words.now ≡ Some (Patch name unit mode donor)
         → IsReadyObject (Some name) (S.holds shelf.old) (S.faults shelf.old) (S.faults shelf.new) o → IsGiven (Some donor) (S.holds shelf.old) (S.faults shelf.old) (S.faults shelf.new) bytes
         → length bytes ≤ limit.MAX_OBJECT → (fault : PatchFault) → IsDonorFault o unit mode bytes fault → IsOrMemory result (Outcome.Patch fault) }
-    ensures patch_complete { (name unit mode donor bytes : List ℕ) (o d : Object) (g : Graft) → command_in words.now ≡ Some (Patch name unit mode donor)
+    ensures patch_complete { (name unit mode donor bytes : List ℕ) (o d : Object) (g : Replacement) → command_in words.now ≡ Some (Patch name unit mode donor)
         → IsReadyObject (Some name) (S.holds shelf.old) (S.faults shelf.old) (S.faults shelf.new) o → IsGiven (Some donor) (S.holds shelf.old) (S.faults shelf.old) (S.faults shelf.new) bytes
         → length bytes ≤ limit.MAX_OBJECT → HasBytes bytes d → CanPatch o d unit mode g → (Rose (W.faults out.old) (W.faults out.new) → ⊥) → IsOrMemory result Outcome.Done }
 

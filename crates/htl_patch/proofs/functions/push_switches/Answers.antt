@@ -1,5 +1,5 @@
 use Rattle.std.proofs.Common.{◌<◌, length, map, arith}
-use Rattle.htl_patch.proofs.Words.{nat_tests, fun_of, function_of_switch, united}
+use Rattle.htl_patch.proofs.Words.{nat_tests, fun_of, function_of_switch, combined}
 use Rattle.htl_patch.proofs.FunctionLists.{map_more}
 use Rattle.htl_patch.proofs.functions.push_switches.Goals as goal
 
@@ -7,5 +7,5 @@ pub loop-k-preserved : goal.loop-k-preserved
 loop-k-preserved c =
     let g = c.args.g.now in
     let less : c.loop-k.k < length c.args.keys.now = grind (arith, nat_tests, c.loop-k-test.true) in
-    map_more (function_of_switch (united g)) c.args.keys.now 0 c.loop-k.k (map fun_of c.loop-k.into.items) (map fun_of c.push_switch.new.into.items) (map fun_of c.args.into.now.items) less
+    map_more (function_of_switch (combined g)) c.args.keys.now 0 c.loop-k.k (map fun_of c.loop-k.into.items) (map fun_of c.push_switch.new.into.items) (map fun_of c.args.into.now.items) less
     c.in_ok-push_switch.ensures c.loop-k.invariant

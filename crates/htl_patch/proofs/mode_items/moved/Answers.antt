@@ -1,6 +1,6 @@
 use Rattle.std.proofs.Common.{Some, None, length, ap, sym, ◌∙◌, arith}
-use Rattle.htl_patch.proofs.Words.{Graft, belongs_to_mode}
-use Rattle.htl_patch.proofs.JoinLaws.{calls_within, call_is, moved_met, moved_unmet, moved_own}
+use Rattle.htl_patch.proofs.Words.{Replacement, belongs_to_mode}
+use Rattle.htl_patch.proofs.JoinLaws.{calls_within, call_is, moved_matched, moved_unmatched, moved_own}
 use Rattle.htl_patch.proofs.mode_items.moved.Goals as goal
 
 pub bounds : goal.bounds
@@ -11,21 +11,21 @@ bounds c =
 pub returns-in-Some : goal.returns-in-Some
 returns-in-Some c =
     let g = c.args.g.now in
-    sym (moved_met g c.args.k c.in-Some.call (call_is g c.args.calls.now c.requires.calls c.args.k c.requires.within (Some c.in-Some.call) c.in-Some.is) (sym (c.is_of_mode.ensures ∙ ap (λ (z : Graft). belongs_to_mode z.donor z.from c.args.k) c.g.view_is) ∙ c.if-is_of_mode.true))
+    sym (moved_matched g c.args.k c.in-Some.call (call_is g c.args.calls.now c.requires.calls c.args.k c.requires.within (Some c.in-Some.call) c.in-Some.is) (sym (c.is_of_mode.ensures ∙ ap (λ (z : Replacement). belongs_to_mode z.donor z.replacing_mode c.args.k) c.g.view_is) ∙ c.if-is_of_mode.true))
 
 pub returns-in-None : goal.returns-in-None
 returns-in-None c =
     let g = c.args.g.now in
-    sym (moved_unmet g c.args.k (call_is g c.args.calls.now c.requires.calls c.args.k c.requires.within None c.in-None.is) (sym (c.is_of_mode.ensures ∙ ap (λ (z : Graft). belongs_to_mode z.donor z.from c.args.k) c.g.view_is) ∙ c.if-is_of_mode.true))
+    sym (moved_unmatched g c.args.k (call_is g c.args.calls.now c.requires.calls c.args.k c.requires.within None c.in-None.is) (sym (c.is_of_mode.ensures ∙ ap (λ (z : Replacement). belongs_to_mode z.donor z.replacing_mode c.args.k) c.g.view_is) ∙ c.if-is_of_mode.true))
 
 pub returns-else-is_of_mode : goal.returns-else-is_of_mode
 returns-else-is_of_mode c =
     let g = c.args.g.now in
-    sym (moved_own g c.args.k (length c.invs.result.now) (ap length (c.invs.ensures.value ∙ ap (λ (z : Graft). z.host.invs) c.g.view_is)) (sym (c.is_of_mode.ensures ∙ ap (λ (z : Graft). belongs_to_mode z.donor z.from c.args.k) c.g.view_is) ∙ c.if-is_of_mode.false))
+    sym (moved_own g c.args.k (length c.invs.result.now) (ap length (c.invs.ensures.value ∙ ap (λ (z : Replacement). z.host.invs) c.g.view_is)) (sym (c.is_of_mode.ensures ∙ ap (λ (z : Replacement). belongs_to_mode z.donor z.replacing_mode c.args.k) c.g.view_is) ∙ c.if-is_of_mode.false))
 
 pub overflow_add-result : goal.overflow_add-result
 overflow_add-result c =
     let front = c.keeps_ranges.ensures.host.few_invs in
     let back = c.keeps_ranges.ensures.donor.few_invs in
-    let size = ap length (c.invs.ensures.value ∙ ap (λ (z : Graft). z.host.invs) c.g.view_is) in
+    let size = ap length (c.invs.ensures.value ∙ ap (λ (z : Replacement). z.host.invs) c.g.view_is) in
     omega (arith, front, back, size, c.requires.within)

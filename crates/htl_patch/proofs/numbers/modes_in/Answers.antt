@@ -1,5 +1,5 @@
 use Rattle.std.proofs.Common.{◌≡◌, ◌<◌, ℕ, List, length, get_or, ap, subst, sym, ◌∙◌, IfOk, arith}
-use Rattle.htl_patch.proofs.Words.{flat_map, IsNonDecreasing, owned_by, modes_of, Graft, graft, united}
+use Rattle.htl_patch.proofs.Words.{flat_map, IsNonDecreasing, owned_by, modes_of, Replacement, replacement, combined}
 use Rattle.htl_patch.proofs.BothOwners.{modes_low, modes_joined, modes_rise, modes_few}
 use Rattle.htl_patch.proofs.NumberLaws.{owned_modes}
 use Rattle.htl_patch.proofs.numbers.modes_in.Goals as goal
@@ -15,7 +15,7 @@ owners_of-requires-clause-donor c = modes_low c.g.inside.donor.now c.modes-2.ens
 
 pub owned-requires-clause-few : goal.owned-requires-clause-few
 owned-requires-clause-few c =
-    let g = graft c.g.inside.host.now c.g.inside.donor.now c.g.inside.into c.g.inside.from in
+    let g = replacement c.g.inside.host.now c.g.inside.donor.now c.g.inside.patched_mode c.g.inside.replacing_mode in
     let owners = c.as_slice.ensures.value ∙ c.in_ok-owners.ensures ∙ modes_joined g (length c.modules.result.now) c.modes.result.now c.modes-2.result.now c.modes.ensures.value c.modes-2.ensures.value (ap length c.modules.ensures.value) in
     let size = ap length owners in
     let few = modes_few g c.modes.ensures.ranges c.modes-2.ensures.ranges in
@@ -23,7 +23,7 @@ owned-requires-clause-few c =
 
 pub owned-requires-clause-rising : goal.owned-requires-clause-rising
 owned-requires-clause-rising c =
-    let g = graft c.g.inside.host.now c.g.inside.donor.now c.g.inside.into c.g.inside.from in
+    let g = replacement c.g.inside.host.now c.g.inside.donor.now c.g.inside.patched_mode c.g.inside.replacing_mode in
     let owners = c.as_slice.ensures.value ∙ c.in_ok-owners.ensures ∙ modes_joined g (length c.modules.result.now) c.modes.result.now c.modes-2.result.now c.modes.ensures.value c.modes-2.ensures.value (ap length c.modules.ensures.value) in
     subst IsNonDecreasing (sym owners) (modes_rise g c.modes.ensures.ranges c.modes-2.ensures.ranges)
 
@@ -32,6 +32,6 @@ owned-requires-clause-keys c = λ k d less. subst (λ (n : ℕ). get_or c.args.k
 
 pub returns : goal.returns
 returns c =
-    let g = graft c.g.inside.host.now c.g.inside.donor.now c.g.inside.into c.g.inside.from in
+    let g = replacement c.g.inside.host.now c.g.inside.donor.now c.g.inside.patched_mode c.g.inside.replacing_mode in
     let owners = c.as_slice.ensures.value ∙ c.in_ok-owners.ensures ∙ modes_joined g (length c.modules.result.now) c.modes.result.now c.modes-2.result.now c.modes.ensures.value c.modes-2.ensures.value (ap length c.modules.ensures.value) in
-    subst (λ (xs : List ℕ). IfOk c.owned.result (λ v. v.items ≡ xs)) (ap (λ (os : List ℕ). flat_map (owned_by os) c.args.keys.now) owners ∙ owned_modes (united g) c.args.keys.now ∙ ap (λ (z : Graft). flat_map (modes_of (united z)) c.args.keys.now) c.g.view_is) c.owned.ensures
+    subst (λ (xs : List ℕ). IfOk c.owned.result (λ v. v.items ≡ xs)) (ap (λ (os : List ℕ). flat_map (owned_by os) c.args.keys.now) owners ∙ owned_modes (combined g) c.args.keys.now ∙ ap (λ (z : Replacement). flat_map (modes_of (combined z)) c.args.keys.now) c.g.view_is) c.owned.ensures

@@ -1,6 +1,6 @@
 use Rattle.std.proofs.Common.{◌≡◌, ◌<◌, ◌≤◌, ◌+◌, ◌++◌, ◌∷◌, [], ℕ, zero, suc, Bool, true, false, cond, List, None, length, drop, get_or, refl, ap, sym, ◌∙◌, append_assoc, append-nil, arith}
-use Rattle.htl_patch.proofs.Words.{nat_tests, flat_map, numbered, places_from, Module, is_under, frame, united, Frame}
-use Rattle.htl_patch.proofs.order.push_mode_kids.Goals as goal
+use Rattle.htl_patch.proofs.Words.{nat_tests, flat_map, numbered, places_from, Module, is_under, frame, combined, Frame}
+use Rattle.htl_patch.proofs.order.push_mode_children.Goals as goal
 
 -- what place k gives stands behind what was given, and the rest is to come
 numbered_step : {A B : Type 0} (p : ℕ × A → Bool) (d : A) (xs : List A) (give : ℕ → List B) (k : ℕ) (found next all : List B) → k < length xs
@@ -32,5 +32,5 @@ pub loop-x-preserved : goal.loop-x-preserved
 loop-x-preserved c =
     let g = c.args.g.now in
     let none : Module = record { name = []; parent = None; start = 0 } in
-    let less : c.loop-x.x < length (united g).modules = grind (arith, nat_tests, c.loop-x-test.true, c.module_count-count.ensures.count) in
-    numbered_step (is_under g c.args.m) none (united g).modules (λ (x : ℕ). frame c.args.steps x ∷ []) c.loop-x.x c.loop-x.into.items c.push_kid.new.into.items _ less c.in_ok-push_kid.ensures c.loop-x.invariant
+    let less : c.loop-x.x < length (combined g).modules = grind (arith, nat_tests, c.loop-x-test.true, c.module_count-count.ensures.count) in
+    numbered_step (is_under g c.args.m) none (combined g).modules (λ (x : ℕ). frame c.args.steps x ∷ []) c.loop-x.x c.loop-x.into.items c.push_child.new.into.items _ less c.in_ok-push_child.ensures c.loop-x.invariant

@@ -1,8 +1,0 @@
-use Rattle.std.proofs.Common.{◌≡◌, drop}
-use Rattle.htl_patch.proofs.Words.{places_from, first, is_stray, first_stray}
-use Rattle.htl_patch.proofs.joining.first_stray.Given as goal
-
-abbrev pub invariant-loop-k : goal.invariant-loop-k
-invariant-loop-k l =
-    let g = l.g in
-    first (places_from (is_stray g) l.k (drop l.k l.all)) ≡ first_stray g
