@@ -9,7 +9,7 @@ use std::alloc::{AllocError, AllocFailed};
 pub enum MalKind {
     /// The first four bytes are there and aren't `HTLO`; told at offset 0.
     Magic,
-    /// The version isn't 1; told at offset 4.
+    /// The version is neither 1 nor 2; told at offset 4.
     Version,
     /// The input ends inside a field; told at the length.
     Short,
@@ -18,7 +18,7 @@ pub enum MalKind {
     /// A type, flag, tag of an end or an instruction, or phase that isn't listed; told at the byte.
     Tag,
     /// A name that isn't one or repeats one of its space, told at its length byte; an initial value of type bool that isn't
-    /// 0 or 1, told at the field.
+    /// 0 or 1, told at the field; a block of a schedule that equals an earlier one, told at its count.
     Spelling,
     /// Bytes after the last field; told at the first of them.
     Trailing,
