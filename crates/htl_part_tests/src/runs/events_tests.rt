@@ -2,7 +2,7 @@
 use crate::asserts::same;
 use crate::made::made;
 use htl_base::Memory;
-use htl_edge::Tape;
+use htl_edge::{Failed, Source, Tape};
 use htl_model::{Event, Tables};
 use htl_script::{Script, ScriptFault, ScriptKind, ScriptStop};
 use std::alloc::Global;
@@ -125,6 +125,43 @@ fn long_lines_are_refused(rt: HostRuntime) {
         let short = has_events(rt.alloc(), &script[1..], step, &[Event::End(5)]);
         same(&rt, short, Some(true));
     }
+}
+
+// A source of comments that never ends: a line as long as the buffer at each call.
+#[derive(Drop)]
+struct Comments;
+
+impl Source for Comments {
+    ghost use Rattle.std.specs.Prelude.{None};
+
+    ghost rest = { λ _. None };
+
+    ghost faults = { λ _. 0 };
+
+    fn read(&mut self, buf: &mut [u8]) -> Result<usize, Failed> {
+        buf.fill(b'#');
+        if let Some(last) = buf.last_mut() {
+            *last = b'\n';
+        }
+        Ok(buf.len())
+    }
+}
+
+// Pieces of 256 bytes are lines, of which 4,194,304 are as much as a script may have.
+const SIZE: ScriptFault = ScriptFault {
+    line: 4_194_305,
+    kind: ScriptKind::Size,
+};
+
+fn stop_of_comments(alloc: Global) -> Option<ScriptStop> {
+    let t = made(alloc, TWO_SENSORS)?;
+    Script::new().next(&mut Comments, &t).err()
+}
+
+#[test]
+fn a_script_that_never_ends_is_refused(rt: HostRuntime) {
+    let stop = stop_of_comments(rt.alloc());
+    same(&rt, stop, Some(ScriptStop::Script(SIZE)));
 }
 
 const WHOLE: &[u8] =
