@@ -1,6 +1,8 @@
 // `audit` over objects of sources and job logs in memory: a log of each kind, and the answers that come before its verdict.
 use crate::asserts::same;
-use crate::calls::{Content, EMPTY, Group, Place, Row, Streams, first_wrong};
+use crate::calls::{
+    Content, EMPTY, Group, Place, Row, Streams, StreamsRow, Tried, first_other, first_wrong,
+};
 use htl_samples::samples::{PORT, TWO_JOBS};
 
 const LINES: &str = "v 0 x 1\nv 0 y 0\nv 0 z 0\nm 0 M m\nv 6 y 5\nv 10 z 2\n";
@@ -125,6 +127,16 @@ const UNTESTED: &[Row] = &[(
     "htl: object malformed short 1\n",
 )];
 
+// A log that is too long is not read, nor the script.
+const TOO_LONG: &[Row] = &[(
+    Content::Text(TWO_JOBS),
+    Content::Filled(b'j', 16_777_217),
+    "end 10\n",
+    8,
+    EMPTY,
+    "htl: shelf too-long 16777217\n",
+)];
+
 const GROUPS: &[Group] = &[
     Group {
         name: "logs are judged",
@@ -147,9 +159,90 @@ const GROUPS: &[Group] = &[
         streams: Streams::Usual,
         rows: UNTESTED,
     },
+    Group {
+        name: "a log may be too long",
+        words: &["audit", "A", "B"],
+        place: Place::Compiled,
+        streams: Streams::Usual,
+        rows: TOO_LONG,
+    },
 ];
+
+const AUDITED: &str =
+    "v 0 x 1\nv 0 y 0\nv 0 z 0\nm 0 M m\nv 6 y 5\nv 10 z 2\naudited 10 jobs 2 slices 3\n";
+
+// Each write of `audit` fails once, and each read.
+const FAILING: &[StreamsRow] = &[
+    (
+        Streams::Fails(0, 1),
+        10,
+        Content::Lines(AUDITED, 0),
+        "htl: write\n",
+    ),
+    (
+        Streams::Fails(0, 2),
+        10,
+        Content::Lines(AUDITED, 1),
+        "htl: write\n",
+    ),
+    (
+        Streams::Fails(0, 3),
+        10,
+        Content::Lines(AUDITED, 2),
+        "htl: write\n",
+    ),
+    (
+        Streams::Fails(0, 4),
+        10,
+        Content::Lines(AUDITED, 3),
+        "htl: write\n",
+    ),
+    (
+        Streams::Fails(0, 5),
+        10,
+        Content::Lines(AUDITED, 4),
+        "htl: write\n",
+    ),
+    (
+        Streams::Fails(0, 6),
+        10,
+        Content::Lines(AUDITED, 5),
+        "htl: write\n",
+    ),
+    (
+        Streams::Fails(0, 7),
+        10,
+        Content::Lines(AUDITED, 6),
+        "htl: write\n",
+    ),
+    (
+        Streams::Fails(1, 0),
+        9,
+        Content::Lines(AUDITED, 0),
+        "htl: read\n",
+    ),
+    (
+        Streams::Fails(2, 0),
+        9,
+        Content::Lines(AUDITED, 6),
+        "htl: read\n",
+    ),
+];
+
+const TRIED: &[Tried] = &[Tried {
+    name: "failing streams are told of audits",
+    words: &["audit", "A", "B"],
+    place: Place::Compiled,
+    contents: (
+        Content::Text(TWO_JOBS),
+        Content::Text("j 0 3 M.m.a\nj 3 6 M.m.b\nj 6 10 M.m.a\n"),
+    ),
+    script: "end 10\n",
+    rows: FAILING,
+}];
 
 #[test]
 fn calls_are_answered(rt: HostRuntime) {
     same(&rt, first_wrong(rt.alloc(), GROUPS), None);
+    same(&rt, first_other(rt.alloc(), TRIED), None);
 }

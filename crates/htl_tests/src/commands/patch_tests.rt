@@ -215,6 +215,16 @@ const RUN: &[Row] = &[(
     "",
 )];
 
+// A donor that is too long is not read.
+const TOO_LONG: &[Row] = &[(
+    Content::Object(Text::Whole(SOMETIMES)),
+    Content::Filled(0, 16_777_217),
+    "",
+    8,
+    EMPTY,
+    "htl: shelf too-long 16777217\n",
+)];
+
 const GROUPS: &[Group] = &[
     Group {
         name: "a refinement is replaced",
@@ -257,6 +267,13 @@ const GROUPS: &[Group] = &[
         place: Place::Files,
         streams: Streams::Usual,
         rows: RUN,
+    },
+    Group {
+        name: "a donor may be too long",
+        words: &["patch", "A", "M.m", "B"],
+        place: Place::Files,
+        streams: Streams::Usual,
+        rows: TOO_LONG,
     },
 ];
 
