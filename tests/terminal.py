@@ -2,6 +2,7 @@
 is typed a second after the command has shown something."""
 import os
 import pty
+import signal
 import sys
 import time
 
@@ -9,6 +10,9 @@ typed = sys.argv[1].encode().decode("unicode_escape").encode("latin-1")
 later = typed.startswith(b"later:")
 pid, terminal = pty.fork()
 if pid == 0:
+    # where the tests were begun in the background, signals of the keyboard are ignored, and a shell can't trap what is
+    for it in (signal.SIGINT, signal.SIGQUIT):
+        signal.signal(it, signal.SIG_DFL)
     os.execvp(sys.argv[2], sys.argv[2:])
 if typed and not later:
     os.write(terminal, typed)
