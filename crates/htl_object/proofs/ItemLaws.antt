@@ -1,5 +1,6 @@
 -- The items of the tables.
-use Rattle.std.proofs.Common.{◌≡◌, ℕ, Bool, List, ◌++◌, length, Option, Ok, refl}
+use Rattle.std.proofs.Common.{◌≡◌, ◌-◌, ℕ, Bool, List, ◌++◌, length, Option, Ok, refl}
+use Rattle.htl_base.specs.declared.limits.TheConstants.{MAX_LEVELS}
 use Rattle.htl_object.proofs.Words.{Ty, Spelling, Index, Comm, Mode, Module, Port, Task, End, Inv, Switch, bad_at, is_owner, comm_bytes, comm_at, is_named_comm, mode_bytes, mode_at, is_named_mode, last_module, module_bytes, module_at, is_named_module, is_mode_of, leads_up_within, port_bytes, port_at, last_mode, is_named_port, types_bytes, types_at, task_bytes, task_at, last_owner, is_named_task, end_bytes, end_table, end_at, ends_bytes, ends_at, is_instance, is_port_of, inv_bytes, inv_at, is_inv_mode, is_inv_task, is_parent, switch_bytes, switch_at, last_switch_mode, is_target, is_read, IsComm, IsMode, IsModule, IsPort, AreTypes, IsTask, IsEnd, AreEnds, IsInv, IsSwitch, ℤ, not, nat_le}
 use Rattle.htl_model.specs.declared.parts.End.TheVariants as N
 use Rattle.htl_object.proofs.Lawful.{IsCodec, field, tested, last, whole, checked, counted}
@@ -35,7 +36,7 @@ pub unit : (modes : List Mode) (before : List Module) → IsCodec module_bytes (
 unit modes before =
     whole make_module (λ m. (m.name, (m.parent, m.start))) module_bytes (IsModule modes before)
     (field name (λ bytes n. tested (not (is_named_module before n)) (bad_at Spelling bytes)
-    (field (checked Index (leads_up_within 7 modes before) option) (λ _ _. last (checked Index (is_mode_of modes (length before)) number16)))))
+    (field (checked Index (leads_up_within (MAX_LEVELS - 1) modes before) option) (λ _ _. last (checked Index (is_mode_of modes (length before)) number16)))))
     (λ m f. (refl, refl, (f.name, (f.differs, (f.parent, f.start)))))
     (λ p f. (refl, record { name = f.0; differs = f.1.0; parent = f.1.1.0; start = f.1.1.1 }))
 

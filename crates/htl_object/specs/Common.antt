@@ -1,7 +1,7 @@
 -- The words that several definitions cite, of those below, passed on from one place. Declares nothing.
 pub use Rattle.htl_base.specs.Names.{is_name}
 pub use Rattle.htl_base.specs.declared.Ty.{Ty}
-pub use Rattle.htl_base.specs.declared.limits.TheConstants.{MAX_ARGUMENTS, MAX_ENDS, MAX_PERIOD}
+pub use Rattle.htl_base.specs.declared.limits.TheConstants.{MAX_ARGUMENTS, MAX_COMMUNICATORS, MAX_ENDS, MAX_LEVELS, MAX_PERIOD, MAX_TASKS}
 pub use Rattle.htl_ecode.specs.declared.instr.EInstr.{EInstr}
 pub use Rattle.htl_model.specs.Broken.{KeepsLimits}
 pub use Rattle.htl_model.specs.Frames.{frame_limit, nodes}

@@ -1,6 +1,6 @@
 -- What is asked of each item of an object.
-use Rattle.std.specs.Prelude.{◌≡◌, ℕ, ◌<◌, ◌^◌, Bool, true, not, nat_le, nat_lt, length, Option, IfSome, List, [], ◌∷◌, ◌++◌, FitsSigned}
-use Rattle.htl_object.specs.Common.{w64, MAX_ENDS, MAX_ARGUMENTS, is_name, Comm, Mode, Ty, Module, Port, Task, End, Inv, Switch, SInstr, Code, EInstr, FInstr}
+use Rattle.std.specs.Prelude.{◌≡◌, ℕ, ◌<◌, ◌^◌, ◌-◌, Bool, true, not, nat_le, nat_lt, length, Option, IfSome, List, [], ◌∷◌, ◌++◌, FitsSigned}
+use Rattle.htl_object.specs.Common.{w64, MAX_ENDS, MAX_ARGUMENTS, MAX_LEVELS, is_name, Comm, Mode, Ty, Module, Port, Task, End, Inv, Switch, SInstr, Code, EInstr, FInstr}
 use Rattle.htl_model.specs.declared.parts.End.TheVariants as N
 use Rattle.htl_walk.specs.declared.schedule.SInstr.TheVariants as S
 use Rattle.htl_ecode.specs.declared.instr.EInstr.TheVariants as E
@@ -45,7 +45,7 @@ IsOption o = IfSome o (λ n. n < 65535)
 pub record IsModule (modes : List Mode) (before : List Module) (m : Module) : Type 0 where
   pub name : is_name m.name ≡ true
   pub differs : not (is_named_module before m.name) ≡ true
-  pub parent : IsOption m.parent × (leads_up_within 7 modes before m.parent ≡ true)
+  pub parent : IsOption m.parent × (leads_up_within (MAX_LEVELS - 1) modes before m.parent ≡ true)
   pub start : Fits16 (is_mode_of modes (length before)) m.start
 
 pub record IsPort (modes : ℕ) (before : List Port) (p : Port) : Type 0 where

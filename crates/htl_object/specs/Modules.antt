@@ -1,6 +1,6 @@
 -- Modules: a parent is a mode of an earlier module, a start one of the module itself.
-use Rattle.std.specs.Prelude.{ℕ, zero, suc, ◌==◌, Bool, true, false, not, List, ◌++◌, Option, Ok, Some, None, length, slice_get}
-use Rattle.htl_object.specs.Common.{w16, to_be_bytes, list_any, bytes_eq, Mode, Module}
+use Rattle.std.specs.Prelude.{ℕ, zero, suc, ◌==◌, ◌-◌, Bool, true, false, not, List, ◌++◌, Option, Ok, Some, None, length, slice_get}
+use Rattle.htl_object.specs.Common.{w16, MAX_LEVELS, to_be_bytes, list_any, bytes_eq, Mode, Module}
 use Rattle.htl_object.specs.declared.malformed.MalKind.TheVariants.{Spelling, Index}
 use Rattle.htl_object.specs.Reading.{Read, ◌>>=◌, bad_at, need, field_at, number_at}
 use Rattle.htl_object.specs.Fields.{name_bytes, option_bytes, name_at, option_at}
@@ -29,6 +29,6 @@ abbrev pub module_at : List Mode → List Module → List ℕ → Read Module
 module_at modes before bytes =
     name_at bytes >>= λ name rest.
     need (not (is_named_module before name)) (bad_at Spelling bytes) (
-    field_at Index (leads_up_within 7 modes before) option_at rest >>= λ parent rest.
+    field_at Index (leads_up_within (MAX_LEVELS - 1) modes before) option_at rest >>= λ parent rest.
     field_at Index (is_mode_of modes (length before)) (number_at w16) rest >>= λ start rest.
     Ok (record { name = name; parent = parent; start = start }, rest))
