@@ -71,7 +71,7 @@ abbrev pub total : List Task → ℕ
 total [] = 0
 total (k ∷ ks) = function_count k + total ks
 
-count_shift : (n : ℕ) (k : Task) (ks : List Task) → count_before (suc n) (k ∷ ks) ≡ function_count k + count_before n ks
+pub count_shift : (n : ℕ) (k : Task) (ks : List Task) → count_before (suc n) (k ∷ ks) ≡ function_count k + count_before n ks
 count_shift zero k ks = omega arith
 count_shift (suc n) k ks = let e = count_shift n k ks in omega (arith, e)
 

@@ -1,4 +1,4 @@
--- Renumbered tables are in range where not too much is taken.
+-- Renumbered tables are in range where not too much is taken over.
 use Rattle.std.proofs.Common.{◌≡◌, ◌≤◌, ◌<◌, inl, inr, ℕ, suc, ◌+◌, true, eqb, eq-eqb, List, [], ◌∷◌, length, length-append, map, take, drop, slice_get, Option, Some, None, IfSome, All, option_map, refl, sym, ◌∙◌, ap, subst, arith}
 use Rattle.htl_patch.proofs.Words.{flat_map, count_by, IsNonDecreasing, length-map, slice_get_within, slice_get-get_or, get_or_from_slice_get, MAX_MODE_INVOCATIONS, AreApart, End, Inv, Mode, Port, Switch, Task, different_pairs, are_different_pairs, AreInRange, IsInvInRange, IsEndInRange, IsSwitchInRange, IsFunInRange, invs_of, Tables, Fun, mode_module, function_count, count_at, count_before, switch_function, place_among, tasks_of, ports_of, switches_of, task_of_module, port_of_mode, Numbering, numbering, mode_at, port_at, task_at, inv_at, switch_at, new_port, new_task, new_inv, new_switch, new_end, functions_of, function_of_switch, renumbered, from_map, get_mapped}
 use Rattle.htl_model.specs.declared.parts.End.TheVariants as E
@@ -19,7 +19,7 @@ module _ (u : Tables) (units : List ℕ) (sound : IsSound u) (order : IsOrder u 
 
   -- ---- invocations
 
-  -- the task of an invocation that is taken is taken
+  -- the task of an invocation that is taken over is taken over
   task_transferred : (k : ℕ) (h : Has n.invs k) → Has n.tasks ((inv_of u units sound order parents few) k h).2.task
   task_transferred k h =
       let r = (inv_of u units sound order parents few) k h in
@@ -142,7 +142,7 @@ module _ (u : Tables) (units : List ℕ) (sound : IsSound u) (order : IsOrder u 
       let c = sound.function_count in
       omega (arith, w, c)
 
-  -- what holds of all functions holds of those that are taken
+  -- what holds of all functions holds of those that are taken over
   pub new_functions : (P : Fun → Type 0) → ((k : ℕ) (f : Fun) → slice_get u.functions k ≡ Some f → P f) → All P t.functions
   new_functions P all =
       all_from P t.functions (λ f h. elim (has_either (flat_map (functions_of u) n.tasks) (map (function_of_switch u) n.switches) f h) [

@@ -1,6 +1,6 @@
 -- Tests of what is taken over: by places, and by the invocations that stand for others.
 use Rattle.std.proofs.Common.{◌≡◌, ◌<◌, ◌+◌, ℕ, zero, suc, Bool, true, false, cond, not, ◌&&◌, ◌||◌, eqb, ltb, List, [], ◌∷◌, ◌++◌, length, length-append, map, drop, get_or, slice_get, Option, Some, None, refl, sym, ◌∙◌, ap, subst, arith}
-use Rattle.htl_patch.proofs.Words.{nat_tests, length-map, slice_get-get_or, list_any, numbered, first_some, AreInRange, IsModeInRange, IsInvInRange, Tables, mode_module, Inv, Mode, Module, length-list_to, get_list_to, call_for, calls_for, first, is_transferred, inv_module, is_matched, is_unmatched_parent, module_name, is_kept_name, twice_at, order, ArePlacesOf, place_among, Replacement, calls_named, call_name, belongs_to_mode, donor_parent, combined, donor_module, all_at, eqb_flips, and_none, and_with_true}
+use Rattle.htl_patch.proofs.Words.{nat_tests, length-map, slice_get-get_or, list_any, numbered, first_some, AreInRange, IsModeInRange, IsInvInRange, Tables, mode_module, Inv, Mode, Module, length-list_to, get_list_to, counterpart, all_counterparts, first, is_transferred, inv_module, is_matched, is_unmatched_parent, module_name, is_kept_name, twice_at, order, ArePlacesOf, place_among, Replacement, invs_named, invoked_name, belongs_to_mode, donor_parent, combined, donor_module, all_at, eqb_flips, and_none, and_with_true}
 
 below_some : (n : ℕ) → ltb 0 (suc n) ≡ true
 below_some n = grind (arith, nat_tests)
@@ -19,7 +19,7 @@ transferred_place m (x ∷ xs) = by (eqb x m) (transferred_place m xs) ∙ ap (�
     by true later = below_some (length xs)
     by false later = below_next (place_among m xs) (length xs) ∙ later
 
--- a module is taken where it has a place
+-- a module is taken over where it has a place
 pub transferred_is : (g : Replacement) (k before : ℕ) (units places : List ℕ) → k < length g.donor.modules → before ≡ length g.host.modules → units ≡ order g
     → ArePlacesOf (length (combined g).modules) (order g) places → ltb (get_or places (before + k) 0) (length units) ≡ is_transferred g k
 transferred_is g k before units places less is all a =
@@ -45,53 +45,53 @@ unit_within t m r less = by (slice_get t.modes m) refl
 
 -- ---- the invocations that stand for others
 
-module _ (g : Replacement) (calls : List (Option ℕ)) (are : calls ≡ calls_for g) (p : ℕ) (less : p < length g.donor.invs) where
-  pub calls_within : p < length calls
-  calls_within = let size = ap length are in let n = length-list_to (call_for g) (length g.donor.invs) in omega (arith, size, n, less)
+module _ (g : Replacement) (counterparts : List (Option ℕ)) (are : counterparts ≡ all_counterparts g) (p : ℕ) (less : p < length g.donor.invs) where
+  pub counterparts_within : p < length counterparts
+  counterparts_within = let size = ap length are in let n = length-list_to (counterpart g) (length g.donor.invs) in omega (arith, size, n, less)
 
-  pub call_is : (o : Option ℕ) → get_or calls p None ≡ o → call_for g p ≡ o
-  call_is o e = sym (ap (λ (os : List (Option ℕ)). get_or os p None) are ∙ get_list_to (call_for g) (length g.donor.invs) p None less) ∙ e
+  pub counterpart_is : (o : Option ℕ) → get_or counterparts p None ≡ o → counterpart g p ≡ o
+  counterpart_is o e = sym (ap (λ (os : List (Option ℕ)). get_or os p None) are ∙ get_list_to (counterpart g) (length g.donor.invs) p None less) ∙ e
 
   -- none stands for it where it isn't met by name
-  pub matched_at : is_matched g p ≡ elim (call_for g p) as (λ _. Bool) [ Some k ↦ true | None ↦ false ]
-  matched_at = by (belongs_to_mode g.donor g.replacing_mode p) (calls_named g.host g.patched_mode (call_name g.donor p))
+  pub matched_at : is_matched g p ≡ elim (counterpart g p) as (λ _. Bool) [ Some k ↦ true | None ↦ false ]
+  matched_at = by (belongs_to_mode g.donor g.replacing_mode p) (invs_named g.host g.patched_mode (invoked_name g.donor p))
     where
       by : (b : Bool) (ks : List ℕ) → (b && not (eqb (length ks) 0)) ≡ elim (cond b (first ks) None) as (λ _. Bool) [ Some k ↦ true | None ↦ false ]
       by false ks = refl
       by true [] = refl
       by true (k ∷ ks) = let e : eqb (length (k ∷ ks)) 0 ≡ false = grind (arith, nat_tests) in ap not e
 
-  pub matched_is_none : (k : ℕ) → call_for g p ≡ Some k → is_unmatched_parent g (Some p) ≡ false
+  pub matched_is_none : (k : ℕ) → counterpart g p ≡ Some k → is_unmatched_parent g (Some p) ≡ false
   matched_is_none k e =
       ap (λ (b : Bool). not (is_transferred g (inv_module g.donor p)) && not b) (matched_at ∙ ap (λ (o : Option ℕ). elim o as (λ _. Bool) [ Some k ↦ true | None ↦ false ]) e)
       ∙ and_none (not (is_transferred g (inv_module g.donor p)))
 
-  pub unmatched_is : (t : Bool) → call_for g p ≡ None → t ≡ is_transferred g (inv_module g.donor p) → is_unmatched_parent g (Some p) ≡ not t
+  pub unmatched_is : (t : Bool) → counterpart g p ≡ None → t ≡ is_transferred g (inv_module g.donor p) → is_unmatched_parent g (Some p) ≡ not t
   unmatched_is t e is =
       ap (λ (b : Bool). not (is_transferred g (inv_module g.donor p)) && not b) (matched_at ∙ ap (λ (o : Option ℕ). elim o as (λ _. Bool) [ Some k ↦ true | None ↦ false ]) e)
       ∙ ap (λ (b : Bool). not b && true) (sym is) ∙ and_with_true (not t)
 
 -- the parent that stands for one in the donor's mode
-moved_call : (g : Replacement) (p : ℕ) → belongs_to_mode g.donor g.replacing_mode p ≡ true → donor_parent g p ≡ elim (call_for g p) as (λ _. ℕ) [ Some k ↦ k | None ↦ 0 ]
-moved_call g p e =
-    ap (λ (b : Bool). cond b (get_or (calls_named g.host g.patched_mode (call_name g.donor p)) 0 0) (length g.host.invs + p)) e
-    ∙ by (calls_named g.host g.patched_mode (call_name g.donor p))
-    ∙ sym (ap (λ (b : Bool). elim (cond b (first (calls_named g.host g.patched_mode (call_name g.donor p))) None) as (λ _. ℕ) [ Some k ↦ k | None ↦ 0 ]) e)
+moved_invocation : (g : Replacement) (p : ℕ) → belongs_to_mode g.donor g.replacing_mode p ≡ true → donor_parent g p ≡ elim (counterpart g p) as (λ _. ℕ) [ Some k ↦ k | None ↦ 0 ]
+moved_invocation g p e =
+    ap (λ (b : Bool). cond b (get_or (invs_named g.host g.patched_mode (invoked_name g.donor p)) 0 0) (length g.host.invs + p)) e
+    ∙ by (invs_named g.host g.patched_mode (invoked_name g.donor p))
+    ∙ sym (ap (λ (b : Bool). elim (cond b (first (invs_named g.host g.patched_mode (invoked_name g.donor p))) None) as (λ _. ℕ) [ Some k ↦ k | None ↦ 0 ]) e)
   where
     by : (ks : List ℕ) → get_or ks 0 0 ≡ elim (first ks) as (λ _. ℕ) [ Some k ↦ k | None ↦ 0 ]
     by [] = refl
     by (k ∷ ks) = refl
 
-pub moved_matched : (g : Replacement) (p k : ℕ) → call_for g p ≡ Some k → belongs_to_mode g.donor g.replacing_mode p ≡ true → donor_parent g p ≡ k
-moved_matched g p k e on = moved_call g p on ∙ ap (λ (o : Option ℕ). elim o as (λ _. ℕ) [ Some k ↦ k | None ↦ 0 ]) e
+pub moved_matched : (g : Replacement) (p k : ℕ) → counterpart g p ≡ Some k → belongs_to_mode g.donor g.replacing_mode p ≡ true → donor_parent g p ≡ k
+moved_matched g p k e on = moved_invocation g p on ∙ ap (λ (o : Option ℕ). elim o as (λ _. ℕ) [ Some k ↦ k | None ↦ 0 ]) e
 
-pub moved_unmatched : (g : Replacement) (p : ℕ) → call_for g p ≡ None → belongs_to_mode g.donor g.replacing_mode p ≡ true → donor_parent g p ≡ 0
-moved_unmatched g p e on = moved_call g p on ∙ ap (λ (o : Option ℕ). elim o as (λ _. ℕ) [ Some k ↦ k | None ↦ 0 ]) e
+pub moved_unmatched : (g : Replacement) (p : ℕ) → counterpart g p ≡ None → belongs_to_mode g.donor g.replacing_mode p ≡ true → donor_parent g p ≡ 0
+moved_unmatched g p e on = moved_invocation g p on ∙ ap (λ (o : Option ℕ). elim o as (λ _. ℕ) [ Some k ↦ k | None ↦ 0 ]) e
 
 -- another stays
 pub moved_own : (g : Replacement) (p before : ℕ) → before ≡ length g.host.invs → belongs_to_mode g.donor g.replacing_mode p ≡ false → donor_parent g p ≡ before + p
 moved_own g p before is off =
-    ap (λ (b : Bool). cond b (get_or (calls_named g.host g.patched_mode (call_name g.donor p)) 0 0) (length g.host.invs + p)) off ∙ ap (λ (n : ℕ). n + p) (sym is)
+    ap (λ (b : Bool). cond b (get_or (invs_named g.host g.patched_mode (invoked_name g.donor p)) 0 0) (length g.host.invs + p)) off ∙ ap (λ (n : ℕ). n + p) (sym is)
 
 -- the module of an invocation is a module
 pub inv_unit : (t : Tables) (xs : List Inv) (p unit : ℕ) (x : Inv) → AreInRange t → xs ≡ t.invs → p < length t.invs → x ≡ get_or xs p x → unit ≡ mode_module t (get_or xs p x).mode

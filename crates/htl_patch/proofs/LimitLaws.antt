@@ -1,4 +1,4 @@
--- The limits of the patched tables, by the numbers that are taken.
+-- The limits of the patched tables, by the numbers that are taken over.
 use Rattle.std.proofs.Common.{◌≡◌, ◌≤◌, ℕ, zero, suc, Bool, cond, ltb, eqb, List, [], ◌∷◌, ◌++◌, length, Option, Some, None, refl, sym, ◌∙◌, ap, arith}
 use Rattle.htl_model.proofs.Listed.{list_same}
 use Rattle.htl_patch.proofs.Words.{count_by, length-map, MAX_MODULES, MAX_MODES, MAX_PORTS, MAX_TASKS, MAX_INVOCATIONS, MAX_SWITCHES, MAX_MODE_INVOCATIONS, list_to, parent_of, Tables, mode_module, greatest, Mode, Module, level, levels, widest, exceeded, first_limit, module_mode_tables, sizes_of, AreFewNumbers, order, new_numbers, patched, mode_at, module_at, port_at, task_at, inv_at, switch_at, new_mode, new_module, new_port, new_task, new_inv, new_switch, Replacement, combined, le-ltb}

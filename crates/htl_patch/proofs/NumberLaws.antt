@@ -1,4 +1,4 @@
--- The old numbers of what is taken, by lists of owners; each is that of an item.
+-- The old numbers of what is taken over, by lists of owners; each is that of an item.
 use Rattle.std.proofs.Common.{◌≡◌, ◌≤◌, ◌<◌, ℕ, zero, suc, List, [], ◌∷◌, ◌++◌, length, map, All, length-append, refl, ◌∙◌, ap, subst, arith}
 use Rattle.htl_patch.proofs.Words.{flat_map, length-map, slice_get_within, same_Some, Inv, Mode, Port, Switch, Task, root_modules, modes_of, invs_of, Tables, is_owner, owned_by, mode_owners, port_owners, task_owners, inv_owners, switch_owners, mode_children, children, below, order, new_numbers, ports_of, tasks_of, switches_of, Replacement, donor_module, combined, get_front}
 use Rattle.htl_patch.proofs.BothOwners.{modes_few, tasks_few, ports_few, invs_few, switches_few}
@@ -68,7 +68,7 @@ module _ (g : Replacement) (c : CanReplace g) where
   below_within (suc n) y x less (suc j, e) =
       let r = of_flat (below (children g) n) (children g y) x (j, e) in below_within n r.0 x (child_within y r.0 r.1) r.2
 
-  -- the modules that are taken are modules
+  -- the modules that are taken over are modules
   pub order_within : All (λ x. x < length (combined g).modules) (order g)
   order_within =
       all_from (λ x. x < length (combined g).modules) (order g)
@@ -77,7 +77,7 @@ module _ (g : Replacement) (c : CanReplace g) where
       below_within 14 r.0 x
       (slice_get_within (combined g).modules r.0 s.0 (get_front g.host.modules (map (donor_module g) g.donor.modules) r.0 s.0 s.1)) r.2))
 
-  -- not too many numbers are taken
+  -- not too many numbers are taken over
   pub few_units : length (new_numbers g).modules ≤ 16384
   few_units =
       let most = few_apart (order g) (length (combined g).modules) (order_apart g c) order_within in

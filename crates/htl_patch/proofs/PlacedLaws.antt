@@ -1,6 +1,6 @@
 -- Items with the new numbers that lists of new numbers tell are the renumbered ones.
 use Rattle.std.proofs.Common.{◌≡◌, ◌≤◌, ◌<◌, ◌+◌, ◌-◌, ℕ, zero, cond, Bool, true, false, eqb, List, [], ◌∷◌, ◌++◌, length, length-append, map, get_or, slice_get, Option, Some, None, IfSome, option_map, All, refl, sym, ◌∙◌, ap, arith}
-use Rattle.htl_patch.proofs.Words.{length-map, slice_get_within, slice_get-get_or, AreInRange, IsInvInRange, IsEndInRange, Tables, End, Inv, Mode, Module, Port, Switch, Task, ArePlacesOf, ArePlaces, HasPlace, HasPlaces, placed, placed_mode, placed_module, placed_port, placed_task, placed_end, placed_inv, placed_switch, Numbering, place_among, new_mode, new_module, new_port, new_task, new_end, new_inv, new_switch, Replacement, combined, donor_mode, donor_module, donor_port, donor_task, donor_end, donor_inv, donor_switch, refined_mode, donor_parent, calls_named, call_name, is_call, belongs_to_mode, NewNumbers, all_at}
+use Rattle.htl_patch.proofs.Words.{length-map, slice_get_within, slice_get-get_or, AreInRange, IsInvInRange, IsEndInRange, Tables, End, Inv, Mode, Module, Port, Switch, Task, ArePlacesOf, ArePlaces, HasPlace, HasPlaces, placed, placed_mode, placed_module, placed_port, placed_task, placed_end, placed_inv, placed_switch, Numbering, place_among, new_mode, new_module, new_port, new_task, new_end, new_inv, new_switch, Replacement, combined, donor_mode, donor_module, donor_port, donor_task, donor_end, donor_inv, donor_switch, refined_mode, donor_parent, invs_named, invoked_name, invokes_named, belongs_to_mode, NewNumbers, all_at}
 use Rattle.htl_model.specs.declared.parts.End.TheVariants as E
 use Rattle.htl_patch.proofs.Members.{Has, map_map, map_on, of_places_0}
 
@@ -177,19 +177,19 @@ module _ (g : Replacement) (host : AreInRange g.host) (donor : AreInRange g.dono
   host_parent None less = tt
   host_parent (Some k) less = omega (arith, less, invs_count)
 
-  calls_low : (ks : List ℕ) (m : ℕ) → ((k : ℕ) → Has ks k → k < m) → 0 < m → get_or ks 0 0 < m
-  calls_low [] m all less = less
-  calls_low (k ∷ ks) m all less = all k (0, refl)
+  invocations_low : (ks : List ℕ) (m : ℕ) → ((k : ℕ) → Has ks k → k < m) → 0 < m → get_or ks 0 0 < m
+  invocations_low [] m all less = less
+  invocations_low (k ∷ ks) m all less = all k (0, refl)
 
   -- what stands for a parent of the donor is an invocation of both
   guest_parent : (o : Option ℕ) → IfSome o (λ k. k < length g.donor.invs) → IfSome (option_map (donor_parent g) o) (λ k. k < length (combined g).invs)
   guest_parent None less = tt
   guest_parent (Some k) less = by (belongs_to_mode g.donor g.replacing_mode k)
     where
-      by : (b : Bool) → cond b (get_or (calls_named g.host g.patched_mode (call_name g.donor k)) 0 0) (length g.host.invs + k) < length (combined g).invs
+      by : (b : Bool) → cond b (get_or (invs_named g.host g.patched_mode (invoked_name g.donor k)) 0 0) (length g.host.invs + k) < length (combined g).invs
       by true =
-          calls_low (calls_named g.host g.patched_mode (call_name g.donor k)) (length (combined g).invs)
-          (λ m i. (let r = of_places_0 (is_call g.host g.patched_mode (call_name g.donor k)) g.host.invs m i in let w = slice_get_within g.host.invs m r.0 r.1 in omega (arith, w, invs_count)))
+          invocations_low (invs_named g.host g.patched_mode (invoked_name g.donor k)) (length (combined g).invs)
+          (λ m i. (let r = of_places_0 (invokes_named g.host g.patched_mode (invoked_name g.donor k)) g.host.invs m i in let w = slice_get_within g.host.invs m r.0 r.1 in omega (arith, w, invs_count)))
           (omega (arith, less, invs_count))
       by false = omega (arith, less, invs_count)
 

@@ -38,7 +38,7 @@ pub use Rattle.htl_object.proofs.PhaseLaws.{layout_phased}
 pub use Rattle.htl_object.proofs.Words.{AreApart, IsCommInRange, IsFunInRange, IsFunctionCode, IsNonDecreasing, IsPortInRange, IsSpan, [], and_first, ap, apart_names, apart_owned, apart_pairs, are_different_numbers, begin_place, bytes_eq, bytes_eq-Decides, count_by, decide_place, different, different_owned, different_pairs, enter_places, get_list_to, is_within, layout, length, mode_place, nodes, radices}
 pub use Rattle.htl_object.specs.declared.object.Object.{Object}
 pub use Rattle.htl_patch.specs.Answering.{IsHandedBackBy, IsPatchStop, IsPatched, IsPatchedAs, PatchIsRefusedFor}
-pub use Rattle.htl_patch.specs.Calls.{call_for, calls_for}
+pub use Rattle.htl_patch.specs.Counterparts.{counterpart, all_counterparts}
 pub use Rattle.htl_patch.specs.Firsts.{first_function, firsts_of}
 pub use Rattle.htl_patch.specs.Joining.{IsFirstDifference, Joins, exceeded, first, first_limit, first_unmatched, first_twice, replacement_by, replacement_of, inv_module, is_kept_name, is_matched, is_named, is_unmatched, is_unmatched_parent, is_transferred, level, levels, mode_named, module_name, sizes, twice_at, widest}
 pub use Rattle.htl_patch.specs.Levels.{AreFewNumbers, sizes_of, module_mode_tables}
@@ -49,7 +49,7 @@ pub use Rattle.htl_patch.specs.Placed.{ArePlaces, ArePlacesOf, HasPlace, HasPlac
 pub use Rattle.htl_patch.specs.Renumbered.{Numbering, function_of_switch, functions_of, inv_at, mode_at, module_at, new_end, new_inv, new_mode, new_module, new_port, new_switch, new_task, numbering, place_among, port_at, port_of_mode, ports_of, renumbered, switch_at, switch_of_mode, switches_of, task_at, task_of_module, tasks_of}
 pub use Rattle.htl_patch.specs.Stack.{coming, coming_from, frame, child_frames}
 pub use Rattle.htl_patch.specs.Stops.{AreMatched, IsAcceptedWith, IsEarlyFault, IsFaultBy, IsReplacementFault, IsHandedBack, IsMisfit, IsPatchFault, IsTablesFault, IsTablesStop, misfit_of, object_with}
-pub use Rattle.htl_patch.specs.Combined.{Replacement, belongs_to_mode, call_name, calls_named, donor_end, donor_inv, donor_mode, donor_module, donor_parent, donor_port, donor_switch, donor_task, replacement, is_call, output_count, output_functions, refined_mode, switch_functions, combined}
+pub use Rattle.htl_patch.specs.Combined.{Replacement, belongs_to_mode, invoked_name, invs_named, donor_end, donor_inv, donor_mode, donor_module, donor_parent, donor_port, donor_switch, donor_task, replacement, invokes_named, output_count, output_functions, refined_mode, switch_functions, combined}
 pub use Rattle.htl_patch.specs.declared.fault.PatchFault.{PatchFault}
 pub use Rattle.htl_patch.specs.declared.fault.PatchStop.{PatchStop}
 pub use Rattle.htl_patch.specs.declared.numbers.NewNumbers.{NewNumbers}

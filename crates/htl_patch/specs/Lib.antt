@@ -1,5 +1,5 @@
 pub mod Answering
-pub mod Calls
+pub mod Counterparts
 pub mod Firsts
 pub mod Joining
 pub mod Laws

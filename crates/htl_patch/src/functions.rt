@@ -221,7 +221,7 @@ fn push_switches(
     Ok(())
 }
 
-/// The functions of the patched tables: of each task that is taken those of its outputs, then of each switch its own.
+/// The functions of the patched tables: of each task that is taken over those of its outputs, then of each switch its own.
 pub(crate) fn new_functions(
     alloc: Global,
     g: &Replacement<'_>,

@@ -2,7 +2,7 @@
 ghost use Rattle.std.specs.Prelude.{◌≡◌, ◌<◌, ◌≤◌, ◌+◌, length, ◌&&◌, ltb, Some, MatchOption};
 ghost use Rattle.std.specs.Str.{bytes_eq};
 ghost use Rattle.htl_model.specs.Ranges.{IsInvInRange};
-ghost use Rattle.htl_patch.specs.Calls.{calls_for};
+ghost use Rattle.htl_patch.specs.Counterparts.{all_counterparts};
 ghost use Rattle.htl_patch.specs.Joining.{is_transferred as is_transferred_of, is_unmatched_parent as is_unmatched_parent_of, is_unmatched as is_unmatched_of, first_unmatched as first_unmatched_of, is_kept_name as is_kept_name_of, module_name, first_twice as first_twice_of};
 ghost use Rattle.htl_patch.specs.Patched.{order};
 ghost use Rattle.htl_patch.specs.Placed.{ArePlacesOf};
@@ -17,7 +17,7 @@ use htl_base::Name;
 use htl_model::lookup::mode_module;
 use htl_model::{Inv, Tables};
 
-/// The modules that are taken in the new order, and the place of each module among them.
+/// The modules that are taken over in the new order, and the place of each module among them.
 #[derive(Clone, Copy)]
 pub(crate) struct Transferred<'a> {
     pub units: &'a [u16],
@@ -39,32 +39,32 @@ fn is_transferred(g: &Replacement<'_>, transferred: &Transferred<'_>, unit: usiz
 fn is_unmatched_parent(
     g: &Replacement<'_>,
     transferred: &Transferred<'_>,
-    calls: &[Option<u16>],
+    counterparts: &[Option<u16>],
     p: usize,
 ) -> bool
     requires units { transferred.now.units.now ≡ order g.now }
     requires places { ArePlacesOf (length (combined g.now).modules) (order g.now) transferred.now.places.now }
-    requires calls { calls.now ≡ calls_for g.now }
+    requires counterparts { counterparts.now ≡ all_counterparts g.now }
     requires p { p < length g.now.donor.invs }
     ensures { result ≡ is_unmatched_parent_of g.now (Some p) }
 {
     let unit = mode_module(g.donor, invs(g.donor)[p].mode) as usize;
-    match calls[p] {
+    match counterparts[p] {
         Some(_) => false,
         None => !is_transferred(g, transferred, unit),
     }
 }
 
-// Whether an invocation of the donor is taken over, and its parent strays.
+// Whether an invocation of the donor is taken over, and its parent is unmatched.
 fn is_unmatched(
     g: &Replacement<'_>,
     transferred: &Transferred<'_>,
-    calls: &[Option<u16>],
+    counterparts: &[Option<u16>],
     x: &Inv,
 ) -> bool
     requires units { transferred.now.units.now ≡ order g.now }
     requires places { ArePlacesOf (length (combined g.now).modules) (order g.now) transferred.now.places.now }
-    requires calls { calls.now ≡ calls_for g.now }
+    requires counterparts { counterparts.now ≡ all_counterparts g.now }
     requires range { IsInvInRange g.now.donor x.now }
     ensures { result ≡ is_unmatched_of g.now x.now }
 {
@@ -72,7 +72,7 @@ fn is_unmatched(
     let unit = mode_module(g.donor, x.mode) as usize;
     match x.parent {
         Some(p) => is_transferred(g, transferred, unit)
-            && is_unmatched_parent(g, transferred, calls, p as usize),
+            && is_unmatched_parent(g, transferred, counterparts, p as usize),
         None => false,
     }
 }
@@ -81,16 +81,16 @@ fn is_unmatched(
 pub(crate) fn first_unmatched(
     g: &Replacement<'_>,
     transferred: &Transferred<'_>,
-    calls: &[Option<u16>],
+    counterparts: &[Option<u16>],
 ) -> Option<u16>
     requires units { transferred.now.units.now ≡ order g.now }
     requires places { ArePlacesOf (length (combined g.now).modules) (order g.now) transferred.now.places.now }
-    requires calls { calls.now ≡ calls_for g.now }
+    requires counterparts { counterparts.now ≡ all_counterparts g.now }
     ensures { result ≡ first_unmatched_of g.now }
 {
     let all = invs(g.donor);
     for k in 0..all.len() {
-        if is_unmatched(g, transferred, calls, &all[k]) {
+        if is_unmatched(g, transferred, counterparts, &all[k]) {
             return Some(k as u16);
         }
     }
@@ -157,17 +157,17 @@ pub(crate) fn first_twice(g: &Replacement<'_>, transferred: &Transferred<'_>) ->
 pub(crate) fn join_fault(
     g: &Replacement<'_>,
     transferred: &Transferred<'_>,
-    calls: &[Option<u16>],
+    counterparts: &[Option<u16>],
 ) -> Option<PatchFault>
     requires units { transferred.now.units.now ≡ order g.now }
     requires places { ArePlacesOf (length (combined g.now).modules) (order g.now) transferred.now.places.now }
-    requires calls { calls.now ≡ calls_for g.now }
+    requires counterparts { counterparts.now ≡ all_counterparts g.now }
     ensures { MatchOption result (AreMatched g.now) (IsJoinFault g.now) }
 {
     if let Some(place) = first_difference(comms(g.host), comms(g.donor)) {
         return Some(PatchFault::Comms { place });
     }
-    if let Some(inv) = first_unmatched(g, transferred, calls) {
+    if let Some(inv) = first_unmatched(g, transferred, counterparts) {
         return Some(PatchFault::Parent { inv });
     }
     match first_twice(g, transferred) {

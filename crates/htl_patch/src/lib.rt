@@ -1,7 +1,6 @@
 //! The refinement of one mode replaced by another: the patched program keeps the deadlines of the old one.
 #![tactic(auto)]
 
-mod calls;
 mod fault;
 mod finding;
 mod finishing;
@@ -10,6 +9,7 @@ mod joining;
 pub mod laws;
 mod limits;
 mod lists;
+mod matching;
 mod mode_items;
 mod numbers;
 mod order;

@@ -1,7 +1,7 @@
 // The ports, invocations and switches of the patched tables: those of both programs, with their new numbers.
 ghost use Rattle.std.specs.Prelude.{◌≡◌, ◌<◌, ◌≤◌, ◌+◌, All, IfSome, length, map, option_map, IfOk};
 ghost use Rattle.htl_patch.specs.Patched.{new_numbers};
-ghost use Rattle.htl_patch.specs.Calls.{calls_for};
+ghost use Rattle.htl_patch.specs.Counterparts.{all_counterparts};
 ghost use Rattle.htl_patch.specs.Placed.{ArePlaces, HasPlace, HasPlaces, placed_end, placed_inv, placed_port, placed_switch};
 ghost use Rattle.htl_patch.specs.Renumbered.{inv_at, port_at, switch_at, new_inv as new_inv_of, new_port as new_port_of, new_switch as new_switch_of};
 ghost use Rattle.htl_patch.specs.Combined.{combined, donor_parent, belongs_to_mode as is_of_mode_of};
@@ -127,15 +127,15 @@ fn is_of_mode(t: &Tables, mode: u16, k: usize) -> bool
 }
 
 // The invocation of both in whose place one of the donor stands, by the one in whose place it stands there.
-fn moved(g: &Replacement<'_>, calls: &[Option<u16>], k: u16) -> u16
-    requires calls { calls.now ≡ calls_for g.now }
+fn moved(g: &Replacement<'_>, counterparts: &[Option<u16>], k: u16) -> u16
+    requires counterparts { counterparts.now ≡ all_counterparts g.now }
     requires within { k < length g.now.donor.invs }
     ensures { result ≡ donor_parent g.now k }
 {
     g.keeps_ranges();
     if is_of_mode(g.donor, g.replacing_mode, k as usize) {
-        match calls[k as usize] {
-            Some(call) => call,
+        match counterparts[k as usize] {
+            Some(inv) => inv,
             None => 0,
         }
     } else {
@@ -143,13 +143,17 @@ fn moved(g: &Replacement<'_>, calls: &[Option<u16>], k: u16) -> u16
     }
 }
 
-fn moved_parent(g: &Replacement<'_>, calls: &[Option<u16>], parent: Option<u16>) -> Option<u16>
-    requires calls { calls.now ≡ calls_for g.now }
+fn moved_parent(
+    g: &Replacement<'_>,
+    counterparts: &[Option<u16>],
+    parent: Option<u16>,
+) -> Option<u16>
+    requires counterparts { counterparts.now ≡ all_counterparts g.now }
     requires within { IfSome parent (λ k. k < length g.now.donor.invs) }
     ensures { result ≡ option_map (donor_parent g.now) parent }
 {
     match parent {
-        Some(k) => Some(moved(g, calls, k)),
+        Some(k) => Some(moved(g, counterparts, k)),
         None => None,
     }
 }
@@ -158,11 +162,11 @@ fn new_inv(
     alloc: Global,
     g: &Replacement<'_>,
     p: &NewNumbers,
-    calls: &[Option<u16>],
+    counterparts: &[Option<u16>],
     k: usize,
 ) -> Result<Inv, AllocError>
     requires places { ArePlaces (combined g.now) (new_numbers g.now) p.now }
-    requires calls { calls.now ≡ calls_for g.now }
+    requires counterparts { counterparts.now ≡ all_counterparts g.now }
     requires within { k < length (combined g.now).invs }
     ensures { IfOk result (λ y. y ≡ new_inv_of (new_numbers g.now) (inv_at (combined g.now) k)) }
 {
@@ -183,7 +187,7 @@ fn new_inv(
         ports: ports(g.host).len(),
     };
     let x = &invs(g.donor)[k - front.len()];
-    copied_inv(alloc, x, moved_parent(g, calls, x.parent), p, before)
+    copied_inv(alloc, x, moved_parent(g, counterparts, x.parent), p, before)
 }
 
 /// The invs with these old numbers, with their new numbers.
@@ -191,17 +195,17 @@ pub(crate) fn new_invs(
     alloc: Global,
     g: &Replacement<'_>,
     p: &NewNumbers,
-    calls: &[Option<u16>],
+    counterparts: &[Option<u16>],
     keys: &[u16],
 ) -> Result<Vec<Inv>, AllocError>
     requires places { ArePlaces (combined g.now) (new_numbers g.now) p.now }
-    requires calls { calls.now ≡ calls_for g.now }
+    requires counterparts { counterparts.now ≡ all_counterparts g.now }
     requires within { All (λ x. x < length (combined g.now).invs) keys.now }
     ensures { IfOk result (λ v. v.items ≡ map (λ x. new_inv_of (new_numbers g.now) (inv_at (combined g.now) x)) keys.now) }
 {
     let mut found = Vec::new(alloc);
     for k in 0..keys.len() {
-        found.push(new_inv(alloc, g, p, calls, keys[k] as usize)?)?;
+        found.push(new_inv(alloc, g, p, counterparts, keys[k] as usize)?)?;
     }
     Ok(found)
 }

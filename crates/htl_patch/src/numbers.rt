@@ -16,7 +16,7 @@ use crate::replacement::{Replacement, mode_count, module_count};
 use std::alloc::{AllocError, Global};
 use std::marker::Model;
 
-/// The old numbers of the modules that are taken, and of all that they own, in the new order.
+/// The old numbers of the modules that are taken over, and of all that they own, in the new order.
 pub(crate) struct OldNumbers {
     pub units: Vec<u16>,
     pub modes: Vec<u16>,
@@ -54,7 +54,7 @@ impl Drop for OldNumbers {
     }
 }
 
-/// The new numbers by the old ones; of what isn't taken a number that no item has.
+/// The new numbers by the old ones; of what isn't taken over a number that no item has.
 pub(crate) struct NewNumbers {
     pub units: Vec<u16>,
     pub modes: Vec<u16>,
@@ -132,8 +132,8 @@ fn switches_in(alloc: Global, g: &Replacement<'_>, keys: &[u16]) -> Result<Vec<u
 
 /// The old numbers in the new order. The time is linear in both programs.
 pub(crate) fn old_numbers(alloc: Global, g: &Replacement<'_>) -> Result<OldNumbers, AllocError>
-    requires into { g.now.patched_mode < length g.now.host.modes }
-    requires from { g.now.replacing_mode < length g.now.donor.modes }
+    requires patched_mode { g.now.patched_mode < length g.now.host.modes }
+    requires replacing_mode { g.now.replacing_mode < length g.now.donor.modes }
     ensures { IfOk result (λ n. n ≡ new_numbers g.now) }
 {
     g.keeps_ranges();
@@ -159,8 +159,8 @@ pub(crate) fn renumber(
     g: &Replacement<'_>,
     n: &OldNumbers,
 ) -> Result<NewNumbers, AllocError>
-    requires into { g.now.patched_mode < length g.now.host.modes }
-    requires from { g.now.replacing_mode < length g.now.donor.modes }
+    requires patched_mode { g.now.patched_mode < length g.now.host.modes }
+    requires replacing_mode { g.now.replacing_mode < length g.now.donor.modes }
     requires numbers { n.now ≡ new_numbers g.now }
     ensures { IfOk result (ArePlaces (combined g.now) (new_numbers g.now)) }
 {

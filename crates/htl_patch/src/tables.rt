@@ -3,19 +3,19 @@ ghost use Rattle.std.specs.Prelude.{◌≡◌, ◌<◌, All, length, IfOk, Match
 ghost use Rattle.htl_model.specs.Broken.{Formed};
 ghost use Rattle.htl_model.specs.Ranges.{AreInRange};
 ghost use Rattle.htl_object.specs.Ranges.{IsFunctionCode};
-ghost use Rattle.htl_patch.specs.Calls.{calls_for as calls_for_of};
+ghost use Rattle.htl_patch.specs.Counterparts.{all_counterparts};
 ghost use Rattle.htl_patch.specs.Joining.{Joins};
 ghost use Rattle.htl_patch.specs.Patched.{new_numbers, patched};
 ghost use Rattle.htl_patch.specs.Placed.{ArePlaces};
 ghost use Rattle.htl_patch.specs.Stops.{AreMatched, IsEarlyFault};
 ghost use Rattle.htl_patch.specs.Combined.{combined};
 
-use crate::calls::calls_for;
 use crate::fault::PatchFault;
 use crate::functions::new_functions;
 use crate::joining::{Transferred, join_fault};
 use crate::limits::{first_limit, levels};
 use crate::lists::comms;
+use crate::matching::find_counterparts;
 use crate::mode_items::{new_invs, new_ports, new_switches};
 use crate::numbers::{NewNumbers, OldNumbers, old_numbers, renumber};
 use crate::replacement::Replacement;
@@ -53,8 +53,8 @@ fn heads_of(
     n: &OldNumbers,
     p: &NewNumbers,
 ) -> Result<Heads, AllocError>
-    requires into { g.now.patched_mode < length g.now.host.modes }
-    requires from { g.now.replacing_mode < length g.now.donor.modes }
+    requires patched_mode { g.now.patched_mode < length g.now.host.modes }
+    requires replacing_mode { g.now.replacing_mode < length g.now.donor.modes }
     requires numbers { n.now ≡ new_numbers g.now }
     requires places { ArePlaces (combined g.now) (new_numbers g.now) p.now }
     ensures modules { IfOk result (λ h. h.modules.items ≡ (patched g.now).modules) }
@@ -72,12 +72,12 @@ fn assembled(
     g: &Replacement<'_>,
     n: &OldNumbers,
     p: &NewNumbers,
-    calls: &[Option<u16>],
+    counterparts: &[Option<u16>],
     heads: Heads,
 ) -> Result<Tables, AllocError>
     requires numbers { n.now ≡ new_numbers g.now }
     requires places { ArePlaces (combined g.now) (new_numbers g.now) p.now }
-    requires calls { calls.now ≡ calls_for_of g.now }
+    requires counterparts { counterparts.now ≡ all_counterparts g.now }
     requires coded { All IsFunctionCode g.now.host.functions }
     requires donor_coded { All IsFunctionCode g.now.donor.functions }
     requires modules { heads.modules.items ≡ (patched g.now).modules }
@@ -88,7 +88,7 @@ fn assembled(
     let comms = copied_comms(alloc, comms(g.host))?;
     let ports = new_ports(alloc, g, p, n.ports.as_slice())?;
     let tasks = new_tasks(alloc, g, p, n.tasks.as_slice())?;
-    let invs = new_invs(alloc, g, p, calls, n.invs.as_slice())?;
+    let invs = new_invs(alloc, g, p, counterparts, n.invs.as_slice())?;
     let switches = new_switches(alloc, g, p, n.switches.as_slice())?;
     let functions = new_functions(alloc, g, n)?;
     Ok(Tables::new(Parts {
@@ -109,16 +109,16 @@ fn limited(
     g: &Replacement<'_>,
     n: &OldNumbers,
     p: &NewNumbers,
-    calls: &[Option<u16>],
+    counterparts: &[Option<u16>],
 ) -> Result<Result<Tables, PatchFault>, AllocError>
-    requires into { g.now.patched_mode < length g.now.host.modes }
-    requires from { g.now.replacing_mode < length g.now.donor.modes }
+    requires patched_mode { g.now.patched_mode < length g.now.host.modes }
+    requires replacing_mode { g.now.replacing_mode < length g.now.donor.modes }
     requires formed { Formed g.now.host }
     requires coded { All IsFunctionCode g.now.host.functions }
     requires donor_coded { All IsFunctionCode g.now.donor.functions }
     requires numbers { n.now ≡ new_numbers g.now }
     requires places { ArePlaces (combined g.now) (new_numbers g.now) p.now }
-    requires calls { calls.now ≡ calls_for_of g.now }
+    requires counterparts { counterparts.now ≡ all_counterparts g.now }
     requires matched { AreMatched g.now }
     ensures { IfOk result (λ r. MatchResult r (λ t. (t ≡ patched g.now) × Joins g.now) (IsEarlyFault g.now)) }
 {
@@ -128,7 +128,7 @@ fn limited(
     if let Some((which, count)) = first_limit(n, count) {
         return Ok(Err(PatchFault::Limit { which, count }));
     }
-    let tables = assembled(alloc, g, n, p, calls, heads)?;
+    let tables = assembled(alloc, g, n, p, counterparts, heads)?;
     Ok(Ok(tables))
 }
 
@@ -137,8 +137,8 @@ pub(crate) fn with_replacement(
     alloc: Global,
     g: &Replacement<'_>,
 ) -> Result<Result<Tables, PatchFault>, AllocError>
-    requires into { g.now.patched_mode < length g.now.host.modes }
-    requires from { g.now.replacing_mode < length g.now.donor.modes }
+    requires patched_mode { g.now.patched_mode < length g.now.host.modes }
+    requires replacing_mode { g.now.replacing_mode < length g.now.donor.modes }
     requires formed { Formed g.now.host }
     requires coded { All IsFunctionCode g.now.host.functions }
     requires donor_coded { All IsFunctionCode g.now.donor.functions }
@@ -146,13 +146,13 @@ pub(crate) fn with_replacement(
 {
     let n = old_numbers(alloc, g)?;
     let p = renumber(alloc, g, &n)?;
-    let calls = calls_for(alloc, g)?;
+    let counterparts = find_counterparts(alloc, g)?;
     let transferred = Transferred {
         units: n.units.as_slice(),
         places: p.units.as_slice(),
     };
-    if let Some(fault) = join_fault(g, &transferred, calls.as_slice()) {
+    if let Some(fault) = join_fault(g, &transferred, counterparts.as_slice()) {
         return Ok(Err(fault));
     }
-    limited(alloc, g, &n, &p, calls.as_slice())
+    limited(alloc, g, &n, &p, counterparts.as_slice())
 }

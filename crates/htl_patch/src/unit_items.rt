@@ -83,7 +83,7 @@ fn copied_module(x: &Module, parent: Option<u16>, modes: &[u16], before: usize) 
 
 // The mode that a module of the donor refines, by the mode that it refines there.
 fn refined_parent(g: &Replacement<'_>, parent: Option<u16>) -> Option<u16>
-    requires into { g.now.patched_mode < length g.now.host.modes }
+    requires patched_mode { g.now.patched_mode < length g.now.host.modes }
     requires parent { IfSome parent (λ k. k < length g.now.donor.modes) }
     ensures { result ≡ option_map (refined_mode g.now) parent }
 {
@@ -97,7 +97,7 @@ fn refined_parent(g: &Replacement<'_>, parent: Option<u16>) -> Option<u16>
 fn new_module(g: &Replacement<'_>, p: &NewNumbers, k: usize) -> Module
     requires places { ArePlaces (combined g.now) (new_numbers g.now) p.now }
     requires within { k < length (combined g.now).modules }
-    requires into { g.now.patched_mode < length g.now.host.modes }
+    requires patched_mode { g.now.patched_mode < length g.now.host.modes }
     ensures { result ≡ new_module_of (new_numbers g.now) (module_at (combined g.now) k) }
 {
     g.keeps_ranges();
@@ -120,7 +120,7 @@ pub(crate) fn new_modules(
     keys: &[u16],
 ) -> Result<Vec<Module>, AllocError>
     requires places { ArePlaces (combined g.now) (new_numbers g.now) p.now }
-    requires into { g.now.patched_mode < length g.now.host.modes }
+    requires patched_mode { g.now.patched_mode < length g.now.host.modes }
     requires within { All (λ x. x < length (combined g.now).modules) keys.now }
     ensures { IfOk result (λ v. v.items ≡ map (λ x. new_module_of (new_numbers g.now) (module_at (combined g.now) x)) keys.now) }
 {

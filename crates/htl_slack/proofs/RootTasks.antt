@@ -8,7 +8,7 @@ use Rattle.htl_model.specs.declared.parts.Module.{Module}
 use Rattle.htl_model.specs.declared.parts.Task.{Task}
 use Rattle.htl_model.specs.FormRules.{WorstCases, Itself, Site}
 use Rattle.htl_walk.proofs.PathReady.{IsRootAt, as_unit}
-use Rattle.htl_slack.specs.RootTasks.{IsRootTask, task_module, limit_of, is_root_at, calls}
+use Rattle.htl_slack.specs.RootTasks.{IsRootTask, task_module, limit_of, is_root_at, invokes}
 
 -- ---- the test
 
@@ -23,36 +23,36 @@ root_owner t u e = by (slice_get t.modules u) refl e
     by None at h = absurd (cc)
     by (Some x) at h = (x, at, no_parent x.parent h)
 
-called : (t : Tables) (task : ℕ) (is : List Inv) → list_any (calls t task) is ≡ true → (k : ℕ) × (i : Inv) × (slice_get is k ≡ Some i) × (calls t task i ≡ true)
-called t task [] e = absurd (cc)
-called t task (i ∷ is) e = by (calls t task i) refl (called t task is) e
+invoked : (t : Tables) (task : ℕ) (is : List Inv) → list_any (invokes t task) is ≡ true → (k : ℕ) × (i : Inv) × (slice_get is k ≡ Some i) × (invokes t task i ≡ true)
+invoked t task [] e = absurd (cc)
+invoked t task (i ∷ is) e = by (invokes t task i) refl (invoked t task is) e
   where
-    by : (b : Bool) → calls t task i ≡ b → (list_any (calls t task) is ≡ true → (k : ℕ) × (j : Inv) × (slice_get is k ≡ Some j) × (calls t task j ≡ true))
-        → (b || list_any (calls t task) is) ≡ true → (k : ℕ) × (j : Inv) × (slice_get (i ∷ is) k ≡ Some j) × (calls t task j ≡ true)
+    by : (b : Bool) → invokes t task i ≡ b → (list_any (invokes t task) is ≡ true → (k : ℕ) × (j : Inv) × (slice_get is k ≡ Some j) × (invokes t task j ≡ true))
+        → (b || list_any (invokes t task) is) ≡ true → (k : ℕ) × (j : Inv) × (slice_get (i ∷ is) k ≡ Some j) × (invokes t task j ≡ true)
     by true h rest f = (0, i, refl, h)
     by false h rest f = let r = rest f in (suc r.0, r.1, r.2, r.3)
 
-calling : (t : Tables) (task : ℕ) (is : List Inv) (k : ℕ) (i : Inv) → slice_get is k ≡ Some i → calls t task i ≡ true → list_any (calls t task) is ≡ true
-calling t task [] k i at h = absurd (cc)
-calling t task (j ∷ js) zero i at h = let same : j ≡ i = cc in ap (λ b. b || list_any (calls t task) js) (ap (calls t task) same ∙ h)
-calling t task (j ∷ js) (suc k) i at h = by (calls t task j) (calling t task js k i at h)
+invoking : (t : Tables) (task : ℕ) (is : List Inv) (k : ℕ) (i : Inv) → slice_get is k ≡ Some i → invokes t task i ≡ true → list_any (invokes t task) is ≡ true
+invoking t task [] k i at h = absurd (cc)
+invoking t task (j ∷ js) zero i at h = let same : j ≡ i = cc in ap (λ b. b || list_any (invokes t task) js) (ap (invokes t task) same ∙ h)
+invoking t task (j ∷ js) (suc k) i at h = by (invokes t task j) (invoking t task js k i at h)
   where
-    by : (b : Bool) → list_any (calls t task) js ≡ true → (b || list_any (calls t task) js) ≡ true
+    by : (b : Bool) → list_any (invokes t task) js ≡ true → (b || list_any (invokes t task) js) ≡ true
     by true f = refl
     by false f = f
 
-pub found : (t : Tables) (task : ℕ) → list_any (calls t task) t.invs ≡ true → IsRootTask t task
+pub found : (t : Tables) (task : ℕ) → list_any (invokes t task) t.invs ≡ true → IsRootTask t task
 found t task e =
-    let r = called t task t.invs e in
+    let r = invoked t task t.invs e in
     let h = and_parts (eqb r.1.task task) (is_root_at t (mode_module t r.1.mode)) r.3 in
     let owner = root_owner t (mode_module t r.1.mode) h.1 in
     record { number = r.0; inv = r.1; at = r.2; invoked = eqb-true r.1.task task h.0; owner = owner.0; owned = owner.1; root = owner.2 }
 
-pub finding : (t : Tables) (task : ℕ) → IsRootTask t task → list_any (calls t task) t.invs ≡ true
+pub finding : (t : Tables) (task : ℕ) → IsRootTask t task → list_any (invokes t task) t.invs ≡ true
 finding t task h =
     let root : is_root h.owner ≡ true = ap (λ (o : Option ℕ). elim o as (λ _. Bool) [ Some p ↦ false | None ↦ true ]) h.root in
     let there : is_root_at t (mode_module t h.inv.mode) ≡ true = ap (λ (o : Option Module). elim o as (λ _. Bool) [ Some x ↦ is_root x | None ↦ false ]) h.owned ∙ root in
-    calling t task t.invs h.number h.inv h.at (ap (λ b. b && is_root_at t (mode_module t h.inv.mode)) (eq-eqb h.inv.task task h.invoked) ∙ there)
+    invoking t task t.invs h.number h.inv h.at (ap (λ b. b && is_root_at t (mode_module t h.inv.mode)) (eq-eqb h.inv.task task h.invoked) ∙ there)
 
 -- ---- the task and its module
 

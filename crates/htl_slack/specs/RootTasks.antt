@@ -29,5 +29,5 @@ limit_of t task = unit_period t (task_module t task)
 abbrev pub is_root_at : Tables → ℕ → Bool
 is_root_at t u = elim (slice_get t.modules u) [ Some x ↦ is_root x | None ↦ false ]
 
-abbrev pub calls : Tables → ℕ → Inv → Bool
-calls t task i = eqb i.task task && is_root_at t (mode_module t i.mode)
+abbrev pub invokes : Tables → ℕ → Inv → Bool
+invokes t task i = eqb i.task task && is_root_at t (mode_module t i.mode)

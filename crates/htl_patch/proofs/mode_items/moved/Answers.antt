@@ -1,22 +1,22 @@
 use Rattle.std.proofs.Common.{Some, None, length, ap, sym, ◌∙◌, arith}
 use Rattle.htl_patch.proofs.Words.{Replacement, belongs_to_mode}
-use Rattle.htl_patch.proofs.JoinLaws.{calls_within, call_is, moved_matched, moved_unmatched, moved_own}
+use Rattle.htl_patch.proofs.JoinLaws.{counterparts_within, counterpart_is, moved_matched, moved_unmatched, moved_own}
 use Rattle.htl_patch.proofs.mode_items.moved.Goals as goal
 
 pub bounds : goal.bounds
 bounds c =
     let g = c.args.g.now in
-    calls_within g c.args.calls.now c.requires.calls c.args.k c.requires.within
+    counterparts_within g c.args.counterparts.now c.requires.counterparts c.args.k c.requires.within
 
 pub returns-in-Some : goal.returns-in-Some
 returns-in-Some c =
     let g = c.args.g.now in
-    sym (moved_matched g c.args.k c.in-Some.call (call_is g c.args.calls.now c.requires.calls c.args.k c.requires.within (Some c.in-Some.call) c.in-Some.is) (sym (c.is_of_mode.ensures ∙ ap (λ (z : Replacement). belongs_to_mode z.donor z.replacing_mode c.args.k) c.g.view_is) ∙ c.if-is_of_mode.true))
+    sym (moved_matched g c.args.k c.in-Some.inv (counterpart_is g c.args.counterparts.now c.requires.counterparts c.args.k c.requires.within (Some c.in-Some.inv) c.in-Some.is) (sym (c.is_of_mode.ensures ∙ ap (λ (z : Replacement). belongs_to_mode z.donor z.replacing_mode c.args.k) c.g.view_is) ∙ c.if-is_of_mode.true))
 
 pub returns-in-None : goal.returns-in-None
 returns-in-None c =
     let g = c.args.g.now in
-    sym (moved_unmatched g c.args.k (call_is g c.args.calls.now c.requires.calls c.args.k c.requires.within None c.in-None.is) (sym (c.is_of_mode.ensures ∙ ap (λ (z : Replacement). belongs_to_mode z.donor z.replacing_mode c.args.k) c.g.view_is) ∙ c.if-is_of_mode.true))
+    sym (moved_unmatched g c.args.k (counterpart_is g c.args.counterparts.now c.requires.counterparts c.args.k c.requires.within None c.in-None.is) (sym (c.is_of_mode.ensures ∙ ap (λ (z : Replacement). belongs_to_mode z.donor z.replacing_mode c.args.k) c.g.view_is) ∙ c.if-is_of_mode.true))
 
 pub returns-else-is_of_mode : goal.returns-else-is_of_mode
 returns-else-is_of_mode c =

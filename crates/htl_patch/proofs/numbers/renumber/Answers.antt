@@ -8,7 +8,7 @@ use Rattle.htl_patch.proofs.numbers.renumber.Goals as goal
 pub places-requires-clause-few : goal.places-requires-clause-few
 places-requires-clause-few c =
     let g = c.args.g.now in
-    let can : CanReplace g = record { host = c.keeps_ranges.ensures.host; donor = c.keeps_ranges.ensures.donor; into = c.requires.into; from = c.requires.from } in
+    let can : CanReplace g = record { host = c.keeps_ranges.ensures.host; donor = c.keeps_ranges.ensures.donor; into = c.requires.patched_mode; from = c.requires.replacing_mode } in
     let is = ap (λ (z : Numbering). length z.modules) (c.n.view_is ∙ c.requires.numbers) in
     let view = ap length c.as_slice.ensures.value in
     let few = few_units g can in omega (arith, is, view, few)
@@ -16,7 +16,7 @@ places-requires-clause-few c =
 pub places-requires-2-clause-few : goal.places-requires-2-clause-few
 places-requires-2-clause-few c =
     let g = c.args.g.now in
-    let can : CanReplace g = record { host = c.keeps_ranges.ensures.host; donor = c.keeps_ranges.ensures.donor; into = c.requires.into; from = c.requires.from } in
+    let can : CanReplace g = record { host = c.keeps_ranges.ensures.host; donor = c.keeps_ranges.ensures.donor; into = c.requires.patched_mode; from = c.requires.replacing_mode } in
     let is = ap (λ (z : Numbering). length z.modes) (c.n.view_is ∙ c.requires.numbers) in
     let view = ap length c.as_slice-2.ensures.value in
     let few = few_modes g can in omega (arith, is, view, few)
@@ -24,7 +24,7 @@ places-requires-2-clause-few c =
 pub places-requires-3-clause-few : goal.places-requires-3-clause-few
 places-requires-3-clause-few c =
     let g = c.args.g.now in
-    let can : CanReplace g = record { host = c.keeps_ranges.ensures.host; donor = c.keeps_ranges.ensures.donor; into = c.requires.into; from = c.requires.from } in
+    let can : CanReplace g = record { host = c.keeps_ranges.ensures.host; donor = c.keeps_ranges.ensures.donor; into = c.requires.patched_mode; from = c.requires.replacing_mode } in
     let is = ap (λ (z : Numbering). length z.ports) (c.n.view_is ∙ c.requires.numbers) in
     let view = ap length c.as_slice-3.ensures.value in
     let few = few_ports g can in omega (arith, is, view, few)
@@ -32,7 +32,7 @@ places-requires-3-clause-few c =
 pub places-requires-4-clause-few : goal.places-requires-4-clause-few
 places-requires-4-clause-few c =
     let g = c.args.g.now in
-    let can : CanReplace g = record { host = c.keeps_ranges.ensures.host; donor = c.keeps_ranges.ensures.donor; into = c.requires.into; from = c.requires.from } in
+    let can : CanReplace g = record { host = c.keeps_ranges.ensures.host; donor = c.keeps_ranges.ensures.donor; into = c.requires.patched_mode; from = c.requires.replacing_mode } in
     let is = ap (λ (z : Numbering). length z.tasks) (c.n.view_is ∙ c.requires.numbers) in
     let view = ap length c.as_slice-4.ensures.value in
     let few = few_tasks g can in omega (arith, is, view, few)
@@ -40,7 +40,7 @@ places-requires-4-clause-few c =
 pub places-requires-5-clause-few : goal.places-requires-5-clause-few
 places-requires-5-clause-few c =
     let g = c.args.g.now in
-    let can : CanReplace g = record { host = c.keeps_ranges.ensures.host; donor = c.keeps_ranges.ensures.donor; into = c.requires.into; from = c.requires.from } in
+    let can : CanReplace g = record { host = c.keeps_ranges.ensures.host; donor = c.keeps_ranges.ensures.donor; into = c.requires.patched_mode; from = c.requires.replacing_mode } in
     let is = ap (λ (z : Numbering). length z.invs) (c.n.view_is ∙ c.requires.numbers) in
     let view = ap length c.as_slice-5.ensures.value in
     let few = few_invs g can in omega (arith, is, view, few)

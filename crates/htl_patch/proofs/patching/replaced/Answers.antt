@@ -35,15 +35,15 @@ asked_of_tables c is =
     given c.args.o.now c.args.donor.now c.args.unit.now c.args.mode.now (replacement_found c.object.result.now c.args.donor.now c.in-Some.into c.in-Some-mode_named.from) is c.in-Ok-made.tables tables.0 tables.1
     (subst IsAccepted c.object.ensures.value c.object.ensures.accepted) c.requires
 
-pub with_replacement-requires-clause-into : goal.with_replacement-requires-clause-into
-with_replacement-requires-clause-into c =
+pub with_replacement-requires-clause-patched_mode : goal.with_replacement-requires-clause-patched_mode
+with_replacement-requires-clause-patched_mode c =
     (replacement_is c.object.result.now.tables c.args.donor.now.tables c.args.unit.now c.args.mode.now (replacement_found c.object.result.now c.args.donor.now c.in-Some.into c.in-Some-mode_named.from)
-    (replacement_held (goal.at.with_replacement-requires-clause-into c).In-Some-mode_named)).into
+    (replacement_held (goal.at.with_replacement-requires-clause-patched_mode c).In-Some-mode_named)).into
 
-pub with_replacement-requires-clause-from : goal.with_replacement-requires-clause-from
-with_replacement-requires-clause-from c =
+pub with_replacement-requires-clause-replacing_mode : goal.with_replacement-requires-clause-replacing_mode
+with_replacement-requires-clause-replacing_mode c =
     (replacement_is c.object.result.now.tables c.args.donor.now.tables c.args.unit.now c.args.mode.now (replacement_found c.object.result.now c.args.donor.now c.in-Some.into c.in-Some-mode_named.from)
-    (replacement_held (goal.at.with_replacement-requires-clause-from c).In-Some-mode_named)).from
+    (replacement_held (goal.at.with_replacement-requires-clause-replacing_mode c).In-Some-mode_named)).from
 
 pub accept-requires-clause-limits : goal.accept-requires-clause-limits
 accept-requires-clause-limits c =

@@ -7,7 +7,7 @@ use Rattle.htl_patch.proofs.tables.heads_of.Goals as goal
 pub new_modules-requires-clause-within : goal.new_modules-requires-clause-within
 new_modules-requires-clause-within c =
     let g = c.args.g.now in
-    let can : CanReplace g = record { host = c.keeps_ranges.ensures.host; donor = c.keeps_ranges.ensures.donor; into = c.requires.into; from = c.requires.from } in
+    let can : CanReplace g = record { host = c.keeps_ranges.ensures.host; donor = c.keeps_ranges.ensures.donor; into = c.requires.patched_mode; from = c.requires.replacing_mode } in
     subst (λ (xs : List ℕ). All (λ x. x < length (combined g).modules) xs) (sym (c.as_slice.ensures.value ∙ ap (λ (z : Numbering). z.modules) (c.n.view_is ∙ c.requires.numbers))) (order_within g can)
 
 pub new_modes-requires-clause-within : goal.new_modes-requires-clause-within

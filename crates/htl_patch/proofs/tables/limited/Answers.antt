@@ -8,13 +8,13 @@ use Rattle.htl_patch.proofs.tables.limited.Goals as goal
 use Rattle.htl_patch.proofs.tables.limited.Goals.{After-keeps_ranges, After-levels-count}
 
 can_replace : (c : After-keeps_ranges) → CanReplace c.args.g.now
-can_replace c = record { host = c.keeps_ranges.ensures.host; donor = c.keeps_ranges.ensures.donor; into = c.requires.into; from = c.requires.from }
+can_replace c = record { host = c.keeps_ranges.ensures.host; donor = c.keeps_ranges.ensures.donor; into = c.requires.patched_mode; from = c.requires.replacing_mode }
 
 -- the first of the sizes above its limit is the first limit that the patched tables exceed
 limit : (c : After-levels-count) → exceeded 2 (sizes_of c.args.n.now c.levels-count.result) ≡ first_limit (patched c.args.g.now)
 limit c =
     let g = c.args.g.now in
-    let can : CanReplace g = record { host = c.keeps_ranges.ensures.host; donor = c.keeps_ranges.ensures.donor; into = c.requires.into; from = c.requires.from } in
+    let can : CanReplace g = record { host = c.keeps_ranges.ensures.host; donor = c.keeps_ranges.ensures.donor; into = c.requires.patched_mode; from = c.requires.replacing_mode } in
     let count = c.levels-count.result in
     let deep = levels_combined (patched g) c.as_slice.result.now c.as_slice-2.result.now count (c.as_slice.ensures.value ∙ c.in_ok-heads.ensures.modules) (c.as_slice-2.ensures.value ∙ c.in_ok-heads.ensures.modes) c.levels-count.ensures.value in
     ap (λ (z : Numbering). exceeded 2 (sizes_of z count)) c.requires.numbers ∙ limit_is g can c.requires.matched.comms count deep

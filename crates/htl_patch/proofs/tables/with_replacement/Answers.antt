@@ -10,8 +10,8 @@ join_fault-requires-clause-places c =
     let g = c.args.g.now in
     subst (λ (xs : List ℕ). ArePlacesOf (length (combined g).modules) (order g) xs) (sym c.as_slice-2.ensures.value) c.in_ok-p.ensures.units
 
-pub join_fault-requires-clause-calls : goal.join_fault-requires-clause-calls
-join_fault-requires-clause-calls c = c.as_slice-3.ensures.value ∙ c.in_ok-calls.ensures
+pub join_fault-requires-clause-counterparts : goal.join_fault-requires-clause-counterparts
+join_fault-requires-clause-counterparts c = c.as_slice-3.ensures.value ∙ c.in_ok-counterparts.ensures
 
-pub limited-requires-clause-calls : goal.limited-requires-clause-calls
-limited-requires-clause-calls c = c.as_slice-4.ensures.value ∙ c.in_ok-calls.ensures
+pub limited-requires-clause-counterparts : goal.limited-requires-clause-counterparts
+limited-requires-clause-counterparts c = c.as_slice-4.ensures.value ∙ c.in_ok-counterparts.ensures

@@ -26,14 +26,14 @@ refined_parent-requires-clause-parent c =
 pub copied_module-requires-2-clause-start : goal.copied_module-requires-2-clause-start
 copied_module-requires-2-clause-start c =
     let g = c.args.g.now in
-    (module_there g c.keeps_ranges.ensures.host c.keeps_ranges.ensures.donor (new_numbers g) c.args.p.now c.requires.places c.modules-front.result.now c.modules-back.result.now c.args.k (length c.modes-before.result.now) c.index-back-k.result c.refined_parent.result c.as_slice-2.result.now c.requires.into (c.modules-front.ensures.value ∙ ap (λ (z : Replacement). z.host.modules) c.g.view_is) (c.modules-back.ensures.value ∙ ap (λ (z : Replacement). z.donor.modules) c.g.view_is) (grind (arith, nat_tests, c.if-k-front.false)) c.requires.within c.index-back-k.is c.as_slice-2.ensures.value (ap length (c.modes-before.ensures.value ∙ ap (λ (z : Replacement). z.host.modes) c.g.view_is)) c.refined_parent.ensures).0
+    (module_there g c.keeps_ranges.ensures.host c.keeps_ranges.ensures.donor (new_numbers g) c.args.p.now c.requires.places c.modules-front.result.now c.modules-back.result.now c.args.k (length c.modes-before.result.now) c.index-back-k.result c.refined_parent.result c.as_slice-2.result.now c.requires.patched_mode (c.modules-front.ensures.value ∙ ap (λ (z : Replacement). z.host.modules) c.g.view_is) (c.modules-back.ensures.value ∙ ap (λ (z : Replacement). z.donor.modules) c.g.view_is) (grind (arith, nat_tests, c.if-k-front.false)) c.requires.within c.index-back-k.is c.as_slice-2.ensures.value (ap length (c.modes-before.ensures.value ∙ ap (λ (z : Replacement). z.host.modes) c.g.view_is)) c.refined_parent.ensures).0
 
 pub copied_module-requires-2-clause-parent : goal.copied_module-requires-2-clause-parent
 copied_module-requires-2-clause-parent c =
     let g = c.args.g.now in
-    (module_there g c.keeps_ranges.ensures.host c.keeps_ranges.ensures.donor (new_numbers g) c.args.p.now c.requires.places c.modules-front.result.now c.modules-back.result.now c.args.k (length c.modes-before.result.now) c.index-back-k.result c.refined_parent.result c.as_slice-2.result.now c.requires.into (c.modules-front.ensures.value ∙ ap (λ (z : Replacement). z.host.modules) c.g.view_is) (c.modules-back.ensures.value ∙ ap (λ (z : Replacement). z.donor.modules) c.g.view_is) (grind (arith, nat_tests, c.if-k-front.false)) c.requires.within c.index-back-k.is c.as_slice-2.ensures.value (ap length (c.modes-before.ensures.value ∙ ap (λ (z : Replacement). z.host.modes) c.g.view_is)) c.refined_parent.ensures).1
+    (module_there g c.keeps_ranges.ensures.host c.keeps_ranges.ensures.donor (new_numbers g) c.args.p.now c.requires.places c.modules-front.result.now c.modules-back.result.now c.args.k (length c.modes-before.result.now) c.index-back-k.result c.refined_parent.result c.as_slice-2.result.now c.requires.patched_mode (c.modules-front.ensures.value ∙ ap (λ (z : Replacement). z.host.modules) c.g.view_is) (c.modules-back.ensures.value ∙ ap (λ (z : Replacement). z.donor.modules) c.g.view_is) (grind (arith, nat_tests, c.if-k-front.false)) c.requires.within c.index-back-k.is c.as_slice-2.ensures.value (ap length (c.modes-before.ensures.value ∙ ap (λ (z : Replacement). z.host.modes) c.g.view_is)) c.refined_parent.ensures).1
 
 pub returns : goal.returns
 returns c =
     let g = c.args.g.now in
-    c.copied_module-2.ensures ∙ (module_there g c.keeps_ranges.ensures.host c.keeps_ranges.ensures.donor (new_numbers g) c.args.p.now c.requires.places c.modules-front.result.now c.modules-back.result.now c.args.k (length c.modes-before.result.now) c.index-back-k.result c.refined_parent.result c.as_slice-2.result.now c.requires.into (c.modules-front.ensures.value ∙ ap (λ (z : Replacement). z.host.modules) c.g.view_is) (c.modules-back.ensures.value ∙ ap (λ (z : Replacement). z.donor.modules) c.g.view_is) (grind (arith, nat_tests, c.if-k-front.false)) c.requires.within c.index-back-k.is c.as_slice-2.ensures.value (ap length (c.modes-before.ensures.value ∙ ap (λ (z : Replacement). z.host.modes) c.g.view_is)) c.refined_parent.ensures).2
+    c.copied_module-2.ensures ∙ (module_there g c.keeps_ranges.ensures.host c.keeps_ranges.ensures.donor (new_numbers g) c.args.p.now c.requires.places c.modules-front.result.now c.modules-back.result.now c.args.k (length c.modes-before.result.now) c.index-back-k.result c.refined_parent.result c.as_slice-2.result.now c.requires.patched_mode (c.modules-front.ensures.value ∙ ap (λ (z : Replacement). z.host.modules) c.g.view_is) (c.modules-back.ensures.value ∙ ap (λ (z : Replacement). z.donor.modules) c.g.view_is) (grind (arith, nat_tests, c.if-k-front.false)) c.requires.within c.index-back-k.is c.as_slice-2.ensures.value (ap length (c.modes-before.ensures.value ∙ ap (λ (z : Replacement). z.host.modes) c.g.view_is)) c.refined_parent.ensures).2

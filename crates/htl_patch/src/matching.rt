@@ -1,9 +1,9 @@
 // The invocations of the host's mode that stand for those of the donor's.
 ghost use Rattle.std.specs.Prelude.{◌≡◌, ◌<◌, length, IfOk};
 ghost use Rattle.std.specs.Str.{bytes_eq};
-ghost use Rattle.htl_patch.specs.Calls.{call_for as call_for_of, calls_for as calls_for_of};
+ghost use Rattle.htl_patch.specs.Counterparts.{counterpart, all_counterparts};
 ghost use Rattle.htl_patch.specs.Joining.{first};
-ghost use Rattle.htl_patch.specs.Combined.{is_call as is_call_of, calls_named, task_name};
+ghost use Rattle.htl_patch.specs.Combined.{invokes_named as invokes_named_of, invs_named, task_name};
 
 use crate::lists::{invs, tasks};
 use crate::replacement::Replacement;
@@ -20,9 +20,9 @@ fn has_name(t: &Tables, task: usize, name: &Name) -> bool
 }
 
 // Whether an invocation is one of the mode, of a task of this name.
-fn is_call(t: &Tables, mode: u16, name: &Name, x: &Inv) -> bool
+fn invokes_named(t: &Tables, mode: u16, name: &Name, x: &Inv) -> bool
     requires { x.now.task < length t.now.tasks }
-    ensures { result ≡ is_call_of t.now mode name.now x.now }
+    ensures { result ≡ invokes_named_of t.now mode name.now x.now }
 {
     if x.mode == mode {
         has_name(t, x.task as usize, name)
@@ -32,12 +32,12 @@ fn is_call(t: &Tables, mode: u16, name: &Name, x: &Inv) -> bool
 }
 
 // The first invocation of a mode whose task has the name.
-fn call_named(t: &Tables, mode: u16, name: &Name) -> Option<u16>
-    ensures { result ≡ first (calls_named t.now mode name.now) }
+fn inv_named(t: &Tables, mode: u16, name: &Name) -> Option<u16>
+    ensures { result ≡ first (invs_named t.now mode name.now) }
 {
-    let calls = invs(t);
-    for k in 0..calls.len() {
-        if is_call(t, mode, name, &calls[k]) {
+    let all = invs(t);
+    for k in 0..all.len() {
+        if invokes_named(t, mode, name, &all[k]) {
             return Some(k as u16);
         }
     }
@@ -45,15 +45,15 @@ fn call_named(t: &Tables, mode: u16, name: &Name) -> Option<u16>
 }
 
 // The host's invocation that stands for one of the donor's.
-fn call_for(g: &Replacement<'_>, p: usize) -> Option<u16>
+fn find_counterpart(g: &Replacement<'_>, p: usize) -> Option<u16>
     requires { p < length g.now.donor.invs }
-    ensures { result ≡ call_for_of g.now p }
+    ensures { result ≡ counterpart g.now p }
 {
     let x = &invs(g.donor)[p];
     if x.mode != g.replacing_mode {
         return None;
     }
-    call_named(
+    inv_named(
         g.host,
         g.patched_mode,
         &tasks(g.donor)[x.task as usize].name,
@@ -62,13 +62,16 @@ fn call_for(g: &Replacement<'_>, p: usize) -> Option<u16>
 
 /// For each invocation of the donor the host's that stands for it. One pass over the host's invocations for each invocation of the
 /// donor's mode, of which there are at most 128.
-pub(crate) fn calls_for(alloc: Global, g: &Replacement<'_>) -> Result<Vec<Option<u16>>, AllocError>
-    ensures { IfOk result (λ v. v.items ≡ calls_for_of g.now) }
+pub(crate) fn find_counterparts(
+    alloc: Global,
+    g: &Replacement<'_>,
+) -> Result<Vec<Option<u16>>, AllocError>
+    ensures { IfOk result (λ v. v.items ≡ all_counterparts g.now) }
 {
     let count = invs(g.donor).len();
     let mut found = Vec::new(alloc);
     for p in 0..count {
-        found.push(call_for(g, p))?;
+        found.push(find_counterpart(g, p))?;
     }
     Ok(found)
 }
