@@ -1,0 +1,4 @@
+pub mod Exchange
+pub mod Laws
+pub mod Reached
+pub mod Texts
