@@ -1,0 +1,13 @@
+pub mod Alike
+pub mod Findings
+pub mod FormTests
+pub mod Generated
+pub mod NameTests
+pub mod Numbers
+pub mod Rows
+pub mod SourceLength
+pub mod TokenTests
+pub mod TreeParts
+pub mod TypeTests
+pub mod WindowTests
+pub mod Words

@@ -1,0 +1,2 @@
+pub mod BulkEvents
+pub mod BulkTree
