@@ -1,5 +1,5 @@
 -- Code in the place of functions means the same, and fits its place.
-use Rattle.std.proofs.Common.{◌≡◌, ◌≤◌, ◌<◌, ℕ, List, [], length, get_or, slice_get, Option, Some, None, All, refl, sym, ◌∙◌, ap, subst, arith, inl, inr}
+use Rattle.std.proofs.Common.{◌≡◌, ◌≤◌, ◌<◌, ℕ, List, length, get_or, slice_get, Option, Some, None, All, refl, sym, ◌∙◌, ap, subst, arith, inl, inr}
 use Rattle.htl_names.proofs.FlatMaps.{list_to_at}
 use Rattle.htl_compile.proofs.Words.{slice_get_cases, slice_get-get_or, ℤ, pos, count_function_types, same_runs, first_same, in_range, MeanTheSame, SameRuns, FunctionType, function_types, IsFunctionOf, FitPlaces, code_of, code_by, code_at, codes, coded, IsTyped, AreTyped, code_means, IsCompiled-postfix, IsCompiled, length-list_to, IsFirstBroken, postfix, AreInRange, IsFunInRange, IsSmallFunction, AreSmall, Tables, Fun, Formula, Compiled, fun, FormFault, IsFunctionCode}
 

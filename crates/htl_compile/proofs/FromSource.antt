@@ -1,10 +1,9 @@
 -- From what the tables with code say to what their source says.
-use Rattle.std.proofs.Common.{◌≡◌, ◌≤◌, List, ℕ, length, Option, None, Result, Ok, Err, IfOk, IfErr, refl, sym, ◌∙◌, ap, subst}
+use Rattle.std.proofs.Common.{◌≡◌, ◌≤◌, List, ℕ, length, Option, None, Result, Ok, Err, IfOk, refl, sym, ◌∙◌, ap, subst}
 use Rattle.htl_compile.proofs.CodedLaws.{first_coded}
 use Rattle.htl_compile.proofs.PlanLaws.{overload_same, free_same}
-use Rattle.htl_compile.proofs.Words.{IsBackFault, HasBackFault, IsCompileFault, IsCompiledTo, IsObjectOf, IsUnbuilt, unbuilt_of, unread_of, object_for, object_of, built, AreSchedulable, CanBuild, coded, codes, CanCode, IsFront, IsRead, BackFault, CompileFault, FrontFault, formed_same, Formed, Tables, IsObject, object_bytes, Object, formed}
+use Rattle.htl_compile.proofs.Words.{IsBackFault, HasBackFault, IsCompileFault, IsCompiledTo, IsObjectOf, unbuilt_of, object_for, object_of, built, AreSchedulable, CanBuild, coded, codes, CanCode, IsFront, BackFault, formed_same, Formed, Tables, IsObject, object_bytes, Object, formed}
 use Rattle.htl_compile.specs.declared.building.BackFault.TheVariants as back
-use Rattle.htl_compile.specs.declared.source.FrontFault.TheVariants as front
 
 -- a fault of the tables with code is one of the tables
 pub uncoded : (t : Tables) (f : BackFault) → IsBackFault (coded t) f → IsBackFault t f
@@ -23,17 +22,6 @@ back_of_source bytes u f short h i = by f (uncoded h.tables f (subst (λ (v : Ta
     by (back.IllFormed g) x = has (back.IllFormed g) x
     by (back.Unschedulable sel a b demand) x = has (back.Unschedulable sel a b demand) x
     by back.Memory x = tt
-
-pub unbuilt_source : (bytes : List ℕ) (u : Tables) (f : CompileFault) → length bytes ≤ 1048576 → IsFront bytes u → IsUnbuilt u f → IsCompileFault bytes f
-unbuilt_source bytes u f short h i = subst (IsCompileFault bytes) (sym i.is) (back_of_source bytes u i.of short h i.fault)
-
--- a source that isn't read isn't compiled
-pub unread_source : (bytes : List ℕ) (f : FrontFault) (g : CompileFault) → g ≡ unread_of f → IsRead bytes (Err f) → IsCompileFault bytes g
-unread_source bytes f g is h = subst (IsCompileFault bytes) (sym is) (by f h)
-  where
-    by : (f : FrontFault) → IsRead bytes (Err f) → IsCompileFault bytes (unread_of f)
-    by (front.Source f) h = h
-    by front.Memory h = tt
 
 -- what can be built of the tables with code can be built of the tables
 pub uncoded_built : (t : Tables) → CanCode t → Formed (coded t) → AreSchedulable (coded t) → CanBuild t
@@ -62,10 +50,6 @@ object_compiled source bytes u h o = compiled_to source bytes u (object_of u) h 
 pub all_compiled : {V E : Type 0} (items : V → List ℕ) (source : List ℕ) (u : Tables) → IsFront source u → (r : Result V E) → IfOk r (λ v. IsObjectOf None u (items v)) → IfOk r (λ v. IsCompiledTo source (items v))
 all_compiled items source u h (Ok v) o = object_compiled source (items v) u h o
 all_compiled items source u h (Err e) o = tt
-
-pub all_unbuilt : {V : Type 0} (source : List ℕ) (u : Tables) → length source ≤ 1048576 → IsFront source u → (r : Result V CompileFault) → IfErr r (IsUnbuilt u) → IfErr r (IsCompileFault source)
-all_unbuilt source u short h (Ok v) i = tt
-all_unbuilt source u short h (Err f) i = unbuilt_source source u f short h i
 
 -- what is built of tables with code and spelled is their object
 pub object_spelled : (platform : Option (List ℕ)) (u : Tables) (o : Object) (bytes : List ℕ) → o ≡ object_for platform u → Formed u → AreSchedulable u → IsObject o → bytes ≡ object_bytes o

@@ -1,5 +1,5 @@
 -- Compiling the functions one after the other.
-use Rattle.std.proofs.Common.{◌≡◌, ◌<◌, ◌+◌, ◌↔◌, ℕ, Bool, true, cond, List, [], length, map, get_or, slice_get, Some, Result, Err, sym, ◌∙◌, ap, ap₂, subst, arith, inl, inr}
+use Rattle.std.proofs.Common.{◌≡◌, ◌<◌, ◌+◌, ◌↔◌, ℕ, Bool, true, cond, List, length, map, get_or, slice_get, Some, Result, Err, sym, ◌∙◌, ap, ap₂, subst, arith, inl, inr}
 use Rattle.htl_compile.proofs.Words.{slice_get_within, Ty, with_functions, FunctionType, function_types, code_at, codes, coded, AreTyped, IsTyped, IsTypedAt, TypedBetween, IsFaultOf, IsFunction, IsCompiled, ill_typed, FnFault, function_at, outputs_count, IsSmallFunction, AreSmall, Term, type_of, held, list_to, Tables, Fun, Formula, Compiled, fun_of, tables_of, function_count, count_at, Task, Parts, Code, Function, cases_lt}
 use Rattle.htl_compile.proofs.CodedLaws.{code_is}
 use Rattle.htl_func.specs.declared.compiler.FnFault.TheVariants as fn_fault

@@ -1,18 +1,19 @@
 pub mod Answering
 pub mod BuiltLaws
-pub mod BulkNames
 pub mod CodedLaws
 pub mod Completeness
 mod Examples
 pub mod FromSource
 pub mod FunctionLaws
 pub mod FunctionTokens
+pub mod GeneratedTables
 pub mod NodeSchedules
 pub mod OnPlatform
 pub mod PlanLaws
 pub mod PlatformTables
 pub mod SamePaths
 pub mod SourceLaws
+pub mod SourceStops
 pub mod SourceTables
 pub mod TokenPlaces
 pub mod NameTokens

@@ -5,11 +5,10 @@ use Rattle.htl_compile.proofs.FromSource.{uncoded, uncoded_built}
 use Rattle.htl_compile.proofs.PlatformTables.{platform_spans, coded_with, source_tables_with, can_code_with}
 use Rattle.htl_compile.proofs.SourceLaws.{tables_unique, typed_or_fault, fault_unique}
 use Rattle.htl_compile.proofs.SourceTables.{source_tables_fit}
-use Rattle.htl_compile.proofs.Words.{IsBackFault, IsObjectOf, IsUnbuilt, unbuilt_of, unread_of, object_for, AreSchedulable, coded, AreTyped, CanCode, built_on, IsOn, IsNoPlatform, IsCompiledOn, HasPlatformFault, HasBackFaultOn, IsWithFault, IsTablesOf, IsFront, IsRead, IsSourceFault, BackFault, CompileFault, WithFault, FrontFault, SourceFault, Formed, Tables, IsObject, object_bytes, IsPlatform, with_worst, platform_of, PlatformFault, PlatformStop, Platform}
+use Rattle.htl_compile.proofs.Words.{IsBackFault, IsObjectOf, unbuilt_of, object_for, AreSchedulable, coded, AreTyped, CanCode, built_on, IsOn, IsNoPlatform, IsCompiledOn, HasPlatformFault, HasBackFaultOn, IsWithFault, IsTablesOf, IsFront, IsSourceFault, BackFault, CompileFault, WithFault, SourceFault, Formed, Tables, IsObject, object_bytes, IsPlatform, with_worst, platform_of, PlatformFault, PlatformStop, Platform}
 use Rattle.htl_compile.specs.declared.building.BackFault.TheVariants as back
 use Rattle.htl_compile.specs.declared.compiling.CompileFault.TheVariants as compile
 use Rattle.htl_compile.specs.declared.compiling_on.WithFault.TheVariants as on
-use Rattle.htl_compile.specs.declared.source.FrontFault.TheVariants as front
 use Rattle.htl_platform.specs.declared.fault.PlatformStop.TheVariants as stop
 
 -- ---- from tables with code to their source
@@ -39,9 +38,6 @@ module _ (source file : List ℕ) (u v : Tables) (name : List ℕ) (short : leng
   by_back (back.IllFormed f) is = has_back (back.IllFormed f) is
   by_back (back.Unschedulable sel a b demand) is = has_back (back.Unschedulable sel a b demand) is
   by_back back.Memory is = tt
-
-  pub unbuilt_on : (f : CompileFault) → IsUnbuilt v f → IsWithFault source file (on.Compile f)
-  unbuilt_on f is = subst (λ (g : CompileFault). IsWithFault source file (on.Compile g)) (sym is.is) (by_back is.of is.fault)
 
   -- the functions of the tables on the platform can be compiled
   pub can_code_on : CanCode (with_worst h.tables p.platform.worst)
@@ -75,13 +71,6 @@ no_platform_on source file u f short h says = record {
   typed = h.can.typed;
   says = subst (λ (t : Tables). platform_of t file ≡ Err f) h.is says;
 }
-
-pub unread_on : (source file : List ℕ) (f : FrontFault) (g : CompileFault) → g ≡ unread_of f → IsRead source (Err f) → IsWithFault source file (on.Compile g)
-unread_on source file f g is h = subst (λ (c : CompileFault). IsWithFault source file (on.Compile c)) (sym is) (by f h)
-  where
-    by : (f : FrontFault) → IsRead source (Err f) → IsWithFault source file (on.Compile (unread_of f))
-    by (front.Source f) h = h
-    by front.Memory h = tt
 
 -- where a fault stands: in the source, in the platform file, or in the tables
 data Stage (source file : List ℕ) (f : WithFault) : Type 0 where

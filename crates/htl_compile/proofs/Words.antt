@@ -3,12 +3,14 @@ pub use Rattle.htl_base.specs.declared.Ty.{Ty}
 pub use Rattle.htl_base.specs.declared.Ty.TheVariants.{Bool as BoolTy, Int as IntTy}
 pub use Rattle.htl_base.specs.declared.operator.BinOp.{BinOp}
 pub use Rattle.htl_base.specs.declared.operator.BinOp.TheVariants.{Lt, Mul}
-pub use Rattle.htl_compile.specs.Building.{HasBackFault, IsBackFault, IsCompileFault, IsCompiledTo, IsFirstOverload, IsObjectOf, IsUnbuilt, unbuilt_of, unplanned_of, unread_of}
+pub use Rattle.htl_bulk.proofs.Generated.{generated}
+pub use Rattle.htl_bulk.proofs.TreeParts.{map_further}
+pub use Rattle.htl_bulk.proofs.TypeTests.{IsExpressionOf}
+pub use Rattle.htl_compile.specs.Building.{HasBackFault, IsBackFault, IsCompileFault, IsCompiledTo, IsFirstOverload, IsObjectOf, unbuilt_of, unplanned_of}
 pub use Rattle.htl_compile.specs.Built.{AreSchedulable, CanBuild, built, node_schedule, object_for, object_of, schedules, through}
-pub use Rattle.htl_compile.specs.BulkTree.{bulk_comm, bulk_mode, bulk_module, bulk_sensor, comm_named, copied, copying_invoke, int_named, named, number, scaled_sum, scaling_invoke}
 pub use Rattle.htl_compile.specs.Coded.{AreSourceTables, AreTyped, CanCode, IsTyped, IsTypedAt, TypedBetween, code_at, code_by, code_of, coded, codes}
 pub use Rattle.htl_compile.specs.FunctionFaults.{IsFaultAt, IsFaultOf, IsFirstFault}
-pub use Rattle.htl_compile.specs.Laws.{BackOnlyMemory, BuiltIsAccepted, CompileOnlyMemory, FrontOnlyMemory, NoneForOverloaded, OneBackFault, OneCompileFault, OneFrontFault, OneTables, SourceTablesFit}
+pub use Rattle.htl_compile.specs.Laws.{BackOnlyMemory, BuiltIsAccepted, BulkHasTables, CompileOnlyMemory, FrontOnlyMemory, NoneForOverloaded, OneBackFault, OneCompileFault, OneFrontFault, OneTables, SourceTablesFit}
 pub use Rattle.htl_compile.specs.OnPlatform.{HasBackFaultOn, HasPlatformFault, IsCompiledOn, IsNoPlatform, IsOn, IsWithFault, built_on}
 pub use Rattle.htl_compile.specs.Sources.{BeginsAt, BeginsOrEndsAt, IsFront, IsFrontFault, IsFunctionFaultOf, IsNameFaultOf, IsRead, IsSourceFault, IsTablesOf, Reads}
 pub use Rattle.htl_compile.specs.TokenBounds.{AreFunctionsBelow, AreOperatorsBelow, IsFunctionBelow}
@@ -70,13 +72,13 @@ pub use Rattle.htl_names.specs.declared.place.ModeAt.{ModeAt}
 pub use Rattle.htl_names.specs.declared.place.ModuleAt.{ModuleAt}
 pub use Rattle.htl_object.proofs.FunctionPlaces.{at_end, concrete_count, function_at, output_at, outputs_count, place_behind_task, switch_type_at, tasks_of}
 pub use Rattle.htl_object.proofs.PhaseLaws.{layout_phased}
-pub use Rattle.htl_object.proofs.Words.{Compiled, Formula, Fun, IsFunInRange, IsFunctionCode, IsInRange, IsObject, IsShort, IsSpan, ap, begin_place, cases_below, choices_some, count_at, count_before, decide_place, enter_places, fun_of, function_count, function_types, get_list_to, layout, length, map, mod-mul-add, mode_place, mul-add-lt, mul_assoc, nodes, object_bytes, output_type, radices, refl, rounds_have, slice_get_cases, sym, tables_of, ℤ}
+pub use Rattle.htl_object.proofs.Words.{Compiled, Formula, Fun, IsFunInRange, IsFunctionCode, IsInRange, IsObject, IsShort, IsSpan, ap, begin_place, choices_some, count_at, count_before, decide_place, enter_places, fun_of, function_count, function_types, get_list_to, layout, length, map, mod-mul-add, mode_place, mul-add-lt, mul_assoc, nodes, object_bytes, output_type, radices, refl, rounds_have, slice_get_cases, sym, tables_of, ℤ}
 pub use Rattle.htl_object.specs.Accepted.{IsAccepted}
 pub use Rattle.htl_object.specs.declared.object.Object.{Object}
 pub use Rattle.htl_parse.proofs.Bounded.{tree-bounded}
 pub use Rattle.htl_parse.proofs.Stopping.{misfit-unique}
 pub use Rattle.htl_parse.proofs.Whole.{one_tree-law}
-pub use Rattle.htl_parse.proofs.Words.{Abstract, Concrete, IsFirstLong, IsLong, IsMisfit, Placed, PlainMode, PlainModule, PlainOut, PlainOuts, PlainProgram, PlainSwitch, PlainTask, Put, Spell, SpellsClause, SpellsComm, SpellsConst, SpellsEach, SpellsEnd, SpellsInvoke, SpellsList, SpellsMode, SpellsModule, SpellsMore, SpellsOut, SpellsParam, SpellsPort, SpellsProgram, SpellsSource, SpellsSwitch, SpellsTask, SpellsType, a_module, absent, abstract_task, another, bool, comm_end, comma, communicator, concrete, empty, first-unique, in_expr, int, invoke, is_expr, items, mode, module_of, names_of, negative, no_more, no_other, out, param, port, port_end, positive, present, program, sensor, source, switch, tokens_numbered}
+pub use Rattle.htl_parse.proofs.Words.{Abstract, Concrete, IsFirstLong, IsLong, IsMisfit, Placed, PlainMode, PlainModule, PlainOut, PlainOuts, PlainProgram, PlainSwitch, PlainTask, Put, Spell, SpellsClause, SpellsComm, SpellsConst, SpellsEach, SpellsEnd, SpellsInvoke, SpellsList, SpellsMode, SpellsModule, SpellsMore, SpellsOut, SpellsParam, SpellsPort, SpellsProgram, SpellsSource, SpellsSwitch, SpellsTask, SpellsType, a_module, absent, abstract_task, another, bool, comm_end, comma, communicator, concrete, empty, first-unique, int, invoke, items, mode, names_of, negative, no_more, no_other, out, param, port, port_end, positive, present, program, sensor, source, switch, tokens_numbered}
 pub use Rattle.htl_platform.proofs.SpanLaws.{spans}
 pub use Rattle.htl_platform.proofs.Words.{document_in, platform_of, platform_or, tasks_with, with_worst, worst_of}
 pub use Rattle.htl_platform.proofs.WorstRanges.{timed_in_range}
@@ -93,7 +95,6 @@ pub use Rattle.htl_text.proofs.OneCut.{Tokens-unique, span-some}
 pub use Rattle.htl_text.proofs.Spellable.{tokens-spellable}
 pub use Rattle.htl_text.proofs.Words.{Cuts, Faults, TokenList, Tokens, decimal, out_params, zip}
 pub use Rattle.htl_text.specs.Spans.{Tokens as IsTokens}
-pub use Rattle.htl_text.specs.declared.expression.Node.{Node}
 pub use Rattle.htl_text.specs.declared.lexer.LexFault.{LexFault}
 pub use Rattle.htl_text.specs.declared.token.Token.{Token}
 pub use Rattle.htl_text.specs.declared.token.Word.{Word}
@@ -102,7 +103,6 @@ pub use Rattle.htl_text.specs.declared.tree.ConstNode.{ConstNode}
 pub use Rattle.htl_text.specs.declared.tree.EndNode.{EndNode}
 pub use Rattle.htl_text.specs.declared.tree.Id.{Id}
 pub use Rattle.htl_text.specs.declared.tree.InvokeNode.{InvokeNode}
-pub use Rattle.htl_text.specs.declared.tree.Num.{Num}
 pub use Rattle.htl_text.specs.declared.tree.ParamNode.{ParamNode}
 pub use Rattle.htl_walk.proofs.CodeWalk.{list_read}
 pub use Rattle.htl_walk.proofs.Words.{Offsets, multiple_of, product_parts, release_same, window_end_same, with_functions}
@@ -110,5 +110,4 @@ pub use Rattle.htl_walk.specs.declared.job.Job.{Job}
 pub use Rattle.htl_walk.specs.declared.schedule.SInstr.{SInstr}
 pub use Rattle.htl_walk.specs.declared.schedule.SInstr.TheVariants.{Dispatch, End}
 pub use Rattle.htl_walk.specs.declared.schedule.Schedule.{Schedule}
-pub use Rattle.std.proofs.lemmas.Fmt.{decimal_digit, decimal_step}
 pub use Rattle.std.proofs.lemmas.Nat.{div-add-mod'}

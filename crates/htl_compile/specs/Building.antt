@@ -8,8 +8,6 @@ use Rattle.htl_compile.specs.declared.building.BackFault.{BackFault}
 use Rattle.htl_compile.specs.declared.building.BackFault.TheVariants as back
 use Rattle.htl_compile.specs.declared.compiling.CompileFault.{CompileFault}
 use Rattle.htl_compile.specs.declared.compiling.CompileFault.TheVariants as compile
-use Rattle.htl_compile.specs.declared.source.FrontFault.{FrontFault}
-use Rattle.htl_compile.specs.declared.source.FrontFault.TheVariants as front
 use Rattle.htl_edf.specs.Lists.{tightened}
 use Rattle.htl_edf.specs.Windows.{Reported, NoOverload}
 use Rattle.htl_edf.specs.declared.plan.PlanFault.{PlanFault}
@@ -77,14 +75,3 @@ abbrev pub unbuilt_of : BackFault → CompileFault
 unbuilt_of (back.IllFormed f) = compile.IllFormed f
 unbuilt_of (back.Unschedulable sel a b demand) = compile.Unschedulable sel a b demand
 unbuilt_of back.Memory = compile.Memory
-
--- a fault of the tables, as one of compiling
-pub record IsUnbuilt (t : Tables) (f : CompileFault) : Type 0 where
-  pub of : BackFault
-  pub fault : IsBackFault t of
-  pub is : f ≡ unbuilt_of of
-
--- a fault of the source alone, as one of compiling
-abbrev pub unread_of : FrontFault → CompileFault
-unread_of (front.Source f) = compile.Source f
-unread_of front.Memory = compile.Memory

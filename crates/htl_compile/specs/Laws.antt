@@ -1,6 +1,7 @@
 -- The laws of compiling.
 use Rattle.std.specs.Prelude.{◌≡◌, ◌<◌, ◌≤◌, ℕ, ℤ, Option, List, length}
-use Rattle.htl_base.specs.declared.limits.TheConstants.{MAX_SOURCE}
+use Rattle.htl_base.specs.declared.limits.TheConstants.{MAX_MODULES, MAX_SOURCE}
+use Rattle.htl_bulk.specs.BulkTree.{bulk_bytes}
 use Rattle.htl_compile.specs.Built.{built_with, AreSchedulable, CanBuild}
 use Rattle.htl_compile.specs.Building.{IsBackFault, IsCompileFault}
 use Rattle.htl_compile.specs.Coded.{coded, AreTyped, AreSourceTables}
@@ -58,6 +59,12 @@ BackOnlyMemory = (t : Tables) (f : BackFault) → Formed t → AreSchedulable t 
 abbrev pub CompileOnlyMemory : Type 0
 CompileOnlyMemory =
     (bytes : List ℕ) (t : Tables) (f : CompileFault) → IsTablesOf bytes t → AreTyped t → Formed t → AreSchedulable t → IsCompileFault bytes f → f ≡ compile.Memory
+
+-- ---- the generated program
+
+-- so its source has no fault at any size: it has tables whose functions are typed, that break no form rule and have no overloaded path
+abbrev pub BulkHasTables : Type 0
+BulkHasTables = (n : ℕ) → 1 ≤ n → n ≤ MAX_MODULES → (t : Tables) × IsTablesOf (bulk_bytes n) t × AreTyped t × Formed t × AreSchedulable t
 
 -- ---- one fault
 

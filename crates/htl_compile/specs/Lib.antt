@@ -1,9 +1,9 @@
 pub mod Building
-pub mod BulkTree
 pub mod Built
 pub mod Coded
 pub mod FunctionFaults
 pub mod Laws
 pub mod OnPlatform
 pub mod Sources
+pub mod Stops
 pub mod TokenBounds

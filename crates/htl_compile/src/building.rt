@@ -1,6 +1,6 @@
 // From tables with code to the object.
 ghost use Rattle.std.specs.Prelude.{◌≡◌, ◌⊎◌, IfOk, IfErr, OnOk, MatchResult};
-ghost use Rattle.htl_compile.specs.Building.{IsBackFault, unplanned_of};
+ghost use Rattle.htl_compile.specs.Building.{IsBackFault};
 ghost use Rattle.htl_compile.specs.Built.{object_of, object_for, AreSchedulable};
 ghost use Rattle.htl_compile.specs.declared.building.BackFault.{BackFault as FaultOf};
 ghost use Rattle.htl_model.specs.Broken.{Formed, KeepsLimits, IsFirstBroken};
@@ -36,23 +36,27 @@ pub enum BackFault {
     Memory,
 }
 
-// A fault of the scheduler, as a fault of the tables.
-fn unplanned(fault: PlanFault) -> BackFault
-    ensures { result ≡ unplanned_of fault }
-{
-    match fault {
-        PlanFault::Overload {
-            selection,
-            from,
-            to,
-            demand,
-        } => BackFault::Unschedulable {
-            selection,
-            from,
-            to,
-            demand,
-        },
-        PlanFault::Memory => BackFault::Memory,
+impl From<PlanFault> for BackFault {
+    ghost use Rattle.std.specs.Prelude.{◌≡◌};
+    ghost use Rattle.htl_compile.specs.Building.{unplanned_of};
+
+    ghost from_gives = { λ fault b. b ≡ unplanned_of fault };
+
+    fn from(fault: PlanFault) -> BackFault {
+        match fault {
+            PlanFault::Overload {
+                selection,
+                from,
+                to,
+                demand,
+            } => BackFault::Unschedulable {
+                selection,
+                from,
+                to,
+                demand,
+            },
+            PlanFault::Memory => BackFault::Memory,
+        }
     }
 }
 
@@ -76,7 +80,7 @@ pub fn back_for(
     }
     let schedules = match edf_nodes(alloc, &t) {
         Ok(schedules) => schedules,
-        Err(fault) => return Err((t, unplanned(fault))),
+        Err(fault) => return Err((t, BackFault::from(fault))),
     };
     match generate_e(alloc, &t) {
         Ok(ecode) => Ok(Object {

@@ -1,20 +1,23 @@
 // From a source to the bytes of its object.
 ghost use Rattle.std.specs.Prelude.{◌≡◌, ◌⊎◌, ◌≤◌, length, IfOk, IfErr, MatchResult};
 ghost use Rattle.htl_base.specs.declared.limits.TheConstants as limit;
-ghost use Rattle.htl_compile.specs.Building.{IsObjectOf, IsUnbuilt, IsCompiledTo, IsCompileFault, unbuilt_of, unread_of};
+ghost use Rattle.htl_compile.specs.Building.{IsObjectOf, IsCompiledTo, IsCompileFault};
 ghost use Rattle.htl_compile.specs.Built.{AreSchedulable, built};
 ghost use Rattle.htl_compile.specs.Coded.{AreTyped};
 ghost use Rattle.htl_compile.specs.Sources.{IsTablesOf};
+ghost use Rattle.htl_compile.specs.Stops.{IsNotCompiled, IsUnbuilt};
 ghost use Rattle.htl_compile.specs.declared.compiling.CompileFault.{CompileFault as FaultOf};
 ghost use Rattle.htl_model.specs.Broken.{Formed, KeepsLimits};
 ghost use Rattle.htl_model.specs.FunctionTypes.{FitPlaces};
 ghost use Rattle.htl_model.specs.Tables.{Tables as TablesOf};
 ghost use Rattle.htl_object.specs.Objects.{object_bytes};
 
-use crate::building::{BackFault, back_for};
-use crate::source::{FrontFault, front};
+use crate::building::back_for;
+use crate::compiling_on::WithFault;
+use crate::source::front;
 use crate::source_fault::SourceFault;
-use htl_base::{Memory, Name, Time};
+use crate::stop::SourceStop;
+use htl_base::{Name, Time};
 use htl_model::{FormFault, Tables};
 use htl_object::encode;
 use std::alloc::Global;
@@ -41,67 +44,45 @@ pub enum CompileFault {
     Memory,
 }
 
-// A fault of tables, as a fault of their source.
-fn unbuilt(fault: BackFault) -> CompileFault
-    ensures { result ≡ unbuilt_of fault }
-{
-    match fault {
-        BackFault::IllFormed(fault) => CompileFault::IllFormed(fault),
-        BackFault::Unschedulable {
-            selection,
-            from,
-            to,
-            demand,
-        } => CompileFault::Unschedulable {
-            selection,
-            from,
-            to,
-            demand,
-        },
-        BackFault::Memory => CompileFault::Memory,
-    }
-}
-
-// A fault of a source alone, as a fault of compiling it.
-pub(crate) fn unread(fault: FrontFault) -> CompileFault
-    ensures { result ≡ unread_of fault }
-{
-    match fault {
-        FrontFault::Source(fault) => CompileFault::Source(fault),
-        FrontFault::Memory => CompileFault::Memory,
-    }
-}
-
-// The bytes of the object of tables, for a platform where one is named; or the fault of the tables.
-pub(crate) fn compile_tables(
+// The bytes of the object of tables with code, for a platform where one is named; or what stops them.
+pub(crate) fn object_of_tables(
     alloc: Global,
     tables: Tables,
     platform: Option<Name>,
-) -> Result<Vec<u8>, CompileFault>
+) -> Result<Vec<u8>, SourceStop>
     requires functions { FitPlaces tables }
     requires limits { KeepsLimits tables }
     ensures object { IfOk result (λ v. IsObjectOf platform tables v.items) }
     ensures fault { IfErr result (IsUnbuilt tables) }
 {
-    let object = match back_for(alloc, tables, platform) {
-        Ok(object) => object,
-        Err((_tables, fault)) => return Err(unbuilt(fault)),
-    };
-    match encode(alloc, &object) {
-        Ok(bytes) => Ok(bytes),
-        Err(Memory) => Err(CompileFault::Memory),
-    }
+    let object = back_for(alloc, tables, platform)?;
+    let bytes = encode(alloc, &object)?;
+    Ok(bytes)
 }
 
-// The bytes of a source's object, or its first fault.
-fn compile_source(alloc: Global, bytes: &[u8]) -> Result<Vec<u8>, CompileFault>
+/// The bytes of the object of a source of at most 1,048,576 bytes, or what stops it first: a fault of the text, the names or the
+/// functions; else of the form rules; else the first path that is overloaded.
+pub fn compile_source(alloc: Global, bytes: &[u8]) -> Result<Vec<u8>, SourceStop>
+    requires { length bytes.now ≤ limit.MAX_SOURCE }
+    ensures compiled { IfOk result (λ v. IsCompiledTo bytes.now v.items) }
+    ensures fault { IfErr result (IsNotCompiled bytes.now) }
+{
+    let tables = front(alloc, bytes)?;
+    object_of_tables(alloc, tables, None)
+}
+
+// The bytes of the object of a source, or its first fault, without the tables of which it speaks.
+fn bytes_or_fault(alloc: Global, bytes: &[u8]) -> Result<Vec<u8>, CompileFault>
     requires { length bytes.now ≤ limit.MAX_SOURCE }
     ensures compiled { IfOk result (λ v. IsCompiledTo bytes.now v.items) }
     ensures fault { IfErr result (IsCompileFault bytes.now) }
 {
-    match front(alloc, bytes) {
-        Ok(tables) => compile_tables(alloc, tables, None),
-        Err(fault) => Err(unread(fault)),
+    match compile_source(alloc, bytes) {
+        Ok(object) => Ok(object),
+        Err(stop) => match WithFault::from(stop) {
+            WithFault::Compile(fault) => Err(fault),
+            WithFault::Platform(_) => unreachable!(),
+        },
     }
 }
 
@@ -117,5 +98,5 @@ pub fn compile(alloc: Global, bytes: &[u8]) -> Result<Vec<u8>, CompileFault>
     ensures refused { (f : FaultOf) → (f ≡ CompileFault.Memory → ⊥) → IsCompileFault bytes.now f
         → MatchResult result (λ _. ⊥) (λ g. (g ≡ f) ⊎ (g ≡ CompileFault.Memory)) }
 {
-    compile_source(alloc, bytes)
+    bytes_or_fault(alloc, bytes)
 }

@@ -5,6 +5,7 @@ ghost use Rattle.htl_compile.specs.Built.{AreSchedulable};
 ghost use Rattle.htl_compile.specs.Coded.{AreTyped};
 ghost use Rattle.htl_compile.specs.OnPlatform.{built_on, IsOn, IsNoPlatform, IsCompiledOn, IsWithFault};
 ghost use Rattle.htl_compile.specs.Sources.{IsTablesOf};
+ghost use Rattle.htl_compile.specs.Stops.{IsNotCompiledOn};
 ghost use Rattle.htl_compile.specs.declared.compiling.CompileFault.TheVariants as failing;
 ghost use Rattle.htl_compile.specs.declared.compiling_on.WithFault.{WithFault as FaultOf};
 ghost use Rattle.htl_model.specs.Broken.{Formed, KeepsLimits};
@@ -15,8 +16,9 @@ ghost use Rattle.htl_platform.specs.Applied.{with_worst};
 ghost use Rattle.htl_platform.specs.Platforms.{platform_of};
 ghost use Rattle.htl_platform.specs.declared.platform.Platform.{Platform as PlatformOf};
 
-use crate::compiling::{CompileFault, compile_tables, unread};
+use crate::compiling::{CompileFault, object_of_tables};
 use crate::source::front;
+use crate::stop::SourceStop;
 use htl_base::Name;
 use htl_model::Tables;
 use htl_platform::{PlatformFault, PlatformStop, apply, read_platform};
@@ -52,25 +54,30 @@ pub fn on_platform(
     }
 }
 
-// The bytes of a source's object on a platform, or the first fault.
-fn compile_on(alloc: Global, bytes: &[u8], platform: &[u8]) -> Result<Vec<u8>, WithFault>
+/// The bytes of the object of a source on the platform that a file says, or what stops it first: a fault of the source's text, names
+/// or functions; else of the platform file; else of the form rules; else the first path that is overloaded.
+pub fn compile_source_on(
+    alloc: Global,
+    bytes: &[u8],
+    platform: &[u8],
+) -> Result<Vec<u8>, SourceStop>
+    requires { length bytes.now ≤ limit.MAX_SOURCE }
+    ensures compiled { IfOk result (λ v. IsCompiledOn bytes.now platform.now v.items) }
+    ensures fault { IfErr result (IsNotCompiledOn bytes.now platform.now) }
+{
+    let tables = front(alloc, bytes)?;
+    let (tables, name) = on_platform(alloc, tables, platform)?;
+    object_of_tables(alloc, tables, Some(name))
+}
+
+// The bytes of the object of a source on a platform, or the first fault, without the tables of which it speaks.
+fn bytes_or_fault_on(alloc: Global, bytes: &[u8], platform: &[u8]) -> Result<Vec<u8>, WithFault>
     requires { length bytes.now ≤ limit.MAX_SOURCE }
     ensures compiled { IfOk result (λ v. IsCompiledOn bytes.now platform.now v.items) }
     ensures fault { IfErr result (IsWithFault bytes.now platform.now) }
 {
-    let tables = match front(alloc, bytes) {
-        Ok(tables) => tables,
-        Err(fault) => return Err(WithFault::Compile(unread(fault))),
-    };
-    let (tables, name) = match on_platform(alloc, tables, platform) {
-        Ok(placed) => placed,
-        Err(PlatformStop::Refused(fault)) => return Err(WithFault::Platform(fault)),
-        Err(PlatformStop::Memory) => return Err(WithFault::Compile(CompileFault::Memory)),
-    };
-    match compile_tables(alloc, tables, Some(name)) {
-        Ok(bytes) => Ok(bytes),
-        Err(fault) => Err(WithFault::Compile(fault)),
-    }
+    let object = compile_source_on(alloc, bytes, platform)?;
+    Ok(object)
 }
 
 /// The bytes of the object of a source on the platform that a file says: the object of the source's tables with the platform's
@@ -91,5 +98,5 @@ pub fn compile_with(alloc: Global, bytes: &[u8], platform: &[u8]) -> Result<Vec<
     ensures refused { (f : FaultOf) → (f ≡ WithFault.Compile failing.Memory → ⊥) → IsWithFault bytes.now platform.now f
         → MatchResult result (λ _. ⊥) (λ g. (g ≡ f) ⊎ (g ≡ WithFault.Compile failing.Memory)) }
 {
-    compile_on(alloc, bytes, platform)
+    bytes_or_fault_on(alloc, bytes, platform)
 }

@@ -1,5 +1,5 @@
 //! The laws of compiling, which crates above build on. Each is a statement that the check has proved; there is nothing to run.
-ghost use Rattle.htl_compile.specs.Laws.{BuiltIsAccepted, CodedRunsTheSame, OneTables, SourceTablesFit, NoneForOverloaded, FrontOnlyMemory, BackOnlyMemory, CompileOnlyMemory, OneFrontFault, OneBackFault, OneCompileFault};
+ghost use Rattle.htl_compile.specs.Laws.{BuiltIsAccepted, CodedRunsTheSame, OneTables, SourceTablesFit, NoneForOverloaded, FrontOnlyMemory, BackOnlyMemory, CompileOnlyMemory, BulkHasTables, OneFrontFault, OneBackFault, OneCompileFault};
 
 /// The object of tables in range that keep the limits and the form rules, whose functions are typed, and of whose
 /// paths none is overloaded, is accepted, for whatever platform it is named.
@@ -42,6 +42,12 @@ pub fn back_only_memory()
 /// have no overloaded path.
 pub fn compile_only_memory()
     ensures { CompileOnlyMemory }
+{}
+
+/// The source of the generated program, of 1 to 64 modules, has no fault: it has tables, whose functions are typed, that break no
+/// form rule and have no overloaded path.
+pub fn bulk_has_tables()
+    ensures { BulkHasTables }
 {}
 
 /// A source has one fault at most beside want of memory.

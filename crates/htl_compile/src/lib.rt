@@ -3,17 +3,18 @@
 #![tactic(auto)]
 
 mod building;
-mod bulk;
 mod compiling;
 mod compiling_on;
 mod functions;
 pub mod laws;
 mod source;
 mod source_fault;
+mod stop;
 
 pub use building::{BackFault, back, back_for};
-pub use bulk::bulk_source;
-pub use compiling::{CompileFault, compile};
-pub use compiling_on::{WithFault, compile_with, on_platform};
+pub use compiling::{CompileFault, compile, compile_source};
+pub use compiling_on::{WithFault, compile_source_on, compile_with, on_platform};
+pub use htl_bulk::bulk_source;
 pub use source::{FrontFault, front};
 pub use source_fault::SourceFault;
+pub use stop::SourceStop;

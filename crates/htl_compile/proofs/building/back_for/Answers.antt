@@ -16,7 +16,7 @@ generate_e-requires c = λ s have need broken. c.in_default.ensures.formed Offse
 
 pub returns-in-Err-edf_nodes-clause-fault : goal.returns-in-Err-edf_nodes-clause-fault
 returns-in-Err-edf_nodes-clause-fault c =
-    (refl, unplanned_is c.args.t c.in-Err-edf_nodes.fault c.unplanned.result c.in_default.ensures.formed c.in-Err-edf_nodes.ensures.fault c.unplanned.ensures)
+    (refl, unplanned_is c.args.t c.in-Err-edf_nodes.fault c.from.result c.in_default.ensures.formed c.in-Err-edf_nodes.ensures.fault c.from.ensures)
 
 pub returns-in-Ok-generate_e-clause-built : goal.returns-in-Ok-generate_e-clause-built
 returns-in-Ok-generate_e-clause-built c =

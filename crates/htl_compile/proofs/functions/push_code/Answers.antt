@@ -1,6 +1,5 @@
 use Rattle.std.proofs.Common.{◌≡◌, ◌++◌, ◌∷◌, [], Bool, true, cond, map, is_ok, ◌∙◌, ap, rules}
-use Rattle.htl_compile.proofs.Words.{code_at, fun_of}
-use Rattle.htl_compile.proofs.BulkNames.{map_further}
+use Rattle.htl_compile.proofs.Words.{code_at, fun_of, map_further}
 use Rattle.htl_compile.proofs.functions.push_code.Goals as goal
 
 pub returns-clause-codes : goal.returns-clause-codes
