@@ -7,6 +7,14 @@ use Rattle.htl_edge.specs.Content.{Puts}
 use Rattle.htl_edge.proofs.Puts.{append_known-start, append_known-more, Puts-failed, Puts-second}
 use Rattle.htl_console.specs.Listing.{line_at, all_lines}
 
+-- nothing is to be written
+pub nothing_put : {T E : Type 0} (old : Option (List ℕ)) (before : ℕ) (text : List ℕ) (u : T) → text ≡ [] → Puts {T = T} {E = E} old old before before text (Ok u)
+nothing_put old before text u e = record {
+  whole = append_known-start old ∙ ap (append_known old) (sym e);
+  part = tt;
+  cause = record { later = omega arith; kept = refl; refused = tt };
+}
+
 -- ---- the lines of a list
 
 -- what follows the line of a place
