@@ -1,22 +1,22 @@
 -- An instant once its parts are done: what the calls said carries the machine to the next.
-use Rattle.std.proofs.Common.{◌≡◌, ℕ, zero, suc, ◌-◌, cond, ◌&&◌, leb, get_or, ◌≤◌, ◌<◌, ◌^◌, Bool, true, false, eqb, List, [], ◌∷◌, ◌++◌, length, Option, Some, None, ℤ, refl, sym, ap, ap₂, ◌∙◌, subst, arith, inl, inr}
-use Rattle.htl_machine.proofs.Words.{All, eqb-true, cases_lt, get_or-map, get_or_past, length-map, slice_get_past, Event, Inv, joined, IsCommInRange, hyper, Tables, task_worst, state, sense, Schedule, SInstr, Round, IsShort, ECode, Standing, Content, Onward, phase_path, StandsSafely, IsShaped, IsAccepted, AreTookWithin, inv_worst, last_took, took, Tally, ListAt, IsToBegin, Seen, IsUpTo, GoesBy, schedule_by, path_lines, IsLoaded, SMachineAt, SMachineFollows, IsReadyAt, due_by, Counts, IsOpened, closing_text, first_records, beginning_text, schedules_of, lines_of, s_machine_replay, Records, replay, AreShown, record_text, some_records, records_of, list_texts, instant_text, listed_text_before, instrs_of, some_round_begins, values_before, Whole, Passed, with_sensors, turn_at, IsAtEnd, node_by, turn_list, nodes_few, each_at}
+use Rattle.std.proofs.Common.{◌≡◌, ℕ, zero, suc, ◌-◌, cond, ◌&&◌, leb, get_or, ◌≤◌, ◌<◌, ◌+◌, ◌^◌, min, Bool, true, false, eqb, List, [], ◌∷◌, ◌++◌, length, Option, Some, None, ℤ, refl, sym, ap, ◌∙◌, subst, arith, inl, inr}
+use Rattle.htl_machine.proofs.Words.{All, eqb-true, cases_lt, get_or-map, get_or_past, length-map, slice_get_past, Event, Inv, joined, IsCommInRange, hyper, Tables, task_worst, state, sense, Schedule, SInstr, Round, IsShort, ECode, Standing, Content, Onward, phase_path, StandsSafely, IsShaped, IsAccepted, AreTookWithin, inv_worst, last_took, took, Tally, ListAt, IsToBegin, Seen, IsUpTo, GoesBy, schedule_by, path_lines, IsLoaded, SMachineAt, SMachineFollows, IsReadyAt, due_by, IsOpened, closing_text, plan_text, first_records, beginning_text, schedules_of, lines_of, s_machine_replay, Records, replay, AreShown, record_text, record_of, some_records, new_records, plan_records, standing_new, new_lines, records_at, e_path, instrs_of, some_round_begins, values_before, Passed, with_sensors, turn_at, IsAtEnd, node_by, turn_list, nodes_few, each_at}
 use Rattle.htl_model.specs.declared.event.Event.TheVariants as V
 use Rattle.htl_smach.specs.declared.left.Left.{Left}
 use Rattle.htl_smach.specs.Rounds as rounds
 use Rattle.htl_runs.specs.lists.RecordEffects.{with_records}
 use Rattle.htl_runs.proofs.jobs.Accepted.{accepted_is_loaded}
-use Rattle.htl_machine.proofs.Calling.{IsWhole, counts_of, whole_of, before_of}
-use Rattle.htl_machine.proofs.Composing.{instant_composed, counts_after, counts_are, texts_going, texts_beginning, texts_alone, records_going, records_beginning, records_alone}
+use Rattle.htl_machine.proofs.Composing.{instant_composed, counts_after, jobs_are, e_are, s_are, new_going, new_beginning, records_composed}
 use Rattle.htl_runs.proofs.events.NextReading.{instant_values}
+use Rattle.htl_runs.proofs.events.NextInstant.{modes_read, valued_next}
 use Rattle.htl_runs.proofs.instants.BothMachines.{next_is, switch_values}
 use Rattle.htl_runs.proofs.lists.LoadedLists.{loaded_code}
 use Rattle.htl_runs.proofs.values.SensorValues.{sensors_are}
-use Rattle.htl_runs.proofs.lines.LoadedRecords.{loaded_lines}
+use Rattle.htl_runs.proofs.lines.Joined.{joined-map}
+use Rattle.htl_runs.proofs.lines.LoadedRecords.{loaded_new}
 use Rattle.htl_machine.proofs.Ready.{node_known}
-use Rattle.htl_machine.proofs.NextStands.{IsScheduleOf, owed_before, owed_are, beginning, going, going_s_machine, going_on, list_over, begun_s_machine, begun_goes}
+use Rattle.htl_machine.proofs.NextStands.{IsScheduleOf, beginning, going, going_s_machine, going_on, list_over, begun_s_machine, begun_goes}
 use Rattle.htl_machine.proofs.ToBegin.{is_to_begin}
-use Rattle.htl_runs.proofs.events.WholeRuns.{modes_read, counted, whole_instant}
 
 -- ---- lengths that are kept
 
@@ -54,9 +54,6 @@ module _ (m : Seen) (es : List Event) (now : ℕ) (accepted : IsAccepted m.objec
   loaded : IsLoaded m.object.tables (schedules_of m.object)
   loaded = accepted_is_loaded m.object accepted
 
-  whole : IsWhole m es now
-  whole = whole_of m es now accepted u.kept (omega (arith, u.kept.reading, read)) u.before
-
   -- after the first part
   module _ (steps : List SInstr) (r : IsReadyAt m es now steps) (values : List ℤ) (same : values ≡ values_before m.object.tables es now) (d1 : Round) (w3 : Content)
       (a : IsOpened m.object.tables m.object.ecode es now steps m.run_state.shows values m.run_state.s_machine m.run_state.world d1 w3) where
@@ -71,7 +68,7 @@ module _ (m : Seen) (es : List Event) (now : ℕ) (accepted : IsAccepted m.objec
     -- the values that the switches ask for
     pub opened_values : w3.values ≡ (state m.object.tables es now).values
     opened_values =
-        switch_values t code schedules loaded (modes_read t code schedules loaded accepted.spelled.code m.show) es whole.stands.up_to.within now m.run_state a.w1 a.w2 w3 whole.stands.up_to recorded_is a.writes sensed_is
+        switch_values t code schedules loaded (modes_read t code accepted.spelled.code) es u.kept.within now m.run_state.world a.w1 a.w2 w3 u.before.values.values u.before.values.shaped recorded_is a.writes sensed_is
 
     abbrev w4 : Content
     w4 = replay t code (phase_path t code es now 2) w3
@@ -84,8 +81,8 @@ module _ (m : Seen) (es : List Event) (now : ℕ) (accepted : IsAccepted m.objec
         ≡ (state m.object.tables es now).values
     closed_values =
         ap (λ (z : Content). z.values)
-        (next_is t code schedules loaded (modes_read t code schedules loaded accepted.spelled.code m.show) es whole.stands.up_to.within now m.run_state.world a.w1 a.w2 w3 w4 w5 recorded_is a.writes sensed_is refl refl)
-        ∙ (instant_values t schedules loaded es whole.stands.up_to.within now m.run_state whole.stands.up_to).0.values
+        (next_is t code schedules loaded (modes_read t code accepted.spelled.code) es u.kept.within now m.run_state.world a.w1 a.w2 w3 w4 w5 recorded_is a.writes sensed_is refl refl)
+        ∙ (instant_values t schedules loaded es u.kept.within now m.run_state.world u.before.values.values u.before.values.shaped).values
 
     -- what the calls of the instant said
     pub passed_of : (world : Content) (e1 : Standing)
@@ -109,35 +106,27 @@ module _ (m : Seen) (es : List Event) (now : ℕ) (accepted : IsAccepted m.objec
         }
 
   -- the lines of the parts are those of the instant
-  pub lines_are_composed : (steps : List SInstr) (r : IsReadyAt m es now steps) (new : List ℕ)
-      → (list_texts m.object.tables (schedules_of m.object) es m.show (hyper m.object.tables) now).1 ≡ new
-      → (joined (record_text m.object.tables m.show r.plan (node_by m.list)) (some_records r.plan r.start r.place (due_by r.plan r.start now - r.place))
+  pub lines_are_composed : (steps : List SInstr) (r : IsReadyAt m es now steps) (new : List ℕ) → new ≡ new_lines m.object.tables (schedules_of m.object) es m.show (hyper m.object.tables) now
+      → (joined (plan_text m.object.tables m.show r.plan (node_by m.list)) (some_records r.plan r.start r.place (due_by r.plan r.start now - r.place))
       ++ path_lines m.object.tables m.object.ecode m.show now (phase_path m.object.tables m.object.ecode es now 1))
       ++ (closing_text m.object.tables m.object.ecode es m.show now ++ new)
       ≡ lines_of m.object es m.show now
   lines_are_composed steps r new is =
-      instant_composed t code schedules es m.show now _ new (ap₂ (λ (a b : List ℕ). (a, b)) (sym r.lines) is)
-      ∙ sym (loaded_lines t schedules es loaded whole.stands.up_to.within code m.show now)
+      instant_composed t code schedules es m.show now _ new
+      (sym (joined-map (record_text t m.show) (record_of r.plan.jobs (node_by m.list) r.plan.schedule) (some_records r.plan r.start r.place (due_by r.plan r.start now - r.place))) ∙ ap (joined (record_text t m.show)) r.owed) is
 
   -- the machine after the instant, counts and all
   pub next_up_to : (world : Content) (s_machine : Round) (e1 : Standing) (last : Option ListAt) (old new : List Left) (start n : Tally)
       → Passed m.object.tables m.object.ecode (schedules_of m.object) es now m.run_state.world world e1
       → SMachineFollows (turn_at m.object.tables (schedules_of m.object) es) (hyper m.object.tables) (suc now) s_machine
       → GoesBy (turn_at m.object.tables (schedules_of m.object) es) (hyper m.object.tables) (suc now) last
-      → records_of m.object.tables (schedules_of m.object) es (hyper m.object.tables) now ≡ old ++ new
-      → counts_of m ≡ record { jobs = start.jobs; e = start.e; s = start.s }
+      → records_at m.object.tables (schedules_of m.object) es now ≡ old ++ new
+      → start ≡ record { jobs = m.jobs; e = m.e; s = m.s }
       → n ≡ counts_after old new (length (phase_path m.object.tables m.object.ecode es now 1)) (length (phase_path m.object.tables m.object.ecode es now 2)) (length (phase_path m.object.tables m.object.ecode es now 3)) start
       → IsUpTo (record m { run_state = record m.run_state { world = world; s_machine = s_machine }; standing = e1; list = last; jobs = n.jobs; e = n.e; s = n.s }) es (suc now)
   next_up_to world s_machine e1 last old new start n passed follows goes are was is =
-      let totals = whole.stands.totals in
-      let jobs_capped : start.jobs ≤ 2 ^ 64 - 1 = omega (arith, ap (λ (z : Counts). z.jobs) was, totals.jobs_are) in
-      let e_capped : start.e ≤ 2 ^ 64 - 1 = omega (arith, ap (λ (z : Counts). z.e) was, totals.e_are) in
-      let s_capped : start.s ≤ 2 ^ 64 - 1 = omega (arith, ap (λ (z : Counts). z.s) was, totals.s_are) in
-      let counts : ◌≡◌ {A = Counts} (record { jobs = n.jobs; e = n.e; s = n.s }) (counted t code schedules es now (counts_of m)) =
-      counts_are t schedules es now code old new start n are jobs_capped e_capped s_capped is ∙ ap (counted t code schedules es now) (sym was) in
-      let written = listed_text_before t code schedules es m.show now ++ instant_text t code schedules es m.show now in
-      let next = whole_instant t code schedules loaded accepted.spelled.code m.show es now m.standing e1 m.run_state (counts_of m) (listed_text_before t code schedules es m.show now) written world s_machine whole passed follows refl in
-      let m1 : Seen = record m { run_state = record m.run_state { world = world; s_machine = s_machine }; standing = e1; list = last; jobs = n.jobs; e = n.e; s = n.s } in
+      let b = u.before in
+      let e_was : start.e ≡ m.e = ap (λ (z : Tally). z.e) was in
       record {
         kept =
             record {
@@ -149,7 +138,19 @@ module _ (m : Seen) (es : List Event) (now : ℕ) (accepted : IsAccepted m.objec
               takes = u.kept.takes;
               count = u.kept.count;
             };
-        before = before_of m1 es (suc now) written accepted (subst (λ (c : Counts). Whole t code schedules m.show es (suc now) e1 m1.run_state c written) (sym counts) next) goes;
+        before =
+            record {
+              values =
+                  valued_next t code schedules loaded accepted.spelled.code es u.kept.within now m.standing e1 m.run_state.world world m.e n.e b.values passed
+                  (e_are t schedules es now code old new start n is (e_was ∙ b.values.count) ∙ ap (λ k. min (k + length (e_path t code es now)) (2 ^ 64 - 1)) e_was);
+              records =
+                  record {
+                    s_machine = follows;
+                    goes = goes;
+                    jobs_are = jobs_are t schedules es now code old new start n is are (ap (λ (z : Tally). z.jobs) was ∙ b.records.jobs_are);
+                    s_are = s_are t schedules es now code old new start n is are (ap (λ (z : Tally). z.s) was ∙ b.records.s_are);
+                  };
+            };
       }
 
   -- ---- where no list begins
@@ -167,18 +168,18 @@ module _ (m : Seen) (es : List Event) (now : ℕ) (accepted : IsAccepted m.objec
       → d2 ≡ s_machine_replay m.object.ecode (phase_path m.object.tables m.object.ecode es now 3) d1 → rounds.Stands d2 steps
       → SMachineFollows (turn_at m.object.tables (schedules_of m.object) es) (hyper m.object.tables) (suc now) d2
   s_machine_goes_on steps idle by none r d1 d2 w1 b rec told st =
-      going_s_machine t code schedules loaded (modes_read t code schedules loaded accepted.spelled.code m.show) es u.kept.within (hyper t) refl now steps m.run_state.s_machine d1 d2 m.run_state.world w1 b
+      going_s_machine t code schedules loaded (modes_read t code accepted.spelled.code) es u.kept.within (hyper t) refl now steps m.run_state.s_machine d1 d2 m.run_state.world w1 b
       u.before.records.s_machine (schedule_own steps idle by none) r.stands rec told st
 
   pub list_goes_on : some_round_begins m.object.tables now ≡ false → GoesBy (turn_at m.object.tables (schedules_of m.object) es) (hyper m.object.tables) (suc now) m.list
-  list_goes_on b = going_on t code schedules loaded (modes_read t code schedules loaded accepted.spelled.code m.show) es u.kept.within (hyper t) refl now m.list b u.before.records.goes
+  list_goes_on b = going_on t code schedules loaded (modes_read t code accepted.spelled.code) es u.kept.within (hyper t) refl now m.list b u.before.records.goes
 
   -- ---- where a list begins
 
   pub over : (steps idle : List SInstr) → steps ≡ schedule_by m.object idle m.list → idle ≡ [] → IsReadyAt m es now steps → (d1 : Round) (w1 : Content)
       → some_round_begins m.object.tables now ≡ true → Records m.object.tables m.run_state.s_machine m.run_state.world d1 w1 steps now → (d1.running ≡ false) × IsAtEnd m.object.tables (schedules_of m.object) es now d1
   over steps idle by none r d1 w1 b rec =
-      list_over t code schedules loaded (modes_read t code schedules loaded accepted.spelled.code m.show) es u.kept.within (hyper t) refl now steps m.run_state.s_machine d1 m.run_state.world w1 b
+      list_over t code schedules loaded (modes_read t code accepted.spelled.code) es u.kept.within (hyper t) refl now steps m.run_state.s_machine d1 m.run_state.world w1 b
       u.before.records.s_machine (schedule_own steps idle by none) r.stands rec
 
   takes_are : (i v : ℕ) → now ≤ v → get_or m.run_state.takes i 0 ≡ took t es i v
@@ -191,7 +192,7 @@ module _ (m : Seen) (es : List Event) (now : ℕ) (accepted : IsAccepted m.objec
   -- the list that begins, behind the one that stood
   pub to_begin : (d1 : Round) → some_round_begins m.object.tables now ≡ true → IsAtEnd m.object.tables (schedules_of m.object) es now d1 → IsToBegin m.object.tables m.object.ecode (schedules_of m.object) es now m.run_state.takes m.list d1
   to_begin d1 b ends =
-      let reads = modes_read t code schedules loaded accepted.spelled.code m.show in
+      let reads = modes_read t code accepted.spelled.code in
       let h = beginning t code schedules loaded reads es u.kept.within now b in
       let ranges = accepted.spelled.formed.ranges in
       let many : length schedules ≡ length m.object.schedules = length-map m.object.schedules (λ (s : Schedule). s.instrs) in
@@ -204,55 +205,48 @@ module _ (m : Seen) (es : List Event) (now : ℕ) (accepted : IsAccepted m.objec
       → (let v = turn_at m.object.tables (schedules_of m.object) es now in SMachineAt v.plan v.frame (due_by v.plan v.frame now) (suc now - v.frame) d2)
       → SMachineFollows (turn_at m.object.tables (schedules_of m.object) es) (hyper m.object.tables) (suc now) d2
   s_machine_begins_so d2 b at =
-      let reads = modes_read t code schedules loaded accepted.spelled.code m.show in
+      let reads = modes_read t code accepted.spelled.code in
       let h = beginning t code schedules loaded reads es u.kept.within now b in
       begun_s_machine t code schedules loaded reads es u.kept.within now d2 h.0 h.1 at
 
   pub list_begins : (list : Option ListAt) → some_round_begins m.object.tables now ≡ true → list ≡ Some (turn_list (turn_at m.object.tables (schedules_of m.object) es now))
       → GoesBy (turn_at m.object.tables (schedules_of m.object) es) (hyper m.object.tables) (suc now) list
   list_begins list b is =
-      let reads = modes_read t code schedules loaded accepted.spelled.code m.show in
+      let reads = modes_read t code accepted.spelled.code in
       let h = beginning t code schedules loaded reads es u.kept.within now b in
       begun_goes t code schedules loaded reads es u.kept.within now list h.0 h.1 is
 
-  -- ---- what the instant owes, in both cases
+  -- ---- the records of the list that begins; none where none does
 
-  owed : (steps idle : List SInstr) → steps ≡ schedule_by m.object idle m.list → idle ≡ [] → (r : IsReadyAt m es now steps)
-      → owed_before (turn_at t schedules es) (hyper t) now ≡ some_records r.plan r.start r.place (due_by r.plan r.start now - r.place)
-  owed steps idle by none r =
-      sym (owed_are (turn_at t schedules es) (hyper t) now steps m.run_state.s_machine u.before.records.s_machine (schedule_own steps idle by none) r.plan r.start r.place r.offset r.same r.was)
-
-  pub records_go_on : (steps idle : List SInstr) → steps ≡ schedule_by m.object idle m.list → idle ≡ [] → (r : IsReadyAt m es now steps) → some_round_begins m.object.tables now ≡ false
-      → records_of m.object.tables (schedules_of m.object) es (hyper m.object.tables) now ≡ some_records r.plan r.start r.place (due_by r.plan r.start now - r.place) ++ []
-  records_go_on steps idle by none r b = by_root (hyper t) refl ∙ ap (λ (ls : List Left). ls ++ []) (owed steps idle by none r)
+  new_goes_on : some_round_begins m.object.tables now ≡ false → new_records m.object.tables (schedules_of m.object) es (hyper m.object.tables) now ≡ []
+  new_goes_on b = loaded_new t schedules es loaded u.kept.within now ∙ by_root (hyper t) refl
     where
-      by_root : (o : Option ℕ) → hyper t ≡ o → records_of t schedules es (hyper t) now ≡ owed_before (turn_at t schedules es) (hyper t) now ++ []
-      by_root None e = records_alone t schedules es now e ∙ sym (ap (λ o. owed_before (turn_at t schedules es) o now ++ []) e)
-      by_root (Some q) e =
-          records_going t schedules es now q e (going t code schedules loaded (modes_read t code schedules loaded accepted.spelled.code m.show) es u.kept.within q now e b)
-          ∙ sym (ap (λ o. owed_before (turn_at t schedules es) o now ++ []) e)
+      by_root : (o : Option ℕ) → hyper t ≡ o → standing_new t schedules es (hyper t) now ≡ []
+      by_root None e = ap (λ o. standing_new t schedules es o now) e
+      by_root (Some q) e = new_going t schedules es now q e (going t code schedules loaded (modes_read t code accepted.spelled.code) es u.kept.within q now e b)
 
-  pub records_begin : (steps idle : List SInstr) → steps ≡ schedule_by m.object idle m.list → idle ≡ [] → (r : IsReadyAt m es now steps) → some_round_begins m.object.tables now ≡ true
-      → records_of m.object.tables (schedules_of m.object) es (hyper m.object.tables) now
+  new_begins : some_round_begins m.object.tables now ≡ true
+      → new_records m.object.tables (schedules_of m.object) es (hyper m.object.tables) now
+      ≡ plan_records (turn_at m.object.tables (schedules_of m.object) es now).plan (turn_at m.object.tables (schedules_of m.object) es now).node (first_records m.object.tables (schedules_of m.object) es now)
+  new_begins b =
+      let h = beginning t code schedules loaded (modes_read t code accepted.spelled.code) es u.kept.within now b in
+      loaded_new t schedules es loaded u.kept.within now ∙ new_beginning t schedules es now h.0 h.1 h.2
+
+  pub records_go_on : (steps : List SInstr) (r : IsReadyAt m es now steps) → some_round_begins m.object.tables now ≡ false
+      → records_at m.object.tables (schedules_of m.object) es now ≡ some_records r.plan r.start r.place (due_by r.plan r.start now - r.place) ++ []
+  records_go_on steps r b = records_composed t schedules es now r.plan r.plan (node_by m.list) 0 _ [] r.owed (new_goes_on b)
+
+  pub records_begin : (steps : List SInstr) (r : IsReadyAt m es now steps) → some_round_begins m.object.tables now ≡ true
+      → records_at m.object.tables (schedules_of m.object) es now
       ≡ some_records r.plan r.start r.place (due_by r.plan r.start now - r.place) ++ first_records m.object.tables (schedules_of m.object) es now
-  records_begin steps idle by none r b =
-      let h = beginning t code schedules loaded (modes_read t code schedules loaded accepted.spelled.code m.show) es u.kept.within now b in
-      records_beginning t schedules es now h.0 h.1 h.2
-      ∙ sym (ap (λ o. owed_before (turn_at t schedules es) o now ++ first_records t schedules es now) h.1)
-      ∙ ap (λ (ls : List Left). ls ++ first_records t schedules es now) (owed steps idle by none r)
+  records_begin steps r b = let v = turn_at t schedules es now in records_composed t schedules es now r.plan v.plan (node_by m.list) v.node _ (first_records t schedules es now) r.owed (new_begins b)
 
-  -- the lines of the list that begins; none where none does
-  pub text_goes_on : some_round_begins m.object.tables now ≡ false → (list_texts m.object.tables (schedules_of m.object) es m.show (hyper m.object.tables) now).1 ≡ []
-  text_goes_on b = by_root (hyper t) refl
-    where
-      by_root : (o : Option ℕ) → hyper t ≡ o → (list_texts t schedules es m.show (hyper t) now).1 ≡ []
-      by_root None e = ap (λ (z : List ℕ × List ℕ). z.1) (texts_alone t code schedules es m.show now e)
-      by_root (Some q) e =
-          ap (λ (z : List ℕ × List ℕ). z.1)
-          (texts_going t code schedules es m.show now q e (going t code schedules loaded (modes_read t code schedules loaded accepted.spelled.code m.show) es u.kept.within q now e b))
+  -- and their lines
+  pub text_goes_on : some_round_begins m.object.tables now ≡ false → [] ≡ new_lines m.object.tables (schedules_of m.object) es m.show (hyper m.object.tables) now
+  text_goes_on b = sym (ap (joined (record_text t m.show)) (new_goes_on b))
 
   pub text_begins : some_round_begins m.object.tables now ≡ true
-      → (list_texts m.object.tables (schedules_of m.object) es m.show (hyper m.object.tables) now).1 ≡ beginning_text m.object.tables (schedules_of m.object) es m.show now
+      → beginning_text m.object.tables (schedules_of m.object) es m.show now ≡ new_lines m.object.tables (schedules_of m.object) es m.show (hyper m.object.tables) now
   text_begins b =
-      let h = beginning t code schedules loaded (modes_read t code schedules loaded accepted.spelled.code m.show) es u.kept.within now b in
-      ap (λ (z : List ℕ × List ℕ). z.1) (texts_beginning t code schedules es m.show now h.0 h.1 h.2)
+      let v = turn_at t schedules es now in
+      sym (ap (joined (record_text t m.show)) (new_begins b) ∙ joined-map (record_text t m.show) (record_of v.plan.jobs v.node v.plan.schedule) (first_records t schedules es now))

@@ -1,6 +1,6 @@
 -- The last part of an instant at which a list begins, put together.
 use Rattle.std.proofs.Common.{◌≡◌, ℕ, zero, suc, ◌+◌, ◌-◌, ◌<◌, ◌≤◌, ◌++◌, Bool, true, false, cond, List, [], ◌∷◌, length, get_or, slice_get, Option, Some, None, IfSome, Result, Ok, Err, refl, sym, ap, ◌∙◌, subst, arith}
-use Rattle.htl_machine.proofs.Words.{length-map, Puts, append_known-start, Puts-failed, Puts-second, Event, joined, AreInRange, Tables, Job, SInstr, Schedule, Point, Left, job_at, time_after, work_after, next_point, left_by, walk_from, finishes_by, left_same, time_passes, Round, Stands, round_begun, ECode, Calendar, Content, phase_path, Between, Plan, list_walk, count_left_before, modes_at, Shown, ListAt, Tally, CanFollow, IsToBegin, complete_at, complete_by, run_records, with_records, path_lines, SMachineAt, due_by, list_begun, Turn, reading_text, closing_text, first_records, beginning_text, Prints, Counted, s_machine_replay, Records, turn_at, instrs_by, node_by, turn_list, next_at, instrs_of, record_text, some_records, not_some, passes, same_Some}
+use Rattle.htl_machine.proofs.Words.{length-map, Puts, append_known-start, Puts-failed, Puts-second, Event, joined, AreInRange, Tables, Job, SInstr, Schedule, Point, Left, job_at, time_after, work_after, next_point, left_by, walk_from, finishes_by, left_same, time_passes, Round, Stands, round_begun, ECode, Calendar, Content, phase_path, Between, Plan, list_walk, count_left_before, modes_at, Shown, ListAt, Tally, CanFollow, IsToBegin, complete_at, complete_by, run_records, with_records, path_lines, SMachineAt, due_by, list_begun, Turn, reading_text, closing_text, first_records, beginning_text, Prints, Counted, s_machine_replay, Records, turn_at, instrs_by, node_by, turn_list, next_at, instrs_of, plan_text, some_records, not_some, passes, same_Some}
 use Rattle.htl_walk.specs.declared.schedule.SInstr.TheVariants.{Dispatch, Idle, End}
 use Rattle.htl_machine.proofs.Closings.{reads_second}
 use Rattle.htl_machine.proofs.Modes.{modes_are}
@@ -120,7 +120,7 @@ module _ (t : Tables) (lists : List (List SInstr)) (es : List Event) (at : ℕ) 
 
   pub first_told : {T E : Type 0} (show : Shown) (node : ℕ) (w0 w : Option (List ℕ)) (f0 f : ℕ) (result : Result T E) → node ≡ node_by list → Prints t show node told steps at w0 w f0 f result → Puts w0 w f0 f (beginning_text t lists es show at) result
   first_told show node w0 w f0 f result is prints =
-      subst (λ k. Puts w0 w f0 f (joined (record_text t show v.plan v.node) (some_records v.plan v.frame 0 k)) result) (no_place (due_by v.plan v.frame at))
+      subst (λ k. Puts w0 w f0 f (joined (plan_text t show v.plan v.node) (some_records v.plan v.frame 0 k)) result) (no_place (due_by v.plan v.frame at))
       (subst (λ n. Prints t show n told steps at w0 w f0 f result) (is ∙ ap node_by h.list_is) prints v.plan v.frame 0 (suc at - v.frame) h.same (omega (arith, h.past)) (omega arith) h.told_at)
 
 -- ---- the text

@@ -1,105 +1,19 @@
 -- The calls of the machine, by their contracts: each carries what the machine follows.
-use Rattle.std.proofs.Common.{◌≡◌, ℕ, zero, suc, ◌≤◌, ◌<◌, false, cond, ◌&&◌, eqb, leb, true, List, [], ◌∷◌, ◌++◌, length, map, get_or, slice_get, IfSome, Option, Some, None, ℤ, pos, refl, sym, ap, ap₂, ◌∙◌, subst, arith}
-use Rattle.htl_machine.proofs.Words.{nat_tests, length-map, length-set, slice_get_within, same_Some, Event, Comm, Inv, FitsType, hyper, Tables, task_worst, is_concrete, sense, initial, SInstr, Job, absent_job, job_at, ECode, Standing, first_standing, Content, first_content, StandsSafely, IsShaped, inv_worst, AreTookWithin, Object, IsAccepted, Shown, Seen, IsKept, IsBefore, IsUpTo, Follows, GoesBy, IsSensorValue, IsLength, IsFinished, first_seen, position_from, reading_of, at_reading, shown_as, taken_as, s_machine_taking, SMachineFollows, IsLoaded, Counts, schedules_of, listed_text_before, Whole, WholeFollowed, turn_at, turn_by, list_turn, ListAt, turn_list, Turn, not_some}
+use Rattle.std.proofs.Common.{◌≡◌, ℕ, zero, suc, ◌≤◌, ◌<◌, false, true, List, [], ◌∷◌, ◌++◌, length, map, get_or, slice_get, IfSome, Option, Some, None, ℤ, pos, refl, sym, ap, ap₂, ◌∙◌, subst, arith}
+use Rattle.htl_machine.proofs.Words.{length-map, slice_get_within, same_Some, Event, Comm, Inv, FitsType, hyper, Tables, task_worst, is_concrete, initial, SInstr, Job, absent_job, job_at, ECode, Standing, first_standing, Content, first_content, StandsSafely, IsShaped, inv_worst, AreTookWithin, Object, IsAccepted, Shown, Seen, IsBefore, IsUpTo, Follows, GoesBy, IsSensorValue, IsLength, IsFinished, first_seen, position_from, at_reading, shown_as, taken_as, s_machine_taking, SMachineFollows, IsLoaded, IsValued, IsTookWithin, RunState, finished_before, schedules_of, turn_at, turn_by, list_turn, ListAt, turn_list, Turn, not_some}
 use Rattle.htl_model.specs.declared.event.Event.TheVariants as V
 use Rattle.htl_smach.specs.Rounds as rounds
 use Rattle.htl_runs.proofs.lists.RunLists.{job_is_of}
 use Rattle.htl_runs.proofs.events.SameLists.{node_same}
 use Rattle.htl_runs.proofs.lists.LoadedLists.{loaded_run}
 use Rattle.htl_runs.proofs.jobs.Accepted.{accepted_is_loaded}
-use Rattle.htl_runs.proofs.events.SameTotals.{totals_start}
-use Rattle.htl_runs.proofs.events.SameSensors.{Alike, sense_at, sense_took, sense_sense}
+use Rattle.htl_runs.proofs.events.NextInstant.{valued_first}
+use Rattle.htl_runs.proofs.events.NextLength.{s_machine_follows}
+use Rattle.htl_runs.proofs.events.NextReading.{s_machine_alike}
+use Rattle.htl_runs.proofs.events.SameBefore.{AreSameBefore, same_at, same_sense, same_took, valued_stays, jobs_stay, s_stays}
+use Rattle.htl_runs.proofs.events.SameSensors.{Alike, took_at, took_sense}
+use Rattle.htl_runs.proofs.events.ToldSoFar.{reading_kept, sense_kept, took_kept}
 use Rattle.htl_runs.proofs.frames.JobWindows.{position_some}
-use Rattle.htl_runs.proofs.events.NextLength.{new_follows}
-use Rattle.htl_runs.proofs.lines.LoadedRecords.{loaded_jobs, loaded_s, loaded_e}
-use Rattle.htl_runs.proofs.events.WholeRuns.{whole_new, whole_reading, whole_sense, whole_took}
-
-abbrev pub counts_of : Seen → Counts
-counts_of m = record { jobs = m.jobs; e = m.e; s = m.s }
-
--- the whole machine before an instant, with the text of the instants before it
-abbrev pub IsWhole : Seen → List Event → ℕ → Type 0
-IsWhole m es now =
-    Whole m.object.tables m.object.ecode (schedules_of m.object) m.show es now m.standing m.run_state (counts_of m)
-    (listed_text_before m.object.tables m.object.ecode (schedules_of m.object) es m.show now)
-
-pub whole_of : (m : Seen) (es : List Event) (now : ℕ) → IsAccepted m.object → IsKept m.object.tables es m.run_state → reading_of 0 es ≤ now → IsBefore m es now → IsWhole m es now
-whole_of m es now accepted kept later b =
-    let loaded = accepted_is_loaded m.object accepted in
-    record {
-      triggers = b.values.triggers;
-      safe = b.values.safe;
-      stands =
-          record {
-            up_to =
-                record {
-                  within = kept.within;
-                  later = later;
-                  fits = kept.fits;
-                  shows = kept.shows;
-                  takes = kept.takes;
-                  values = b.values.values;
-                  shape = b.values.shaped;
-                  s_machine = b.records.s_machine;
-                };
-            totals =
-                record {
-                  jobs_are = b.records.jobs_are ∙ loaded_jobs m.object.tables (schedules_of m.object) es loaded kept.within now;
-                  e_are = b.values.count ∙ loaded_e m.object.tables (schedules_of m.object) es loaded kept.within m.object.ecode now;
-                  s_are = b.records.s_are ∙ loaded_s m.object.tables (schedules_of m.object) es loaded kept.within now;
-                };
-            text = refl;
-          };
-    }
-
-pub before_of : (m : Seen) (es : List Event) (now : ℕ) (written : List ℕ) → IsAccepted m.object
-    → Whole m.object.tables m.object.ecode (schedules_of m.object) m.show es now m.standing m.run_state (counts_of m) written
-    → GoesBy (turn_at m.object.tables (schedules_of m.object) es) (hyper m.object.tables) now m.list → IsBefore m es now
-before_of m es now written accepted w goes =
-    let loaded = accepted_is_loaded m.object accepted in
-    let within = w.stands.up_to.within in
-    record {
-      values =
-          record {
-            values = w.stands.up_to.values;
-            shaped = w.stands.up_to.shape;
-            triggers = w.triggers;
-            safe = w.safe;
-            count = w.stands.totals.e_are ∙ sym (loaded_e m.object.tables (schedules_of m.object) es loaded within m.object.ecode now);
-          };
-      records =
-          record {
-            s_machine = w.stands.up_to.s_machine;
-            goes = goes;
-            jobs_are = w.stands.totals.jobs_are ∙ sym (loaded_jobs m.object.tables (schedules_of m.object) es loaded within now);
-            s_are = w.stands.totals.s_are ∙ sym (loaded_s m.object.tables (schedules_of m.object) es loaded within now);
-          };
-    }
-
-followed_of : (m : Seen) (es : List Event) → IsAccepted m.object → Follows m es
-    → WholeFollowed m.object.tables m.object.ecode (schedules_of m.object) m.show es m.standing m.run_state (counts_of m)
-    (listed_text_before m.object.tables m.object.ecode (schedules_of m.object) es m.show m.run_state.reading)
-followed_of m es accepted f =
-    let w = whole_of m es m.run_state.reading accepted f.kept (omega (arith, f.kept.reading)) f.before in
-    record { follows = record { fresh = f.kept.fresh; reading = f.kept.reading; up_to = w.stands.up_to }; whole = w }
-
-follows_of : (m : Seen) (es : List Event) (written : List ℕ) → IsAccepted m.object
-    → WholeFollowed m.object.tables m.object.ecode (schedules_of m.object) m.show es m.standing m.run_state (counts_of m) written
-    → GoesBy (turn_at m.object.tables (schedules_of m.object) es) (hyper m.object.tables) m.run_state.reading m.list → length m.run_state.takes ≡ length m.object.tables.invs → Follows m es
-follows_of m es written accepted w goes count =
-    record {
-      kept =
-          record {
-            fresh = w.follows.fresh;
-            reading = w.follows.reading;
-            within = w.follows.up_to.within;
-            fits = w.follows.up_to.fits;
-            shows = w.follows.up_to.shows;
-            takes = w.follows.up_to.takes;
-            count = count;
-          };
-      before = before_of m es m.run_state.reading written accepted w.whole goes;
-    }
 
 -- ---- the list by which the machine goes
 
@@ -119,21 +33,42 @@ goes_alike t schedules loaded es fs within (Some p) (suc n) last a g = g ∙ ap 
 
 -- ---- calls
 
+-- what stood before an instant stands with events that agree before it, and what calls told
+pub before_stays : (m : Seen) (es fs : List Event) (now : ℕ) → IsAccepted m.object → AreSameBefore m.object.tables (schedules_of m.object) es fs now → IsBefore m es now → (r : RunState) → r.world ≡ m.run_state.world
+    → SMachineFollows (turn_at m.object.tables (schedules_of m.object) fs) (hyper m.object.tables) now r.s_machine → IsBefore (record m { run_state = r }) fs now
+before_stays m es fs now accepted same b r world s_machine =
+    let t = m.object.tables in
+    let schedules = schedules_of m.object in
+    let loaded = accepted_is_loaded m.object accepted in
+    record {
+      values =
+          subst (λ w. IsValued t m.object.ecode fs now (finished_before (turn_at t schedules fs) now) w m.standing m.e) (sym world)
+          (valued_stays t schedules loaded es fs now same m.object.ecode m.run_state.world m.standing m.e b.values);
+      records =
+          record {
+            s_machine = s_machine;
+            goes = goes_alike t schedules loaded es fs same.within (hyper t) now m.list same.alike b.records.goes;
+            jobs_are = b.records.jobs_are ∙ jobs_stay t schedules loaded es fs now same;
+            s_are = b.records.s_are ∙ s_stays t schedules loaded es fs now same;
+          };
+    }
+
 pub sense_follows : (m : Seen) (es : List Event) (c : ℕ) (x : ℤ) → IsAccepted m.object → IsSensorValue m.object.tables c x → Follows m es
     → Follows (record m { run_state = shown_as c x m.run_state }) (es ++ V.Sense c x ∷ [])
 sense_follows m es c x accepted sensor f =
     let t = m.object.tables in
-    let g =
-    whole_sense t m.object.ecode (schedules_of m.object) (accepted_is_loaded m.object accepted) accepted.spelled.code m.show es c x m.standing m.run_state (counts_of m)
-    (listed_text_before t m.object.ecode (schedules_of m.object) es m.show m.run_state.reading) (slice_get_within t.comms c sensor.comm sensor.known)
-    (subst (λ (o : Option Comm). IfSome o (λ y. FitsType y.ty x)) (sym sensor.known) sensor.fits) (followed_of m es accepted f) in
-    follows_of (record m { run_state = shown_as c x m.run_state }) (es ++ V.Sense c x ∷ []) _ accepted g
-    (goes_alike t (schedules_of m.object) (accepted_is_loaded m.object accepted) es (es ++ V.Sense c x ∷ []) f.kept.within (hyper t) m.run_state.reading m.list
-    (λ d u h. sym (sense_sense t es c d u x ∙ ap (λ b. cond b x (sense t es d u)) (early d u (omega (arith, f.kept.reading, h))))) f.before.records.goes)
-    f.kept.count
-  where
-    early : (d u : ℕ) → u < reading_of 0 es → (eqb d c && leb (reading_of 0 es) u) ≡ false
-    early d u h = grind (arith, nat_tests)
+    let now = m.run_state.reading in
+    let fs = es ++ V.Sense c x ∷ [] in
+    let loaded = accepted_is_loaded m.object accepted in
+    let same = same_sense t (schedules_of m.object) loaded es f.kept.within c x now (omega (arith, f.kept.reading)) in
+    record {
+      kept =
+          sense_kept t es m.run_state f.kept c x (slice_get_within t.comms c sensor.comm sensor.known)
+          (subst (λ (o : Option Comm). IfSome o (λ y. FitsType y.ty x)) (sym sensor.known) sensor.fits);
+      before =
+          before_stays m es fs now accepted same f.before (shown_as c x m.run_state) refl
+          (s_machine_alike t (schedules_of m.object) es fs now same.alike loaded f.kept.within (λ i u. sym (took_sense t es c i u x)) (hyper t) now m.run_state.s_machine (omega arith) f.before.records.s_machine);
+    }
 
 -- the worst case of the job at an invocation's position is the invocation's
 pub position_worst : (m : Seen) (es : List Event) (i n p : ℕ) → IsAccepted m.object → IsLength m.object.tables i n → Follows m es
@@ -171,24 +106,30 @@ pub took_follows : (m : Seen) (es : List Event) (i n : ℕ) → IsAccepted m.obj
     → Follows (record m { run_state = taken_as i n m.run_state }) (es ++ V.Took i n ∷ [])
 took_follows m es i n accepted length keeps f =
     let t = m.object.tables in
+    let now = m.run_state.reading in
+    let loaded = accepted_is_loaded m.object accepted in
     let worst : inv_worst t i ≡ task_worst t length.inv.task = ap (λ (o : Option Inv). elim o [ Some x ↦ task_worst t x.task | None ↦ 0 ]) length.known in
-    let g =
-    whole_took t m.object.ecode (schedules_of m.object) (accepted_is_loaded m.object accepted) accepted.spelled.code m.show es i n m.standing m.run_state (counts_of m)
-    (listed_text_before t m.object.ecode (schedules_of m.object) es m.show m.run_state.reading) (length.some, omega (arith, length.worst, worst)) (slice_get_within t.invs i length.inv length.known) f.kept.count keeps
-    (followed_of m es accepted f) in
-    follows_of (record m { run_state = taken_as i n m.run_state }) (es ++ V.Took i n ∷ []) _ accepted g
-    (goes_alike t (schedules_of m.object) (accepted_is_loaded m.object accepted) es (es ++ V.Took i n ∷ []) f.kept.within (hyper t) m.run_state.reading m.list (λ d u h. sym (sense_took t es i n d u)) f.before.records.goes)
-    (length-set m.run_state.takes i n ∙ f.kept.count)
+    let fits : IsTookWithin t (V.Took i n) = (length.some, omega (arith, length.worst, worst)) in
+    record {
+      kept = took_kept t es m.run_state f.kept i n fits (slice_get_within t.invs i length.inv length.known);
+      before =
+          before_stays m es (es ++ V.Took i n ∷ []) now accepted (same_took t (schedules_of m.object) loaded es f.kept.within i n fits now f.kept.reading) f.before (taken_as i n m.run_state) refl
+          (s_machine_follows t (schedules_of m.object) loaded es f.kept.within i n fits now f.kept.reading (hyper t) refl m.run_state.s_machine f.before.records.s_machine keeps);
+    }
 
 -- a reading, once all instants before it are done
 pub read_follows : (m : Seen) (es : List Event) (to : ℕ) → IsAccepted m.object → m.run_state.reading ≤ to → IsUpTo m es to → Follows (record m { run_state = at_reading to m.run_state }) (es ++ V.At to ∷ [])
 read_follows m es to accepted later f =
     let t = m.object.tables in
-    let g =
-    whole_reading t m.object.ecode (schedules_of m.object) (accepted_is_loaded m.object accepted) accepted.spelled.code m.show es to m.standing m.run_state (counts_of m)
-    (listed_text_before t m.object.ecode (schedules_of m.object) es m.show to) f.kept.fresh (whole_of m es to accepted f.kept (omega (arith, f.kept.reading, later)) f.before) in
-    follows_of (record m { run_state = at_reading to m.run_state }) (es ++ V.At to ∷ []) _ accepted g
-    (goes_alike t (schedules_of m.object) (accepted_is_loaded m.object accepted) es (es ++ V.At to ∷ []) f.kept.within (hyper t) to m.list (λ d u h. sym (sense_at t es to d u)) f.before.records.goes) f.kept.count
+    let fs = es ++ V.At to ∷ [] in
+    let loaded = accepted_is_loaded m.object accepted in
+    let same = same_at t (schedules_of m.object) loaded es f.kept.within to to in
+    record {
+      kept = reading_kept t es m.run_state f.kept to later;
+      before =
+          before_stays m es fs to accepted same f.before (at_reading to m.run_state) refl
+          (s_machine_alike t (schedules_of m.object) es fs to same.alike loaded f.kept.within (λ i u. sym (took_at t es to i u)) (hyper t) to m.run_state.s_machine (omega arith) f.before.records.s_machine);
+    }
 
 -- the end of a run
 pub finished : (m : Seen) (es : List Event) (to : ℕ) → IsUpTo m es (suc to) → IsFinished (record m { run_state = record m.run_state { reading = to; spent = true } }) es to
@@ -212,15 +153,28 @@ pub first_follows : (o : Object) (show : Shown) → IsAccepted o → StandsSafel
     → Follows (first_seen o show (first_content o.tables) (first_standing o.tables o.ecode)) []
 first_follows o show accepted safe shaped =
     let t = o.tables in
-    let m = first_seen o show (first_content t) (first_standing t o.ecode) in
-    let loaded = accepted_is_loaded o accepted in
-    let f =
-    new_follows t (schedules_of o) m.run_state refl refl shaped.values (λ c below. initial_is c below) (λ i below. worst_is i below) refl shaped refl in
-    let w =
-    whole_new t o.ecode (schedules_of o) loaded accepted.spelled.code show m.run_state (counts_of m) [] safe
-    (record { follows = f; stands = record { up_to = f.up_to; totals = totals_start t o.ecode (schedules_of o) []; text = refl } }) in
-    follows_of m [] [] accepted w (goes (hyper t)) (length-map t.invs _)
+    record {
+      kept =
+          record {
+            fresh = refl;
+            reading = refl;
+            within = tt;
+            fits = shaped.values;
+            shows = λ c u below h. sym (initial_is c below);
+            takes = λ i u below h. sym (worst_is i below);
+            count = length-map t.invs _;
+          };
+      before =
+          record {
+            values = valued_first t o.ecode (schedules_of o) (accepted_is_loaded o accepted) accepted.spelled.code (first_content t) refl shaped safe;
+            records = record { s_machine = idle (hyper t); goes = goes (hyper t); jobs_are = refl; s_are = refl };
+          };
+    }
   where
+    idle : (p : Option ℕ) → SMachineFollows (turn_at o.tables (schedules_of o) []) p 0 rounds.no_round
+    idle None = refl
+    idle (Some p) = refl
+
     goes : (p : Option ℕ) → GoesBy (turn_at o.tables (schedules_of o) []) p 0 None
     goes None = refl
     goes (Some p) = refl

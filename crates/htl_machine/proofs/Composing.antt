@@ -1,8 +1,8 @@
 -- The text and the counts of an instant, from those of its parts.
-use Rattle.std.proofs.Common.{◌≡◌, ◌≢◌, ℕ, zero, suc, ◌+◌, ◌-◌, ◌^◌, min, ◌≤◌, Bool, true, false, cond, List, [], ◌∷◌, ◌++◌, length, Some, None, refl, sym, ap, ◌∙◌, arith, length-append}
-use Rattle.htl_machine.proofs.Words.{count_by, eq-eqb, ne_eqb, append_assoc, sum_by-cons, sum_by-append, Event, lines_text, value_lines, hyper, Tables, SInstr, ECode, e_path, phase_path, Shown, shows_values, Tally, one_record, one_instr, with_records, with_instrs, path_lines, closing_text, first_records, beginning_text, left_before, records_text, some_records, turn_old_records, list_texts, instant_text, records_of, old_turn, whole_path, Counts, turn_at}
+use Rattle.std.proofs.Common.{◌≡◌, ◌≢◌, ℕ, zero, suc, ◌+◌, ◌-◌, ◌^◌, min, ◌≤◌, Bool, true, false, cond, List, [], ◌∷◌, ◌++◌, length, map, Some, refl, sym, ap, ap₂, ◌∙◌, arith, length-append}
+use Rattle.htl_machine.proofs.Words.{count_by, eq-eqb, ne_eqb, append_assoc, sum_by-cons, sum_by-append, Event, lines_text, value_lines, hyper, Tables, SInstr, ECode, e_path, phase_path, Shown, shows_values, Tally, one_record, one_instr, with_records, with_instrs, path_lines, closing_text, first_records, left_before, Plan, some_records, whole_path, turn_at, RunRecord, old_records, new_records, plan_records, standing_new, old_lines, new_lines, lines, records_at, jobs_done, e_done, s_done}
 use Rattle.htl_smach.specs.declared.left.Left.{Left}
-use Rattle.htl_runs.proofs.events.WholeRuns.{counted}
+use Rattle.htl_runs.proofs.lines.LoadedRecords.{jobs_more, s_more}
 use Rattle.htl_machine.proofs.Agreeing.{phases_are, instrs_capped, steps_capped}
 
 regroup : (o a b c v n : List ℕ) → (o ++ a) ++ ((b ++ (c ++ v)) ++ n) ≡ o ++ (a ++ (b ++ c)) ++ v ++ n
@@ -15,36 +15,14 @@ regroup o a b c v n =
 
 module _ (t : Tables) (code : ECode) (schedules : List (List SInstr)) (es : List Event) (show : Shown) (now : ℕ) where
   -- the lines of the list before and of the writes, then those of switches, reads and changes, then those of the list that begins
-  pub instant_composed : (old new : List ℕ) → list_texts t schedules es show (hyper t) now ≡ (old, new)
-      → (old ++ path_lines t code show now (phase_path t code es now 1)) ++ (closing_text t code es show now ++ new) ≡ instant_text t code schedules es show now
-  instant_composed old new are =
+  pub instant_composed : (old new : List ℕ) → old ≡ old_lines t schedules es show (hyper t) now → new ≡ new_lines t schedules es show (hyper t) now
+      → (old ++ path_lines t code show now (phase_path t code es now 1)) ++ (closing_text t code es show now ++ new) ≡ lines t code schedules es show now
+  instant_composed old new is are =
       let values : List ℕ = cond (shows_values show) (lines_text t (value_lines t es now)) [] in
       let done : ℕ → List ℕ = λ phase. path_lines t code show now (phase_path t code es now phase) in
       regroup old (done 1) (done 2) (done 3) values new
       ∙ ap (λ z. old ++ z ++ values ++ new) (sym (phases_are t code es show now))
-      ∙ ap (λ (r : List ℕ × List ℕ). r.0 ++ path_lines t code show now (e_path t code es now) ++ values ++ r.1) (sym are)
-
-  -- where no list begins
-  pub texts_going : (period : ℕ) → hyper t ≡ Some period → (turn_at t schedules es now).frame + (turn_at t schedules es now).from ≢ now
-      → list_texts t schedules es show (hyper t) now ≡ (records_text t show (old_turn (turn_at t schedules es) now) (turn_old_records (turn_at t schedules es) now), [])
-  texts_going period root apart =
-      let turn = turn_at t schedules es in
-      let u = turn now in
-      ap (λ o. list_texts t schedules es show o now) root
-      ∙ ap (λ b. (records_text t show (old_turn turn now) (turn_old_records turn now), records_text t show u (cond b (some_records u.plan u.frame 0 (left_before u (suc now))) []))) (ne_eqb (u.frame + u.from) now apart)
-
-  -- where one begins
-  pub texts_beginning : (period : ℕ) → hyper t ≡ Some period → (turn_at t schedules es now).frame + (turn_at t schedules es now).from ≡ now
-      → list_texts t schedules es show (hyper t) now ≡ (records_text t show (old_turn (turn_at t schedules es) now) (turn_old_records (turn_at t schedules es) now), beginning_text t schedules es show now)
-  texts_beginning period root here =
-      let turn = turn_at t schedules es in
-      let u = turn now in
-      ap (λ o. list_texts t schedules es show o now) root
-      ∙ ap (λ b. (records_text t show (old_turn turn now) (turn_old_records turn now), records_text t show u (cond b (some_records u.plan u.frame 0 (left_before u (suc now))) []))) (eq-eqb (u.frame + u.from) now here)
-
-  -- without modules
-  pub texts_alone : hyper t ≡ None → list_texts t schedules es show (hyper t) now ≡ ([], [])
-  texts_alone root = ap (λ o. list_texts t schedules es show o now) root
+      ∙ ap₂ (λ (a b : List ℕ). a ++ path_lines t code show now (e_path t code es now) ++ values ++ b) is are
 
 -- ---- counts
 
@@ -126,41 +104,46 @@ path_length t code es now =
 
 -- ---- the records of an instant
 
+lefts_are : (p q : Plan) (m n : ℕ) (xs ys : List Left) → map (λ (x : RunRecord). x.left) (plan_records p m xs ++ plan_records q n ys) ≡ xs ++ ys
+lefts_are p q m n [] [] = refl
+lefts_are p q m n [] (y ∷ ys) = ap (λ (ls : List Left). y ∷ ls) (lefts_are p q m n [] ys)
+lefts_are p q m n (x ∷ xs) ys = ap (λ (ls : List Left). x ∷ ls) (lefts_are p q m n xs ys)
+
 module _ (t : Tables) (schedules : List (List SInstr)) (es : List Event) (now : ℕ) where
-  pub records_going : (period : ℕ) → hyper t ≡ Some period → (turn_at t schedules es now).frame + (turn_at t schedules es now).from ≢ now
-      → records_of t schedules es (hyper t) now ≡ turn_old_records (turn_at t schedules es) now ++ []
-  records_going period root apart =
-      let turn = turn_at t schedules es in
-      let u = turn now in
-      ap (λ o. records_of t schedules es o now) root
-      ∙ ap (λ b. turn_old_records turn now ++ cond b (some_records u.plan u.frame 0 (left_before u (suc now))) []) (ne_eqb (u.frame + u.from) now apart)
+  -- of the list that begins, where none does, and where one does
+  pub new_going : (period : ℕ) → hyper t ≡ Some period → (turn_at t schedules es now).frame + (turn_at t schedules es now).from ≢ now → standing_new t schedules es (hyper t) now ≡ []
+  new_going period root apart =
+      let u = turn_at t schedules es now in
+      ap (λ o. standing_new t schedules es o now) root
+      ∙ ap (λ b. plan_records u.plan u.node (cond b (some_records u.plan u.frame 0 (left_before u (suc now))) [])) (ne_eqb (u.frame + u.from) now apart)
 
-  pub records_beginning : (period : ℕ) → hyper t ≡ Some period → (turn_at t schedules es now).frame + (turn_at t schedules es now).from ≡ now
-      → records_of t schedules es (hyper t) now ≡ turn_old_records (turn_at t schedules es) now ++ first_records t schedules es now
-  records_beginning period root here =
-      let turn = turn_at t schedules es in
-      let u = turn now in
-      ap (λ o. records_of t schedules es o now) root
-      ∙ ap (λ b. turn_old_records turn now ++ cond b (some_records u.plan u.frame 0 (left_before u (suc now))) []) (eq-eqb (u.frame + u.from) now here)
+  pub new_beginning : (period : ℕ) → hyper t ≡ Some period → (turn_at t schedules es now).frame + (turn_at t schedules es now).from ≡ now
+      → standing_new t schedules es (hyper t) now ≡ plan_records (turn_at t schedules es now).plan (turn_at t schedules es now).node (first_records t schedules es now)
+  new_beginning period root here =
+      let u = turn_at t schedules es now in
+      ap (λ o. standing_new t schedules es o now) root
+      ∙ ap (λ b. plan_records u.plan u.node (cond b (some_records u.plan u.frame 0 (left_before u (suc now))) [])) (eq-eqb (u.frame + u.from) now here)
 
-  pub records_alone : hyper t ≡ None → records_of t schedules es (hyper t) now ≡ []
-  records_alone root = ap (λ o. records_of t schedules es o now) root
+  pub records_composed : (p q : Plan) (m n : ℕ) (xs ys : List Left) → plan_records p m xs ≡ old_records t schedules es (hyper t) now → new_records t schedules es (hyper t) now ≡ plan_records q n ys → records_at t schedules es now ≡ xs ++ ys
+  records_composed p q m n xs ys old new = ap₂ (λ (us vs : List RunRecord). map (λ (x : RunRecord). x.left) (us ++ vs)) (sym old) new ∙ lefts_are p q m n xs ys
 
   -- so what is counted is what the instant counts
-  pub counts_are : (code : ECode) (old new : List Left) (n m : Tally) → records_of t schedules es (hyper t) now ≡ old ++ new → n.jobs ≤ 2 ^ 64 - 1 → n.e ≤ 2 ^ 64 - 1 → n.s ≤ 2 ^ 64 - 1
-      → m ≡ counts_after old new (length (phase_path t code es now 1)) (length (phase_path t code es now 2)) (length (phase_path t code es now 3)) n
-      → ◌≡◌ {A = Counts} (record { jobs = m.jobs; e = m.e; s = m.s }) (counted t code schedules es now (record { jobs = n.jobs; e = n.e; s = n.s }))
-  counts_are code old new n m are some_jobs some_instrs some_steps is =
-      let a = length (phase_path t code es now 1) in
-      let b = length (phase_path t code es now 2) in
-      let c = length (phase_path t code es now 3) in
-      let make : ℕ → ℕ → ℕ → Counts = λ jobs instrs steps. record { jobs = jobs; e = instrs; s = steps } in
-      let jobs : m.jobs ≡ min (n.jobs + count_by (λ (l : Left). l.finished) (records_of t schedules es (hyper t) now)) (2 ^ 64 - 1) =
-      ap (λ (z : Tally). z.jobs) is ∙ jobs_after old new a b c n some_jobs ∙ ap (λ ls. min (n.jobs + count_by (λ (l : Left). l.finished) ls) (2 ^ 64 - 1)) (sym are) in
-      let instrs : m.e ≡ min (n.e + length (e_path t code es now)) (2 ^ 64 - 1) =
-      ap (λ (z : Tally). z.e) is ∙ instrs_after old new a b c n some_instrs ∙ ap (λ k. min (n.e + k) (2 ^ 64 - 1)) (sym (path_length t code es now)) in
-      let steps : m.s ≡ min (n.s + length (records_of t schedules es (hyper t) now)) (2 ^ 64 - 1) =
-      ap (λ (z : Tally). z.s) is ∙ steps_after old new a b c n some_steps ∙ ap (λ (ls : List Left). min (n.s + length ls) (2 ^ 64 - 1)) (sym are) in
-      ap (λ z. make z m.e m.s) jobs
-      ∙ ap (λ z. make (min (n.jobs + count_by (λ (l : Left). l.finished) (records_of t schedules es (hyper t) now)) (2 ^ 64 - 1)) z m.s) instrs
-      ∙ ap (λ z. make (min (n.jobs + count_by (λ (l : Left). l.finished) (records_of t schedules es (hyper t) now)) (2 ^ 64 - 1)) (min (n.e + length (e_path t code es now)) (2 ^ 64 - 1)) z) steps
+  module _ (code : ECode) (old new : List Left) (n m : Tally)
+      (is : m ≡ counts_after old new (length (phase_path t code es now 1)) (length (phase_path t code es now 2)) (length (phase_path t code es now 3)) n) where
+    abbrev phase : ℕ → ℕ
+    phase k = length (phase_path t code es now k)
+
+    pub jobs_are : records_at t schedules es now ≡ old ++ new → n.jobs ≡ jobs_done t schedules es now → m.jobs ≡ jobs_done t schedules es (suc now)
+    jobs_are are was =
+        ap (λ (z : Tally). z.jobs) is ∙ jobs_after old new (phase 1) (phase 2) (phase 3) n (omega (arith, was))
+        ∙ ap₂ (λ k ls. min (k + count_by (λ (l : Left). l.finished) ls) (2 ^ 64 - 1)) was (sym are) ∙ sym (jobs_more t schedules es now)
+
+    pub s_are : records_at t schedules es now ≡ old ++ new → n.s ≡ s_done t schedules es now → m.s ≡ s_done t schedules es (suc now)
+    s_are are was =
+        ap (λ (z : Tally). z.s) is ∙ steps_after old new (phase 1) (phase 2) (phase 3) n (omega (arith, was))
+        ∙ ap₂ (λ k (ls : List Left). min (k + length ls) (2 ^ 64 - 1)) was (sym are) ∙ sym (s_more t schedules es now)
+
+    pub e_are : n.e ≡ e_done t code es now → m.e ≡ min (n.e + length (e_path t code es now)) (2 ^ 64 - 1)
+    e_are was =
+        ap (λ (z : Tally). z.e) is ∙ instrs_after old new (phase 1) (phase 2) (phase 3) n (omega (arith, was))
+        ∙ ap (λ k. min (n.e + k) (2 ^ 64 - 1)) (sym (path_length t code es now))

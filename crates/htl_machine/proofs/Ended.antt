@@ -1,6 +1,6 @@
 -- The text of an instant, by whether a round begins.
 use Rattle.std.proofs.Common.{◌≡◌, ℕ, ◌-◌, ◌≤◌, true, false, List, [], ◌++◌, Option, Result, Ok, Err, refl, sym, subst}
-use Rattle.htl_machine.proofs.Words.{append-nil, Puts, Puts-second, Event, joined, hyper, Tables, SInstr, ECode, phase_path, IsAccepted, Seen, IsUpTo, node_by, path_lines, IsReadyAt, due_by, Opens, closing_text, beginning_text, lines_of, schedules_of, instrs_of, Schedule, record_text, list_texts, some_records, some_round_begins}
+use Rattle.htl_machine.proofs.Words.{append-nil, Puts, Puts-second, Event, joined, hyper, Tables, SInstr, ECode, phase_path, IsAccepted, Seen, IsUpTo, node_by, path_lines, IsReadyAt, due_by, Opens, closing_text, beginning_text, lines_of, schedules_of, instrs_of, Schedule, plan_text, new_lines, some_records, some_round_begins}
 use Rattle.htl_smach.specs.declared.left.Left.{Left}
 use Rattle.htl_machine.proofs.After.{lines_are_composed, text_goes_on, text_begins}
 use Rattle.htl_machine.proofs.Beginnings.{then_more}
@@ -20,17 +20,17 @@ module _ (m : Seen) (es : List Event) (now : ℕ) (accepted : IsAccepted m.objec
     old = some_records r.plan r.start r.place (due_by r.plan r.start now - r.place)
 
     abbrev first : List ℕ
-    first = joined (record_text t m.show r.plan (node_by m.list)) old ++ path_lines t code m.show now (phase_path t code es now 1)
+    first = joined (plan_text t m.show r.plan (node_by m.list)) old ++ path_lines t code m.show now (phase_path t code es now 1)
 
     pub open_failed : {T S E F : Type 0} (w0 w : Option (List ℕ)) (f0 f : ℕ) (x : E) (y : F)
         → Opens {T = T} {E = E} m.object.tables m.object.ecode es m.show (node_by m.list) m.run_state.s_machine steps now w0 w f0 f (Err x) → Puts {T = S} {E = F} w0 w f0 f (lines_of m.object es m.show now) (Err y)
     open_failed {S = S} {F = F} w0 w f0 f x y opens =
-        let rest = (list_texts t schedules es m.show (hyper t) now).1 in
+        let rest = new_lines t schedules es m.show (hyper t) now in
         subst (λ z. Puts {T = S} {E = F} w0 w f0 f z (Err y)) (lines_are_composed m es now accepted read u steps r rest refl)
         (then_more first (closing_text t code es m.show now ++ rest) w0 w f0 f x y (opens r.plan r.start r.place r.offset r.same r.past r.few r.was))
 
     closed : {T S E F : Type 0} (new : List ℕ) (w0 w1 w : Option (List ℕ)) (f0 f1 f : ℕ) (x : T) (result : Result S F)
-        → (list_texts m.object.tables (schedules_of m.object) es m.show (hyper m.object.tables) now).1 ≡ new
+        → new ≡ new_lines m.object.tables (schedules_of m.object) es m.show (hyper m.object.tables) now
         → Opens {T = T} {E = E} m.object.tables m.object.ecode es m.show (node_by m.list) m.run_state.s_machine steps now w0 w1 f0 f1 (Ok x)
         → Puts {T = S} {E = F} w1 w f1 f (closing_text m.object.tables m.object.ecode es m.show now ++ new) result → Puts {T = S} {E = F} w0 w f0 f (lines_of m.object es m.show now) result
     closed {S = S} {F = F} new w0 w1 w f0 f1 f x result is opens puts =

@@ -1,8 +1,6 @@
 -- The S machine and the list that stands, over an instant: the same goes on, or it is over and the next begins.
-use Rattle.std.proofs.Common.{◌≡◌, ◌≢◌, ℕ, zero, suc, ◌+◌, ◌-◌, ◌%◌, take, drop, ◌≤◌, ◌<◌, true, false, List, [], ◌∷◌, length, slice_get, Option, Some, None, refl, sym, ap, ap₂, ◌∙◌, subst, arith, inl, inr}
-use Rattle.htl_machine.proofs.Words.{eqb-true, eqb-false, Event, Module, places_from, frame_of, hyper, is_root, root_modules, Tables, state, Job, SInstr, Point, walk_from, Round, no_round, told_from, ECode, EInstr, Done, ModeReads, Content, phase_path, Plan, list_walk, count_left_before, AreTookWithin, ListAt, GoesBy, IsLoaded, SMachineAt, SMachineStands, SMachineFollows, due_by, Leaves, s_machine_replay, s_machine_at, Records, some_records, turn_old_records, raise_all, some_round_begins, all_reads, Turn, AreTurns, AreListed, turn_walk, turn_at, turn_by, list_turn, IsAtEnd, turn_list}
-use Rattle.htl_walk.specs.Walk as walks
-use Rattle.htl_smach.specs.declared.left.Left.{Left}
+use Rattle.std.proofs.Common.{◌≡◌, ◌≢◌, ℕ, zero, suc, ◌+◌, ◌-◌, ◌%◌, ◌≤◌, ◌<◌, true, false, List, [], ◌∷◌, length, slice_get, Option, Some, None, refl, sym, ap, ◌∙◌, subst, arith, inl, inr}
+use Rattle.htl_machine.proofs.Words.{eqb-true, eqb-false, Event, Module, places_from, frame_of, hyper, is_root, root_modules, Tables, state, SInstr, Round, no_round, ECode, EInstr, Done, ModeReads, Content, phase_path, AreTookWithin, ListAt, GoesBy, IsLoaded, SMachineAt, SMachineStands, SMachineFollows, due_by, Leaves, s_machine_replay, s_machine_at, Records, raise_all, some_round_begins, all_reads, Turn, AreTurns, AreListed, turn_at, turn_by, list_turn, IsAtEnd, turn_list}
 use Rattle.htl_smach.specs.Rounds as rounds
 use Rattle.htl_ecode.specs.declared.instr.EInstr.TheVariants as I
 use Rattle.htl_runs.proofs.instants.NoModules.{stands_nowhere}
@@ -40,35 +38,6 @@ nowhere_told code (d ∷ ds) = ap (s_machine_replay code ds) (by_instr (slice_ge
     by_instr (Some I.Leave) = refl
     by_instr (Some (I.Fork a)) = refl
     by_instr (Some I.Return) = refl
-
--- ---- the records that are owed
-
--- of the list before an instant
-abbrev pub owed_before : (ℕ → Turn) → Option ℕ → ℕ → List Left
-owed_before turn None now = []
-owed_before turn (Some q) now = turn_old_records turn now
-
-none_left : (s n k : ℕ) → take n (drop k (told_from s 0 [])) ≡ []
-none_left s zero zero = refl
-none_left s zero (suc k) = refl
-none_left s (suc n) zero = refl
-none_left s (suc n) (suc k) = refl
-
-no_records : (p : Plan) (s k n : ℕ) → p.schedule ≡ [] → some_records p s k n ≡ []
-no_records p s k n e = ap (λ (is : List SInstr). take n (drop k (told_from s 0 (walk_from p.jobs is p.first)))) e ∙ none_left s n k
-
--- wherever the S machine is told to stand, it owes these
-pub owed_are : (turn : ℕ → Turn) (o : Option ℕ) (now : ℕ) (steps : List SInstr) (s_machine : Round) → SMachineFollows turn o now s_machine → IsScheduleOf turn o now steps
-    → (p : Plan) (s k d : ℕ) → p.schedule ≡ steps → SMachineAt p s k d s_machine → some_records p s k (due_by p s now - k) ≡ owed_before turn o now
-owed_are turn None now steps s_machine f own p s k d same at = no_records p s k (due_by p s now - k) (same ∙ own)
-owed_are turn (Some q) zero steps s_machine f own p s k d same at = no_records p s k (due_by p s 0 - k) (same ∙ own)
-owed_are turn (Some q) (suc n) steps s_machine f own p s k d same at =
-    let u = turn n in
-    let text : List walks.Left → ℕ → ℕ → List Left = λ ls s k. take (count_left_before (suc (suc n) - s) ls - k) (drop k (told_from s 0 ls)) in
-    let walked : list_walk p ≡ turn_walk u =
-    ap (λ (js : List Job). walk_from js p.schedule p.first) (sym at.jobs ∙ f.jobs)
-    ∙ ap₂ (λ (is : List SInstr) (x : Point). walk_from u.plan.jobs is x) (same ∙ own) (sym at.first ∙ f.first) in
-    ap (λ ls. text ls s k) walked ∙ ap (λ z. text (turn_walk u) z k) (sym at.start ∙ f.start) ∙ ap (text (turn_walk u) u.frame) (sym at.place ∙ f.place)
 
 module _ (t : Tables) (code : ECode) (schedules : List (List SInstr)) (loaded : IsLoaded t schedules) (reads : (k : ℕ) → k < length t.modes → ModeReads t code k) (es : List Event) (within : AreTookWithin t es) where
   abbrev turn : ℕ → Turn

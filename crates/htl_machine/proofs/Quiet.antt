@@ -1,6 +1,6 @@
 -- Over instants at which nothing is due a machine goes on as it stands.
 use Rattle.std.proofs.Common.{◌≡◌, ℕ, zero, suc, ◌+◌, ◌-◌, ◌%◌, ◌<◌, ◌≤◌, Bool, true, false, cond, ◌||◌, not, eqb, List, [], ◌∷◌, ◌++◌, length, get_or, slice_get, map, Option, Some, None, IfSome, ℤ, pos, refl, sym, ap, ap₂, ◌∙◌, subst, arith}
-use Rattle.htl_machine.proofs.Words.{nat_tests, append_known, append-nil, slice_get_within, Event, Line, ValueLine, ModeLine, Comm, same, lines_text, joined, up_to, state, before, value_in, mode_in_state, value_line, mode_line, value_lines, same_mode, hyper, Tables, mode_period, SInstr, next_left, ECode, Done, e_path, spelled_departs_not, Block, Content, IsDueAt, IsNext, IsNextOf, phase_path, sound, Sound, Object, IsAccepted, records, Shown, shows_code, shows_values, Tally, Seen, IsUpTo, schedule_by, text_between, node_by, path_lines, IsLoaded, IsReadyAt, due_by, IsOpened, closing_text, IsPassing, ArePassing, IsOnward, lines_of, schedules_of, Records, replay, s_machine_replay, AreShown, ShowsNothing, e_line, record_text, records_of, some_records, some_round_begins, IsQuiet, AreQuiet, IsEmpty, PassOver, beginnings_end, standing_at, up_to_none}
+use Rattle.htl_machine.proofs.Words.{nat_tests, append_known, append-nil, slice_get_within, Event, Line, ValueLine, ModeLine, Comm, same, lines_text, joined, up_to, state, before, value_in, mode_in_state, value_line, mode_line, value_lines, same_mode, Tables, mode_period, SInstr, next_left, ECode, Done, e_path, spelled_departs_not, Block, Content, IsDueAt, IsNext, IsNextOf, phase_path, sound, Sound, Object, IsAccepted, instant_records, RunRecord, records_at, plan_text, Shown, shows_code, shows_values, Tally, Seen, IsUpTo, schedule_by, text_between, node_by, path_lines, IsLoaded, IsReadyAt, due_by, IsOpened, closing_text, IsPassing, ArePassing, IsOnward, lines_of, schedules_of, Records, replay, s_machine_replay, AreShown, ShowsNothing, e_line, some_records, some_round_begins, IsQuiet, AreQuiet, IsEmpty, PassOver, beginnings_end, standing_at, up_to_none}
 use Rattle.htl_smach.specs.Rounds as rounds
 use Rattle.htl_runs.proofs.jobs.Accepted.{accepted_is_loaded}
 use Rattle.htl_machine.proofs.After.{closed_values, s_machine_goes_on, lines_are_composed, next_up_to, passed_of, records_go_on, list_goes_on, text_goes_on}
@@ -9,7 +9,6 @@ use Rattle.htl_machine.proofs.Composing.{counts_after}
 use Rattle.htl_machine.proofs.Passing.{up_to_more}
 use Rattle.htl_machine.proofs.Ready.{ready}
 use Rattle.htl_runs.proofs.records.RecordSteps.{recording_start, recording_end}
-use Rattle.htl_runs.proofs.lines.LoadedRecords.{loaded_records}
 use Rattle.htl_runs.proofs.lists.NextLists.{begins_whole}
 use Rattle.htl_runs.proofs.values.IdleInstants.{IsIdle, idle, round_ends}
 use Rattle.htl_machine.proofs.Settling.{same_mode_self, same_self}
@@ -146,10 +145,8 @@ module _ (m : Seen) (es : List Event) (n : ℕ) (accepted : IsAccepted m.object)
   abbrev tally : Tally
   tally = record { jobs = m.jobs; e = m.e; s = m.s }
 
-  none_left : records_of m.object.tables (schedules_of m.object) es (hyper m.object.tables) (suc n) ≡ []
-  none_left =
-      records_go_on m es (suc n) accepted read u steps [] refl refl is_ready none_begins
-      ∙ ap (λ k. some_records is_ready.plan is_ready.start is_ready.place k ++ []) none_due
+  none_left : records_at m.object.tables (schedules_of m.object) es (suc n) ≡ []
+  none_left = records_go_on m es (suc n) accepted read u steps is_ready none_begins ∙ ap (λ k. some_records is_ready.plan is_ready.start is_ready.place k ++ []) none_due
 
   pub goes_on_so : IsUpTo m es (suc (suc n))
   goes_on_so =
@@ -184,15 +181,15 @@ module _ (m : Seen) (es : List Event) (n : ℕ) (accepted : IsAccepted m.object)
   pub no_text : lines_of m.object es m.show (suc n) ≡ []
   no_text =
       sym (lines_are_composed m es (suc n) accepted read u steps is_ready [] (text_goes_on m es (suc n) accepted read u none_begins))
-      ∙ ap (λ k. (joined (record_text t m.show is_ready.plan (node_by m.list)) (some_records is_ready.plan is_ready.start is_ready.place k) ++ path_lines t code m.show (suc n) (phase_path t code es (suc n) 1)) ++ (closing_text t code es m.show (suc n) ++ [])) none_due
+      ∙ ap (λ k. (joined (plan_text t m.show is_ready.plan (node_by m.list)) (some_records is_ready.plan is_ready.start is_ready.place k) ++ path_lines t code m.show (suc n) (phase_path t code es (suc n) 1)) ++ (closing_text t code es m.show (suc n) ++ [])) none_due
       ∙ ap (λ (ls : List ℕ). ls ++ (closing_text t code es m.show (suc n) ++ [])) (no_path_lines t code m.show (suc n) (phase_path t code es (suc n) 1) still.writes)
       ∙ append-nil (closing_text t code es m.show (suc n))
       ∙ ap (λ (ls : List ℕ). ls ++ (path_lines t code m.show (suc n) (phase_path t code es (suc n) 3) ++ cond (shows_values m.show) (lines_text t (value_lines t es (suc n))) [])) (no_path_lines t code m.show (suc n) (phase_path t code es (suc n) 2) still.switches)
       ∙ ap (λ (ls : List ℕ). ls ++ cond (shows_values m.show) (lines_text t (value_lines t es (suc n))) []) (no_path_lines t code m.show (suc n) (phase_path t code es (suc n) 3) still.reads)
       ∙ no_change_lines t (shows_values m.show) (value_lines t es (suc n)) none_written
 
-  pub no_records : records m.object.tables (schedules_of m.object) es (suc n) ≡ []
-  no_records = no_items _ (records t schedules es (suc n)) (loaded_records t schedules es loaded u.kept.within (suc n) ∙ none_left)
+  pub no_records : instant_records m.object.tables (schedules_of m.object) es (suc n) ≡ []
+  no_records = no_items (λ (x : RunRecord). x.left) (instant_records t schedules es (suc n)) none_left
 
   pub no_path : e_path m.object.tables m.object.ecode es (suc n) ≡ []
   no_path = still.path

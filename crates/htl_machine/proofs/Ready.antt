@@ -1,9 +1,10 @@
 -- Before an instant the S machine stands ready, by the list that the machine keeps.
 use Rattle.std.proofs.Common.{◌≡◌, ◌≤◌, ◌<◌, ℕ, zero, suc, ◌-◌, false, List, [], length, get_or, Option, Some, None, IfSome, refl, sym, ap, ◌∙◌, subst, arith}
-use Rattle.htl_machine.proofs.Words.{get_or_from_slice_get, Content, IsAccepted, Event, joined, hyper, Tables, Object, IsShort, AreTookWithin, map_at, Round, Stands, IsTold, no_round, Job, SInstr, Schedule, InForm, ListAt, Seen, IsUpTo, GoesBy, schedule_by, SMachineFollows, SMachineStands, IsLoaded, IsReadyAt, due_by, schedules_of, AreOf, record_text, list_texts, some_records, Turn, AreTurns, turn_walk, left_before, turn_at, turn_by, node_by, turn_list, not_some, all_at, item_at}
+use Rattle.htl_machine.proofs.Words.{get_or_from_slice_get, Content, IsAccepted, Event, hyper, Tables, Object, IsShort, AreTookWithin, map_at, Round, Stands, IsTold, no_round, Job, SInstr, Schedule, InForm, ListAt, Seen, IsUpTo, GoesBy, schedule_by, SMachineFollows, SMachineStands, IsLoaded, IsReadyAt, due_by, schedules_of, AreOf, old_records, plan_records, standing_old, some_records, Turn, AreTurns, turn_walk, left_before, turn_at, turn_by, node_by, turn_list, not_some, all_at, item_at}
 use Rattle.htl_runs.specs.lists.RecordEffects.{with_records}
 use Rattle.htl_runs.proofs.lists.RunLists.{node_below}
 use Rattle.htl_runs.proofs.jobs.Accepted.{accepted_is_loaded}
+use Rattle.htl_runs.proofs.lines.LoadedRecords.{loaded_old}
 use Rattle.htl_runs.proofs.instants.NoModules.{records_nothing}
 use Rattle.htl_runs.proofs.records.SMachineInstants.{s_machine_opens}
 use Rattle.htl_runs.proofs.instants.BothMachines.{records_are}
@@ -36,9 +37,9 @@ node_known o es n q accepted within e =
 module _ (m : Seen) (es : List Event) (now : ℕ) where
   ready_none : m.run_state.s_machine ≡ no_round
       → ((w : Content) → w ≡ with_records m.object.tables (turn_at m.object.tables (schedules_of m.object) es) now w)
-      → [] ≡ (list_texts m.object.tables (schedules_of m.object) es m.show (hyper m.object.tables) now).0
+      → [] ≡ old_records m.object.tables (schedules_of m.object) es (hyper m.object.tables) now
       → IsReadyAt m es now []
-  ready_none none still text =
+  ready_none none still owed =
       let stop : m.run_state.s_machine.running ≡ false = ap (λ (r : Round). r.running) none in
       let st : Stands m.run_state.s_machine [] = subst (λ (r : Round). Stands r []) (sym none) stands_none in
       record {
@@ -56,7 +57,7 @@ module _ (m : Seen) (es : List Event) (now : ℕ) where
         stands = st;
         told = subst (λ (r : Round). IsTold r now) (sym none) (told_none now);
         recorded = λ d v rec. first_recorded m.object.tables now m.run_state.s_machine d m.run_state.world v none st rec ∙ still m.run_state.world;
-        lines = text;
+        owed = owed;
       }
 
 -- ---- where one stands
@@ -108,9 +109,9 @@ module _ (m : Seen) (es : List Event) (n q : ℕ) (accepted : IsAccepted m.objec
         stands = f.stands;
         told = stands_told u.plan u.frame (suc n) m.run_state.s_machine past f;
         recorded = λ d v rec. records_are t turn n m.run_state.s_machine d m.run_state.world v past f rec;
-        lines =
-            ap (λ o. joined (record_text t m.show u.plan (node_by o)) (some_records u.plan u.frame k (due_by u.plan u.frame (suc n) - k))) goes
-            ∙ ap (λ o. (list_texts t (schedules_of m.object) es m.show o (suc n)).0) (sym root);
+        owed =
+            ap (λ o. plan_records u.plan (node_by o) (some_records u.plan u.frame k (due_by u.plan u.frame (suc n) - k))) goes
+            ∙ ap (λ o. standing_old t (schedules_of m.object) es o (suc n)) (sym root) ∙ sym (loaded_old t (schedules_of m.object) es loaded up.kept.within (suc n));
       }
 
 pub ready : (m : Seen) (es : List Event) (now : ℕ) (idle : List SInstr) → IsAccepted m.object → IsUpTo m es now → m.run_state.reading ≤ now → idle ≡ [] → IsReadyAt m es now (schedule_by m.object idle m.list)
@@ -125,10 +126,11 @@ ready m es now idle accepted up later nothing =
     by None root at u s_machine goes =
         subst (IsReadyAt m es at) (none_is goes)
         (ready_none m es at s_machine (λ w. sym (records_nothing m.object.tables (schedules_of m.object) es root at w))
-        (ap (λ o. (list_texts m.object.tables (schedules_of m.object) es m.show o at).0) (sym root)))
+        (ap (λ o. old_records m.object.tables (schedules_of m.object) es o at) (sym root)))
     by (Some q) root zero u s_machine goes =
         subst (IsReadyAt m es zero) (none_is goes)
-        (ready_none m es zero s_machine (λ w. refl) (ap (λ o. (list_texts m.object.tables (schedules_of m.object) es m.show o zero).0) (sym root)))
+        (ready_none m es zero s_machine (λ w. refl)
+        (ap (λ o. standing_old m.object.tables (schedules_of m.object) es o zero) (sym root) ∙ sym (loaded_old m.object.tables (schedules_of m.object) es (accepted_is_loaded m.object accepted) u.kept.within zero)))
     by (Some q) root (suc n) u s_machine goes =
         subst (IsReadyAt m es (suc n)) (loaded_code m.object.tables (schedules_of m.object) (accepted_is_loaded m.object accepted) es u.kept.within q root n ∙ sym (ap (schedule_by m.object idle) goes)) (ready_list m es n q accepted u root s_machine goes)
 

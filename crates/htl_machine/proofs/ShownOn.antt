@@ -1,16 +1,15 @@
 -- What sensors are shown stays over an instant, and what one is shown makes it wait.
 use Rattle.std.proofs.Common.{◌≡◌, ◌≢◌, ℕ, suc, ◌<◌, ◌≤◌, Bool, true, false, cond, not, eqb, List, ◌++◌, length, get_or, set, Option, ℤ, pos, negsuc, refl, sym, ap, ◌∙◌, subst, arith, get_or-set_same, get_or-set_other}
-use Rattle.htl_machine.proofs.Words.{eqb-true, nat_tests, Event, same, hyper, Tables, Round, Standing, list_at, Content, phase_path, IsAccepted, Seen, IsUpTo, GoesBy, ListAt, SMachineFollows, is_marked, MarksChanges, schedules_of, turn_at, records_of, MarksWaiting, Passed, Noted, Sensors, Tally}
+use Rattle.htl_machine.proofs.Words.{eqb-true, nat_tests, Event, same, hyper, Tables, Round, Standing, list_at, Content, phase_path, IsAccepted, Seen, IsUpTo, GoesBy, ListAt, SMachineFollows, is_marked, MarksChanges, schedules_of, turn_at, records_at, MarksWaiting, Passed, Noted, Sensors, Tally}
 use Rattle.htl_smach.specs.declared.left.Left.{Left}
 use Rattle.htl_machine.proofs.After.{next_up_to}
-use Rattle.htl_machine.proofs.Calling.{counts_of}
 use Rattle.htl_machine.proofs.Composing.{counts_after}
 
 -- the machine before the next instant, with what its sensors are shown
 pub next_shown_up_to : (m : Seen) (es : List Event) (now : ℕ) (accepted : IsAccepted m.object) (read : m.run_state.reading ≤ now) (u : IsUpTo m es now) (shows : List ℤ) (world : Content) (s_machine : Round) (e1 : Standing) (last : Option ListAt) (old new : List Left)
     (start n : Tally) → shows ≡ m.run_state.shows → Passed m.object.tables m.object.ecode (schedules_of m.object) es now m.run_state.world world e1
     → SMachineFollows (turn_at m.object.tables (schedules_of m.object) es) (hyper m.object.tables) (suc now) s_machine → GoesBy (turn_at m.object.tables (schedules_of m.object) es) (hyper m.object.tables) (suc now) last
-    → records_of m.object.tables (schedules_of m.object) es (hyper m.object.tables) now ≡ old ++ new → counts_of m ≡ record { jobs = start.jobs; e = start.e; s = start.s }
+    → records_at m.object.tables (schedules_of m.object) es now ≡ old ++ new → start ≡ record { jobs = m.jobs; e = m.e; s = m.s }
     → n ≡ counts_after old new (length (phase_path m.object.tables m.object.ecode es now 1)) (length (phase_path m.object.tables m.object.ecode es now 2)) (length (phase_path m.object.tables m.object.ecode es now 3)) start
     → IsUpTo (record m { run_state = record m.run_state { shows = shows; world = world; s_machine = s_machine }; standing = e1; list = last; jobs = n.jobs; e = n.e; s = n.s }) es (suc now)
 next_shown_up_to m es now accepted read u shows world s_machine e1 last old new start n is passed follows goes are was counts =

@@ -10,7 +10,9 @@ use Rattle.htl_machine.specs.Beginning.{IsToBegin}
 use Rattle.htl_machine.specs.Doing.{IsStarting}
 use Rattle.htl_machine.specs.Noting.{MarksChanges}
 use Rattle.htl_machine.specs.declared.numbering.ListAt.{ListAt}
+use Rattle.htl_runs.specs.lists.ListLengths.{instrs_of}
 use Rattle.htl_machine.specs.declared.works.Machines.{Machines}
+use Rattle.htl_machine.specs.declared.works.Program.{Program}
 
 -- of the object
 pub record IsSound (t : Tables) (code : ECode) : Type 0 where
@@ -64,18 +66,18 @@ pub record IsToCloseAndBegin (t : Tables) (code : ECode) (schedules : List (List
 -- ---- of the machines, as an instant works on them
 
 -- a phase begins
-abbrev pub AreStarting : Tables → ECode → List Event → ℕ → ℕ → Machines → Type 0
-AreStarting t code es at phase m = IsStarting t code es at phase m.emach m.works.world
+abbrev pub AreStarting : Program → List Event → ℕ → ℕ → Machines → Type 0
+AreStarting p es at phase m = IsStarting p.tables.now p.code.now es at phase m.emach m.works.world
 
 -- the reads come next
-abbrev pub AreToRead : Tables → ECode → List Event → ℕ → Machines → Type 0
-AreToRead t code es at m = IsToRead t code es at m.emach m.works.world m.noted.values m.noted.modes
+abbrev pub AreToRead : Program → List Event → ℕ → Machines → Type 0
+AreToRead p es at m = IsToRead p.tables.now p.code.now es at m.emach m.works.world m.noted.values m.noted.modes
 
 -- the switches come next
-abbrev pub AreToClose : Tables → ECode → List Event → ℕ → Machines → Type 0
-AreToClose t code es at m = IsToClose t code es at m.emach m.works.world m.noted.values m.noted.modes
+abbrev pub AreToClose : Program → List Event → ℕ → Machines → Type 0
+AreToClose p es at m = IsToClose p.tables.now p.code.now es at m.emach m.works.world m.noted.values m.noted.modes
 
 -- the same, where a list begins behind the last one
-abbrev pub AreToCloseAndBegin : Tables → ECode → List (List SInstr) → List Event → ℕ → List ℕ → Option ListAt → Machines → Type 0
-AreToCloseAndBegin t code schedules es at takes last m =
-    IsToCloseAndBegin t code schedules es at takes last m.works.s_machine m.emach m.works.world m.noted.values m.noted.modes
+abbrev pub AreToCloseAndBegin : Program → List Event → ℕ → List ℕ → Option ListAt → Machines → Type 0
+AreToCloseAndBegin p es at takes last m =
+    IsToCloseAndBegin p.tables.now p.code.now (instrs_of p.schedules.now) es at takes last m.works.s_machine m.emach m.works.world m.noted.values m.noted.modes

@@ -1,16 +1,14 @@
 -- What contracts see of a machine, what it follows, and what its calls write.
-use Rattle.std.specs.Prelude.{◌≡◌, ℕ, zero, suc, ◌+◌, ◌-◌, ◌≤◌, ◌<◌, Bool, false, true, List, length, get_or, map, slice_get, Option, Some, None, ℤ, pos}
-use Rattle.htl_machine.specs.Common.{Event, up_to, hyper, Comm, Inv, Tables, is_concrete, task_worst, sense, state, SInstr, Round, no_round, ECode, Standing, Content, StandsSafely, HasValues, IsShaped, AreTookWithin, took, Object, Shown}
+use Rattle.std.specs.Prelude.{◌≡◌, ℕ, zero, suc, ◌+◌, ◌-◌, ◌≤◌, false, true, List, map, slice_get, Option, Some, None, ℤ}
+use Rattle.htl_machine.specs.Common.{Event, up_to, hyper, Comm, Inv, Tables, is_concrete, task_worst, state, SInstr, Round, no_round, Standing, Content, Object, Shown}
 use Rattle.htl_model.specs.Ranges.{FitsType}
-use Rattle.htl_emach.specs.Following as machines
 use Rattle.htl_machine.specs.declared.numbering.ListAt.{ListAt}
 use Rattle.htl_runs.specs.lines.Programs.{schedules_of, lines_of}
 use Rattle.htl_runs.specs.lists.StandingLists.{Turn}
 use Rattle.htl_runs.specs.lists.RecordEffects.{finished_before}
 use Rattle.htl_runs.specs.lists.RunLists.{turn_at}
 use Rattle.htl_machine.specs.StandingList.{instrs_by, turn_list}
-use Rattle.htl_runs.specs.values.Values.{ValuesFollow}
-use Rattle.htl_runs.specs.events.ToldSoFar.{RunState, reading_of}
+use Rattle.htl_runs.specs.events.ToldSoFar.{IsKept, IsValued, RunState}
 use Rattle.htl_runs.specs.lists.StandingLists.{SMachineFollows}
 use Rattle.htl_runs.specs.lines.Lines.{e_done, jobs_done, s_done}
 
@@ -55,26 +53,7 @@ first_seen o show w m =
       s = 0;
     }
 
--- ---- the three parts of what a machine follows
-
--- what calls told it: it isn't spent, and keeps the last reading, what each sensor showed last, and how long the jobs of each
--- invocation take that are released from now on
-pub record IsKept (t : Tables) (es : List Event) (m : RunState) : Type 0 where
-  pub fresh : m.spent ≡ false
-  pub reading : m.reading ≡ reading_of 0 es
-  pub within : AreTookWithin t es
-  pub fits : HasValues t m.shows
-  pub shows : (c u : ℕ) → c < length t.comms → reading_of 0 es ≤ u → sense t es c u ≡ get_or m.shows c (pos 0)
-  pub takes : (i u : ℕ) → i < length t.invs → reading_of 0 es ≤ u → took t es i u ≡ get_or m.takes i 0
-  pub count : length m.takes ≡ length t.invs
-
--- values, buffers, modes and triggers before an instant, where these jobs of the present rounds are finished
-pub record IsValued (t : Tables) (code : ECode) (es : List Event) (now : ℕ) (finished : ℕ → Bool) (w : Content) (m : Standing) (e : ℕ) : Type 0 where
-  pub values : ValuesFollow t es now finished w
-  pub shaped : IsShaped t w
-  pub triggers : machines.FollowsCode t code es now m
-  pub safe : StandsSafely t code m
-  pub count : e ≡ e_done t code es now
+-- ---- what a machine follows
 
 -- it is the list that began last before an instant
 abbrev pub GoesBy : (ℕ → Turn) → Option ℕ → ℕ → Option ListAt → Type 0

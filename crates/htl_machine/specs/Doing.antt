@@ -11,7 +11,7 @@ use Rattle.htl_machine.specs.Counts.{with_instrs}
 use Rattle.htl_runs.specs.instants.Releases.{s_machine_replay}
 use Rattle.htl_machine.specs.Noting.{MarksChanges, KeepsNoted}
 use Rattle.htl_machine.specs.declared.noted.Noted.{Noted}
-use Rattle.htl_runs.specs.lines.StandingLines.{e_line}
+use Rattle.htl_runs.specs.lines.Lines.{e_line}
 
 -- the line of an instruction
 abbrev pub instr_lines : Tables → Shown → ℕ → ℕ → EInstr → List ℕ

@@ -1,6 +1,6 @@
 -- How the machine stands as an instant begins, and what it owes once the instant is done.
 use Rattle.std.specs.Prelude.{◌≡◌, ◌≤◌, ℕ, ◌-◌, true, List, length}
-use Rattle.htl_machine.specs.Common.{Event, joined, hyper, SInstr, Round, Stands, IsInForm, IsTold, Content, Plan}
+use Rattle.htl_machine.specs.Common.{Event, hyper, SInstr, Round, Stands, IsInForm, IsTold, Content, Plan}
 use Rattle.htl_machine.specs.Calls.{Seen}
 use Rattle.htl_runs.specs.records.SMachineStands.{SMachineAt}
 use Rattle.htl_runs.specs.records.DueRecords.{due_by}
@@ -9,7 +9,7 @@ use Rattle.htl_runs.specs.lines.Programs.{schedules_of}
 use Rattle.htl_runs.specs.records.RecordSteps.{AreOf, Records}
 use Rattle.htl_runs.specs.lists.RunLists.{turn_at}
 use Rattle.htl_machine.specs.StandingList.{node_by}
-use Rattle.htl_runs.specs.lines.StandingLines.{record_text, list_texts, some_records}
+use Rattle.htl_runs.specs.lines.RunRecords.{old_records, plan_records, some_records}
 
 -- before an instant the S machine stands in a list of these instructions, or in none, by an empty one
 pub record IsReadyAt (m : Seen) (es : List Event) (now : ℕ) (steps : List SInstr) : Type 0 where
@@ -29,5 +29,4 @@ pub record IsReadyAt (m : Seen) (es : List Event) (now : ℕ) (steps : List SIns
   -- what its records do to the world, and what they show
   pub recorded : (d : Round) (v : Content) → Records m.object.tables m.run_state.s_machine m.run_state.world d v steps now
       → v ≡ with_records m.object.tables (turn_at m.object.tables (schedules_of m.object) es) now m.run_state.world
-  pub lines : joined (record_text m.object.tables m.show plan (node_by m.list)) (some_records plan start place (due_by plan start now - place))
-      ≡ (list_texts m.object.tables (schedules_of m.object) es m.show (hyper m.object.tables) now).0
+  pub owed : plan_records plan (node_by m.list) (some_records plan start place (due_by plan start now - place)) ≡ old_records m.object.tables (schedules_of m.object) es (hyper m.object.tables) now

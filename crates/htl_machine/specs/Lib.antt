@@ -1,6 +1,7 @@
 pub mod Counts
 pub mod Doing
 pub mod Opening
+pub mod Parts
 pub mod Printing
 pub mod Quiet
 pub mod Calls

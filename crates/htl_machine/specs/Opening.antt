@@ -11,13 +11,14 @@ use Rattle.htl_runs.specs.records.RecordSteps.{Records}
 use Rattle.htl_runs.specs.lists.RunLists.{turn_at}
 use Rattle.htl_runs.specs.values.ShownValues.{AreShown}
 use Rattle.htl_machine.specs.Doing.{path_lines}
-use Rattle.htl_runs.specs.lines.StandingLines.{record_text, some_records}
+use Rattle.htl_machine.specs.Printing.{plan_text}
+use Rattle.htl_runs.specs.lines.RunRecords.{some_records}
 
 -- the lines of the records that are due, wherever the S machine stood, and those of the writes
 abbrev pub Opens : {T E : Type 0} → Tables → ECode → List Event → Shown → ℕ → Round → List SInstr → ℕ → Option (List ℕ) → Option (List ℕ) → ℕ → ℕ → Result T E → Type 0
 Opens t code es show node old steps at w0 w f0 f result =
     (p : Plan) (s k d : ℕ) → p.schedule ≡ steps → s ≤ at → k ≤ due_by p s at → SMachineAt p s k d old
-    → Puts w0 w f0 f (joined (record_text t show p node) (some_records p s k (due_by p s at - k)) ++ path_lines t code show at (phase_path t code es at 1)) result
+    → Puts w0 w f0 f (joined (plan_text t show p node) (some_records p s k (due_by p s at - k)) ++ path_lines t code show at (phase_path t code es at 1)) result
 
 -- and they are counted
 abbrev pub AreCounted : Tables → ECode → List Event → Round → List SInstr → ℕ → Tally → Tally → Type 0
@@ -55,4 +56,4 @@ first_records t schedules es at = let u = turn_at t schedules es at in some_reco
 
 -- their lines
 abbrev pub beginning_text : Tables → List (List SInstr) → List Event → Shown → ℕ → List ℕ
-beginning_text t schedules es show at = let u = turn_at t schedules es at in joined (record_text t show u.plan u.node) (first_records t schedules es at)
+beginning_text t schedules es show at = let u = turn_at t schedules es at in joined (plan_text t show u.plan u.node) (first_records t schedules es at)

@@ -1,17 +1,46 @@
 -- What is written and counted while the records of an instant are left.
-use Rattle.std.specs.Prelude.{◌≡◌, ◌≤◌, ℕ, ◌-◌, List, Option}
+use Rattle.std.specs.Prelude.{◌≡◌, ◌≤◌, ℕ, ◌-◌, cond, List, [], ◌++◌, slice_get, Option, Some, None}
 use Rattle.htl_machine.specs.Common.{Result, append_known, Puts, joined, Tables, SInstr, Round, Shown, Plan}
+use Rattle.htl_walk.specs.declared.job.Job.{Job}
+use Rattle.htl_console.specs.Lines.{done_line, slice_line, step_line}
+use Rattle.htl_console.specs.Shows.{shows_code, shows_jobs}
 use Rattle.htl_machine.specs.declared.tally.Tally.{Tally}
 use Rattle.htl_machine.specs.Counts.{with_records}
 use Rattle.htl_runs.specs.records.SMachineStands.{SMachineAt}
 use Rattle.htl_runs.specs.records.DueRecords.{due_by}
-use Rattle.htl_runs.specs.lines.StandingLines.{record_text, some_records}
+use Rattle.htl_smach.specs.declared.left.Left.{Left}
+use Rattle.htl_runs.specs.lines.RunRecords.{inv_at, record_of, some_records}
+use Rattle.htl_runs.specs.lines.RunLines.{record_text}
+
+-- ---- the lines of one record
+
+-- its slice
+abbrev pub slice_text : Tables → ℕ → Option (ℕ × ℕ) → List ℕ
+slice_text t i o = elim o [ Some s ↦ slice_line t s.0 s.1 i | None ↦ [] ]
+
+-- and whether it did the last work of its job
+abbrev pub job_text : Tables → Shown → List Job → Left → List ℕ
+job_text t show jobs l = let i = inv_at jobs l.position in cond (shows_jobs show) (slice_text t i l.slice ++ cond l.finished (done_line t l.at i) []) []
+
+-- the instruction at a place of a schedule
+abbrev pub place_text : List SInstr → ℕ → ℕ → ℕ → List ℕ
+place_text code node at k = elim (slice_get code k) [ Some x ↦ step_line at node k x | None ↦ [] ]
+
+-- its instruction
+abbrev pub code_text : Shown → List SInstr → ℕ → Left → List ℕ
+code_text show code node l = cond (shows_code show) (place_text code node l.at l.instr) []
+
+-- all, of a record of a list at a node
+abbrev pub plan_text : Tables → Shown → Plan → ℕ → Left → List ℕ
+plan_text t show p node l = record_text t show (record_of p.jobs node p.schedule l)
+
+-- ---- the records of an instant
 
 -- wherever the S machine stood, the lines of the records that are due from there on are written
 abbrev pub Prints : {T E : Type 0} → Tables → Shown → ℕ → Round → List SInstr → ℕ → Option (List ℕ) → Option (List ℕ) → ℕ → ℕ → Result T E → Type 0
 Prints t show node old code at w0 w f0 f result =
     (p : Plan) (s k d : ℕ) → p.schedule ≡ code → s ≤ at → k ≤ due_by p s at → SMachineAt p s k d old
-    → Puts w0 w f0 f (joined (record_text t show p node) (some_records p s k (due_by p s at - k))) result
+    → Puts w0 w f0 f (joined (plan_text t show p node) (some_records p s k (due_by p s at - k))) result
 
 -- and they are counted
 abbrev pub Counted : Round → List SInstr → ℕ → Tally → Tally → Type 0
@@ -21,5 +50,5 @@ Counted old code at n0 n =
 -- those that the S machine has left are written and counted
 pub record IsPrinting (t : Tables) (show : Shown) (node : ℕ) (old now : Round) (code : List SInstr) (at : ℕ) (w0 w : Option (List ℕ)) (f0 f : ℕ) (n0 n : Tally) : Type 0 where
   pub kept : f ≡ f0
-  pub text : (p : Plan) (s k d : ℕ) → p.schedule ≡ code → s ≤ at → k ≤ due_by p s at → SMachineAt p s k d old → w ≡ append_known w0 (joined (record_text t show p node) (some_records p s k (now.place - k)))
+  pub text : (p : Plan) (s k d : ℕ) → p.schedule ≡ code → s ≤ at → k ≤ due_by p s at → SMachineAt p s k d old → w ≡ append_known w0 (joined (plan_text t show p node) (some_records p s k (now.place - k)))
   pub count : (p : Plan) (s k d : ℕ) → p.schedule ≡ code → s ≤ at → k ≤ due_by p s at → SMachineAt p s k d old → n ≡ with_records (some_records p s k (now.place - k)) n0

@@ -1,16 +1,8 @@
 // The last part of an instant: switches, reads, releases and what changed.
-ghost use Rattle.std.specs.Prelude.{◌≡◌, ◌≤◌, List, [], length, None, OnOk};
-ghost use Rattle.htl_edge.specs.Content.{Puts};
+ghost use Rattle.std.specs.Prelude.{List, OnOk};
 ghost use Rattle.htl_model.specs.declared.event.Event.{Event};
-ghost use Rattle.htl_walk.specs.declared.schedule.SInstr.{SInstr as Instr};
-ghost use Rattle.htl_smach.specs.Rounds.{Stands};
-ghost use Rattle.htl_emach.specs.Shapes.{SensorsStay};
-ghost use Rattle.htl_emach.specs.Following.{Onward, phase_path};
-ghost use Rattle.htl_runs.specs.values.PhaseEffects.{replay};
-ghost use Rattle.htl_runs.specs.instants.Releases.{s_machine_replay};
-ghost use Rattle.htl_machine.specs.Asking.{IsSound, AreFitted, AreToRead, AreToClose};
-ghost use Rattle.htl_machine.specs.Counts.{with_instrs};
-ghost use Rattle.htl_machine.specs.Opening.{reading_text, closing_text};
+ghost use Rattle.htl_machine.specs.Asking.{AreToRead, AreToClose};
+ghost use Rattle.htl_machine.specs.Parts.{PartGiven, PartKeeps, PhaseDone, ReadsText, ClosesText, Closed};
 
 use crate::changes::put_changes;
 use crate::steps::do_instrs;
@@ -29,20 +21,11 @@ pub fn read_instant<W: Sink>(
     jobs: &[Job],
     at: Time,
 ) -> Result<(), Failed>
-    requires sound { IsSound program.now.tables.now program.now.code.now }
-    requires at { at ≤ 1000000000 }
-    requires fitted { AreFitted program.now.tables.now program.now.code.now machines.old }
-    requires jobs { machines.old.works.s_machine.jobs ≡ jobs.now }
-    requires reads { (es : List Event) × AreToRead program.now.tables.now program.now.code.now es at machines.old }
-    ensures text { (es : List Event) → AreToRead program.now.tables.now program.now.code.now es at machines.old → Puts (W.written sink.old) (W.written sink.new) (W.faults sink.old) (W.faults sink.new) (reading_text program.now.tables.now program.now.code.now es program.now.show at) result }
-    ensures counts { (es : List Event) → AreToRead program.now.tables.now program.now.code.now es at machines.old → OnOk result (machines.new.works.tally ≡ with_instrs (length (phase_path program.now.tables.now program.now.code.now es at 3)) machines.old.works.tally) }
-    ensures world { (es : List Event) → AreToRead program.now.tables.now program.now.code.now es at machines.old → OnOk result (machines.new.works.world ≡ replay program.now.tables.now program.now.code.now (phase_path program.now.tables.now program.now.code.now es at 3) machines.old.works.world) }
-    ensures fitted { OnOk result (AreFitted program.now.tables.now program.now.code.now machines.new) }
-    ensures sensors { OnOk result (SensorsStay program.now.tables.now machines.old.works.world.values machines.new.works.world.values) }
-    ensures s_machine { (es : List Event) → AreToRead program.now.tables.now program.now.code.now es at machines.old → OnOk result (machines.new.works.s_machine ≡ s_machine_replay program.now.code.now (phase_path program.now.tables.now program.now.code.now es at 3) machines.old.works.s_machine) }
-    ensures jobs { OnOk result (machines.new.works.s_machine.jobs ≡ machines.old.works.s_machine.jobs) }
-    ensures stands { OnOk result ((s : List Instr) → Stands machines.old.works.s_machine s → Stands machines.new.works.s_machine s) }
-    ensures reads { (es : List Event) → AreToRead program.now.tables.now program.now.code.now es at machines.old → OnOk result (Onward program.now.tables.now program.now.code.now es at 3 machines.new.emach (phase_path program.now.tables.now program.now.code.now es at 3) [] None) }
+    requires given { PartGiven program.now jobs.now at machines.old }
+    requires reads { (es : List Event) × AreToRead program.now es at machines.old }
+    ensures text { ReadsText program.now at machines.old (W.written sink.old) (W.written sink.new) (W.faults sink.old) (W.faults sink.new) result }
+    ensures events { (es : List Event) → AreToRead program.now es at machines.old → OnOk result (PhaseDone program.now es at 3 machines.old machines.new) }
+    ensures keeps { OnOk result (PartKeeps program.now machines.old machines.new) }
 {
     let _parts = program.tables.parts();
     if let Err(failed) = do_instrs(sink, machines, program, jobs, Phase::Read, at) {
@@ -60,19 +43,11 @@ pub fn close_instant<W: Sink>(
     jobs: &[Job],
     at: Time,
 ) -> Result<(), Failed>
-    requires closes { (es : List Event) × AreToClose program.now.tables.now program.now.code.now es at machines.old }
-    requires sound { IsSound program.now.tables.now program.now.code.now }
-    requires at { at ≤ 1000000000 }
-    requires fitted { AreFitted program.now.tables.now program.now.code.now machines.old }
-    requires jobs { machines.old.works.s_machine.jobs ≡ jobs.now }
-    ensures text { (es : List Event) → AreToClose program.now.tables.now program.now.code.now es at machines.old → Puts (W.written sink.old) (W.written sink.new) (W.faults sink.old) (W.faults sink.new) (closing_text program.now.tables.now program.now.code.now es program.now.show at) result }
-    ensures counts { (es : List Event) → AreToClose program.now.tables.now program.now.code.now es at machines.old → OnOk result (machines.new.works.tally ≡ with_instrs (length (phase_path program.now.tables.now program.now.code.now es at 3)) (with_instrs (length (phase_path program.now.tables.now program.now.code.now es at 2)) machines.old.works.tally)) }
-    ensures world { (es : List Event) → AreToClose program.now.tables.now program.now.code.now es at machines.old → OnOk result (machines.new.works.world ≡ replay program.now.tables.now program.now.code.now (phase_path program.now.tables.now program.now.code.now es at 3) (replay program.now.tables.now program.now.code.now (phase_path program.now.tables.now program.now.code.now es at 2) machines.old.works.world)) }
-    ensures fitted { OnOk result (AreFitted program.now.tables.now program.now.code.now machines.new) }
-    ensures sensors { OnOk result (SensorsStay program.now.tables.now machines.old.works.world.values machines.new.works.world.values) }
-    ensures s_machine { (es : List Event) → AreToClose program.now.tables.now program.now.code.now es at machines.old → OnOk result (machines.new.works.s_machine ≡ s_machine_replay program.now.code.now (phase_path program.now.tables.now program.now.code.now es at 3) machines.old.works.s_machine) }
-    ensures stands { OnOk result ((s : List Instr) → Stands machines.old.works.s_machine s → Stands machines.new.works.s_machine s) }
-    ensures reads { (es : List Event) → AreToClose program.now.tables.now program.now.code.now es at machines.old → OnOk result (Onward program.now.tables.now program.now.code.now es at 3 machines.new.emach (phase_path program.now.tables.now program.now.code.now es at 3) [] None) }
+    requires given { PartGiven program.now jobs.now at machines.old }
+    requires closes { (es : List Event) × AreToClose program.now es at machines.old }
+    ensures text { ClosesText program.now at machines.old (W.written sink.old) (W.written sink.new) (W.faults sink.old) (W.faults sink.new) result }
+    ensures events { (es : List Event) → AreToClose program.now es at machines.old → OnOk result (Closed program.now es at machines.old machines.new) }
+    ensures keeps { OnOk result (PartKeeps program.now machines.old machines.new) }
 {
     if let Err(failed) = do_instrs(sink, machines, program, jobs, Phase::Switch, at) {
         return Err(failed);

@@ -1,18 +1,14 @@
 // The instructions of a phase, with their lines.
-ghost use Rattle.std.specs.Prelude.{◌≡◌, ◌≤◌, cond, eqb, List, [], length, None, OnOk};
+ghost use Rattle.std.specs.Prelude.{◌≡◌, cond, eqb, List, OnOk};
 ghost use Rattle.htl_edge.specs.Content.{Puts};
 ghost use Rattle.htl_model.specs.declared.event.Event.{Event};
 ghost use Rattle.htl_walk.specs.declared.schedule.SInstr.{SInstr as Instr};
 ghost use Rattle.htl_smach.specs.Rounds.{Stands};
 ghost use Rattle.htl_ecode.specs.Phases.{number_of};
-ghost use Rattle.htl_emach.specs.Shapes.{SensorsStay};
-ghost use Rattle.htl_emach.specs.Following.{Onward, phase_path};
-ghost use Rattle.htl_machine.specs.Asking.{IsSound, AreFitted, AreStarting};
-ghost use Rattle.htl_runs.specs.values.PhaseEffects.{replay};
-ghost use Rattle.htl_machine.specs.Counts.{with_instrs};
+ghost use Rattle.htl_machine.specs.Asking.{AreStarting};
 ghost use Rattle.htl_runs.specs.instants.Releases.{s_machine_does};
-ghost use Rattle.htl_machine.specs.Doing.{instr_lines, path_lines, told_in_phase};
-ghost use Rattle.htl_machine.specs.Noting.{KeepsNoted};
+ghost use Rattle.htl_machine.specs.Doing.{instr_lines};
+ghost use Rattle.htl_machine.specs.Parts.{PartGiven, PhaseText, DoesPhase, PhaseKeeps};
 
 use crate::lengths::position;
 use crate::works::{Machines, Program};
@@ -82,22 +78,11 @@ pub fn do_instrs<W: Sink>(
     phase: Phase,
     at: Time,
 ) -> Result<(), Failed>
-    requires sound { IsSound program.now.tables.now program.now.code.now }
-    requires at { at ≤ 1000000000 }
-    requires fitted { AreFitted program.now.tables.now program.now.code.now machines.old }
-    requires jobs { machines.old.works.s_machine.jobs ≡ jobs.now }
-    requires starts { (es : List Event) × AreStarting program.now.tables.now program.now.code.now es at (number_of phase) machines.old }
-    ensures text { (es : List Event) → AreStarting program.now.tables.now program.now.code.now es at (number_of phase) machines.old → Puts (W.written sink.old) (W.written sink.new) (W.faults sink.old) (W.faults sink.new) (path_lines program.now.tables.now program.now.code.now program.now.show at (phase_path program.now.tables.now program.now.code.now es at (number_of phase))) result }
-    ensures counts { (es : List Event) → AreStarting program.now.tables.now program.now.code.now es at (number_of phase) machines.old → OnOk result (machines.new.works.tally ≡ with_instrs (length (phase_path program.now.tables.now program.now.code.now es at (number_of phase))) machines.old.works.tally) }
-    ensures s_machine { (es : List Event) → AreStarting program.now.tables.now program.now.code.now es at (number_of phase) machines.old → OnOk result (machines.new.works.s_machine ≡ told_in_phase (number_of phase) program.now.code.now (phase_path program.now.tables.now program.now.code.now es at (number_of phase)) machines.old.works.s_machine) }
-    ensures jobs { OnOk result (machines.new.works.s_machine.jobs ≡ machines.old.works.s_machine.jobs) }
-    ensures stands { OnOk result ((s : List Instr) → Stands machines.old.works.s_machine s → Stands machines.new.works.s_machine s) }
-    ensures fitted { OnOk result (AreFitted program.now.tables.now program.now.code.now machines.new) }
-    ensures world { (es : List Event) → AreStarting program.now.tables.now program.now.code.now es at (number_of phase) machines.old → OnOk result (machines.new.works.world ≡ replay program.now.tables.now program.now.code.now (phase_path program.now.tables.now program.now.code.now es at (number_of phase)) machines.old.works.world) }
-    ensures values { OnOk result ((number_of phase) ≡ 2 → machines.new.works.world.values ≡ machines.old.works.world.values) }
-    ensures noted { OnOk result (KeepsNoted machines.old.noted machines.new.noted) }
-    ensures sensors { OnOk result (SensorsStay program.now.tables.now machines.old.works.world.values machines.new.works.world.values) }
-    ensures ends { (es : List Event) → AreStarting program.now.tables.now program.now.code.now es at (number_of phase) machines.old → OnOk result (Onward program.now.tables.now program.now.code.now es at (number_of phase) machines.new.emach (phase_path program.now.tables.now program.now.code.now es at (number_of phase)) [] None) }
+    requires given { PartGiven program.now jobs.now at machines.old }
+    requires starts { (es : List Event) × AreStarting program.now es at (number_of phase) machines.old }
+    ensures text { PhaseText program.now at phase machines.old (W.written sink.old) (W.written sink.new) (W.faults sink.old) (W.faults sink.new) result }
+    ensures events { DoesPhase program.now at phase machines.old machines.new result }
+    ensures keeps { OnOk result (PhaseKeeps program.now (number_of phase) machines.old machines.new) }
 {
     let t = program.tables;
     let _parts = t.parts();

@@ -3,8 +3,9 @@ ghost use Rattle.std.specs.Prelude.{◌≡◌, ◌<◌, ◌++◌, [], cond, leng
 ghost use Rattle.htl_edge.specs.Content.{Puts};
 ghost use Rattle.htl_console.specs.Lines.{done_line};
 ghost use Rattle.htl_console.specs.Shows.{shows_jobs, shows_code};
-ghost use Rattle.htl_runs.specs.lines.StandingLines.{inv_at as inv_at_position, slice_lines};
-ghost use Rattle.htl_runs.specs.lines.RecordLines.{place_lines, job_lines, code_lines, record_lines};
+ghost use Rattle.htl_runs.specs.lines.RunRecords.{inv_at as inv_at_position, record_of};
+ghost use Rattle.htl_runs.specs.lines.RunLines.{record_text};
+ghost use Rattle.htl_machine.specs.Printing.{slice_text, job_text, place_text, code_text};
 
 use crate::works::{Program, StandingList};
 use htl_base::Time;
@@ -31,7 +32,7 @@ fn tell_slice<W: Sink>(
     inv: u16,
     slice: Option<(Time, Time)>,
 ) -> Result<(), Failed>
-    ensures { Puts (W.written sink.old) (W.written sink.new) (W.faults sink.old) (W.faults sink.new) (slice_lines t.now inv slice) result }
+    ensures { Puts (W.written sink.old) (W.written sink.new) (W.faults sink.old) (W.faults sink.new) (slice_text t.now inv slice) result }
 {
     match slice {
         Some((from, to)) => line_j(sink, t, from, to, inv),
@@ -64,7 +65,7 @@ fn tell_job<W: Sink>(
     show: Shown,
     left: &Left,
 ) -> Result<(), Failed>
-    ensures { Puts (W.written sink.old) (W.written sink.new) (W.faults sink.old) (W.faults sink.new) (job_lines t.now show jobs.now left.now) result }
+    ensures { Puts (W.written sink.old) (W.written sink.new) (W.faults sink.old) (W.faults sink.new) (job_text t.now show jobs.now left.now) result }
 {
     if !show.jobs() {
         return Ok(());
@@ -84,7 +85,7 @@ fn tell_place<W: Sink>(
     at: Time,
     place: u32,
 ) -> Result<(), Failed>
-    ensures { Puts (W.written sink.old) (W.written sink.new) (W.faults sink.old) (W.faults sink.new) (place_lines code.now.instrs node at place) result }
+    ensures { Puts (W.written sink.old) (W.written sink.new) (W.faults sink.old) (W.faults sink.new) (place_text code.now.instrs node at place) result }
 {
     let instrs = code.instrs.as_slice();
     if (place as usize) < instrs.len() {
@@ -102,7 +103,7 @@ fn tell_step<W: Sink>(
     show: Shown,
     left: &Left,
 ) -> Result<(), Failed>
-    ensures { Puts (W.written sink.old) (W.written sink.new) (W.faults sink.old) (W.faults sink.new) (code_lines show code.now.instrs node left.now) result }
+    ensures { Puts (W.written sink.old) (W.written sink.new) (W.faults sink.old) (W.faults sink.new) (code_text show code.now.instrs node left.now) result }
 {
     if show.code() {
         tell_place(sink, code, node, left.at, left.instr)
@@ -118,7 +119,7 @@ pub fn tell_record<W: Sink>(
     list: &StandingList<'_>,
     left: &Left,
 ) -> Result<(), Failed>
-    ensures { Puts (W.written sink.old) (W.written sink.new) (W.faults sink.old) (W.faults sink.new) (record_lines program.now.tables.now program.now.show list.now.jobs.now list.now.schedule.now.instrs list.now.node left.now) result }
+    ensures { Puts (W.written sink.old) (W.written sink.new) (W.faults sink.old) (W.faults sink.new) (record_text program.now.tables.now program.now.show (record_of list.now.jobs.now list.now.node list.now.schedule.now.instrs left.now)) result }
 {
     if let Err(failed) = tell_job(sink, program.tables, list.jobs, program.show, left) {
         return Err(failed);

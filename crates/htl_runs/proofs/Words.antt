@@ -102,9 +102,8 @@ pub use Rattle.htl_refine.specs.ListLaws.{IsFollowed}
 pub use Rattle.htl_refine.specs.Records.{IsTookWithin}
 pub use Rattle.htl_refine.specs.ServedJobs.{IsServed}
 pub use Rattle.htl_refine.specs.ServedSoFar.{IsServedSoFar}
-pub use Rattle.htl_runs.specs.events.Counted.{Counts, Followed, RunStands}
-pub use Rattle.htl_runs.specs.events.ToldSoFar.{AreReadFrom, IsLoaded, RunState, RunStateFollows, UpTo, at_reading, reading_of, s_machine_taking, set_pending, shown_as, taken_as, with_length}
-pub use Rattle.htl_runs.specs.events.WholeRuns.{Passed, Whole, WholeFollowed}
+pub use Rattle.htl_runs.specs.events.ToldSoFar.{AreReadFrom, IsKept, IsLoaded, IsValued, RunState, at_reading, reading_of, s_machine_taking, set_pending, shown_as, taken_as, with_length}
+pub use Rattle.htl_runs.specs.instants.InstantParts.{Passed}
 pub use Rattle.htl_runs.specs.frames.FramePlaces.{FrameJobsStand, IsFramePlacing, JobsOfPlacing, PlacedByModes, begun_by, frame_start}
 pub use Rattle.htl_runs.specs.frames.FrameSteps.{AreFrames, FinishedCarried, Now, finished_at, frame_records, next_by_frames, present_finished}
 pub use Rattle.htl_runs.specs.frames.JobsSoFar.{AreJobsSoFar, HaveWindows, IsJob, finish_or, rank, rank_at}
@@ -114,11 +113,11 @@ pub use Rattle.htl_runs.specs.frames.RunFrames.{FeasibleRuns, RunFrames, RunRead
 pub use Rattle.htl_runs.specs.instants.ReleaseFlags.{raise_all, raise_at, raise_want}
 pub use Rattle.htl_runs.specs.instants.Releases.{made_ready, released_to, s_machine_all, s_machine_at, s_machine_does, s_machine_replay, s_machine_want}
 pub use Rattle.htl_runs.specs.jobs.JobTimes.{AllToldInTime, IsToldInTime, done_time, inv_period, is_in, job_round, slice_time}
-pub use Rattle.htl_runs.specs.lines.Lines.{change_lines, done_lines, e_done, e_lines, job_lines, jobs_done, lines, list_lines, new_lines, old_lines, record_lines, run_text, s_done, step_lines, text_before, where_shown}
+pub use Rattle.htl_runs.specs.lines.Lines.{all_records, capped, change_lines, e_done, e_line, e_lines, jobs_done, lines, new_lines, old_lines, records_at, run_text, s_done, text_before}
 pub use Rattle.htl_runs.specs.lines.Programs.{before_of, schedules_of, text_of}
-pub use Rattle.htl_runs.specs.lines.RunLines.{HasNames, RunLine, ShowsJobs, begins_as_job, closed_slice_line, frame_job_lines, is_job_line, job_done_line, job_lines_at, job_lines_of, job_lines_to, list_job_lines, onto_first, printed, text_lines}
+pub use Rattle.htl_runs.specs.lines.RunLines.{HasNames, RunLine, ShowsJobs, begins_as_job, closed_slice_line, is_job_line, job_done_line, job_lines, job_lines_at, job_lines_to, onto_first, printed, record_lines, record_text, step_lines, text_lines}
 pub use Rattle.htl_runs.specs.lines.RunLines.RunLine.{ChangeLine, DoneLine, InstrLine, SliceLine, StepLine, TotalsLine}
-pub use Rattle.htl_runs.specs.lines.StandingLines.{TotalsFollow, capped, e_before, e_line, instant_text, inv_at, jobs_before, list_texts, listed_text_before, old_turn, record_text, records_of, records_text, s_before, slice_lines, some_records, sum_to, turn_new_records, turn_old_records}
+pub use Rattle.htl_runs.specs.lines.RunRecords.{RunRecord, instant_records, inv_at, list_records, lists_records, new_records, old_records, old_turn, plan_records, record_of, some_records, standing_new, standing_old, turn_new_records, turn_old_records}
 pub use Rattle.htl_runs.specs.lists.FirstStand.{CanStart, IsAtEnd, ListsAreBegun, list_begun}
 pub use Rattle.htl_runs.specs.lists.ListLengths.{kept_lengths}
 pub use Rattle.htl_runs.specs.lists.NextLists.{ListsBegin, NextListStands, next_list, next_node}
@@ -126,7 +125,7 @@ pub use Rattle.htl_runs.specs.lists.NextSMachines.{SMachinesGoOn, more_jobs, mor
 pub use Rattle.htl_runs.specs.lists.RecordEffects.{finished_before, next_world}
 pub use Rattle.htl_runs.specs.lists.RunLists.{RunsGoByLists, begun_of, list_number, list_turn, no_turn, turn_at, turn_by, turn_of}
 pub use Rattle.htl_runs.specs.lists.StandingLists.{AreListed, AreTurns, IsListed, IsTurn, SMachineFollows, Turn, left_before, records_so_far, turn_finished_by, turn_walk}
-pub use Rattle.htl_runs.specs.records.DueRecords.{Leaves, due_by}
+pub use Rattle.htl_runs.specs.records.DueRecords.{Leaves, as_told, due_by}
 pub use Rattle.htl_runs.specs.records.RecordSteps.{AreOf, IsJobOf, IsRecording, Records}
 pub use Rattle.htl_runs.specs.records.SMachineStands.{SMachineAt, SMachineStands, released_before}
 pub use Rattle.htl_runs.specs.values.FinishedJobs.{complete_at, complete_by, run_records}

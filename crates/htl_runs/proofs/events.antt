@@ -4,11 +4,9 @@ pub mod LongerJobs
 pub mod SameRecords
 pub mod NextReading
 pub mod NextLength
-pub mod SameTotals
-pub mod SameText
-pub mod TextStays
-pub mod CountedRuns
 pub mod SameTriggers
 pub mod TextSoFar
-pub mod WholeRuns
 pub mod SensorsDecide
+pub mod SameBefore
+pub mod ToldSoFar
+pub mod NextInstant

@@ -1,6 +1,5 @@
 pub mod Joined
-pub mod ListRecords
-pub mod RecordTexts
+pub mod StandingRecords
 pub mod LineBytes
 pub mod JobLines
 pub mod RecordTimes

@@ -1,3 +1,1 @@
 pub mod ToldSoFar
-pub mod Counted
-pub mod WholeRuns

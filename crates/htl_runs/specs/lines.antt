@@ -1,6 +1,5 @@
-pub mod StandingLines
+pub mod RunRecords
+pub mod RunLines
 pub mod Lines
 pub mod Programs
-pub mod RunLines
 pub mod ChangedItems
-pub mod RecordLines

@@ -1,7 +1,7 @@
--- Two lists that have left the same before an instant: what is finished, told and counted of them before it is the same.
-use Rattle.std.proofs.Common.{◌≡◌, ℕ, zero, suc, ◌+◌, ◌-◌, ◌≤◌, cond, eqb, is_some, Bool, List, [], ◌∷◌, ◌++◌, length, take, drop, refl, sym, ap, ap₂, ◌∙◌, arith}
+-- Two lists that have left the same before an instant: what is finished and shown of them before it is the same.
+use Rattle.std.proofs.Common.{◌≡◌, ℕ, zero, suc, ◌+◌, ◌-◌, ◌≤◌, cond, eqb, is_some, Bool, List, [], ◌∷◌, ◌++◌, length, map, take, drop, refl, sym, ap, ap₂, ◌∙◌, arith}
 use mathlib.Core.Path.{fun_ext}
-use Rattle.htl_runs.proofs.Words.{joined, Tables, Job, SInstr, Point, finish, told_from, told_from-take, Plan, list_walk, count_left_before, done_by, Shown, Turn, turn_walk, left_before, turn_finished_by, record_text, some_records, records_text, finished_in}
+use Rattle.htl_runs.proofs.Words.{Job, finish, told_from, told_from-take, Plan, list_walk, count_left_before, done_by, Turn, turn_walk, left_before, turn_finished_by, record_of, some_records, plan_records, finished_in}
 use Rattle.htl_walk.specs.Walk as walks
 use Rattle.htl_smach.specs.declared.left.Left.{Left}
 
@@ -15,6 +15,9 @@ pub record AreSoFar (u v : Turn) (now : ℕ) : Type 0 where
   pub earlier : u.earlier ≡ v.earlier
   pub count : (e : ℕ) → u.frame + e ≤ now → count_left_before e (turn_walk u) ≡ count_left_before e (turn_walk v)
   pub front : (e : ℕ) → u.frame + e ≤ now → take (count_left_before e (turn_walk u)) (turn_walk u) ≡ take (count_left_before e (turn_walk v)) (turn_walk v)
+
+pub one_so_far : (u : Turn) (now : ℕ) → AreSoFar u u now
+one_so_far u now = record { frame = refl; from = refl; node = refl; jobs = refl; code = refl; earlier = refl; count = λ e early. refl; front = λ e early. refl }
 
 -- a slice is one of the front
 slice_front : {A : Type 0} (xs : List A) (a b : ℕ) → take (b - a) (drop a xs) ≡ drop a (take b xs)
@@ -88,10 +91,7 @@ module _ (u v : Turn) (now : ℕ) (same : AreSoFar u v now) where
       ap (λ (ls : List Left). cond (eqb (u.frame + u.from) n) ls []) (first_so_far (suc n) (omega (arith, past)) early)
       ∙ ap₂ (λ a b. cond (eqb (a + b) n) (some_records v.plan v.frame 0 (left_before v (suc n))) []) same.frame same.from
 
-  -- the text of records needs jobs and code alone
-  pub texts_so_far : (t : Tables) (show : Shown) (ls : List Left) → records_text t show u ls ≡ records_text t show v ls
-  texts_so_far t show ls =
-      let x : Point = record { time = 0; left = [] } in
-      let text : List Job → List SInstr → ℕ → List ℕ = λ jobs code node. joined (record_text t show (record { jobs = jobs; lengths = []; first = x; schedule = code }) node) ls in
-      let to : (w : Turn) → records_text t show w ls ≡ text w.plan.jobs w.plan.schedule w.node = λ w. refl in
-      to u ∙ ap₂ (λ jobs code. text jobs code u.node) same.jobs same.code ∙ ap (text v.plan.jobs v.plan.schedule) same.node ∙ sym (to v)
+  -- what they show needs jobs, node and code alone
+  pub shown_so_far : (ls : List Left) → plan_records u.plan u.node ls ≡ plan_records v.plan v.node ls
+  shown_so_far ls =
+      ap₂ (λ jobs code. map (record_of jobs u.node code) ls) same.jobs same.code ∙ ap (λ node. map (record_of v.plan.jobs node v.plan.schedule) ls) same.node

@@ -1,6 +1,6 @@
 -- The two machines meet: records, three phases and the sensors of an instant, as their own clauses say them, make the next world.
 use Rattle.std.proofs.Common.{◌≡◌, ℕ, suc, ◌-◌, ◌≤◌, ◌<◌, List, [], ◌∷◌, length, slice_get, refl, ap, ◌∙◌, arith}
-use Rattle.htl_runs.proofs.Words.{Event, Tables, state, before, sense, SInstr, Round, ECode, Done, ModeReads, phase_path, effects, all_writes, with_sensors, AreTookWithin, turn_at, RunState, SMachineStands, UpTo, IsLoaded, Leaves, Records, left_before, Turn, turn_walk, Content}
+use Rattle.htl_runs.proofs.Words.{Event, Tables, state, before, sense, SInstr, Round, ECode, Done, ModeReads, phase_path, effects, all_writes, with_sensors, AreTookWithin, turn_at, SMachineStands, ValuesFollow, IsShaped, finished_before, IsLoaded, Leaves, Records, left_before, Turn, turn_walk, Content}
 use Rattle.htl_runs.specs.values.PhaseEffects as running
 use Rattle.htl_runs.proofs.values.PhasePaths.{replay, addresses, write_phase}
 use Rattle.htl_runs.specs.lists.RecordEffects.{with_records, next_world}
@@ -34,13 +34,13 @@ module _ (t : Tables) (code : ECode) (schedules : List (List SInstr)) (loaded : 
   turn = turn_at t schedules es
 
   -- the values that the switch phase asks for
-  pub switch_values : (m : RunState) (w1 w2 w3 : Content) → UpTo t schedules es now m → w1 ≡ with_records t turn now m.world → w2 ≡ running.replay t code (phase_path t code es now 1) w1 → w3 ≡ with_sensors t (sense t es) now w2
+  pub switch_values : (w0 w1 w2 w3 : Content) → ValuesFollow t es now (finished_before (turn_at t schedules es) now) w0 → IsShaped t w0 → w1 ≡ with_records t turn now w0 → w2 ≡ running.replay t code (phase_path t code es now 1) w1 → w3 ≡ with_sensors t (sense t es) now w2
       → w3.values ≡ (state t es now).values
-  switch_values m w1 w2 w3 up a b c =
+  switch_values w0 w1 w2 w3 values shaped a b c =
       ap (λ (z : Content). z.values) c
       ∙ ap (λ z. (with_sensors t (sense t es) now z).values) (b ∙ replay_same t code (phase_path t code es now 1) w1 ∙ write_phase t code reads now (before t es now) (standing_before t loaded.range es now).1.real w1)
       ∙ ap (λ z. (with_sensors t (sense t es) now (effects t (all_writes t now (before t es now).stays) z)).values) a
-      ∙ values_now t loaded.range loaded.kept es turn (loaded_turns t schedules loaded es within) now m.world up.values (has_places t m.world loaded.range loaded.kept up.shape)
+      ∙ values_now t loaded.range loaded.kept es turn (loaded_turns t schedules loaded es within) now w0 values (has_places t w0 loaded.range loaded.kept shaped)
 
   -- records, writes, sensors, switches and reads make the next world
   pub next_is : (w0 w1 w2 w3 w4 w5 : Content) → w1 ≡ with_records t turn now w0 → w2 ≡ running.replay t code (phase_path t code es now 1) w1 → w3 ≡ with_sensors t (sense t es) now w2

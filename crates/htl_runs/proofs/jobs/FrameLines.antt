@@ -1,10 +1,10 @@
 -- The job lines of a run that count within a frame are those of the frame's own records.
 use Rattle.std.proofs.Common.{◌≡◌, ◌≢◌, ◌≤◌, ◌<◌, inl, inr, ℕ, zero, suc, ◌+◌, ◌-◌, ◌*◌, ◌/◌, ◌%◌, Bool, true, false, cond, ◌&&◌, eqb, ltb, leb, List, [], ◌∷◌, ◌++◌, map, slice_get, Option, Some, None, option_map, refl, sym, ap, ap₂, ◌∙◌, arith, append-nil}
-use Rattle.htl_runs.proofs.Words.{filter, div-add-mod, mod-lt, mul-le-mul_right, eqb-true, ltb-true, ltb-false, leb-true, and_parts, Event, node, joined, numbered, up_to, Tables, up_to_same, Job, SInstr, Leg, list_point, walks_from, end_to_end, Left, Point, first_point, last_point, walk_from, RunningList, lists_from, left_in, begun_before, Frame, frame_modes, path_of, frame_at, walk_of, Rises, rounds_before, shifted, RunLine, closed_slice_line, job_lines_of, frame_job_lines, job_lines_at, SliceLine, DoneLine, inv_at, cases_less_same, up_to_none}
-use Rattle.htl_runs.proofs.lines.JobLines.{none_first, begins_silent, joined-up_to}
-use Rattle.htl_runs.proofs.lines.Joined.{joined-append}
+use Rattle.htl_runs.proofs.Words.{filter, div-add-mod, mod-lt, mul-le-mul_right, eqb-true, ltb-true, ltb-false, leb-true, and_parts, Event, node, joined, numbered, up_to, Tables, up_to_same, Job, SInstr, Leg, list_point, walks_from, end_to_end, Left, Point, first_point, last_point, walk_from, RunningList, lists_from, left_in, begun_before, Frame, frame_modes, path_of, frame_at, walk_of, Rises, rounds_before, shifted, RunLine, RunRecord, record_of, as_told, lists_records, old_records, closed_slice_line, job_lines, job_lines_at, lists_at, SliceLine, DoneLine, inv_at, cases_less_same, up_to_none}
+use Rattle.htl_runs.proofs.lines.JobLines.{job_lines_of, none_first, begins_silent}
+use Rattle.htl_runs.proofs.lines.Joined.{joined-append, joined-up_to, joined-maps}
 use Rattle.htl_runs.proofs.lines.RecordTimes.{nothing, joined_none, at_now, before_now, in_order}
-use Rattle.htl_runs.proofs.lines.ListRecords.{silent_at}
+use Rattle.htl_runs.proofs.lines.StandingRecords.{silent_at}
 use Rattle.htl_runs.proofs.jobs.WorkRecords.{DoesWork}
 
 -- ---- numbers of frames
@@ -99,10 +99,11 @@ module _ {X : Type 0} (h : RunLine → List X) where
     abbrev frame : ℕ → Frame
     frame f = frame_at t lists es f
 
-    of_frame : (f now : ℕ) → joined h (frame_job_lines t lists es (begun_before now) now f) ≡ joined (at_now (owed (frame f).jobs f) f now) (walk_of (frame f))
+    of_frame : (f now : ℕ) → joined h (joined job_lines (lists_records t lists es (begun_before now) now f)) ≡ joined (at_now (owed (frame f).jobs f) f now) (walk_of (frame f))
     of_frame f now =
         let p = frame f in
-        of_lists t (node t (path_of t (frame_modes t es f))) f now 0 p.jobs p.jobs p.lists p.legs (first_point p.jobs p.lengths)
+        ap (joined h) (joined-maps job_lines (λ r l. record_of p.jobs r.node r.code (as_told l)) (left_in now f) (filter (begun_before now) (lists_at t lists es f)))
+        ∙ of_lists t (node t (path_of t (frame_modes t es f))) f now 0 p.jobs p.jobs p.lists p.legs (first_point p.jobs p.lengths)
 
     -- ---- where lines count alone that are behind s and no later than e
 
@@ -163,11 +164,12 @@ module _ {X : Type 0} (h : RunLine → List X) where
 
         at_instant : (now : ℕ) → joined h (job_lines_at t lists es (Some long) now) ≡ then_left now n
         at_instant now =
-            let old = up_to (λ k. frame_job_lines t lists es (begun_before now) now (k * long)) (rounds_before long now) in
-            ap (λ (xs : List RunLine). joined h (old ++ xs)) (begins_silent t lists es (long * (now / long)) now)
-            ∙ ap (joined h) (append-nil old)
-            ∙ joined-up_to h (λ k. frame_job_lines t lists es (begun_before now) now (k * long)) (rounds_before long now)
-            ∙ up_to_same (λ k. joined h (frame_job_lines t lists es (begun_before now) now (k * long))) (then_left now) (rounds_before long now) (λ k less. of_frame (k * long) now)
+            let running : ℕ → List RunRecord = λ k. lists_records t lists es (begun_before now) now (k * long) in
+            let old = joined job_lines (old_records t lists es (Some long) now) in
+            ap (λ (xs : List RunLine). joined h (old ++ xs)) (begins_silent t lists es (Some long) now)
+            ∙ ap (joined h) (append-nil old ∙ joined-up_to job_lines running (rounds_before long now))
+            ∙ joined-up_to h (λ k. joined job_lines (running k)) (rounds_before long now)
+            ∙ up_to_same (λ k. joined h (joined job_lines (running k))) (then_left now) (rounds_before long now) (λ k less. of_frame (k * long) now)
             ∙ up_to_one (then_left now) n (rounds_before long now) (elsewhere now) (λ few. too_early now (not_begun long n now some few))
 
         -- so those of the instants before m are those of the frame's records that are left before m

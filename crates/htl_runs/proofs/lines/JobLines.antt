@@ -1,11 +1,14 @@
 -- A run's text is printed line by line, and its j and d lines are those of its records.
 use Rattle.std.proofs.Common.{◌≡◌, ℕ, zero, suc, ◌+◌, ◌*◌, ◌/◌, Bool, true, false, cond, eqb, List, [], ◌∷◌, ◌++◌, map, slice_get, Option, Some, None, option_map, refl, sym, ap, ap₂, ◌∙◌, subst, arith}
-use Rattle.htl_runs.proofs.Words.{filter, eqb-true, append-nil, filter-append, Event, Line, line_text, lines_text, joined, numbered, up_to, value_lines, hyper, node, Tables, up_to_same, SInstr, Job, Leg, walks_from, Left, Point, first_point, last_point, walk_from, ECode, EInstr, Done, e_path, RunningList, lists_from, lists_at, left_in, begun_before, begins_at, frame_modes, path_of, frame_at, rounds_before, shifted, Shown, Jobs, done_line, step_line, instr_line, shows_values, shows_jobs, shows_code, inv_at, slice_lines, e_line, where_shown, done_lines, step_lines, job_lines, record_lines, list_lines, old_lines, new_lines, e_lines, change_lines, lines, jobs_done, e_done, s_done, text_before, run_text, RunLine, printed, is_job_line, begins_as_job, text_lines, HasNames, closed_slice_line, job_done_line, job_lines_of, list_job_lines, frame_job_lines, job_lines_at, job_lines_to, ShowsJobs, InstrLine, ChangeLine, StepLine, TotalsLine, SliceLine, DoneLine}
+use Rattle.htl_runs.proofs.Words.{filter, eqb-true, append-nil, filter-append, Event, Line, line_text, lines_text, joined, numbered, up_to, value_lines, hyper, node, Tables, SInstr, Job, Leg, walks_from, Left, Point, first_point, last_point, walk_from, ECode, EInstr, Done, e_path, RunningList, lists_from, lists_at, left_in, begins_at, frame_modes, path_of, frame_at, shifted, Shown, Jobs, instr_line, shows_values, shows_jobs, shows_code, RunRecord, record_of, inv_at, as_told, old_records, new_records, e_line, old_lines, new_lines, e_lines, change_lines, lines, jobs_done, e_done, s_done, text_before, run_text, RunLine, printed, is_job_line, begins_as_job, text_lines, HasNames, closed_slice_line, job_done_line, job_lines, step_lines, record_lines, record_text, job_lines_at, job_lines_to, ShowsJobs, InstrLine, ChangeLine, StepLine, TotalsLine}
 use Rattle.htl_walk.specs.Paths as paths
 use Rattle.htl_runs.proofs.lines.LineBytes.{lines_found, jobs_found}
-use Rattle.htl_runs.proofs.lines.Joined.{joined-append}
-use Rattle.htl_runs.proofs.lines.RecordTimes.{joined_each}
-use Rattle.htl_runs.proofs.lines.ListRecords.{silent_at}
+use Rattle.htl_runs.proofs.lines.Joined.{joined-append, joined-maps}
+use Rattle.htl_runs.proofs.lines.StandingRecords.{silent_at}
+
+-- the job lines of a record of a list with these jobs, wherever the list is
+abbrev pub job_lines_of : List Job → ℕ × Left → List RunLine
+job_lines_of jobs l = job_lines (record_of jobs 0 [] (as_told l))
 
 module _ (t : Tables) where
   -- ---- how texts are put together
@@ -28,11 +31,7 @@ module _ (t : Tables) where
   before_others : (a b : List ℕ) (x : List RunLine) → ShowsJobs t a x → ShowsJobs t b [] → ShowsJobs t (a ++ b) x
   before_others a b x p q = subst (λ z. ShowsJobs t (a ++ b) z) (append-nil x) (both a b x [] p q)
 
-  where_true : (b : Bool) (a : List ℕ) (x : List RunLine) → ShowsJobs t a x → ShowsJobs t (cond b a []) (cond b x [])
-  where_true true a x p = p
-  where_true false a x p = none
-
-  others_shown : (b : Bool) (a : List ℕ) → ShowsJobs t a [] → ShowsJobs t (where_shown b a) []
+  others_shown : (b : Bool) (a : List ℕ) → ShowsJobs t a [] → ShowsJobs t (cond b a []) []
   others_shown true a p = p
   others_shown false a p = none
 
@@ -48,30 +47,34 @@ module _ (t : Tables) where
   all_to f g each zero = none
   all_to f g each (suc n) = both (up_to f n) (f n) (up_to g n) (g n) (all_to f g each n) (each n)
 
-  -- ---- the lines of one record
+  -- ---- the lines of records
 
-  slice_shows : (i : ℕ) (s : Option (ℕ × ℕ)) → ShowsJobs t (slice_lines t i s) (closed_slice_line i s)
-  slice_shows i (Some s) = one (SliceLine s.0 s.1 i)
-  slice_shows i None = none
+  slice_alone : (i : ℕ) (s : Option (ℕ × ℕ)) → filter is_job_line (closed_slice_line i s) ≡ closed_slice_line i s
+  slice_alone i (Some s) = refl
+  slice_alone i None = refl
 
-  jobs_show : (js : List Job) (l : ℕ × Left) → ShowsJobs t (job_lines t js l.1) (job_lines_of js l)
-  jobs_show js l =
-      let i = inv_at js l.1.position in
-      both (slice_lines t i l.1.slice) (done_lines t i l.1) (closed_slice_line i l.1.slice) (job_done_line i l.1) (slice_shows i l.1.slice)
-      (where_true l.1.finished (done_line t l.1.at i) (DoneLine l.1.at i ∷ []) (one (DoneLine l.1.at i)))
+  done_alone : (at i : ℕ) (b : Bool) → filter is_job_line (job_done_line at b i) ≡ job_done_line at b i
+  done_alone at i true = refl
+  done_alone at i false = refl
 
-  step_shows : (r : RunningList) (l : ℕ × Left) → ShowsJobs t (step_lines r l) []
-  step_shows r l = by (slice_get r.code l.0)
-    where
-      by : (o : Option SInstr) → ShowsJobs t (elim o as (λ _. List ℕ) [ Some i ↦ step_line l.1.at r.node l.0 i | None ↦ [] ]) []
-      by (Some i) = one (StepLine l.1.at r.node l.0 i)
-      by None = none
+  no_step : (x : RunRecord) (c : Bool) (o : Option SInstr) → filter is_job_line (cond c (elim o as (λ _. List RunLine) [ Some i ↦ StepLine x.left.at x.node x.left.instr i ∷ [] | None ↦ [] ]) []) ≡ []
+  no_step x true (Some i) = refl
+  no_step x true None = refl
+  no_step x false o = refl
 
-  record_shows : (show : Shown) → shows_jobs show ≡ true → (js : List Job) (r : RunningList) (l : ℕ × Left) → ShowsJobs t (record_lines t show js r l) (job_lines_of js l)
-  record_shows show jobs js r l =
-      before_others (where_shown (shows_jobs show) (job_lines t js l.1)) (where_shown (shows_code show) (step_lines r l)) (job_lines_of js l)
-      (subst (λ b. ShowsJobs t (where_shown b (job_lines t js l.1)) (job_lines_of js l)) (sym jobs) (jobs_show js l))
-      (others_shown (shows_code show) (step_lines r l) (step_shows r l))
+  record_shows : (show : Shown) → shows_jobs show ≡ true → (x : RunRecord) → ShowsJobs t (record_text t show x) (job_lines x)
+  record_shows show jobs x =
+      record {
+        lines = record_lines show x;
+        whole = refl;
+        of_jobs =
+            ap (λ b. filter is_job_line (cond b (job_lines x) [] ++ cond (shows_code show) (step_lines x) [])) jobs
+            ∙ filter-append is_job_line (job_lines x) (cond (shows_code show) (step_lines x) [])
+            ∙ ap₂ (λ (u v : List RunLine). u ++ v)
+            (filter-append is_job_line (closed_slice_line x.inv x.left.slice) (job_done_line x.left.at x.left.finished x.inv)
+            ∙ ap₂ (λ (u v : List RunLine). u ++ v) (slice_alone x.inv x.left.slice) (done_alone x.left.at x.inv x.left.finished)) (no_step x (shows_code show) x.instr)
+            ∙ append-nil (job_lines x);
+      }
 
   -- ---- the lines of an instant
 
@@ -86,22 +89,11 @@ module _ (t : Tables) where
   changes_show [] = none
   changes_show (l ∷ ls) = both (line_text t l) (lines_text t ls) [] [] (one (ChangeLine l)) (changes_show ls)
 
-  module _ (schedules : List (List SInstr)) (es : List Event) (show : Shown) (jobs : shows_jobs show ≡ true) where
-    list_shows : (f now : ℕ) (r : RunningList) → ShowsJobs t (list_lines t schedules es show now f r) (list_job_lines t schedules es now f r)
-    list_shows f now r = let js = (frame_at t schedules es f).jobs in all_of (record_lines t show js r) (job_lines_of js) (record_shows show jobs js r) (left_in now f r)
-
-    new_shows : (o : Option ℕ) (now : ℕ) → ShowsJobs t (new_lines t schedules es show o now) []
-    new_shows None now = none
-    new_shows (Some h) now =
-        let f = h * (now / h) in
-        others_shown (shows_code show) _
-        (all_others (λ r. joined (step_lines r) (left_in now f r)) (λ r. all_others (step_lines r) (step_shows r) (left_in now f r)) (filter (begins_at now) (lists_at t schedules es f)))
-
   -- a record that is left as its list begins has no job lines
   no_lines : (jobs : List Job) (start k : ℕ) (l : Left) → (l.slice ≡ None) × (l.finished ≡ false) → job_lines_of jobs (k, shifted start l) ≡ []
   no_lines jobs start k l silent =
       let i = inv_at jobs l.position in
-      ap₂ (λ (o : Option (ℕ × ℕ)) (b : Bool). closed_slice_line i (option_map (λ (s : ℕ × ℕ). (start + s.0, start + s.1)) o) ++ cond b (DoneLine (start + l.at) i ∷ []) []) silent.0 silent.1
+      ap₂ (λ (o : Option (ℕ × ℕ)) (b : Bool). closed_slice_line i (option_map (λ (s : ℕ × ℕ). (start + s.0, start + s.1)) o) ++ job_done_line (start + l.at) b i) silent.0 silent.1
 
   pub none_first : (jobs : List Job) (start now k : ℕ) (ls : List Left) → ((i : ℕ) (l : Left) → slice_get ls i ≡ Some l → start + l.at ≡ now → (l.slice ≡ None) × (l.finished ≡ false))
       → joined (job_lines_of jobs) (filter (λ (l : ℕ × Left). eqb l.1.at now) (numbered k (map (shifted start) ls))) ≡ []
@@ -137,30 +129,26 @@ module _ (t : Tables) where
           (none_first all f now 0 (walk_from jobs s (paths.list_point g.from x)) (λ i l at same. silent_at jobs s (paths.list_point g.from x) g.from i l (omega arith) at (omega (arith, here, same)))) next
 
   module _ (schedules : List (List SInstr)) (es : List Event) where
-    pub begins_silent : (f now : ℕ) → frame_job_lines t schedules es (begins_at now) now f ≡ []
-    begins_silent f now =
+    pub begins_silent : (o : Option ℕ) (now : ℕ) → joined job_lines (new_records t schedules es o now) ≡ []
+    begins_silent None now = refl
+    begins_silent (Some h) now =
+        let f = h * (now / h) in
         let p = frame_at t schedules es f in
-        lists_silent (node t (path_of t (frame_modes t es f))) f now 0 p.jobs p.jobs p.lists p.legs (first_point p.jobs p.lengths)
+        joined-maps job_lines (λ r l. record_of p.jobs r.node r.code (as_told l)) (left_in now f) (filter (begins_at now) (lists_at t schedules es f))
+        ∙ lists_silent (node t (path_of t (frame_modes t es f))) f now 0 p.jobs p.jobs p.lists p.legs (first_point p.jobs p.lengths)
 
     module _ (code : ECode) (show : Shown) (jobs : shows_jobs show ≡ true) where
       instant_by : (o : Option ℕ) (now : ℕ)
           → ShowsJobs t (old_lines t schedules es show o now ++ e_lines t code es show now ++ change_lines t es show now ++ new_lines t schedules es show o now) (job_lines_at t schedules es o now)
       instant_by o now =
-          before_others (old_lines t schedules es show o now ++ e_lines t code es show now ++ change_lines t es show now) (new_lines t schedules es show o now) (job_lines_at t schedules es o now)
-          (before_others (old_lines t schedules es show o now ++ e_lines t code es show now) (change_lines t es show now) (job_lines_at t schedules es o now)
-          (before_others (old_lines t schedules es show o now) (e_lines t code es show now) (job_lines_at t schedules es o now) (old_show o)
+          let before = old_lines t schedules es show o now in
+          let owed = joined job_lines (old_records t schedules es o now) in
+          both (before ++ e_lines t code es show now ++ change_lines t es show now) (new_lines t schedules es show o now) owed (joined job_lines (new_records t schedules es o now))
+          (before_others (before ++ e_lines t code es show now) (change_lines t es show now) owed
+          (before_others before (e_lines t code es show now) owed (all_of (record_text t show) job_lines (record_shows show jobs) (old_records t schedules es o now))
           (others_shown (shows_code show) _ (all_others (e_line t code now) (e_shows code now) (e_path t code es now))))
           (others_shown (shows_values show) _ (changes_show (value_lines t es now))))
-          (new_shows schedules es show jobs o now)
-        where
-          old_show : (o : Option ℕ) → ShowsJobs t (old_lines t schedules es show o now) (job_lines_at t schedules es o now)
-          old_show None = none
-          old_show (Some h) =
-              let owed = up_to (λ k. frame_job_lines t schedules es (begun_before now) now (k * h)) (rounds_before h now) in
-              let text = up_to (λ k. joined (list_lines t schedules es show now (k * h)) (filter (begun_before now) (lists_at t schedules es (k * h)))) (rounds_before h now) in
-              subst (λ z. ShowsJobs t text z) (sym (append-nil owed) ∙ ap (λ z. owed ++ z) (sym (begins_silent (h * (now / h)) now)))
-              (all_to (λ k. joined (list_lines t schedules es show now (k * h)) (filter (begun_before now) (lists_at t schedules es (k * h)))) (λ k. frame_job_lines t schedules es (begun_before now) now (k * h))
-              (λ k. all_of (list_lines t schedules es show now (k * h)) (list_job_lines t schedules es now (k * h)) (list_shows schedules es show jobs (k * h) now) (filter (begun_before now) (lists_at t schedules es (k * h)))) (rounds_before h now))
+          (all_of (record_text t show) job_lines (record_shows show jobs) (new_records t schedules es o now))
 
       -- the text of a run
       pub run_shows : (end : ℕ) → ShowsJobs t (run_text t code schedules es show end) (job_lines_to t schedules es end)
@@ -179,50 +167,18 @@ jobs_are_found t names text jobs shown =
 
 -- ---- where no code is shown, the lines of records are job lines alone
 
-pub joined-joined : {A B C : Type 0} (f : B → List C) (g : A → List B) (xs : List A) → joined f (joined g xs) ≡ joined (λ x. joined f (g x)) xs
-joined-joined f g [] = refl
-joined-joined f g (x ∷ xs) = joined-append f (g x) (joined g xs) ∙ ap (λ ys. joined f (g x) ++ ys) (joined-joined f g xs)
-
-pub joined-up_to : {B C : Type 0} (f : B → List C) (g : ℕ → List B) (n : ℕ) → joined f (up_to g n) ≡ up_to (λ k. joined f (g k)) n
-joined-up_to f g zero = refl
-joined-up_to f g (suc n) = joined-append f (up_to g n) (g n) ∙ ap (λ ys. ys ++ joined f (g n)) (joined-up_to f g n)
-
 module _ (t : Tables) where
-  slice_alone : (i : ℕ) (s : Option (ℕ × ℕ)) → slice_lines t i s ≡ joined (printed t) (closed_slice_line i s)
-  slice_alone i (Some s) = sym (append-nil (printed t (SliceLine s.0 s.1 i)))
-  slice_alone i None = refl
-
-  done_alone : (i : ℕ) (l : Left) → done_lines t i l ≡ joined (printed t) (job_done_line i l)
-  done_alone i l = by l.finished
-    where
-      by : (b : Bool) → cond b (done_line t l.at i) [] ≡ joined (printed t) (cond b (DoneLine l.at i ∷ []) [])
-      by true = sym (append-nil (printed t (DoneLine l.at i)))
-      by false = refl
-
-  record_alone : (js : List Job) (r : RunningList) (l : ℕ × Left) → record_lines t Jobs js r l ≡ joined (printed t) (job_lines_of js l)
-  record_alone js r l =
-      let i = inv_at js l.1.position in
-      append-nil (job_lines t js l.1) ∙ ap₂ (λ (xs ys : List ℕ). xs ++ ys) (slice_alone i l.1.slice) (done_alone i l.1)
-      ∙ sym (joined-append (printed t) (closed_slice_line i l.1.slice) (job_done_line i l.1))
+  records_alone : (xs : List RunRecord) → joined (record_text t Jobs) xs ≡ joined (printed t) (joined job_lines xs)
+  records_alone [] = refl
+  records_alone (x ∷ xs) =
+      ap₂ (λ (a b : List ℕ). a ++ b) (ap (joined (printed t)) (append-nil (job_lines x))) (records_alone xs) ∙ sym (joined-append (printed t) (job_lines x) (joined job_lines xs))
 
   module _ (schedules : List (List SInstr)) (es : List Event) where
-    list_alone : (f now : ℕ) (r : RunningList) → list_lines t schedules es Jobs now f r ≡ joined (printed t) (list_job_lines t schedules es now f r)
-    list_alone f now r =
-        let js = (frame_at t schedules es f).jobs in
-        let ls = left_in now f r in
-        joined_each (record_lines t Jobs js r) (λ l. joined (printed t) (job_lines_of js l)) ls (λ i l at. record_alone js r l)
-        ∙ sym (joined-joined (printed t) (job_lines_of js) ls)
-
-    frame_alone : (f now : ℕ) → joined (list_lines t schedules es Jobs now f) (filter (begun_before now) (lists_at t schedules es f)) ≡ joined (printed t) (frame_job_lines t schedules es (begun_before now) now f)
-    frame_alone f now =
-        let rs = filter (begun_before now) (lists_at t schedules es f) in
-        joined_each (list_lines t schedules es Jobs now f) (λ r. joined (printed t) (list_job_lines t schedules es now f r)) rs (λ i r at. list_alone f now r)
-        ∙ sym (joined-joined (printed t) (list_job_lines t schedules es now f) rs)
-
     pub old_alone : (o : Option ℕ) (now : ℕ) → old_lines t schedules es Jobs o now ≡ joined (printed t) (job_lines_at t schedules es o now)
-    old_alone None now = refl
-    old_alone (Some h) now =
-        let owed = up_to (λ k. frame_job_lines t schedules es (begun_before now) now (k * h)) (rounds_before h now) in
-        up_to_same (λ k. joined (list_lines t schedules es Jobs now (k * h)) (filter (begun_before now) (lists_at t schedules es (k * h)))) (λ k. joined (printed t) (frame_job_lines t schedules es (begun_before now) now (k * h))) (rounds_before h now) (λ k less. frame_alone (k * h) now)
-        ∙ sym (joined-up_to (printed t) (λ k. frame_job_lines t schedules es (begun_before now) now (k * h)) (rounds_before h now))
-        ∙ ap (joined (printed t)) (sym (append-nil owed) ∙ ap (λ z. owed ++ z) (sym (begins_silent t schedules es (h * (now / h)) now)))
+    old_alone o now =
+        let owed = joined job_lines (old_records t schedules es o now) in
+        records_alone (old_records t schedules es o now) ∙ ap (joined (printed t)) (sym (append-nil owed) ∙ ap (λ z. owed ++ z) (sym (begins_silent t schedules es o now)))
+
+    -- of the list that begins there are none
+    pub new_alone : (o : Option ℕ) (now : ℕ) → new_lines t schedules es Jobs o now ≡ []
+    new_alone o now = records_alone (new_records t schedules es o now) ∙ ap (joined (printed t)) (begins_silent t schedules es o now)

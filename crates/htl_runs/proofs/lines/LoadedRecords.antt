@@ -1,30 +1,51 @@
--- A loaded program: the lines, totals and text of its runs are those of the pieces of walks.
-use Rattle.std.proofs.Common.{◌≡◌, ℕ, List, map, Some}
-use Rattle.htl_runs.proofs.Words.{Event, hyper, Tables, SInstr, ECode, AreTookWithin, records, IsFeasibleRun, Shown, IsLoaded}
-use Rattle.htl_runs.specs.lines.StandingLines as texts
-use Rattle.htl_runs.specs.lines.Lines as runs
-use Rattle.htl_runs.proofs.records.InstantRecords.{as_told}
+-- A loaded program: the records of its runs are those of the list that stands, and each instant adds to the totals.
+use Rattle.std.proofs.Common.{◌≡◌, ℕ, suc, ◌+◌, ◌-◌, ◌^◌, min, cond, List, length, Option, Some, None, refl, sym, ◌∙◌, ap, length-append, arith}
+use Rattle.htl_runs.proofs.Words.{count_by, sum_by-append, Event, up_to, hyper, frame_of, Tables, SInstr, ECode, e_path, AreTookWithin, IsLoaded, Turn, old_records, new_records, plan_records, old_turn, turn_old_records, turn_new_records, standing_old, standing_new, capped, records_at, all_records, jobs_done, e_done, s_done, turn_by, turn_at, list_turn}
+use Rattle.htl_smach.specs.declared.left.Left.{Left}
 use Rattle.htl_runs.proofs.lists.LoadedLists.{loaded_run}
-use Rattle.htl_runs.proofs.lines.RecordTexts.{records_are, jobs_are, e_are, s_are, lines_are, before_is}
+use Rattle.htl_runs.proofs.lines.StandingRecords.{old_are, new_are}
 
 module _ (t : Tables) (schedules : List (List SInstr)) (es : List Event) (loaded : IsLoaded t schedules) (within : AreTookWithin t es) where
-  runs_so : (h : ℕ) → hyper t ≡ Some h → IsFeasibleRun t schedules es
-  runs_so = loaded_run t schedules loaded es within
+  -- the length of a frame
+  frame_is : (h : ℕ) → hyper t ≡ Some h → Some (frame_of t) ≡ Some h
+  frame_is h e = ap (λ (o : Option ℕ). Some (elim o [ Some n ↦ n | None ↦ 0 ])) e
 
-  pub loaded_records : (now : ℕ) → map as_told (records t schedules es now) ≡ texts.records_of t schedules es (hyper t) now
-  loaded_records = records_are t schedules es runs_so
+  turn_is : (h : ℕ) → hyper t ≡ Some h → list_turn t schedules es ≡ turn_at t schedules es
+  turn_is h e = sym (ap (λ o. turn_by o t schedules es) e)
 
-  pub loaded_lines : (code : ECode) (show : Shown) (now : ℕ) → runs.lines t code schedules es show now ≡ texts.instant_text t code schedules es show now
-  loaded_lines = lines_are t schedules es runs_so
+  pub loaded_old : (now : ℕ) → old_records t schedules es (hyper t) now ≡ standing_old t schedules es (hyper t) now
+  loaded_old now = by (hyper t) refl
+    where
+      by : (o : Option ℕ) → hyper t ≡ o → old_records t schedules es o now ≡ standing_old t schedules es o now
+      by None e = refl
+      by (Some h) e =
+          ap (λ o. old_records t schedules es o now) (sym (frame_is h e)) ∙ old_are t schedules es (loaded_run t schedules loaded es within h e) now
+          ∙ ap (λ (turn : ℕ → Turn). plan_records (old_turn turn now).plan (old_turn turn now).node (turn_old_records turn now)) (turn_is h e)
 
-  pub loaded_before : (code : ECode) (show : Shown) (now : ℕ) → runs.text_before t code schedules es show now ≡ texts.listed_text_before t code schedules es show now
-  loaded_before = before_is t schedules es runs_so
+  pub loaded_new : (now : ℕ) → new_records t schedules es (hyper t) now ≡ standing_new t schedules es (hyper t) now
+  loaded_new now = by (hyper t) refl
+    where
+      by : (o : Option ℕ) → hyper t ≡ o → new_records t schedules es o now ≡ standing_new t schedules es o now
+      by None e = refl
+      by (Some h) e =
+          ap (λ o. new_records t schedules es o now) (sym (frame_is h e)) ∙ new_are t schedules es (loaded_run t schedules loaded es within h e) now
+          ∙ ap (λ (turn : ℕ → Turn). plan_records (turn now).plan (turn now).node (turn_new_records turn now)) (turn_is h e)
 
-  pub loaded_jobs : (now : ℕ) → runs.jobs_done t schedules es now ≡ texts.jobs_before t schedules es now
-  loaded_jobs = jobs_are t schedules es runs_so
+-- ---- totals
 
-  pub loaded_s : (now : ℕ) → runs.s_done t schedules es now ≡ texts.s_before t schedules es now
-  loaded_s = s_are t schedules es runs_so
+-- a count that stands at its end goes on from the count before
+capped_more : (a b : ℕ) → capped (a + b) ≡ min (capped a + b) (2 ^ 64 - 1)
+capped_more a b = omega arith
 
-  pub loaded_e : (code : ECode) (now : ℕ) → runs.e_done t code es now ≡ texts.e_before t code es now
-  loaded_e = e_are t schedules es runs_so
+-- an instant adds its records and its addresses
+module _ (t : Tables) (schedules : List (List SInstr)) (es : List Event) (now : ℕ) where
+  pub jobs_more : jobs_done t schedules es (suc now) ≡ min (jobs_done t schedules es now + count_by (λ (l : Left). l.finished) (records_at t schedules es now)) (2 ^ 64 - 1)
+  jobs_more =
+      ap capped (sum_by-append (λ (l : Left). cond {A = ℕ} l.finished 1 0) (all_records t schedules es now) (records_at t schedules es now))
+      ∙ capped_more (count_by (λ (l : Left). l.finished) (all_records t schedules es now)) (count_by (λ (l : Left). l.finished) (records_at t schedules es now))
+
+  pub s_more : s_done t schedules es (suc now) ≡ min (s_done t schedules es now + length (records_at t schedules es now)) (2 ^ 64 - 1)
+  s_more = ap capped (length-append (all_records t schedules es now) (records_at t schedules es now)) ∙ capped_more (length (all_records t schedules es now)) (length (records_at t schedules es now))
+
+  pub e_more : (code : ECode) → e_done t code es (suc now) ≡ min (e_done t code es now + length (e_path t code es now)) (2 ^ 64 - 1)
+  e_more code = ap capped (length-append (up_to (e_path t code es) now) (e_path t code es now)) ∙ capped_more (length (up_to (e_path t code es) now)) (length (e_path t code es now))

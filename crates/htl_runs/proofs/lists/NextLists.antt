@@ -1,6 +1,6 @@
 -- Where a list begins, and which.
 use Rattle.std.proofs.Common.{◌≡◌, ◌≢◌, ℕ, zero, suc, ◌+◌, ◌-◌, ◌*◌, ◌/◌, ◌%◌, ◌≤◌, ◌<◌, ◌⊎◌, Bool, true, false, cond, ◌&&◌, ◌||◌, not, eqb, leb, pred, List, [], ◌∷◌, length, get_or, map, slice_get, drop, Option, Some, None, refl, sym, ap, ap₂, ◌∙◌, arith, inl, inr}
-use Rattle.htl_runs.proofs.Words.{list_any, div-add-mod, add-mul-mod_self_left, mul_assoc, eqb-true, eq-eqb, ne_eqb, cases_eq, get_or_from_slice_get, slice_get-get_or, slice_get_within, Event, Mode, KeptApart, frame_of, starts, unit_period, root_periods, rounds_of, choices, node, AreInRange, IsModeInRange, is_root, root_modules, modes_of, mode_of_module, Tables, mode_period, frame_divided, modes_some, place_passes_0, SInstr, IsRootAt, as_unit, choice_of, frame_modes, path_in, choice_at, nodes_below, node_read, modes_at, entry_place, IsFeasibleRun, nodes_read, node_steps, states_are_selections, frame_start, Turn, next_list, next_node, NextListStands, ListsBegin, begun_of, list_number, list_turn, first_period, opens, some_round_begins, all_at}
+use Rattle.htl_runs.proofs.Words.{list_any, div-add-mod, add-mul-mod_self_left, mul_assoc, eqb-true, eq-eqb, ne_eqb, cases_eq, get_or_from_slice_get, slice_get-get_or, slice_get_within, Event, Mode, KeptApart, frame_of, starts, unit_period, root_periods, rounds_of, choices, AreInRange, IsModeInRange, is_root, root_modules, modes_of, mode_of_module, Tables, mode_period, frame_divided, modes_some, place_passes_0, SInstr, IsRootAt, as_unit, choice_of, frame_modes, path_in, choice_at, nodes_below, node_read, modes_at, entry_place, IsFeasibleRun, nodes_read, node_steps, states_are_selections, frame_start, Turn, next_list, next_node, NextListStands, ListsBegin, begun_of, list_number, list_turn, first_period, opens, some_round_begins, all_at}
 use Rattle.htl_model.specs.Frames as frames
 use Rattle.htl_walk.proofs.Starts.{Rises}
 use Rattle.htl_runs.proofs.lists.ListStarts.{begun_next, none_after}

@@ -1,14 +1,9 @@
 -- The records of an instant are one piece of the walk that stands then; and the numbers of the rounds before it.
 use Rattle.std.proofs.Common.{◌≡◌, ◌≤◌, ◌<◌, ℕ, suc, ◌+◌, ◌-◌, ◌*◌, ◌/◌, Bool, true, false, cond, eqb, ltb, List, [], ◌∷◌, ◌++◌, take, drop, map, Option, Some, None, refl, sym, ◌∙◌, ap, ap₂, arith}
-use Rattle.htl_runs.proofs.Words.{filter, add-mul-div_left, ltb-true, ltb-false, eqb-true, eqb-false, numbered, up_to, told, told_from, shifted, rounds_before, count_left_before, Rises, up_to_none, option_map}
+use Rattle.htl_runs.proofs.Words.{filter, add-mul-div_left, ltb-true, ltb-false, eqb-true, eqb-false, numbered, up_to, as_told, told, told_from, shifted, rounds_before, count_left_before, Rises, up_to_none, option_map}
 use Rattle.htl_walk.specs.Walk as walks
 use Rattle.htl_smach.specs.declared.left.Left.{Left}
 use Rattle.htl_smach.specs.Rounds as rounds
-
--- ---- a record, as the S machine tells it
-
-abbrev pub as_told : ℕ × walks.Left → Left
-as_told l = record { at = l.1.at; instr = l.0; position = l.1.position; slice = l.1.slice; finished = l.1.finished }
 
 slice_is : (start : ℕ) (o : Option (ℕ × ℕ)) → rounds.slice_shifted start o ≡ option_map (λ (s : ℕ × ℕ). (start + s.0, start + s.1)) o
 slice_is start None = refl

@@ -1,13 +1,12 @@
--- When a machine follows tables, schedules and events, and what its calls do to what it keeps.
+-- When a machine follows what calls told it, and what calls do to what it keeps.
 use Rattle.std.specs.Prelude.{◌≡◌, ℕ, ◌≤◌, ◌<◌, Bool, false, List, [], ◌∷◌, length, get_or, set, Some, None, ℤ, pos}
-use Rattle.htl_runs.specs.Common.{Event, hyper, Tables, sense, SInstr, HasValues, IsShaped, Round, state_of, PosState, Pending, AreInRange, KeptApart, AreTookWithin, took, Content}
+use Rattle.htl_runs.specs.Common.{Event, Tables, sense, SInstr, ECode, Standing, StandsSafely, HasValues, IsShaped, Round, state_of, PosState, Pending, AreInRange, KeptApart, AreTookWithin, took, Content}
+use Rattle.htl_emach.specs.Following as machines
 use Rattle.htl_model.specs.declared.event.Event.TheVariants as V
 use Rattle.htl_walk.specs.Feasible.{AreFeasible}
 use Rattle.htl_runs.specs.values.Values.{ValuesFollow}
-use Rattle.htl_runs.specs.lists.StandingLists.{SMachineFollows}
-use Rattle.htl_runs.specs.lists.RecordEffects.{finished_before}
 use Rattle.htl_runs.specs.frames.LastPositions.{position_from}
-use Rattle.htl_runs.specs.lists.RunLists.{turn_at}
+use Rattle.htl_runs.specs.lines.Lines.{e_done}
 
 -- what contracts see of a machine, but for its triggers and totals
 pub record RunState : Type 0 where
@@ -37,24 +36,24 @@ AreReadFrom now r (V.End to ∷ es) = AreReadFrom now r es
 
 -- ---- the machine
 
--- before the instant `now`, which is no earlier than the last reading
-pub record UpTo (t : Tables) (schedules : List (List SInstr)) (es : List Event) (now : ℕ) (m : RunState) : Type 0 where
+-- what calls told it: it isn't spent, and keeps the last reading, what each sensor showed last, and how long the jobs of each
+-- invocation take that are released from now on
+pub record IsKept (t : Tables) (es : List Event) (m : RunState) : Type 0 where
+  pub fresh : m.spent ≡ false
+  pub reading : m.reading ≡ reading_of 0 es
   pub within : AreTookWithin t es
-  pub later : reading_of 0 es ≤ now
-  -- the values that sensors showed are of their types
   pub fits : HasValues t m.shows
   pub shows : (c u : ℕ) → c < length t.comms → reading_of 0 es ≤ u → sense t es c u ≡ get_or m.shows c (pos 0)
   pub takes : (i u : ℕ) → i < length t.invs → reading_of 0 es ≤ u → took t es i u ≡ get_or m.takes i 0
-  pub values : ValuesFollow t es now (finished_before (turn_at t schedules es) now) m.world
-  -- each value, input and output is of its type
-  pub shape : IsShaped t m.world
-  pub s_machine : SMachineFollows (turn_at t schedules es) (hyper t) now m.s_machine
+  pub count : length m.takes ≡ length t.invs
 
--- at the last reading
-pub record RunStateFollows (t : Tables) (schedules : List (List SInstr)) (es : List Event) (m : RunState) : Type 0 where
-  pub fresh : m.spent ≡ false
-  pub reading : m.reading ≡ reading_of 0 es
-  pub up_to : UpTo t schedules es m.reading m
+-- values, buffers, modes and triggers before an instant, where these jobs of the present rounds are finished
+pub record IsValued (t : Tables) (code : ECode) (es : List Event) (now : ℕ) (finished : ℕ → Bool) (w : Content) (m : Standing) (e : ℕ) : Type 0 where
+  pub values : ValuesFollow t es now finished w
+  pub shaped : IsShaped t w
+  pub triggers : machines.FollowsCode t code es now m
+  pub safe : StandsSafely t code m
+  pub count : e ≡ e_done t code es now
 
 -- tables in range that keep the form rules, with lists that are accepted for all paths
 pub record IsLoaded (t : Tables) (schedules : List (List SInstr)) : Type 0 where

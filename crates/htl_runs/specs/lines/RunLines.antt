@@ -1,9 +1,9 @@
--- A run's text as lines of their kinds, and the job lines that its records owe.
-use Rattle.std.specs.Prelude.{◌≡◌, ℕ, suc, ◌*◌, ◌/◌, Bool, true, false, cond, eqb, ◌||◌, List, [], ◌∷◌, ◌++◌, All, Option, Some, None}
-use Rattle.htl_runs.specs.Common.{filter, Event, Line, joined, up_to, hyper, Tables, Job, SInstr, Left, EInstr, RunningList, lists_at, left_in, begun_before, begins_at, frame_at, rounds_before, slice_line, done_line, instr_line, step_line}
+-- The lines of a run's text by their kinds: those of a record, and the job lines of a run.
+use Rattle.std.specs.Prelude.{◌≡◌, ℕ, suc, Bool, true, false, cond, eqb, ◌||◌, List, [], ◌∷◌, ◌++◌, All, Option, Some, None}
+use Rattle.htl_runs.specs.Common.{filter, Event, Line, joined, up_to, hyper, Tables, SInstr, EInstr, Shown, shows_jobs, shows_code, slice_line, done_line, instr_line, step_line}
 use Rattle.htl_base.specs.Names.{is_name}
 use Rattle.htl_model.specs.Lines.{line_text, totals_line}
-use Rattle.htl_runs.specs.lines.StandingLines.{inv_at}
+use Rattle.htl_runs.specs.lines.RunRecords.{RunRecord, old_records, new_records}
 
 -- a line of a run's text: a slice of an invocation's job, a job that is done, an E instruction, a value or mode that changed, an
 -- S instruction, the totals
@@ -29,32 +29,38 @@ is_job_line (SliceLine from to i) = true
 is_job_line (DoneLine at i) = true
 is_job_line _ = false
 
--- ---- the job lines of records
+-- ---- the lines of a record
 
--- of the invocation at the record's position: the slice that it closes, and that the job is done
+-- the slice that it closes
 abbrev pub closed_slice_line : ℕ → Option (ℕ × ℕ) → List RunLine
 closed_slice_line i (Some s) = SliceLine s.0 s.1 i ∷ []
 closed_slice_line i None = []
 
-abbrev pub job_done_line : ℕ → Left → List RunLine
-job_done_line i l = cond l.finished (DoneLine l.at i ∷ []) []
+-- that its job is done
+abbrev pub job_done_line : ℕ → Bool → ℕ → List RunLine
+job_done_line at finished i = cond finished (DoneLine at i ∷ []) []
 
-abbrev pub job_lines_of : List Job → ℕ × Left → List RunLine
-job_lines_of jobs l = let i = inv_at jobs l.1.position in closed_slice_line i l.1.slice ++ job_done_line i l.1
+-- both, of the invocation of its job
+abbrev pub job_lines : RunRecord → List RunLine
+job_lines x = closed_slice_line x.inv x.left.slice ++ job_done_line x.left.at x.left.finished x.inv
 
--- of the records at an instant of a list of the frame from f
-abbrev pub list_job_lines : Tables → List (List SInstr) → List Event → ℕ → ℕ → RunningList → List RunLine
-list_job_lines t lists es now f r = joined (job_lines_of (frame_at t lists es f).jobs) (left_in now f r)
+-- the instruction at its place
+abbrev pub step_lines : RunRecord → List RunLine
+step_lines x = elim x.instr [ Some i ↦ StepLine x.left.at x.node x.left.instr i ∷ [] | None ↦ [] ]
 
--- of those of its lists that these are
-abbrev pub frame_job_lines : Tables → List (List SInstr) → List Event → (RunningList → Bool) → ℕ → ℕ → List RunLine
-frame_job_lines t lists es which now f = joined (list_job_lines t lists es now f) (filter which (lists_at t lists es f))
+-- those that are shown
+abbrev pub record_lines : Shown → RunRecord → List RunLine
+record_lines show x = cond (shows_jobs show) (job_lines x) [] ++ cond (shows_code show) (step_lines x) []
 
--- of all records at an instant: those of the lists that began before it, and those of the list that begins there; none without modules
+-- as bytes
+abbrev pub record_text : Tables → Shown → RunRecord → List ℕ
+record_text t show x = joined (printed t) (record_lines show x)
+
+-- ---- the job lines of a run
+
+-- of all records at an instant: of the lists that began before it, and of the list that begins there
 abbrev pub job_lines_at : Tables → List (List SInstr) → List Event → Option ℕ → ℕ → List RunLine
-job_lines_at t lists es None now = []
-job_lines_at t lists es (Some h) now =
-    up_to (λ k. frame_job_lines t lists es (begun_before now) now (k * h)) (rounds_before h now) ++ frame_job_lines t lists es (begins_at now) now (h * (now / h))
+job_lines_at t lists es o now = joined job_lines (old_records t lists es o now) ++ joined job_lines (new_records t lists es o now)
 
 -- of the records at the instants 0 to `end`
 abbrev pub job_lines_to : Tables → List (List SInstr) → List Event → ℕ → List RunLine

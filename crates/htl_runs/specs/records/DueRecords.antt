@@ -1,7 +1,13 @@
 -- The S machine while the records of an instant are left.
 use Rattle.std.specs.Prelude.{◌≡◌, ◌≤◌, ℕ, suc, ◌-◌, List}
 use Rattle.htl_runs.specs.Common.{SInstr, Round, count_left_before, Plan, list_walk}
+use Rattle.htl_smach.specs.declared.left.Left.{Left}
+use Rattle.htl_walk.specs.Walk as walks
 use Rattle.htl_runs.specs.records.SMachineStands.{SMachineAt}
+
+-- a record of a walk, with its place, as the S machine tells it
+abbrev pub as_told : ℕ × walks.Left → Left
+as_told l = record { at = l.1.at; instr = l.0; position = l.1.position; slice = l.1.slice; finished = l.1.finished }
 
 -- the records of the list that are left at an instant or before, as a number
 abbrev pub due_by : Plan → ℕ → ℕ → ℕ

@@ -15,44 +15,18 @@ returns-in-Err-clause-text g c = λ es q.
 pub put_changes-requires-clause-known : goal.put_changes-requires-clause-known
 put_changes-requires-clause-known g c =
     let w = c.requires.reads in
-    let s = reads_start w.1 in
-    modes_known c.args.program.now.tables.now c.args.program.now.code.now w.0 c.args.at c.do_instrs.new.machines.emach.calendar c.parts-parts.ensures.ranges (c.in_default.ensures.ends w.0 s).2
+    modes_known c.args.program.now.tables.now c.args.program.now.code.now w.0 c.args.at c.do_instrs.new.machines.emach.calendar c.parts-parts.ensures.ranges (c.in_default.ensures.events w.0 (reads_start w.1)).ends.2
 
 pub returns-clause-text : goal.returns-clause-text
 returns-clause-text g c = λ es q.
-    let kept = c.in_default.ensures.noted in
+    let kept = c.in_default.ensures.keeps.noted in
     let s = reads_start q in
+    let done = c.in_default.ensures.events es s in
     changes_last c.args.program.now.tables.now c.args.program.now.code.now es c.args.program.now.show c.args.at _ _ _ _ _ _ _ _ c.do_instrs.new.machines.noted.values c.do_instrs.new.machines.works.world.values c.do_instrs.new.machines.noted.modes c.do_instrs.new.machines.emach.calendar c.parts-parts.ensures.ranges (c.in_default.ensures.text es s)
-    (λ some. kept.values ∙ q.noted.values_are some) (ap (λ (z : Content). z.values) (c.in_default.ensures.world es s) ∙ q.reads) (λ k less. ap (λ (xs : List (Option ℕ)). list_at xs k) kept.modes ∙ q.noted.modes_are k less) (c.in_default.ensures.ends es s).2 c.put_changes.ensures
+    (λ some. kept.values ∙ q.noted.values_are some) (ap (λ (z : Content). z.values) done.world ∙ q.reads) (λ k less. ap (λ (xs : List (Option ℕ)). list_at xs k) kept.modes ∙ q.noted.modes_are k less) done.ends.2 c.put_changes.ensures
 
-pub returns-clause-counts : goal.returns-clause-counts
-returns-clause-counts g c = λ es q.
-    let s = reads_start q in
-    on_ok_weaker c.put_changes.result (λ _. c.in_default.ensures.counts es s) c.put_changes.ensures.whole
+pub returns-clause-events : goal.returns-clause-events
+returns-clause-events g c = λ es q. on_ok_weaker c.put_changes.result (λ _. c.in_default.ensures.events es (reads_start q)) c.put_changes.ensures.whole
 
-pub returns-clause-world : goal.returns-clause-world
-returns-clause-world g c = λ es q.
-    let s = reads_start q in
-    on_ok_weaker c.put_changes.result (λ _. c.in_default.ensures.world es s) c.put_changes.ensures.whole
-
-pub returns-clause-s_machine : goal.returns-clause-s_machine
-returns-clause-s_machine g c = λ es q.
-    let s = reads_start q in
-    on_ok_weaker c.put_changes.result (λ _. c.in_default.ensures.s_machine es s) c.put_changes.ensures.whole
-
-pub returns-clause-reads : goal.returns-clause-reads
-returns-clause-reads g c = λ es q.
-    let s = reads_start q in
-    on_ok_weaker c.put_changes.result (λ _. c.in_default.ensures.ends es s) c.put_changes.ensures.whole
-
-pub returns-clause-fitted : goal.returns-clause-fitted
-returns-clause-fitted g c = on_ok_weaker c.put_changes.result (λ _. c.in_default.ensures.fitted) c.put_changes.ensures.whole
-
-pub returns-clause-sensors : goal.returns-clause-sensors
-returns-clause-sensors g c = on_ok_weaker c.put_changes.result (λ _. c.in_default.ensures.sensors) c.put_changes.ensures.whole
-
-pub returns-clause-jobs : goal.returns-clause-jobs
-returns-clause-jobs g c = on_ok_weaker c.put_changes.result (λ _. c.in_default.ensures.jobs) c.put_changes.ensures.whole
-
-pub returns-clause-stands : goal.returns-clause-stands
-returns-clause-stands g c = on_ok_weaker c.put_changes.result (λ _. c.in_default.ensures.stands) c.put_changes.ensures.whole
+pub returns-clause-keeps : goal.returns-clause-keeps
+returns-clause-keeps g c = on_ok_weaker c.put_changes.result (λ _. c.in_default.ensures.keeps.part) c.put_changes.ensures.whole

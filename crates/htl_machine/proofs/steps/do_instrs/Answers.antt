@@ -11,13 +11,13 @@ use Rattle.htl_emach.proofs.Instants.{starts}
 
 pub loop-done-init : goal.loop-done-init
 loop-done-init g c = record {
-  doing = λ es s. doing_start c.args.program.now.tables.now c.args.program.now.code.now es c.args.at (number_of c.args.phase) c.args.program.now.show c.args.machines.now.emach c.args.machines.now.works.world c.args.machines.now.works.s_machine _ _ _ (starts c.args.program.now.tables.now c.args.program.now.code.now es c.args.at (number_of c.args.phase) c.args.machines.now.emach s.idle s.calendar) c.requires.fitted.safe c.requires.fitted.shaped;
-  safe = c.requires.fitted.safe;
-  shaped = c.requires.fitted.shaped;
+  doing = λ es s. doing_start c.args.program.now.tables.now c.args.program.now.code.now es c.args.at (number_of c.args.phase) c.args.program.now.show c.args.machines.now.emach c.args.machines.now.works.world c.args.machines.now.works.s_machine _ _ _ (starts c.args.program.now.tables.now c.args.program.now.code.now es c.args.at (number_of c.args.phase) c.args.machines.now.emach s.idle s.calendar) c.requires.given.fitted.safe c.requires.given.fitted.shaped;
+  safe = c.requires.given.fitted.safe;
+  shaped = c.requires.given.fitted.shaped;
   values = λ two. refl;
   stands = λ s st. st;
   jobs = refl;
-  marked = c.requires.fitted.marked;
+  marked = c.requires.given.fitted.marked;
   noted_stays = record { values = refl; modes = refl };
   sensors = λ k x at is. refl;
 }
@@ -31,7 +31,7 @@ do_next-requires-clause-order g c =
 pub note-requires : goal.note-requires
 note-requires g c =
     let inside =
-    module_done c.args.program.now.tables.now c.args.program.now.code.now (number_of c.args.phase) c.args.at c.loop-done.machines.emach c.loop-done.machines.works.world c.in-Some.done c.parts-parts.ensures.ranges c.requires.sound.form c.requires.sound.spells (number_range c.args.phase) c.loop-done.invariant.shaped c.loop-done.invariant.safe
+    module_done c.args.program.now.tables.now c.args.program.now.code.now (number_of c.args.phase) c.args.at c.loop-done.machines.emach c.loop-done.machines.works.world c.in-Some.done c.parts-parts.ensures.ranges c.requires.given.sound.form c.requires.given.sound.spells (number_range c.args.phase) c.loop-done.invariant.shaped c.loop-done.invariant.safe
     c.in-Some.ensures.answer in
     omega (arith, inside, c.parts-parts.ensures.ranges.few_modules)
 
@@ -46,7 +46,7 @@ loop-done-smaller g c =
     let w = c.requires.starts in
     let here = c.loop-done.invariant.doing w.0 w.1 in
     fewer_then c.args.program.now.tables.now c.args.program.now.code.now w.0 c.args.at (number_of c.args.phase) c.args.machines.now.works.world.values c.loop-done.machines.emach c.do_next.new.self c.in-Some.done here.running.done here.running.rest c.args.machines.now.emach.calendar c.parts-parts.ensures.ranges
-    c.requires.sound.form c.requires.sound.spells (number_range c.args.phase) w.1.values w.1.calendar here.running.midway
+    c.requires.given.sound.form c.requires.given.sound.spells (number_range c.args.phase) w.1.values w.1.calendar here.running.midway
     (c.in-Some.ensures.onward w.0 here.running.done here.running.rest (λ two. here.running.values two ∙ w.1.values two) here.running.midway)
 
 pub loop-done-preserved : goal.loop-done-preserved
@@ -76,32 +76,26 @@ loop-done-preserved g c =
       sensors = sensors_then c.args.program.now.tables.now c.args.machines.now.works.world.values c.loop-done.machines.works.world.values c.do_next.new.world.values c.loop-done.invariant.sensors c.in-Some.ensures.sensors;
     }
 
-pub returns-in-None-clause-ends : goal.returns-in-None-clause-ends
-returns-in-None-clause-ends g c = λ es s.
-    let here = (c.loop-done.invariant.doing es s).running in
-    phase_ends c.args.program.now.tables.now c.args.program.now.code.now es c.args.at (number_of c.args.phase) c.loop-done.machines.emach c.do_next.new.self c.loop-done.machines.works.world c.args.machines.now.works.world here
-    (c.in-None.ensures.onward es here.done here.rest (λ two. here.values two ∙ s.values two) here.midway)
-
 pub returns-in-None-clause-text : goal.returns-in-None-clause-text
 returns-in-None-clause-text g c = λ es s.
     let here = c.loop-done.invariant.doing es s in
     doing_end c.args.program.now.tables.now c.args.program.now.code.now es c.args.at (number_of c.args.phase) c.args.program.now.show c.loop-done.machines.emach c.do_next.new.self c.loop-done.machines.works.world c.args.machines.now.works.world c.args.machines.now.works.s_machine c.loop-done.machines.works.s_machine _ _ _ _ _ _ _ here
     (c.in-None.ensures.onward es here.running.done here.running.rest (λ two. here.running.values two ∙ s.values two) here.running.midway)
 
-pub returns-in-None-clause-counts : goal.returns-in-None-clause-counts
-returns-in-None-clause-counts g c = λ es s.
+pub returns-in-None-clause-events : goal.returns-in-None-clause-events
+returns-in-None-clause-events g c = λ es s.
+    let t = c.args.program.now.tables.now in
+    let code = c.args.program.now.code.now in
+    let phase = number_of c.args.phase in
+    let show = c.args.program.now.show in
+    let old = c.loop-done.machines in
+    let first = c.args.machines.now in
     let here = c.loop-done.invariant.doing es s in
-    doing_counted c.args.program.now.tables.now c.args.program.now.code.now es c.args.at (number_of c.args.phase) c.args.program.now.show c.loop-done.machines.emach c.do_next.new.self c.loop-done.machines.works.world c.args.machines.now.works.world c.args.machines.now.works.s_machine c.loop-done.machines.works.s_machine _ _ _ _ _ _ here
-    (c.in-None.ensures.onward es here.running.done here.running.rest (λ two. here.running.values two ∙ s.values two) here.running.midway)
-
-pub returns-in-None-clause-s_machine : goal.returns-in-None-clause-s_machine
-returns-in-None-clause-s_machine g c = λ es s.
-    let here = c.loop-done.invariant.doing es s in
-    doing_told c.args.program.now.tables.now c.args.program.now.code.now es c.args.at (number_of c.args.phase) c.args.program.now.show c.loop-done.machines.emach c.do_next.new.self c.loop-done.machines.works.world c.args.machines.now.works.world c.args.machines.now.works.s_machine c.loop-done.machines.works.s_machine _ _ _ _ _ _ here
-    (c.in-None.ensures.onward es here.running.done here.running.rest (λ two. here.running.values two ∙ s.values two) here.running.midway)
-
-pub returns-in-None-clause-world : goal.returns-in-None-clause-world
-returns-in-None-clause-world g c = λ es s.
-    let here = (c.loop-done.invariant.doing es s).running in
-    phase_replayed c.args.program.now.tables.now c.args.program.now.code.now es c.args.at (number_of c.args.phase) c.loop-done.machines.emach c.do_next.new.self c.loop-done.machines.works.world c.do_next.new.world c.args.machines.now.works.world here
-    (c.in-None.ensures.onward es here.done here.rest (λ two. here.values two ∙ s.values two) here.midway) c.in-None.ensures.world
+    let run = here.running in
+    let on = c.in-None.ensures.onward es run.done run.rest (λ two. run.values two ∙ s.values two) run.midway in
+    record {
+      counts = doing_counted t code es c.args.at phase show old.emach c.do_next.new.self old.works.world first.works.world first.works.s_machine old.works.s_machine _ _ _ _ _ _ here on;
+      world = phase_replayed t code es c.args.at phase old.emach c.do_next.new.self old.works.world c.do_next.new.world first.works.world run on c.in-None.ensures.world;
+      s_machine = doing_told t code es c.args.at phase show old.emach c.do_next.new.self old.works.world first.works.world first.works.s_machine old.works.s_machine _ _ _ _ _ _ here on;
+      ends = phase_ends t code es c.args.at phase old.emach c.do_next.new.self old.works.world first.works.world run on;
+    }
