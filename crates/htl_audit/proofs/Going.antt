@@ -106,7 +106,7 @@ module _ (a : Audit) (es : List Event) (accepted : IsAccepted a.machine.object) 
       → IsAudited (record { machine = m; log = a.log; takes = a.takes; kept = passed a.machine.object.tables (suc to) (drop a.kept.place a.log) a.kept }) es to
   stop_ends to m low none same g =
       record {
-        machine = ends_between m es a.machine.run_state.reading to g;
+        machine = ends_between m es a.machine.run_state.reading to (subst IsAccepted (sym same.object) accepted) (subst (λ (o : Object). AreTookWithin o.tables es) (sym same.object) f.within) g;
         log =
             subst (λ (o : Object). LogEnds (all_rounds o.tables es (suc to)) (suc to) a.log (passed a.machine.object.tables (suc to) (drop a.kept.place a.log) a.kept)) (sym same.object)
             (ends a.machine.object.tables (accepted_range a.machine.object accepted) (accepted_kept a.machine.object accepted) (have_rounds a.machine.object accepted) es f.within to a.log

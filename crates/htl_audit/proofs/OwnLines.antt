@@ -1,6 +1,7 @@
 -- The j lines of a run's text are the slices of its own log, in order.
-use Rattle.std.proofs.Common.{◌≡◌, ℕ, zero, suc, ◌+◌, ◌*◌, ◌/◌, Bool, true, false, cond, ◌||◌, eqb, ltb, List, [], ◌∷◌, ◌++◌, map, slice_get, Option, Some, None, option_map, refl, sym, ap, ap₂, ◌∙◌}
-use Rattle.htl_audit.proofs.Words.{filter, append-nil, Event, hyper, node, all_some, joined, up_to, Tables, up_to_same, Job, SInstr, Leg, list_point, walks_from, Left, Point, first_point, last_point, walk_from, RunningList, lists_from, lists_at, left_in, begun_before, frame_modes, path_of, frame_at, rounds_before, shifted, RunLine, printed, is_job_line, begins_as_job, text_lines, closed_slice_line, job_lines_of, list_job_lines, frame_job_lines, job_lines_at, job_lines_to, SliceLine, DoneLine, InstrLine, ChangeLine, StepLine, TotalsLine, schedules_of, text_of, inv_at, begins_silent, run_shows, jobs_are_found, not_some, Slice, own_slice, own_of, own_at, own_log, line_slice, begins_as_slice, slice_text, OwnLogIsPrinted, OwnLogIsFound}
+use Rattle.std.proofs.Common.{◌≡◌, ℕ, zero, suc, ◌+◌, ◌*◌, Bool, true, false, cond, ◌||◌, eqb, ltb, List, [], ◌∷◌, ◌++◌, map, slice_get, Option, Some, None, option_map, refl, sym, ap, ap₂, ◌∙◌}
+use Rattle.htl_audit.proofs.Words.{filter, append-nil, Event, hyper, node, all_some, joined, up_to, Tables, up_to_same, Job, SInstr, Leg, list_point, walks_from, Left, Point, first_point, last_point, walk_from, RunningList, lists_from, lists_at, left_in, begun_before, frame_modes, path_of, frame_at, rounds_before, shifted, RunLine, printed, is_job_line, begins_as_job, text_lines, closed_slice_line, RunRecord, record_of, as_told, lists_records, old_records, job_lines, job_lines_of, job_lines_at, job_lines_to, SliceLine, DoneLine, InstrLine, ChangeLine, StepLine, TotalsLine, schedules_of, text_of, inv_at, begins_silent, run_shows, jobs_are_found, not_some, Slice, own_slice, own_of, own_at, own_log, line_slice, begins_as_slice, slice_text, OwnLogIsPrinted, OwnLogIsFound}
+use Rattle.htl_runs.proofs.lines.Joined.{joined-up_to, joined-maps}
 use Rattle.htl_audit.proofs.ClosedSlices.{runs_at, mine, onto, closed, told, at_now, closed_is}
 
 -- ---- the values that a function gives
@@ -85,21 +86,23 @@ lists_lines number f now j all jobs (s ∷ ss) (g ∷ gs) x = by (ltb (f + g.fro
     by false next = next
 
 module _ (t : Tables) (lists : List (List SInstr)) (es : List Event) where
-  frame_lines : (f now : ℕ) → all_some line_slice (frame_job_lines t lists es (begun_before now) now f) ≡ own_of t lists es f now
+  frame_lines : (f now : ℕ) → all_some line_slice (joined job_lines (lists_records t lists es (begun_before now) now f)) ≡ own_of t lists es f now
   frame_lines f now =
       let p = frame_at t lists es f in
       let running = filter (begun_before now) (lists_at t lists es f) in
-      some_joined line_slice (list_job_lines t lists es now f) running
+      ap (all_some line_slice) (joined-maps job_lines (λ r l. record_of p.jobs r.node r.code (as_told l)) (left_in now f) running)
+      ∙ some_joined line_slice (λ r. joined (job_lines_of p.jobs) (left_in now f r)) running
       ∙ lists_lines (node t (path_of t (frame_modes t es f))) f now 0 p.jobs p.jobs p.lists p.legs (first_point p.jobs p.lengths)
 
   instant_lines : (o : Option ℕ) (now : ℕ) → all_some line_slice (job_lines_at t lists es o now) ≡ own_at t lists es o now
   instant_lines None now = refl
   instant_lines (Some h) now =
-      let old = up_to (λ k. frame_job_lines t lists es (begun_before now) now (k * h)) (rounds_before h now) in
-      ap (λ zs. all_some line_slice (old ++ zs)) (begins_silent t lists es (h * (now / h)) now)
-      ∙ ap (all_some line_slice) (append-nil old)
-      ∙ some_up_to line_slice (λ k. frame_job_lines t lists es (begun_before now) now (k * h)) (rounds_before h now)
-      ∙ up_to_same (λ k. all_some line_slice (frame_job_lines t lists es (begun_before now) now (k * h))) (λ k. own_of t lists es (k * h) now) (rounds_before h now) (λ k less. frame_lines (k * h) now)
+      let running : ℕ → List RunRecord = λ k. lists_records t lists es (begun_before now) now (k * h) in
+      let old = joined job_lines (old_records t lists es (Some h) now) in
+      ap (λ zs. all_some line_slice (old ++ zs)) (begins_silent t lists es (Some h) now)
+      ∙ ap (all_some line_slice) (append-nil old ∙ joined-up_to job_lines running (rounds_before h now))
+      ∙ some_up_to line_slice (λ k. joined job_lines (running k)) (rounds_before h now)
+      ∙ up_to_same (λ k. all_some line_slice (joined job_lines (running k))) (λ k. own_of t lists es (k * h) now) (rounds_before h now) (λ k less. frame_lines (k * h) now)
 
   pub own_lines : (end : ℕ) → all_some line_slice (job_lines_to t lists es end) ≡ own_log t lists es end
   own_lines end =

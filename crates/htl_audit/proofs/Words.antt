@@ -56,7 +56,7 @@ pub use Rattle.htl_refine.proofs.RoundLaws.{took_within, worst_some}
 pub use Rattle.htl_refine.proofs.SliceOrder.{slices_apart}
 pub use Rattle.htl_refine.proofs.SliceSums.{spent_is}
 pub use Rattle.htl_refine.proofs.Words.{AreChained, IsTaskInRange, Meets, cases_below_next, false_from_ne_true, is_at, job_of, length-append, mul-div-le, same_truth, slice_of, stays, stays_at, two_periods, walk, window_small}
-pub use Rattle.htl_runs.proofs.Words.{AllWithin, AreCarried, AreFrames, AreInForm, AreInRange, AreJobsSoFar, AreOrdered, AreTookWithin, Calendar, ChangeLine, Content, DoneLine, Entry, Frame, HasPlaces, HasReadInputs, InstrLine, InvStands, IsAccepted, IsDue, IsEntry, IsFeasibleRun, IsInvInRange, IsJob, IsLoaded, IsModeInRange, IsPast, IsSelection, IsServing, IsTookWithin, KeptApart, Left, Leg, Orders, Point, Puts, Puts-failed, Puts-second, Ready, Rises, Round, RunLine, RunningList, Runs, SMachineFollows, SMachineStands, SliceLine, StandsFor, StepLine, Tables, TotalsLine, Turn, ValuesFollow, absent_job, add-mul-mod_self_left, all_reads, all_writes, and_also, and_from, and_none, and_parts, append-nil, append_assoc, append_known, append_known-start, arith, at_place, before, before_of, begins, begins_as_job, begins_at, begins_by, begun_before, begun_by, below, capped, cases_below, cases_eq, cases_less_more, cases_lt, chosen, chosen_exact_apart, closed_slice_line, completed, count_by, count_left_before, derived_place, dispatch_begins, div-add-mod, done_some, e_done, e_path, each_at, effects, end_to_end, entry, eq-eqb, eqb-false, eqb-true, feeds, feeds_at, filter, finish, finished_before, first_point, flat_map, frame_at, frame_divided, frame_job_lines, frame_jobs, frame_modes, frame_of, frame_places, frame_some, frame_start, frames_are_served, front_there, get_front, get_list_to, get_mapped, get_or-set_other, get_or-set_same, get_or_from_slice_get, history_local, hyper, in_flat, in_frame, in_round, instant_path, into_back, inv_at, inv_of_mode, inv_worst, invs_of, is_concrete, is_fed_by, is_job_line, is_position, is_read_from, is_root, item_at, itself, job_at, job_in, job_is, job_lines_at, job_lines_of, job_lines_to, job_there, joined, kept_all, kept_apart, known_by, last_point, le-leb, le-ltb, leb-false, leb-true, left_before, left_by, left_falls, left_in, legs_of, length-drop, length-list_to, length-set, length_mapped, lengths_of, list_all, list_any, list_at, list_job_lines, list_point, list_to, lists_at, lists_from, lists_of, lt-leb, lt-ltb, ltb-false, ltb-true, map-append, map_at, map_same, mapped, mask, mask_bit, mod-lt, mode_module, mode_of, mode_period, modes_at, mul-div_cancel_left, mul-mod_right, multiple_of, nat_tests, ne_eqb, new_records_by, newest, next_point, no_place, node, none-some, not_some, now_of, numbered, of_bool, of_flat, of_places, old_records_by, option_map, or_left, or_parts, or_right, own_starts, parent_mode, path_of, place, placed_job, placed_present, places_ordered, ports, precedes, preempted, printed, rank, reading_of, records, refined, release, root_modules, root_periods, rounds, rounds_at, rounds_before, rounds_of, run_of, running_invs, same_Some, schedules_of, sense, shifted, shown_as, since, slice_between, slice_get, slice_get-get_or, slice_get_within, slice_inside, slice_onto, slices, some_time, spent, standing_at, standing_places, starts, starts_below, state, states_are_selections, stay_of, take-append_seam, taken_as, task_worst, text_lines, text_of, time_after, time_rises, times_grow, times_within, took, turn_at, turn_finished_by, unit_period, unit_start, up_to, up_to_none, up_to_same, walk_from, walk_rises, walks_from, walks_of, window_end, window_within, with_sensors, work_present, work_some, writer_from, mul_assoc}
+pub use Rattle.htl_runs.proofs.Words.{AllWithin, AreCarried, AreFrames, AreInForm, AreInRange, AreJobsSoFar, AreOrdered, AreTookWithin, Calendar, ChangeLine, Content, DoneLine, Entry, Frame, HasPlaces, HasReadInputs, InstrLine, InvStands, IsAccepted, IsDue, IsEntry, IsFeasibleRun, IsInvInRange, IsJob, IsLoaded, IsModeInRange, IsPast, IsSelection, IsServing, IsTookWithin, KeptApart, Left, Leg, Orders, Point, Puts, Puts-failed, Puts-second, Ready, Rises, Round, RunLine, RunRecord, RunningList, Runs, SMachineFollows, SMachineStands, SliceLine, StandsFor, StepLine, Tables, TotalsLine, Turn, ValuesFollow, absent_job, add-mul-mod_self_left, all_reads, all_writes, and_also, and_from, and_none, and_parts, append-nil, append_assoc, append_known, append_known-start, arith, as_told, at_place, before, before_of, begins, begins_as_job, begins_at, begins_by, begun_before, begun_by, below, capped, cases_below, cases_eq, cases_less_more, cases_lt, chosen, chosen_exact_apart, closed_slice_line, completed, count_by, count_left_before, derived_place, dispatch_begins, div-add-mod, done_some, e_done, e_path, each_at, effects, end_to_end, entry, eq-eqb, eqb-false, eqb-true, feeds, feeds_at, filter, finish, finished_before, first_point, flat_map, frame_at, frame_divided, frame_jobs, frame_modes, frame_of, frame_places, frame_some, frame_start, frames_are_served, front_there, get_front, get_list_to, get_mapped, get_or-set_other, get_or-set_same, get_or_from_slice_get, history_local, hyper, in_flat, in_frame, in_round, instant_path, into_back, inv_at, inv_of_mode, inv_worst, invs_of, is_concrete, is_fed_by, is_job_line, is_position, is_read_from, is_root, item_at, itself, job_at, job_in, job_is, job_lines, job_lines_at, job_lines_to, job_there, joined, kept_all, kept_apart, known_by, last_point, le-leb, le-ltb, leb-false, leb-true, left_before, left_by, left_falls, left_in, legs_of, length-drop, length-list_to, length-set, length_mapped, lengths_of, list_all, list_any, list_at, list_point, list_to, lists_at, lists_from, lists_of, lists_records, lt-leb, lt-ltb, ltb-false, ltb-true, map-append, map_at, map_same, mapped, mask, mask_bit, mod-lt, mode_module, mode_of, mode_period, modes_at, mul-div_cancel_left, mul-mod_right, mul_assoc, multiple_of, nat_tests, ne_eqb, new_records_by, newest, next_point, no_place, node, none-some, not_some, now_of, numbered, of_bool, of_flat, of_places, old_records, old_records_by, option_map, or_left, or_parts, or_right, own_starts, parent_mode, path_of, place, placed_job, placed_present, places_ordered, ports, precedes, preempted, printed, rank, reading_of, record_of, records, refined, release, root_modules, root_periods, rounds, rounds_at, rounds_before, rounds_of, run_of, running_invs, same_Some, schedules_of, sense, shifted, shown_as, since, slice_between, slice_get, slice_get-get_or, slice_get_within, slice_inside, slice_onto, slices, some_time, spent, standing_at, standing_places, starts, starts_below, state, states_are_selections, stay_of, take-append_seam, taken_as, task_worst, text_lines, text_of, time_after, time_rises, times_grow, times_within, took, turn_at, turn_finished_by, unit_period, unit_start, up_to, up_to_none, up_to_same, walk_from, walk_rises, walks_from, walks_of, window_end, window_within, with_sensors, work_present, work_some, writer_from}
 pub use Rattle.htl_runs.proofs.events.NextReading.{all_read, turn_same, within_more}
 pub use Rattle.htl_runs.proofs.events.SameSensors.{Alike, before_same, reading_more, sense_at, sense_sense, sense_took, state_same, took_at, took_sense, took_took, values_alike}
 pub use Rattle.htl_runs.proofs.events.SameTriggers.{triggers_alike}
@@ -69,7 +69,7 @@ pub use Rattle.htl_runs.proofs.frames.RootModes.{has_root, unit_period_is}
 pub use Rattle.htl_runs.proofs.frames.RootPaths.{climb, down}
 pub use Rattle.htl_runs.proofs.frames.RunFrames.{feasible_runs}
 pub use Rattle.htl_runs.proofs.jobs.Accepted.{accepted_is_loaded}
-pub use Rattle.htl_runs.proofs.lines.JobLines.{begins_silent, jobs_are_found, run_shows}
+pub use Rattle.htl_runs.proofs.lines.JobLines.{begins_silent, job_lines_of, jobs_are_found, run_shows}
 pub use Rattle.htl_runs.proofs.records.DoneBefore.{done_exactly}
 pub use Rattle.htl_runs.proofs.records.InstantRecords.{none_at_first, rounds_are, up_to_last}
 pub use Rattle.htl_runs.proofs.values.FinishedOutputs.{completed_shape, finish_follows}

@@ -141,7 +141,7 @@ impl<'a> Auditor<'a> {
     }
 
     // Judges the lines that end before the instant, and the jobs whose windows do; there is nothing to judge of jobs where none does.
-    fn pass(&mut self, now: Time)
+    fn judge_before(&mut self, now: Time)
         requires { now ≤ 1000000001 }
         ensures kept { self.new ≡ record self.old { kept = passed self.old.machine.object.tables now (drop self.old.kept.place self.old.log) self.old.kept } }
         ensures accepted { IsAccepted self.old.machine.object }
@@ -169,7 +169,7 @@ impl<'a> Auditor<'a> {
     }
 
     // Lets the machine do all instants before `to`.
-    fn step<W: Sink>(&mut self, to: Time, sink: &mut W) -> Result<(), Failed>
+    fn run_to<W: Sink>(&mut self, to: Time, sink: &mut W) -> Result<(), Failed>
         requires follows { (es : List Told) × machines.Follows self.old.machine es }
         requires order { self.old.machine.run_state.reading ≤ to }
         requires at { to ≤ limit.MAX_INSTANT }
@@ -183,7 +183,7 @@ impl<'a> Auditor<'a> {
     }
 
     // Lets the machine do all instants up to and including `to`.
-    fn last<W: Sink>(&mut self, to: Time, sink: &mut W) -> Result<(), Failed>
+    fn end_run<W: Sink>(&mut self, to: Time, sink: &mut W) -> Result<(), Failed>
         requires follows { (es : List Told) × machines.Follows self.old.machine es }
         requires order { self.old.machine.run_state.reading ≤ to }
         requires at { to ≤ limit.MAX_INSTANT }
@@ -197,7 +197,7 @@ impl<'a> Auditor<'a> {
     }
 
     // Goes over an instant at which rounds begin, where none begins before.
-    fn turn<W: Sink>(&mut self, at: Time, sink: &mut W) -> Result<(), Failed>
+    fn begin_rounds<W: Sink>(&mut self, at: Time, sink: &mut W) -> Result<(), Failed>
         requires stopped { (es : List Told) × IsStopped self.old es }
         requires order { self.old.machine.run_state.reading ≤ at }
         requires at { at < limit.MAX_INSTANT }
@@ -209,8 +209,8 @@ impl<'a> Auditor<'a> {
         ensures spent { OnErr result (self.new.machine.run_state.spent ≡ true) }
         ensures same { IsSameAudit self.old self.new }
     {
-        self.pass(at + 1);
-        if let Err(failed) = self.step(at + 1, sink) {
+        self.judge_before(at + 1);
+        if let Err(failed) = self.run_to(at + 1, sink) {
             return Err(failed);
         }
         self.begin(at);
@@ -220,7 +220,8 @@ impl<'a> Auditor<'a> {
     // The first start of rounds from the last reading on.
     fn next_start(&self) -> Option<Time>
         requires { self.now.machine.run_state.reading ≤ 1000000000 }
-        ensures { IsNextStart self.now.machine.object.tables self.now.machine.run_state.reading result }
+        ensures start { IsNextStart self.now.machine.object.tables self.now.machine.run_state.reading result }
+        ensures accepted { IsAccepted self.now.machine.object }
     {
         next_start(self.loaded.tables(), self.machine.reading())
     }
@@ -233,6 +234,7 @@ impl<'a> Auditor<'a> {
         ensures high { result ≤ to }
         ensures start { result < to → begins (root_periods self.now.machine.object.tables) result ≡ true }
         ensures none { AreNone self.now result }
+        ensures accepted { IsAccepted self.now.machine.object }
     {
         if let Some(at) = self.next_start() {
             if at < to {
@@ -243,8 +245,8 @@ impl<'a> Auditor<'a> {
     }
 
     // Goes over all instants before `to` at which rounds begin.
-    fn go<W: Sink>(&mut self, to: Time, sink: &mut W) -> Result<(), Failed>
-        requires stopped { (es : List Told) × IsStopped self.old es }
+    fn pass_starts<W: Sink>(&mut self, to: Time, sink: &mut W) -> Result<(), Failed>
+        requires follows { (es : List Told) × AuditFollows self.old es }
         requires order { self.old.machine.run_state.reading ≤ to }
         requires at { to ≤ limit.MAX_INSTANT }
         ensures text { (es : List Told) → IsStopped self.old es → IsGone self.old self.new es to (W.written sink.old) (W.written sink.new) (W.faults sink.old) (W.faults sink.new) result }
@@ -254,13 +256,14 @@ impl<'a> Auditor<'a> {
         ensures none { OnOk result (AreNone self.new to) }
         ensures spent { OnErr result (self.new.machine.run_state.spent ≡ true) }
         ensures same { IsSameAudit self.old self.new }
+        ensures accepted { IsAccepted self.old.machine.object }
     {
         'starts: loop {
             let at = self.next_stop(to);
             if at == to {
                 return Ok(());
             }
-            if let Err(failed) = self.turn(at, sink) {
+            if let Err(failed) = self.begin_rounds(at, sink) {
                 return Err(failed);
             }
         }
@@ -279,12 +282,11 @@ impl<'a> Auditor<'a> {
         ensures spent { OnErr result (self.new.machine.run_state.spent ≡ true) }
         ensures same { IsSameAudit self.old self.new }
     {
-        self.stop();
-        if let Err(failed) = self.go(to, sink) {
+        if let Err(failed) = self.pass_starts(to, sink) {
             return Err(failed);
         }
-        self.pass(to);
-        self.step(to, sink)
+        self.judge_before(to);
+        self.run_to(to, sink)
     }
 
     /// Does all instants up to and including `to`, in ticks, writes their v and m lines, and spends the auditor; judges the lines of the
@@ -299,19 +301,11 @@ impl<'a> Auditor<'a> {
         ensures spent { OnErr result (self.new.machine.run_state.spent ≡ true) }
         ensures same { IsSameAudit self.old self.new }
     {
-        self.stop();
-        if let Err(failed) = self.go(to, sink) {
+        if let Err(failed) = self.pass_starts(to, sink) {
             return Err(failed);
         }
-        self.pass(to + 1);
-        self.last(to, sink)
-    }
-
-    // States that what was read is a stop; there is nothing to run.
-    fn stop(&self)
-        ensures accepted { IsAccepted self.now.machine.object }
-    {
-        self.loaded.tables();
+        self.judge_before(to + 1);
+        self.end_run(to, sink)
     }
 
     /// The numbers of the log, or its first fault, once the run has ended.

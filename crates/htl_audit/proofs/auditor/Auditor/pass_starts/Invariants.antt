@@ -1,7 +1,7 @@
 use Rattle.std.proofs.Common.{◌-◌, ◌≤◌, List}
 use Rattle.htl_audit.proofs.Words.{Event, IsStopped, IsSameAudit}
 use Rattle.htl_audit.proofs.Going.{IsGoing}
-use Rattle.htl_audit.proofs.auditor.Auditor.go.Given as goal
+use Rattle.htl_audit.proofs.auditor.Auditor.pass_starts.Given as goal
 
 abbrev pub invariant-starts : goal.invariant-starts
 invariant-starts g l =

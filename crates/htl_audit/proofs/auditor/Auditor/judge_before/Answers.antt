@@ -2,7 +2,7 @@ use Rattle.std.proofs.Common.{◌≡◌, ◌∙◌, List, length, drop, ap, sym,
 use Rattle.htl_audit.proofs.Words.{Tables, Object, Slice, Audit, AreDue, IsAuditor, Kept, judged_to, settled, passed}
 use Rattle.htl_audit.proofs.Dues.{judged_due, none_due}
 use Rattle.htl_audit.proofs.Keepers.{passed_rows, passed_auditor}
-use Rattle.htl_audit.proofs.auditor.Auditor.pass.Goals as goal
+use Rattle.htl_audit.proofs.auditor.Auditor.judge_before.Goals as goal
 
 pub settle-self-inside-requires-clause-rows : goal.settle-self-inside-requires-clause-rows
 settle-self-inside-requires-clause-rows c =

@@ -1,6 +1,6 @@
 use Rattle.htl_audit.proofs.Words.{sym, subst, Puts, text_between, Audit}
 use Rattle.htl_machine.specs.Calls as machines
-use Rattle.htl_audit.proofs.auditor.Auditor.step.Goals as goal
+use Rattle.htl_audit.proofs.auditor.Auditor.run_to.Goals as goal
 
 pub returns-clause-text : goal.returns-clause-text
 returns-clause-text g c = λ es f.
