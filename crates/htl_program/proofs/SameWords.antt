@@ -1,6 +1,7 @@
 -- What the program comes to goes by the texts of its words.
 use Rattle.std.proofs.Common.{◌≡◌, ℕ, List, subst}
-use Rattle.htl_top.specs.Answers.{Files, Streams}
+use Rattle.htl_open.specs.Files.{Files}
+use Rattle.htl_top.specs.Answers.{Streams}
 use Rattle.htl_program.specs.Program.{EndsWith}
 
 pub EndsWith-same : (words others : List (List ℕ)) (shelf : Files) (old new : Streams) (Told : List ℕ → Type 0) (Quiet : Type 0) (status : ℕ)

@@ -1,6 +1,8 @@
 -- What the program comes to.
 use Rattle.std.specs.Prelude.{◌≡◌, ◌⊎◌, ℕ, Option, None, List}
-use Rattle.htl_top.specs.Answers.{Files, Streams, IsUntouched, AreCountsKept, KeepsCounts, Tells}
+use Rattle.htl_open.specs.Files.{Files, counted_files}
+use Rattle.htl_open.specs.Lines.{Tells}
+use Rattle.htl_top.specs.Answers.{Streams, IsUntouched, AreCountsKept, KeepsCounts}
 use Rattle.htl_top.specs.Calls.{IsCall, HasSource, HasObject}
 use Rattle.htl_top.specs.Status.{status_of, fault_line}
 use Rattle.htl_top.specs.ErrorLines.{IsLineTold}
@@ -35,9 +37,6 @@ Ends words shelf old new Told Quiet status = EndsWith words shelf old new Told Q
 
 abbrev pub untold : Option (List ℕ)
 untold = None
-
-abbrev pub counted_files : ℕ → ℕ → Files
-counted_files before after = record { holds = None; before = λ name. before; after = λ name. after }
 
 abbrev pub counted_streams : ℕ → ℕ → Streams
 counted_streams read_faults write_faults = record { rest = untold; read_faults = read_faults; written = untold; write_faults = write_faults }

@@ -1,9 +1,4 @@
-//! What the program is made of: real files and streams behind the traits of the top call, the words of the command
-//! line, and the status with which the program ends.
+//! What the program does with its words, files and streams, and the status with which it ends.
 #![tactic(auto)]
 
-pub mod folder;
-pub mod input;
-pub mod output;
 pub mod program;
-mod words;

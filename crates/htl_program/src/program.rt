@@ -1,16 +1,18 @@
 // What the program does with its words, files and streams, and the status with which it ends.
 ghost use Rattle.std.specs.Prelude.{◌≡◌, map, string_bytes, None};
-ghost use Rattle.htl_top.specs.Answers.{files, streams, Tells};
+ghost use Rattle.htl_open.specs.Files.{counted_files, files};
+ghost use Rattle.htl_open.specs.Lines.{Tells};
+ghost use Rattle.htl_top.specs.Answers.{streams};
 ghost use Rattle.htl_top.specs.Status.{fault_line, status_of};
 ghost use Rattle.htl_top.specs.declared.outcome.Outcome.TheVariants.{Memory as NoMemory};
 ghost use Rattle.std.specs.Process.{exit_status};
-ghost use Rattle.htl_program.specs.Program.{Ends, EndsFresh, counted_files, counted_streams, untold};
-ghost use Rattle.htl_program.specs.Words.{words_of};
+ghost use Rattle.htl_program.specs.Program.{Ends, EndsFresh, counted_streams, untold};
+ghost use Rattle.htl_adapters.specs.Words.{words_of};
 
-use crate::folder::{Disk, Folder};
-use crate::input::Input;
-use crate::output::Output;
-use crate::words::{after_name, held, lent};
+use htl_adapters::folder::{Disk, Folder};
+use htl_adapters::input::Input;
+use htl_adapters::output::Output;
+use htl_adapters::words::{after_name, held, lent};
 use htl_base::Memory;
 use htl_edge::{Shelf, Sink, Source};
 use htl_top::{Outcome, htl, report, status};

@@ -1,5 +1,7 @@
 use Rattle.std.proofs.Common.{◌≡◌, ◌∙◌, ap, inl, List, ℕ, map, string_bytes, Bor}
-use Rattle.htl_top.specs.Answers.{files, streams, Tells}
+use Rattle.htl_open.specs.Files.{files}
+use Rattle.htl_open.specs.Lines.{Tells}
+use Rattle.htl_top.specs.Answers.{streams}
 use Rattle.htl_program.proofs.SameWords.{EndsWith-same}
 use Rattle.htl_program.proofs.program.perform.Goals as goal
 
@@ -11,4 +13,4 @@ returns-in-Ok g c =
     inl (EndsWith-same _ _ (files g.S.Shelf.holds g.S.Shelf.faults c.args.shelf.now c.htl.new.shelf) (side c.args.input.now c.args.out.now) (side c.htl.new.input c.htl.new.out)
     (Tells (g.E.Sink.written c.args.err.now) (g.E.Sink.written c.htl.new.err) (g.E.Sink.faults c.args.err.now) (g.E.Sink.faults c.htl.new.err))
     (g.E.Sink.written c.htl.new.err ≡ g.E.Sink.written c.args.err.now) c.status.result same
-    (record { outcome = c.htl.result; is = c.status.ensures; answer = c.htl.ensures.answer; counts = c.htl.ensures.counts; told = c.htl.ensures.told; quiet = c.htl.ensures.quiet }))
+    (record { outcome = c.htl.result; is = c.status.ensures; answer = c.htl.ensures.answer; counts = c.htl.ensures.counts; told = c.htl.ensures.told.line; quiet = c.htl.ensures.told.quiet }))

@@ -1,6 +1,6 @@
 use Rattle.std.proofs.Common.{◌≡◌, ◌≤◌, length}
 use Rattle.std.specs.Io.KnownBytes.{Consumes}
-use Rattle.htl_program.proofs.folder.read_up_to.Given as goal
+use Rattle.htl_adapters.proofs.folder.read_up_to.Given as goal
 
 abbrev pub invariant-turns : goal.invariant-turns
 invariant-turns g l =

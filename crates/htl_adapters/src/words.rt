@@ -1,7 +1,7 @@
 // The words of the program.
 ghost use Rattle.std.specs.Prelude.{◌≡◌, drop, map, string_bytes, IfOk};
 ghost use Rattle.std.specs.Vec.Iter.{into_iter_items};
-ghost use Rattle.htl_program.specs.Words.{words_of};
+ghost use Rattle.htl_adapters.specs.Words.{words_of};
 
 use htl_base::Memory;
 use std::alloc::Global;

@@ -1,0 +1,4 @@
+pub mod Found
+pub mod GivenFiles
+pub mod OneObject
+pub mod Putting
