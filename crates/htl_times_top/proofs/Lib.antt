@@ -1,0 +1,5 @@
+pub mod Calling
+pub mod Names
+pub mod OneText
+pub mod Rows
+pub mod SameWords

@@ -1,0 +1,5 @@
+pub mod Answers
+pub mod Laws
+pub mod Program
+pub mod Status
+pub mod Texts
