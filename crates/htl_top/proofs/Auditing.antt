@@ -3,7 +3,7 @@ use Rattle.std.proofs.Common.{arith, ◌≡◌, ◌≤◌, ◌<◌, ◌⊎◌, �
 use Rattle.htl_top.proofs.Vocabulary.{IsFirstFault, IsFirstFaultIn, BeginningJobs, all_rounds, any_job, is_free, slice_is_out_of_order, is_over, lies_in, line_fault, LogFault, LogKind, Slice, CompileFault, HasBytes, RefusesBytes, ObjectFault, Tables, Event, Object, PlatformFault, Files, Streams, IsBeforeRun, IsBeforeScript, IsOfReading, IsUnhad, IsHad, IsReadyFile, IsAudit, IsAuditOf, IsAuditRun, IsLogRefused, IsGiven, IsOrMemory, IsReadyObject, IsRefusedFile, IsStopped, Work, answer_of, Outcome, Done, Usage, Source, IllFormed, Unschedulable, Platform, Task, Log, Refused, Faulty, Shelf, Read, Write, Memory, ShelfCause, Failed, TooLong}
 use Rattle.htl_audit.specs.declared.slice.LogKind.TheVariants as kind
 use Rattle.htl_compile.specs.declared.compiling.CompileFault.TheVariants as compile
-use Rattle.htl_top.proofs.GivenFiles as files
+use Rattle.htl_open.proofs.GivenFiles as files
 use Rattle.htl_top.proofs.ObjectAnswering as objects
 use Rattle.htl_top.proofs.ObjectAnswering.{IsWork}
 

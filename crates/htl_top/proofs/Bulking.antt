@@ -1,13 +1,13 @@
 -- What `bulk` writes and answers.
 use Rattle.std.proofs.Common.{◌≡◌, ◌≤◌, ℕ, zero, suc, ◌*◌, List, [], ◌∷◌, ◌++◌, length, get_or, Option, None, Result, Ok, ℤ, refl, sym, ap, ap₂, ◌∙◌, subst, inl, inr}
-use Rattle.htl_top.proofs.Vocabulary.{pos, slice_get, built_accepted, coded_runs, IsCompiledTo, bulk_bytes, built, CanBuild, coded, CompileFault, Rose, Puts, one_line, HasBytes, IsLoadedAs, sense_end, Seen, IsFinished, IsSensorValue, length-list_to, lines_text, line_text, up_to, History, first_value, history, newest, next_value, past, sense, state, Tables, Event, Line, ValueLine, State, IsAccepted, ObjectOf, flat_map, Streams, IsBeforeRun, IsWritten, IsOrMemory, HasTables, answer_of, Outcome, Done, Write, Memory}
+use Rattle.htl_top.proofs.Vocabulary.{AreSchedulable, AreTyped, Formed, IsCompileFault, IsNotCompiled, IsTablesOf, SourceStop, bulk_events, bulk_has_tables, bulk_sensor, comm_item, compile_only_memory, readings_of, sensor_comm, pos, slice_get, built_accepted, coded_runs, IsCompiledTo, bulk_bytes, built, CanBuild, coded, CompileFault, Rose, Puts, one_line, HasBytes, IsLoadedAs, sense_end, Seen, IsFinished, IsSensorValue, length-list_to, lines_text, line_text, up_to, History, first_value, history, newest, next_value, past, sense, state, Tables, Event, Line, ValueLine, State, IsAccepted, ObjectOf, flat_map, Streams, IsBeforeRun, IsWritten, IsOrMemory, HasTables, answer_of, Outcome, Done, Write, Memory}
 use mathlib.Core.Path.{fun_ext}
 use Rattle.htl_compile.specs.declared.compiling.CompileFault.TheVariants as compile
+use Rattle.htl_compile.specs.declared.stop.SourceStop.TheVariants as stop
 use Rattle.htl_model.specs.declared.event.Event.TheVariants as event
 use Rattle.htl_top.proofs.Executing.{finished_totals}
-use Rattle.htl_top.proofs.Generated.{sensor_first}
 use Rattle.htl_top.proofs.Meaning.{line_same}
-use Rattle.htl_top.specs.Bulk.{bulk_events, readings_of, value_at, values_text, totals_text, object_text, rounds_text, bulk_text, value_seen, seen_text, IsPut, IsBulkPut, IsBulked}
+use Rattle.htl_top.specs.Bulk.{value_at, values_text, totals_text, object_text, rounds_text, bulk_text, value_seen, seen_text, IsOutOfMemory, IsPut, IsBulkPut, IsBulked}
 
 -- ---- what a finished machine has
 
@@ -70,11 +70,35 @@ pub loaded_is : (source bytes : List ℕ) (l : ObjectOf) (compiled : IsCompiledT
 loaded_is source bytes l compiled only =
     only (built compiled.tables) (record { object = compiled.object; spelled = compiled.is }) (built_accepted None compiled.tables compiled.can)
 
--- so its sensor is the first communicator
-pub loaded_sensor : (n : ℕ) (bytes : List ℕ) (l : ObjectOf) (compiled : IsCompiledTo (bulk_bytes n) bytes) → n ≤ 64 → ((o : ObjectOf) → HasBytes bytes o → IsAccepted o → IsLoadedAs o (Ok l))
-    → (x : ℤ) → IsSensorValue l.tables 0 x
-loaded_sensor n bytes l compiled few only x =
-    subst (λ (o : ObjectOf). IsSensorValue o.tables 0 x) (sym (loaded_is (bulk_bytes n) bytes l compiled only)) (sensor_first n compiled.tables few compiled.of x)
+-- of the generated source alone want of memory is told
+pub only_memory : (n : ℕ) (s : SourceStop) → 1 ≤ n → n ≤ 64 → IsNotCompiled (bulk_bytes n) s → IsOutOfMemory s
+only_memory n s some few fault = by s fault (λ f. compile_only_memory (bulk_bytes n) has.0 f has.1 has.2 has.3 has.4)
+  where
+    has : (t : Tables) × IsTablesOf (bulk_bytes n) t × AreTyped t × Formed t × AreSchedulable t
+    has = bulk_has_tables n some few
+
+    by : (s : SourceStop) → IsNotCompiled (bulk_bytes n) s → ((f : CompileFault) → IsCompileFault (bulk_bytes n) f → f ≡ compile.Memory) → IsOutOfMemory s
+    by (stop.Fault f) h only = let no = only (compile.Source f) h in let z : ⊥ = cc in z
+    by (stop.IllFormed f tables) h only = let no = only (compile.IllFormed f) h.0 in let z : ⊥ = cc in z
+    by (stop.Unschedulable sel a b demand) h only = let no = only (compile.Unschedulable sel a b demand) h in let z : ⊥ = cc in z
+    by (stop.Platform f) h only = h
+    by stop.Memory h only = tt
+
+-- the first communicator of its tables is its sensor, which takes every value
+sensor_first : (n : ℕ) (t : Tables) → 1 ≤ n → n ≤ 64 → IsTablesOf (bulk_bytes n) t → (x : ℤ) → IsSensorValue (coded t) 0 x
+sensor_first n t some few of x =
+    record {
+      comm = comm_item bulk_sensor;
+      known = ap (λ (u : Tables). slice_get u.comms 0) of.is ∙ sensor_comm n some few of.list of.programs of.reads.tokens of.spelled;
+      sensor = refl;
+      fits = tt;
+    }
+
+-- so it is that of the object
+pub loaded_sensor : (n : ℕ) (bytes : List ℕ) (l : ObjectOf) (compiled : IsCompiledTo (bulk_bytes n) bytes) → 1 ≤ n → n ≤ 64
+    → ((o : ObjectOf) → HasBytes bytes o → IsAccepted o → IsLoadedAs o (Ok l)) → (x : ℤ) → IsSensorValue l.tables 0 x
+loaded_sensor n bytes l compiled some few only x =
+    subst (λ (o : ObjectOf). IsSensorValue o.tables 0 x) (sym (loaded_is (bulk_bytes n) bytes l compiled only)) (sensor_first n compiled.tables some few compiled.of x)
 
 -- and its text is theirs
 pub put_built : (bytes : List ℕ) (l : ObjectOf) (old new : Option (List ℕ)) (before now : ℕ) (outcome : Outcome) → ((o : ObjectOf) → HasBytes bytes o → IsAccepted o → IsLoadedAs o (Ok l))

@@ -1,9 +1,9 @@
 -- What `compile` answers, by its input.
 use Rattle.std.proofs.Common.{arith, ◌≡◌, ◌≤◌, ◌<◌, ℕ, List, length, Option, Some, refl, sym, ap, subst, inl, inr}
-use Rattle.htl_top.proofs.Vocabulary.{IfSome, append_known, compile_only_memory, one_compile_fault, IsCompiledTo, IsCompileFault, AreSchedulable, AreTyped, IsTablesOf, CompileFault, Rose, AppendsPrefix, none_left, Formed, Tables, Streams, IsBeforeRun, IsOrMemory, IsCompiling, IsBytesCompiled, compiled_bytes, IsInput, IsInputProgram, IsFaultyInput, IsLongInput, IsInputFault, IsNotCompiled, answer_of, outcome_of, Outcome, Done, Source, IllFormed, Unschedulable, Platform, Read, Write, Memory, SourceStop}
+use Rattle.htl_top.proofs.Vocabulary.{IfSome, append_known, compile_only_memory, one_compile_fault, IsCompiledTo, IsCompileFault, AreSchedulable, AreTyped, IsTablesOf, CompileFault, Rose, AppendsPrefix, none_left, Formed, Tables, Streams, IsBeforeRun, IsOrMemory, IsCompiling, IsBytesCompiled, compiled_bytes, IsInput, IsInputProgram, IsFaultyInput, IsLongInput, IsInputFault, IsNotCompiled, answer_of, outcome_of, Outcome, Done, Source, IllFormed, Unschedulable, Read, Write, Memory, SourceStop}
 use Rattle.htl_compile.specs.declared.compiling.CompileFault.TheVariants as compile
 use Rattle.htl_compile.specs.declared.source_fault.SourceFault.TheVariants as source
-use Rattle.htl_top.specs.declared.source.SourceStop.TheVariants as stop
+use Rattle.htl_compile.specs.declared.stop.SourceStop.TheVariants as stop
 
 -- ---- from the source to the input
 

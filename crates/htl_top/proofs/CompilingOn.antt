@@ -4,7 +4,7 @@ use Rattle.htl_top.proofs.Vocabulary.{get, IfSome, append_known, MAX_SOURCE, onl
 use Rattle.htl_compile.specs.declared.compiling.CompileFault.TheVariants as compile
 use Rattle.htl_compile.specs.declared.compiling_on.WithFault.TheVariants as on
 use Rattle.htl_compile.specs.declared.source_fault.SourceFault.TheVariants as source
-use Rattle.htl_top.specs.declared.source.SourceStop.TheVariants as stop
+use Rattle.htl_compile.specs.declared.stop.SourceStop.TheVariants as stop
 
 -- ---- from source and platform file to the words and the input
 

@@ -1,10 +1,10 @@
 -- The line that tells of an answer has names of the tables that it speaks of.
 use Rattle.std.proofs.Common.{◌≡◌, List, ℕ, Option, Some, refl, ap, ◌∙◌, subst}
-use Rattle.htl_top.proofs.Vocabulary.{coded, Shown, Holdings, ObjectFault, Tables, FormFault, ObjectOf, patched, PatchFault, with_worst, Streams, IsBulked, HasSource, HasObject, IsSource, HasObjectTables, IsObjectFile, IsObjectTables, SpeaksOfObject, HasPatchedTables, IsDonorTold, IsPatchedTables, SpeaksOfPatch, IsRun, HasTypedTables, IsInput, IsNotCompiled, IsTypedInput, IsTypedProgram, outcome_of, tables_of_stop, HasTypedOn, IsTypedOn, IsNotCompiledOn, fault_line, SpeaksOf, IsFaultTold, IsPatchFaultTold, IsLineTold, Command, Go, Compile, CompileWith, Run, Check, Plan, Show, Slack, Audit, Patch, Outcome, SourceStop}
+use Rattle.htl_top.proofs.Vocabulary.{coded, Shown, Holdings, ObjectFault, Tables, FormFault, ObjectOf, patched, PatchFault, with_worst, Streams, IsBulked, HasSource, HasObject, IsSource, IsObjectTables, SpeaksOfObject, HasPatchedTables, IsDonorTold, IsPatchedTables, SpeaksOfPatch, IsRun, HasTypedTables, IsInput, IsNotCompiled, IsTypedInput, IsTypedProgram, outcome_of, tables_of_stop, HasTypedOn, IsTypedOn, IsNotCompiledOn, fault_line, SpeaksOf, IsFaultTold, IsPatchFaultTold, IsLineTold, Command, Go, Compile, CompileWith, Run, Check, Plan, Show, Slack, Audit, Patch, Outcome, SourceStop}
 use Rattle.htl_load.specs.declared.fault.ObjectFault.TheVariants as fault
 use Rattle.htl_patch.specs.declared.fault.PatchFault.TheVariants as patch
 use Rattle.htl_top.specs.declared.outcome.Outcome.TheVariants.{IllFormed, Patch as Unpatched, Object}
-use Rattle.htl_top.specs.declared.source.SourceStop.TheVariants as stop
+use Rattle.htl_compile.specs.declared.stop.SourceStop.TheVariants as stop
 
 -- a run breaks no form rule
 pub SpeaksOf-run : (Sources Objects : (Tables → Type 0) → Type 0) (show : Shown) (t : Tables) (o : ObjectOf) (old new : Streams) (outcome : Outcome) (told : Option Tables)
@@ -58,12 +58,6 @@ SpeaksOf-donor Sources Others Objects o unit mode bytes old new before now (Unpa
 SpeaksOf-donor Sources Others Objects o unit mode bytes old new before now (IllFormed f) told donor map speaks = absurd donor
 SpeaksOf-donor Sources Others Objects o unit mode bytes old new before now (Object f) told donor map speaks = absurd donor
 SpeaksOf-donor Sources Others Objects o unit mode bytes old new before now _ told donor map speaks = tt
-
--- the object is that of the words
-pub SpeaksOfObject-file : (name : Option (List ℕ)) (holds : Option Holdings) (bytes : List ℕ) (f : ObjectFault) (told : Option Tables)
-    → IsObjectFile name holds bytes → SpeaksOfObject (HasObjectTables bytes) f told → SpeaksOfObject (IsObjectTables name holds) f told
-SpeaksOfObject-file name holds bytes (fault.IllFormed f) told file speaks = record { bytes = bytes; file = file; has = speaks }
-SpeaksOfObject-file name holds bytes _ told file speaks = tt
 
 -- ---- the line
 

@@ -1,12 +1,27 @@
--- Answers while files are fetched speak of no tables, and tell why no object was had.
-use Rattle.htl_top.proofs.Vocabulary.{Option, List, ℕ, Tables, Files, IsOfFetch, IsUnfetched, IsStopped, SpeaksOf, Outcome, Shelf, Memory}
+-- Answers while files are fetched speak of no tables, and why no object was had is an answer.
+use Rattle.htl_top.proofs.Vocabulary.{Option, List, ℕ, Tables, Files, IsObjectTables, IsOfFetch, IsStopped, SpeaksOf, Outcome, Shelf, Memory, Failed}
+use Rattle.std.proofs.Common.{◌≡◌, ap}
+use Rattle.htl_open.specs.Stops.{IsUnopened}
+use Rattle.htl_open.specs.declared.stop.OpenStop.{OpenStop}
+use Rattle.htl_open.specs.declared.stop.OpenStop.TheVariants as stop
+use Rattle.htl_top.specs.Fetching.{unopened_as, tables_unopened}
 
 pub fetching_speaks : (Sources Objects : (Tables → Type 0) → Type 0) (outcome : Outcome) (tables : Option Tables) → IsOfFetch outcome → SpeaksOf Sources Objects outcome tables
 fetching_speaks Sources Objects (Shelf cause) tables is = tt
 fetching_speaks Sources Objects Memory tables is = tt
 fetching_speaks Sources Objects _ tables is = absurd is
 
-pub unfetched_stops : (name : Option (List ℕ)) (shelf : Files) (outcome : Outcome) → IsUnfetched name shelf outcome → IsStopped name shelf outcome
-unfetched_stops name shelf (Shelf cause) why = why
-unfetched_stops name shelf Memory why = why
-unfetched_stops name shelf _ why = absurd why
+pub unopened_stops : (name : Option (List ℕ)) (shelf : Files) (s : OpenStop) → IsUnopened name shelf s → IsStopped name shelf (unopened_as s)
+unopened_stops name shelf (stop.Shelf why) is = is
+unopened_stops name shelf (stop.Object f t) is = is.0
+unopened_stops name shelf stop.Memory is = tt
+
+pub unopened_speaks : (Sources : (Tables → Type 0) → Type 0) (name : Option (List ℕ)) (shelf : Files) (s : OpenStop) → IsUnopened name shelf s
+    → SpeaksOf Sources (IsObjectTables name shelf.holds) (unopened_as s) (tables_unopened s)
+unopened_speaks Sources name shelf (stop.Shelf why) is = tt
+unopened_speaks Sources name shelf (stop.Object f t) is = is.1
+unopened_speaks Sources name shelf stop.Memory is = tt
+
+-- the shelf failed only where that is the answer
+pub unopened_failed : (s : OpenStop) → s ≡ stop.Shelf Failed → unopened_as s ≡ Shelf Failed
+unopened_failed s is = ap unopened_as is

@@ -5,7 +5,7 @@ use Rattle.htl_compile.specs.declared.compiling.CompileFault.TheVariants as comp
 use Rattle.htl_load.specs.declared.fault.LoadFault.TheVariants as load
 use Rattle.htl_top.proofs.ObjectAnswering.{IsOfWork, early_work}
 use Rattle.htl_top.proofs.Running.{IsRun-source, run_only, run_unwritten}
-use Rattle.htl_top.specs.declared.source.SourceStop.TheVariants as stop
+use Rattle.htl_compile.specs.declared.stop.SourceStop.TheVariants as stop
 
 -- ---- from the source to the file
 

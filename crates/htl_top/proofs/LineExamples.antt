@@ -4,7 +4,10 @@ use Rattle.std.specs.Fmt.{digits}
 use Rattle.std.specs.Prelude.{decimal}
 use Rattle.htl_compile.specs.declared.source_fault.SourceFault.TheVariants as fault
 use Rattle.htl_top.proofs.Vocabulary.{layout, Values, Jobs, doubling, empty_mode, Event, Tables, Object, sample, fault_line, place_of_fault, text_before_fault, text_of_script, Source, IllFormed, Unschedulable, Script, Dispatch, End}
+use Rattle.htl_model.proofs.Sources.{mode, call, two_periods}
 use Rattle.htl_model.specs.declared.event.Event.TheVariants as event
+use Rattle.htl_model.specs.declared.parts.End.TheVariants as E
+use Rattle.htl_top.specs.Checked.{check_text}
 use Rattle.htl_script.specs.Script.{script_of, Whole, Bad}
 use Rattle.htl_script.specs.declared.fault.ScriptKind.TheVariants as kind
 
@@ -80,3 +83,23 @@ invocation_place = refl
 mode_line : fault_line (Some empty_mode) (IllFormed (record { rule = 1; «module» = 0; mode = 0; inv = None; have = 20; need = 10 }))
     ≡ codes "htl: ill-formed " ++ decimal 1 ++ codes " at " ++ codes "M.m" ++ codes " have " ++ decimal 20 ++ codes " need " ++ decimal 10 ++ codes "\n"
 mode_line = refl
+
+-- ---- what `check` tells
+
+check_both : check_text two_periods ≡ codes "accepted selections 1 positions 3\n"
+unfolding digits
+check_both = refl
+
+-- F has a second mode, which invokes twice: it can be in either from 0 and from 10
+abbrev two_modes : Tables
+two_modes =
+    record two_periods {
+      modes = mode (codes "m") 0 10 ∷ mode (codes "m") 1 20 ∷ mode (codes "n") 0 10 ∷ [];
+      invs =
+          call 0 0 None (E.Comm 0 0 ∷ []) (E.Comm 0 1 ∷ []) ∷ call 1 1 None (E.Comm 0 0 ∷ []) (E.Comm 1 2 ∷ []) ∷ call 2 0 None (E.Comm 0 0 ∷ []) (E.Comm 0 1 ∷ [])
+          ∷ call 2 0 None (E.Comm 0 0 ∷ []) (E.Comm 0 1 ∷ []) ∷ [];
+    }
+
+check_modes : check_text two_modes ≡ codes "accepted selections 4 positions 5\n"
+unfolding digits
+check_modes = refl

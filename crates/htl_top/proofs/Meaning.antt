@@ -1,6 +1,6 @@
 -- What `go` shows of a source is what its own tables mean.
 use Rattle.std.proofs.Common.{◌≡◌, ℕ, List, [], ◌++◌, Option, None, Some, refl, sym, ap, ap₂, ◌∙◌}
-use Rattle.htl_top.proofs.Vocabulary.{append-nil, flat_map, built_accepted, coded_runs, built, CanBuild, coded, codes, Jobs, accepted_is_loaded, run_of, new_lines, old_lines, schedules_of, hyper, line_text, lines_text, value_lines, Tables, Event, Line, ValueLine, ModeLine, every_job_in_time, whole-script, script_same, GoShowsTheMeaning, GoKeepsDeadlines}
+use Rattle.htl_top.proofs.Vocabulary.{append-nil, flat_map, built_accepted, coded_runs, built, CanBuild, coded, codes, Jobs, accepted_is_loaded, run_of, new_alone, old_lines, schedules_of, hyper, line_text, lines_text, value_lines, Tables, Event, Line, ValueLine, ModeLine, every_job_in_time, whole-script, script_same, GoShowsTheMeaning, GoKeepsDeadlines}
 use mathlib.Core.Path.{fun_ext}
 use Rattle.htl_top.proofs.Playing.{took_within}
 
@@ -15,16 +15,11 @@ changes_same t es now can =
     ap (λ (f : Line → List ℕ). flat_map f (value_lines (coded t) es now)) (fun_ext (line_same t))
     ∙ ap (lines_text t) (sym ((coded_runs t can.can.tables.ranges).lines es now))
 
--- no instruction is shown
-none_new : (t : Tables) (es : List Event) (now : ℕ) (o : Option ℕ) → new_lines (coded t) (schedules_of (built t)) es Jobs o now ≡ []
-none_new t es now None = refl
-none_new t es now (Some h) = refl
-
 pub go_shows : GoShowsTheMeaning
 go_shows t es now can =
     let old = old_lines (coded t) (schedules_of (built t)) es Jobs (hyper t) now in
     let changes = lines_text (coded t) (value_lines (coded t) es now) in
-    ap (λ (bs : List ℕ). ((old ++ []) ++ changes) ++ bs) (none_new t es now (hyper t)) ∙ append-nil ((old ++ []) ++ changes)
+    ap (λ (bs : List ℕ). ((old ++ []) ++ changes) ++ bs) (new_alone (coded t) (schedules_of (built t)) es (hyper t) now) ∙ append-nil ((old ++ []) ++ changes)
     ∙ ap₂ (λ (a b : List ℕ). a ++ b) (append-nil old) (changes_same t es now can)
 
 pub go_keeps : GoKeepsDeadlines

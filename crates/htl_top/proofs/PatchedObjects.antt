@@ -4,7 +4,7 @@ use Rattle.htl_top.proofs.Vocabulary.{Rose, Holdings, HasBytes, Tables, IsAccept
 use Rattle.htl_patch.specs.declared.fault.PatchFault.TheVariants as fault
 use Rattle.htl_patch.specs.declared.fault.PatchStop.TheVariants as stop
 use Rattle.htl_top.proofs.ObjectAnswering.{one_of_bytes, object_or_bad}
-use Rattle.htl_top.specs.declared.outcome.Outcome.TheVariants.{Done, IllFormed, Patch, Object as Refused, Write, Memory}
+use Rattle.htl_top.specs.declared.outcome.Outcome.TheVariants.{Done, Patch, Write, Memory}
 
 -- the bytes of an accepted object were written
 pub IsObjectPut-written : (o same : Object) (bytes slice : List ℕ) (old new : Option (List ℕ)) (before now : ℕ) (outcome : Outcome) → same ≡ o → IsAccepted same → IsObject same

@@ -2,12 +2,12 @@
 use Rattle.std.proofs.Common.{arith, ◌≡◌, ◌≤◌, ◌<◌, ◌⊎◌, ℕ, List, length, Option, Some, Err, refl, sym, ap, subst, inl, inr}
 use Rattle.htl_top.proofs.Vocabulary.{MAX_OBJECT, CompileFault, Rose, Holdings, HasBytes, RefusesBytes, ObjectFault, Tables, IsAccepted, Object, CanPatch, Replacement, PatchFault, PlatformFault, Files, Streams, IsBeforeRun, IsFaultOf, IsLongFile, IsGiven, IsOrMemory, IsObjectFile, IsObjectRead, IsObjectTables, IsRefusedFile, IsReadyObject, IsUnhad, IsFileOf, IsHad, AreFilesOf, IsDonorFault, IsDonorTold, IsPatchOfFiles, IsPatching, object_tables, unloaded_as, answer_of, SpeaksOf, ObjectStop, Outcome, Failed, TooLong}
 use Rattle.htl_compile.specs.declared.compiling.CompileFault.TheVariants as compile
-use Rattle.htl_top.proofs.GivenFiles as files
-use Rattle.htl_top.proofs.ErrorLineNames.{SpeaksOfObject-file}
+use Rattle.htl_open.proofs.GivenFiles as files
+use Rattle.htl_open.proofs.OneObject.{SpeaksOfObject-file}
 use Rattle.htl_top.proofs.ObjectAnswering.{IsAcceptedFile-map, one_of_bytes, one_refusal, accepted_or_refused}
 use Rattle.htl_top.proofs.PatchedObjects as objects
-use Rattle.htl_top.specs.declared.object.ObjectStop.TheVariants as load
-use Rattle.htl_top.specs.declared.outcome.Outcome.TheVariants.{Done, Usage, Unschedulable, Platform, Task, Patch, Object as Refused, Shelf, Memory}
+use Rattle.htl_open.specs.declared.object.ObjectStop.TheVariants as load
+use Rattle.htl_top.specs.declared.outcome.Outcome.TheVariants.{Done, Usage, Platform, Task, Patch, Object as Refused, Shelf, Memory}
 
 pub AreFilesOf-map : (name donor : Option (List ℕ)) (shelf : Files) (Fact Other : Object → List ℕ → Type 0) → ((o : Object) (bytes : List ℕ) → Fact o bytes → Other o bytes)
     → AreFilesOf name donor shelf.holds Fact → AreFilesOf name donor shelf.holds Other

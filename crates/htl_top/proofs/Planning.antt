@@ -2,7 +2,7 @@
 use Rattle.std.proofs.Common.{◌≡◌, ℕ, List, Option, Some, refl, sym, ap, ◌∙◌, subst, inl, inr}
 use Rattle.htl_top.proofs.Vocabulary.{IfSome, Rose, Object, OfScript, ScriptFault, ScriptKind, Streams, IsBeforeRun, IsOrMemory, IsPlanned, Outcome, Done, Script, Read, Write, Memory}
 use Rattle.htl_top.proofs.ObjectAnswering.{IsWork, IsOfWork}
-use Rattle.htl_top.specs.SelectionInput.{Input, Whole, Bad, input_of}
+use Rattle.htl_plan.specs.SelectionInput.{Input, Whole, Bad, input_of}
 
 plan_only : (o : Object) (old new : Streams) (outcome : Outcome) → IsPlanned o old new outcome → IsOfWork outcome
 plan_only o old new Done answer = tt

@@ -1,5 +1,5 @@
 -- The events of a script, told one by one: what comes next, and what is written.
-use Rattle.std.proofs.Common.{arith, ◌≡◌, ◌≤◌, ◌<◌, ◌+◌, ◌-◌, ℕ, zero, suc, List, [], ◌∷◌, ◌++◌, Option, None, Some, refl, sym, ap, ◌∙◌, subst}
+use Rattle.std.proofs.Common.{arith, ◌≡◌, ◌≤◌, ◌<◌, ◌+◌, ◌-◌, ℕ, suc, List, [], ◌∷◌, ◌++◌, Option, None, Some, refl, sym, ap, ◌∙◌, subst}
 use Rattle.htl_top.proofs.Vocabulary.{IfSome, append-nil, Shown, accepted_is_loaded, reading_more, later_leave, text_between, reading_of, AreReadFrom, before_of, lines_of, schedules_of, Tables, task_worst, Event, Inv, IsAccepted, Object, AreTookWithin, AreEvents, past_after, past_after_all, past_of, Past, HaveNoEnd, IsNext, text_more, text_to, text_before_fault, up_to_more}
 use Rattle.htl_model.specs.declared.event.Event.TheVariants as event
 

@@ -1,31 +1,19 @@
 -- A machine on the readings of rounds: what it follows, and that nothing is shown.
 use Rattle.std.proofs.Common.{arith, ◌≡◌, ◌≤◌, ℕ, zero, suc, ◌*◌, ◌-◌, ◌+◌, List, [], ◌∷◌, ◌++◌, Option, None, Some, Result, Ok, refl, sym, ap, ap₂, ◌∙◌, subst}
-use Rattle.htl_top.proofs.Vocabulary.{pos, filter, Shown, Nothing, ECode, append_known-start, Puts, Seen, Follows, IsSameRun, text_between, reading_of, record_lines, list_lines, old_lines, new_lines, lines, lines_of, schedules_of, hyper, joined, Tables, Event, Object, RunningList, begun_before, left_in, lists_at, frame_at, rounds_before, Left, Job, SInstr, readings_of, round_readings, up_to_none, append_assoc}
+use Rattle.htl_top.proofs.Vocabulary.{pos, Shown, Nothing, ECode, append_known-start, Puts, Seen, Follows, IsSameRun, text_between, reading_of, lines, lines_of, schedules_of, hyper, joined, Tables, Event, Object, SInstr, readings_of, round_readings, up_to_none, append_assoc}
 use Rattle.htl_model.specs.declared.event.Event.TheVariants as event
+use Rattle.htl_runs.specs.lines.RunLines.{record_text}
+use Rattle.htl_runs.specs.lines.RunRecords.{RunRecord, new_records, old_records}
 
 -- ---- nothing is shown
 
-no_record : (t : Tables) (jobs : List Job) (r : RunningList) (ls : List (ℕ × Left)) → joined (record_lines t Nothing jobs r) ls ≡ []
-no_record t jobs r [] = refl
-no_record t jobs r (l ∷ ls) = no_record t jobs r ls
+no_record : (t : Tables) (xs : List RunRecord) → joined (record_text t Nothing) xs ≡ []
+no_record t [] = refl
+no_record t (x ∷ xs) = no_record t xs
 
 module _ (t : Tables) (code : ECode) (schedules : List (List SInstr)) (es : List Event) where
-  no_list : (now f : ℕ) (rs : List RunningList) → joined (list_lines t schedules es Nothing now f) rs ≡ []
-  no_list now f [] = refl
-  no_list now f (r ∷ rs) = ap₂ (λ xs ys. xs ++ ys) (no_record t (frame_at t schedules es f).jobs r (left_in now f r)) (no_list now f rs)
-
-  none_old : (o : Option ℕ) (now : ℕ) → old_lines t schedules es Nothing o now ≡ []
-  none_old None now = refl
-  none_old (Some h) now =
-      up_to_none (λ k. joined (list_lines t schedules es Nothing now (k * h)) (filter (begun_before now) (lists_at t schedules es (k * h)))) (rounds_before h now)
-      (λ k less. no_list now (k * h) (filter (begun_before now) (lists_at t schedules es (k * h))))
-
-  none_new : (o : Option ℕ) (now : ℕ) → new_lines t schedules es Nothing o now ≡ []
-  none_new None now = refl
-  none_new (Some h) now = refl
-
   no_lines : (now : ℕ) → lines t code schedules es Nothing now ≡ []
-  no_lines now = ap₂ (λ xs ys. xs ++ [] ++ [] ++ ys) (none_old (hyper t) now) (none_new (hyper t) now)
+  no_lines now = ap₂ (λ xs ys. xs ++ [] ++ [] ++ ys) (no_record t (old_records t schedules es (hyper t) now)) (no_record t (new_records t schedules es (hyper t) now))
 
 pub no_text : (o : Object) (es : List Event) (show : Shown) (from to : ℕ) → show ≡ Nothing → text_between o es show from to ≡ []
 no_text o es show from to is =

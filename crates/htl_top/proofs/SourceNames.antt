@@ -1,6 +1,6 @@
 -- The names in the tables of a source are names: each stands in its text as one.
 use Rattle.std.proofs.Common.{◌≡◌, ℕ, ◌+◌, true, List, [], ◌∷◌, map, Option, Some, None, slice_get, refl, subst, sym}
-use Rattle.htl_top.proofs.Vocabulary.{is_name, Ty, coded, IsTablesOf, HasNames, Tables, Each, each_at, each_all, each_flat_map, each_flat_map_at, each_weaker, modules_at, module_at, ModuleAt, tokens-spellable, Expr, Level, Spells, conj, or, cmp, and, sum, compare, prod, add, unary, multiply, atom, prefix, name, brackets, choice, PlainOut, PlainTask, PlainSwitch, PlainMode, PlainModule, PlainProgram, Placed, Put, tokens_numbered, IsSpellable, AreSpellable, Token, Word, CommNode, ConstNode, EndNode, Id, InvokeNode, ParamNode}
+use Rattle.htl_top.proofs.Vocabulary.{is_name, Ty, coded, IsTablesOf, HasNames, Tables, Each, each_at, each_all, each_flat_map, each_flat_map_at, each_weaker, modules_at, module_at, ModuleAt, tokens-spellable, Expr, Level, Spells, conj, or, cmp, and, sum, compare, prod, add, unary, multiply, atom, prefix, brackets, choice, PlainOut, PlainTask, PlainSwitch, PlainMode, PlainModule, PlainProgram, Placed, Put, tokens_numbered, IsSpellable, AreSpellable, Token, Word, CommNode, ConstNode, EndNode, Id, InvokeNode, ParamNode}
 use Rattle.htl_names.specs.Flat.{Layout, layout, comm_item, comm_items, mode_item, module_mode_items, mode_items, module_item, module_items_at, module_items, task_item, module_task_items, task_items, tables_of_tree}
 use Rattle.htl_text.specs.Statements.{SpellsMore, no_more, comma, SpellsList, empty, items, SpellsEach, no_other, another, SpellsClause, absent, present, SpellsType, int, bool, SpellsConst, positive, negative, SpellsComm, communicator, sensor, SpellsParam, param, SpellsOut, out, SpellsTask, concrete, abstract_task, SpellsPort, port, SpellsEnd, comm_end, port_end, SpellsInvoke, invoke, SpellsSwitch, switch, SpellsMode, mode, SpellsModule, a_module, SpellsProgram, program, SpellsSource, source}
 

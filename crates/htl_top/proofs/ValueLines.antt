@@ -1,23 +1,20 @@
 -- What a reader finds of values and modes in the text of what `go` runs.
 use Rattle.std.proofs.Common.{◌≡◌, ◌*◌, ◌/◌, ℕ, zero, suc, Bool, true, false, cond, List, [], ◌∷◌, ◌++◌, map, Option, Some, None, refl, sym, ap, ap₂, ◌∙◌, append-nil}
 use Rattle.htl_base.proofs.Places.{map_same}
-use Rattle.htl_runs.proofs.lines.JobLines.{joined-up_to}
 use Rattle.htl_runs.proofs.lines.LineBytes.{lines_found}
-use Rattle.htl_runs.proofs.lines.Joined.{joined-append}
-use Rattle.htl_runs.specs.lines.RunLines.{RunLine, SliceLine, DoneLine, ChangeLine, TotalsLine, printed, text_lines, HasNames, closed_slice_line, job_done_line, job_lines_of, list_job_lines, frame_job_lines, job_lines_at}
+use Rattle.htl_runs.proofs.lines.Joined.{joined-append, joined-up_to}
+use Rattle.htl_runs.specs.lines.RunLines.{RunLine, printed, text_lines, HasNames, closed_slice_line, job_done_line, job_lines, job_lines_at}
+use Rattle.htl_runs.specs.lines.RunLines.RunLine.{ChangeLine, TotalsLine}
 use Rattle.htl_runs.specs.lines.Lines.{e_done, jobs_done, s_done}
-use Rattle.htl_runs.specs.lines.StandingLines.{inv_at}
+use Rattle.htl_runs.specs.lines.RunRecords.{RunRecord, new_records, old_records}
 use Rattle.htl_model.proofs.Locality.{up_to_same}
 use Rattle.htl_model.specs.Lists.{joined, up_to}
 use Rattle.htl_model.specs.Meaning.{run_lines}
 use Rattle.htl_model.specs.Lines.{line_text, lines_text, totals_line}
-use Rattle.htl_refine.specs.FrameRecords.{RunningList, begins_at, begun_before, left_in, lists_at}
-use Rattle.htl_refine.specs.FrameRuns.{frame_at}
-use Rattle.htl_refine.specs.Records.{rounds_before}
 use Rattle.htl_top.proofs.JobMeaning.{go_job_lines}
 use Rattle.htl_top.proofs.Meaning.{line_same}
 use Rattle.htl_top.proofs.SourceNames.{source_named, coded_named}
-use Rattle.htl_top.proofs.Vocabulary.{Event, Job, Left, Line, ValueLine, ModeLine, SInstr, Tables, built, coded, hyper, Jobs, lines_of, map-append, schedules_of, text_of, value_lines, CanBuild, IsTablesOf, Object}
+use Rattle.htl_top.proofs.Vocabulary.{Event, Job, Left, Line, ValueLine, ModeLine, SInstr, Tables, built, coded, hyper, Jobs, lines_of, map-append, schedules_of, text_of, value_lines, CanBuild, Object}
 use Rattle.htl_top.specs.FoundLaws.{begins_as_change, GoValueLinesAreFound}
 use Rattle.std.proofs.lemmas.List.Elements.{filter-append}
 use Rattle.std.specs.List.{filter}
@@ -34,36 +31,24 @@ module _ (t : Tables) where
   none_joined f none [] = refl
   none_joined f none (x ∷ xs) = found_both (f x) (joined f xs) ∙ ap₂ (λ (a b : List (List ℕ)). a ++ b) (none x) (none_joined f none xs)
 
-  none_to : (f : ℕ → List RunLine) → ((k : ℕ) → found (f k) ≡ []) → (n : ℕ) → found (up_to f n) ≡ []
-  none_to f none zero = refl
-  none_to f none (suc n) = found_both (up_to f n) (f n) ∙ ap₂ (λ (a b : List (List ℕ)). a ++ b) (none_to f none n) (none n)
-
   -- job lines are none
   none_closed : (i : ℕ) (s : Option (ℕ × ℕ)) → found (closed_slice_line i s) ≡ []
   none_closed i (Some s) = refl
   none_closed i None = refl
 
-  none_done : (i : ℕ) (at : ℕ) (b : Bool) → found (cond b (DoneLine at i ∷ []) []) ≡ []
-  none_done i at true = refl
-  none_done i at false = refl
+  none_done : (at i : ℕ) (b : Bool) → found (job_done_line at b i) ≡ []
+  none_done at i true = refl
+  none_done at i false = refl
 
-  none_of : (jobs : List Job) (l : ℕ × Left) → found (job_lines_of jobs l) ≡ []
-  none_of jobs l =
-      let i = inv_at jobs l.1.position in
-      found_both (closed_slice_line i l.1.slice) (job_done_line i l.1) ∙ ap₂ (λ (a b : List (List ℕ)). a ++ b) (none_closed i l.1.slice) (none_done i l.1.at l.1.finished)
+  none_of : (x : RunRecord) → found (job_lines x) ≡ []
+  none_of x =
+      found_both (closed_slice_line x.inv x.left.slice) (job_done_line x.left.at x.left.finished x.inv)
+      ∙ ap₂ (λ (a b : List (List ℕ)). a ++ b) (none_closed x.inv x.left.slice) (none_done x.left.at x.inv x.left.finished)
 
-  module _ (lists : List (List SInstr)) (es : List Event) where
-    none_frame : (which : RunningList → Bool) (now f : ℕ) → found (frame_job_lines t lists es which now f) ≡ []
-    none_frame which now f =
-        let jobs = (frame_at t lists es f).jobs in
-        none_joined (list_job_lines t lists es now f) (λ r. none_joined (job_lines_of jobs) (none_of jobs) (left_in now f r)) (filter which (lists_at t lists es f))
-
-    none_at : (o : Option ℕ) (now : ℕ) → found (job_lines_at t lists es o now) ≡ []
-    none_at None now = refl
-    none_at (Some h) now =
-        let before : ℕ → List RunLine = λ k. frame_job_lines t lists es (begun_before now) now (k * h) in
-        found_both (up_to before (rounds_before h now)) (frame_job_lines t lists es (begins_at now) now (h * (now / h)))
-        ∙ ap₂ (λ (a b : List (List ℕ)). a ++ b) (none_to before (λ k. none_frame (begun_before now) now (k * h)) (rounds_before h now)) (none_frame (begins_at now) now (h * (now / h)))
+  none_at : (lists : List (List SInstr)) (es : List Event) (o : Option ℕ) (now : ℕ) → found (job_lines_at t lists es o now) ≡ []
+  none_at lists es o now =
+      found_both (joined job_lines (old_records t lists es o now)) (joined job_lines (new_records t lists es o now))
+      ∙ ap₂ (λ (a b : List (List ℕ)). a ++ b) (none_joined job_lines none_of (old_records t lists es o now)) (none_joined job_lines none_of (new_records t lists es o now))
 
   -- lines of values and modes are found
   all_changes : (ls : List Line) → found (map ChangeLine ls) ≡ map (line_text t) ls

@@ -1,9 +1,10 @@
 -- Files and streams before and after a call, and what answers leave as it was.
 use Rattle.std.specs.Prelude.{ℕ, ◌≡◌, ◌⊎◌, Option, List}
-use Rattle.htl_top.specs.Common.{append_known, LogKind, Rose, AppendsPrefix, Holdings}
+use Rattle.htl_open.specs.Files.{Files}
+use Rattle.htl_top.specs.Common.{append_known, LogKind, Rose, AppendsPrefix}
 use Rattle.htl_audit.specs.declared.slice.LogKind.TheVariants as kind
 use Rattle.htl_top.specs.declared.outcome.Outcome.{Outcome}
-use Rattle.htl_top.specs.declared.outcome.ShelfCause.TheVariants.{Failed}
+use Rattle.htl_open.specs.declared.stop.ShelfCause.TheVariants.{Failed}
 use Rattle.htl_top.specs.declared.outcome.Outcome.TheVariants.{Done, Log, Script, Shelf, Read, Write, Memory}
 
 -- the input and the output at one moment: what is left, what was written, and the counts of faults
@@ -16,15 +17,6 @@ pub record Streams : Type 0 where
 abbrev pub streams : {R W : Type 0} → (R → Option (List ℕ)) → (R → ℕ) → (W → Option (List ℕ)) → (W → ℕ) → R → W → Streams
 streams rest read_faults written write_faults input out =
     record { rest = rest input; read_faults = read_faults input; written = written out; write_faults = write_faults out }
-
--- what a shelf holds, and its counts of faults before a call and after
-pub record Files : Type 0 where
-  pub holds : Option Holdings
-  pub before : List ℕ → ℕ
-  pub after : List ℕ → ℕ
-
-abbrev pub files : {S : Type 0} → (S → Option Holdings) → (S → List ℕ → ℕ) → S → S → Files
-files holds faults old new = record { holds = holds old; before = faults old; after = faults new }
 
 -- nothing was read and nothing written
 pub record IsUntouched (old new : Streams) : Type 0 where
@@ -77,9 +69,3 @@ pub record KeepsCounts (shelf : Files) (old new : Streams) (outcome : Outcome) :
   pub files : (outcome ≡ Shelf Failed → ⊥) → (file : List ℕ) → shelf.after file ≡ shelf.before file
   pub read : (outcome ≡ Read → ⊥) → new.read_faults ≡ old.read_faults
   pub write : (outcome ≡ Write → ⊥) → new.write_faults ≡ old.write_faults
-
--- ---- what tells of an answer
-
--- What is told on a sink: the whole line, or a prefix of it where the count of faults rose.
-abbrev pub Tells : Option (List ℕ) → Option (List ℕ) → ℕ → ℕ → List ℕ → Type 0
-Tells old new before now line = (new ≡ append_known old line) ⊎ (Rose before now × AppendsPrefix old new line)

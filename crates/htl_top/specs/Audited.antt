@@ -5,10 +5,11 @@ use Rattle.htl_audit.specs.Faults.{IsFirstFault}
 use Rattle.htl_audit.specs.Jobs.{all_rounds}
 use Rattle.htl_audit.specs.Legal.{IsLegal, first_fault, jobs_done}
 use Rattle.htl_audit.specs.Logs.{log_of, Read as ReadLog, Refused as RefusedLog}
-use Rattle.htl_top.specs.Answers.{Files, Streams, IsUntouched}
+use Rattle.htl_open.specs.Files.{Files}
+use Rattle.htl_top.specs.Answers.{Streams, IsUntouched}
 use Rattle.htl_top.specs.Fetching.{IsUnhad}
 use Rattle.htl_top.specs.Files.{IsFileOf}
-use Rattle.htl_top.specs.Objects.{IsAcceptedFile}
+use Rattle.htl_open.specs.Objects.{IsAcceptedFile}
 use Rattle.htl_top.specs.Runs.{IsFaultyRun}
 use Rattle.htl_top.specs.Scripts.{IsWhole}
 use Rattle.htl_top.specs.Texts.{text_before_fault}

@@ -1,14 +1,16 @@
 -- What the top call answers, command by command.
 use Rattle.std.specs.Prelude.{◌≡◌, Option, None, Some, List, ℕ}
 use Rattle.htl_top.specs.Common.{Holdings, Tables}
-use Rattle.htl_top.specs.Answers.{Files, Streams, IsUntouched}
+use Rattle.htl_open.specs.Files.{Files}
+use Rattle.htl_top.specs.Answers.{Streams, IsUntouched}
 use Rattle.htl_top.specs.Audited.{IsAudit}
 use Rattle.htl_top.specs.Bulk.{IsBulked}
 use Rattle.htl_top.specs.Checked.{IsChecked}
 use Rattle.htl_top.specs.Compiling.{IsCompiling}
 use Rattle.htl_top.specs.CompilingOn.{IsCompilingOn}
 use Rattle.htl_top.specs.Going.{IsGoing}
-use Rattle.htl_top.specs.Objects.{IsOnObject, IsObjectTables}
+use Rattle.htl_open.specs.Objects.{IsObjectTables}
+use Rattle.htl_top.specs.Objects.{IsOnObject}
 use Rattle.htl_top.specs.PatchedFiles.{IsPatching, IsPatchedTables}
 use Rattle.htl_top.specs.Planned.{IsPlanned}
 use Rattle.htl_top.specs.Runs.{IsRun}

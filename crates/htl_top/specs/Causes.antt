@@ -1,23 +1,9 @@
--- Causes of answers: the files that words name.
-use Rattle.std.specs.Prelude.{ℕ, ◌≡◌, ◌≤◌, ◌⊎◌, Option, None, Some, List, length}
-use Rattle.std.specs.FinMap.{get}
-use Rattle.htl_top.specs.Common.{MAX_SOURCE, Rose}
-use Rattle.htl_edge.specs.Holdings.{Holdings, HoldsUnder, IsTooLong}
-use Rattle.htl_edge.specs.declared.shelf.ShelfFault.TheVariants.{TooLong as LongFile}
+-- Sources that words name, and what must be answered.
+use Rattle.std.specs.Prelude.{ℕ, ◌≡◌, ◌≤◌, ◌⊎◌, Option, Some, List, length}
+use Rattle.htl_top.specs.Common.{MAX_SOURCE}
+use Rattle.htl_edge.specs.Holdings.{Holdings, HoldsUnder}
 use Rattle.htl_top.specs.declared.outcome.Outcome.{Outcome}
 use Rattle.htl_top.specs.declared.outcome.Outcome.TheVariants.{Memory}
-
--- ---- the shelf
-
--- The words name a file, and the shelf counted a fault of its name.
-abbrev pub IsFaultOf : Option (List ℕ) → (List ℕ → ℕ) → (List ℕ → ℕ) → Type 0
-IsFaultOf None before after = ⊥
-IsFaultOf (Some word) before after = Rose (before word) (after word)
-
--- The words name a file, and it has more bytes than a limit. All of them were seen where the shelf tells what it holds.
-abbrev pub IsLongFile : ℕ → Option (List ℕ) → Option Holdings → ℕ → Type 0
-IsLongFile limit None holds seen = ⊥
-IsLongFile limit (Some word) holds seen = IsTooLong holds word limit (LongFile seen)
 
 -- The words name a file with these bytes, where the shelf tells what it holds; they are at most 1,048,576.
 pub record IsSource (name : Option (List ℕ)) (holds : Option Holdings) (bytes : List ℕ) : Type 0 where
@@ -25,15 +11,6 @@ pub record IsSource (name : Option (List ℕ)) (holds : Option Holdings) (bytes 
   pub named : name ≡ Some word
   pub held : HoldsUnder holds word bytes
   pub short : length bytes ≤ MAX_SOURCE
-
--- The words name a file, the shelf tells that it holds these bytes under the name, and counted no fault of it.
-pub record IsGiven (name : Option (List ℕ)) (holds : Option Holdings) (before after : List ℕ → ℕ) (bytes : List ℕ) : Type 0 where
-  pub word : List ℕ
-  pub named : name ≡ Some word
-  pub held : Holdings
-  pub told : holds ≡ Some held
-  pub file : get held word ≡ Some bytes
-  pub no_fault : Rose (before word) (after word) → ⊥
 
 -- ---- what must be answered
 

@@ -4,8 +4,9 @@ use Rattle.htl_top.specs.Common.{append_known, built, Rose, AppendsPrefix, none_
 use Rattle.htl_compile.specs.Building.{IsCompiledTo}
 use Rattle.htl_compile.specs.declared.compiling.CompileFault.TheVariants as compile
 use Rattle.htl_top.specs.Answers.{Streams, IsWritten}
-use Rattle.htl_top.specs.Sources.{IsInputProgram, IsInputFault, IsNotCompiled, outcome_of}
-use Rattle.htl_top.specs.declared.source.SourceStop.{SourceStop}
+use Rattle.htl_compile.specs.Stops.{IsNotCompiled}
+use Rattle.htl_top.specs.Sources.{IsInputProgram, IsInputFault, outcome_of}
+use Rattle.htl_compile.specs.declared.stop.SourceStop.{SourceStop}
 use Rattle.htl_top.specs.declared.outcome.Outcome.{Outcome}
 use Rattle.htl_top.specs.declared.outcome.Outcome.TheVariants.{Done, Source, IllFormed, Unschedulable, Read, Write, Memory}
 

@@ -4,15 +4,16 @@ use Rattle.htl_top.specs.Common.{append_known, MAX_SOURCE, CompileFault, Rose, A
 use Rattle.htl_compile.specs.OnPlatform.{built_on, IsCompiledOn}
 use Rattle.htl_compile.specs.declared.compiling.CompileFault.TheVariants as compile
 use Rattle.htl_compile.specs.declared.compiling_on.WithFault.TheVariants as on
-use Rattle.htl_top.specs.Answers.{Files, Streams, IsUntouched, IsWritten}
-use Rattle.htl_top.specs.Causes.{IsFaultOf, IsLongFile}
+use Rattle.htl_open.specs.Files.{Files, IsFaultOf, IsLongFile}
+use Rattle.htl_top.specs.Answers.{Streams, IsUntouched, IsWritten}
 use Rattle.htl_top.specs.Sources.{IsInputFault, IsFaultyProgram, outcome_of}
-use Rattle.htl_top.specs.SourcesOn.{HasFile, IsProgramOn, IsInputFaultOn, IsFaultyOn, IsNotCompiledOn}
+use Rattle.htl_compile.specs.Stops.{IsNotCompiledOn}
+use Rattle.htl_top.specs.SourcesOn.{HasFile, IsProgramOn, IsInputFaultOn, IsFaultyOn}
 use Rattle.htl_top.specs.Words.{Command, Go, Compile, CompileWith, platform_file}
 use Rattle.htl_top.specs.declared.outcome.Outcome.{Outcome}
 use Rattle.htl_top.specs.declared.outcome.Outcome.TheVariants.{Done, Source, IllFormed, Unschedulable, Platform, Shelf, Read, Write, Memory}
-use Rattle.htl_top.specs.declared.outcome.ShelfCause.TheVariants.{Failed, TooLong}
-use Rattle.htl_top.specs.declared.source.SourceStop.{SourceStop}
+use Rattle.htl_open.specs.declared.stop.ShelfCause.TheVariants.{Failed, TooLong}
+use Rattle.htl_compile.specs.declared.stop.SourceStop.{SourceStop}
 
 -- the bytes of the object of tables on a platform
 abbrev pub compiled_on : PlatformOf → Tables → List ℕ

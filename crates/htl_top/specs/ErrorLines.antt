@@ -3,7 +3,7 @@ use Rattle.std.specs.Prelude.{ℕ, ◌≡◌, Option, Some, None, List}
 use Rattle.htl_top.specs.Common.{coded, ObjectFault, Tables, PatchFault}
 use Rattle.htl_load.specs.declared.fault.ObjectFault.TheVariants as fault
 use Rattle.htl_patch.specs.declared.fault.PatchFault.TheVariants as patch
-use Rattle.htl_top.specs.Objects.{SpeaksOfObject}
+use Rattle.htl_open.specs.Objects.{SpeaksOfObject}
 use Rattle.htl_top.specs.PatchedFiles.{SpeaksOfPatch}
 use Rattle.htl_top.specs.Status.{fault_line}
 use Rattle.htl_top.specs.declared.outcome.Outcome.{Outcome}

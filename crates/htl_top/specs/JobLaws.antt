@@ -1,7 +1,9 @@
 -- What `go` shows of the jobs of a source, down to the lines.
 use Rattle.std.specs.Prelude.{◌≡◌, ℕ, List, ◌++◌, map}
 use Rattle.std.specs.List.{filter}
-use Rattle.htl_top.specs.Common.{built, CanBuild, IsTablesOf, Jobs, lines_of, text_of, schedules_of, Event, hyper, lines_text, value_lines, Tables}
+use Rattle.htl_top.specs.Common.{Slice, built, CanBuild, IsTablesOf, Jobs, lines_of, text_of, schedules_of, Event, hyper, lines_text, value_lines, Tables}
+use Rattle.htl_audit.specs.Legal.{IsLegal}
+use Rattle.htl_audit.specs.Own.{begins_as_slice, slice_text}
 use Rattle.htl_runs.specs.lines.RunLines.{printed, job_lines_at, job_lines_to, ShowsJobs, begins_as_job, text_lines}
 use Rattle.htl_runs.specs.jobs.JobTimes.{AllToldInTime}
 use Rattle.htl_model.specs.Lists.{joined}
@@ -28,3 +30,12 @@ abbrev pub GoJobLinesAreFound : Type 0
 GoJobLinesAreFound =
     (source : List ℕ) (t : Tables) (events : List Event) (end : ℕ) → IsTablesOf source t
     → filter begins_as_job (text_lines (text_of (built t) events Jobs end)) ≡ map (printed (built t).tables) (job_lines_to (built t).tables (schedules_of (built t)) events end)
+
+-- a reader who cuts the bytes of the text behind each line feed and takes the lines that begin with `j` finds the slices of a legal log: each
+-- lies in a window of a job of its invocation, overlaps no other, gives the job no more ticks than it takes, and begins no earlier than the
+-- job's predecessors are done; and no job whose window ended by the end has fewer ticks than it takes
+abbrev pub GoTellsALegalLog : Type 0
+GoTellsALegalLog =
+    (source : List ℕ) (t : Tables) (script : List ℕ) (events : List Event) (end : ℕ) → IsTablesOf source t → CanBuild t → IsWhole t script events end
+    → (log : List Slice) × (filter begins_as_slice (text_lines (text_of (built t) events Jobs end)) ≡ map (slice_text (built t).tables) log)
+    × IsLegal (built t).tables events end log

@@ -13,6 +13,7 @@ pub mod FoundLaws
 pub mod Going
 pub mod JobLaws
 pub mod Laws
+pub mod ObjectRows
 pub mod Objects
 pub mod PatchStops
 pub mod PatchedFiles
@@ -20,10 +21,10 @@ pub mod Planned
 pub mod Playing
 pub mod Runs
 pub mod Scripts
-pub mod SelectionInput
-pub mod SelectionReaders
+pub mod SharedRows
 pub mod Shown
 pub mod Slacked
+pub mod SourceRows
 pub mod Sources
 pub mod SourcesOn
 pub mod Status

@@ -2,8 +2,8 @@
 use Rattle.htl_top.specs.Common.{Option, None, Tables}
 use Rattle.htl_patch.specs.declared.fault.PatchStop.{PatchStop}
 use Rattle.htl_patch.specs.declared.fault.PatchStop.TheVariants as stop
-use Rattle.htl_top.specs.declared.object.ObjectStop.{ObjectStop}
-use Rattle.htl_top.specs.declared.object.ObjectStop.TheVariants as load
+use Rattle.htl_open.specs.declared.object.ObjectStop.{ObjectStop}
+use Rattle.htl_open.specs.declared.object.ObjectStop.TheVariants as load
 use Rattle.htl_top.specs.declared.outcome.Outcome.{Outcome}
 use Rattle.htl_top.specs.declared.outcome.Outcome.TheVariants.{Patch, Object as Refused, Memory}
 

@@ -10,13 +10,14 @@ use Rattle.htl_patch.specs.Patched.{patched}
 use Rattle.htl_patch.specs.Stops.{IsPatchFault}
 use Rattle.htl_patch.specs.Combined.{Replacement}
 use Rattle.htl_patch.specs.declared.fault.PatchFault.TheVariants as fault
-use Rattle.htl_top.specs.Answers.{Files, Streams, IsWritten}
+use Rattle.htl_open.specs.Files.{Files}
+use Rattle.htl_top.specs.Answers.{Streams, IsWritten}
 use Rattle.htl_top.specs.Fetching.{IsUnhad}
 use Rattle.htl_top.specs.Files.{IsFileOf}
-use Rattle.htl_top.specs.Objects.{IsAcceptedFile}
+use Rattle.htl_open.specs.Objects.{IsAcceptedFile}
 use Rattle.htl_top.specs.Words.{Command, Patch}
 use Rattle.htl_top.specs.declared.outcome.Outcome.{Outcome}
-use Rattle.htl_top.specs.declared.outcome.Outcome.TheVariants.{Done, IllFormed, Patch as Unpatched, Write, Memory}
+use Rattle.htl_top.specs.declared.outcome.Outcome.TheVariants.{Done, Patch as Unpatched, Write, Memory}
 
 -- ---- the donor
 

@@ -11,8 +11,9 @@ use Rattle.htl_slack.specs.RootTasks.{IsRootTask, limit_of}
 use Rattle.htl_slack.specs.Slack.{StandsAbove}
 use Rattle.htl_slack.specs.declared.report.Above.{Above}
 use Rattle.htl_walk.specs.Feasible.{AreFeasible}
-use Rattle.htl_top.specs.Answers.{Files}
-use Rattle.htl_top.specs.Objects.{Work, IsAcceptedFile, IsStopped}
+use Rattle.htl_open.specs.Files.{Files}
+use Rattle.htl_open.specs.Objects.{IsAcceptedFile}
+use Rattle.htl_top.specs.Objects.{Work, IsStopped}
 use Rattle.htl_top.specs.Words.{Command, Slack}
 use Rattle.htl_top.specs.declared.outcome.Outcome.{Outcome}
 use Rattle.htl_top.specs.declared.outcome.Outcome.TheVariants.{Done, Task, Write, Memory}

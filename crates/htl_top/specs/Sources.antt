@@ -1,17 +1,16 @@
 -- The source that a command compiles: where its tables are had, and why no object is built of it.
 use Rattle.std.specs.Prelude.{ℕ, ◌≡◌, ◌≤◌, ◌<◌, ◌+◌, ◌⊎◌, Option, Some, None, IfSome, List, length}
-use Rattle.htl_top.specs.Common.{MAX_SOURCE, CanBuild, CanCode, coded, CompileFault, Holdings, Tables}
-use Rattle.htl_compile.specs.Building.{IsBackFault, IsCompileFault}
-use Rattle.htl_compile.specs.Sources.{IsTablesOf, IsSourceFault}
-use Rattle.htl_compile.specs.declared.building.BackFault.{BackFault}
-use Rattle.htl_compile.specs.declared.building.BackFault.TheVariants as back
+use Rattle.htl_top.specs.Common.{MAX_SOURCE, CanBuild, CompileFault, Holdings, Tables}
+use Rattle.htl_compile.specs.Building.{IsCompileFault}
+use Rattle.htl_compile.specs.Sources.{IsTablesOf}
+use Rattle.htl_compile.specs.Stops.{HasTypedTables}
 use Rattle.htl_compile.specs.declared.compiling.CompileFault.TheVariants as compile
 use Rattle.htl_compile.specs.declared.source_fault.SourceFault.TheVariants as source
 use Rattle.htl_top.specs.Causes.{IsSource}
 use Rattle.htl_top.specs.declared.outcome.Outcome.{Outcome}
 use Rattle.htl_top.specs.declared.outcome.Outcome.TheVariants.{Source, IllFormed, Unschedulable, Platform, Memory}
-use Rattle.htl_top.specs.declared.source.SourceStop.{SourceStop}
-use Rattle.htl_top.specs.declared.source.SourceStop.TheVariants as stop
+use Rattle.htl_compile.specs.declared.stop.SourceStop.{SourceStop}
+use Rattle.htl_compile.specs.declared.stop.SourceStop.TheVariants as stop
 
 -- a fault of compiling, as an answer
 abbrev pub answer_of : CompileFault → Outcome
@@ -28,40 +27,6 @@ pub record HasTables (bytes : List ℕ) (Fact : Tables → Type 0) : Type 0 wher
   pub of : IsTablesOf bytes tables
   pub can : CanBuild tables
   pub fact : Fact tables
-
--- The bytes are a source with tables whose functions are typed, and the fact holds of the tables.
-pub record HasTypedTables (bytes : List ℕ) (Fact : Tables → Type 0) : Type 0 where
-  pub tables : Tables
-  pub of : IsTablesOf bytes tables
-  pub can : CanCode tables
-  pub fact : Fact tables
-
--- Why no object is built of a source, for no platform: its first fault. With a broken form rule come the tables that break it, with their
--- functions as code.
-abbrev pub IsNotCompiled : List ℕ → SourceStop → Type 0
-IsNotCompiled bytes (stop.Fault f) = IsCompileFault bytes (compile.Source f)
-IsNotCompiled bytes (stop.IllFormed f tables) = IsCompileFault bytes (compile.IllFormed f) × HasTypedTables bytes (λ t. tables ≡ coded t)
-IsNotCompiled bytes (stop.Unschedulable sel a b demand) = IsCompileFault bytes (compile.Unschedulable sel a b demand)
-IsNotCompiled bytes (stop.Platform f) = ⊥
-IsNotCompiled bytes stop.Memory = Unit {0}
-
--- a fault of tables with code, as what stops their source
-abbrev pub stop_of : Tables → BackFault → SourceStop
-stop_of u (back.IllFormed f) = stop.IllFormed f u
-stop_of u (back.Unschedulable sel a b demand) = stop.Unschedulable sel a b demand
-stop_of u back.Memory = stop.Memory
-
--- what stops a source alone
-abbrev pub IsUnread : List ℕ → SourceStop → Type 0
-IsUnread bytes (stop.Fault f) = IsSourceFault bytes f
-IsUnread bytes stop.Memory = Unit {0}
-IsUnread bytes _ = ⊥
-
--- what stops tables with code is a fault of theirs
-pub record IsUnbuiltSource (u : Tables) (s : SourceStop) : Type 0 where
-  pub fault : BackFault
-  pub has : IsBackFault u fault
-  pub is : s ≡ stop_of u fault
 
 -- what stops a source, as an answer, and the tables that its line speaks of
 abbrev pub outcome_of : SourceStop → Outcome

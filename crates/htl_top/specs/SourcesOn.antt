@@ -1,8 +1,8 @@
 -- The source that a command compiles for a platform: where its tables are had, and why no object is built of it.
 use Rattle.std.specs.Prelude.{ℕ, ◌≡◌, ◌⊎◌, Option, List, Ok}
-use Rattle.htl_top.specs.Common.{CanBuild, AreTyped, CanCode, coded, IsTablesOf, CompileFault, Holdings, Tables, PlatformOf}
+use Rattle.htl_top.specs.Common.{CanBuild, AreTyped, IsTablesOf, CompileFault, Holdings, Tables, PlatformOf}
 use Rattle.htl_compile.specs.OnPlatform.{IsWithFault}
-use Rattle.htl_compile.specs.declared.compiling.CompileFault.TheVariants as compile
+use Rattle.htl_compile.specs.Stops.{HasTypedOn}
 use Rattle.htl_compile.specs.declared.compiling_on.WithFault.{WithFault}
 use Rattle.htl_compile.specs.declared.compiling_on.WithFault.TheVariants as on
 use Rattle.htl_platform.specs.Applied.{with_worst}
@@ -11,34 +11,11 @@ use Rattle.htl_top.specs.Causes.{IsSource}
 use Rattle.htl_top.specs.Sources.{IsInput, IsLongInput, answer_of}
 use Rattle.htl_top.specs.declared.outcome.Outcome.{Outcome}
 use Rattle.htl_top.specs.declared.outcome.Outcome.TheVariants.{Platform}
-use Rattle.htl_top.specs.declared.source.SourceStop.{SourceStop}
-use Rattle.htl_top.specs.declared.source.SourceStop.TheVariants as stop
 
 -- a fault of compiling for a platform, as an answer
 abbrev pub answer_on : WithFault → Outcome
 answer_on (on.Compile f) = answer_of f
 answer_on (on.Platform f) = Platform f
-
--- ---- of bytes
-
--- The bytes are a source with tables whose functions are typed, the file says a platform for them, and the fact holds of the
--- tables with its worst cases.
-pub record HasTypedOn (bytes file : List ℕ) (Fact : Tables → Type 0) : Type 0 where
-  pub tables : Tables
-  pub of : IsTablesOf bytes tables
-  pub platform : PlatformOf
-  pub says : platform_of tables file ≡ Ok platform
-  pub can : CanCode (with_worst tables platform.worst)
-  pub fact : Fact (with_worst tables platform.worst)
-
--- Why no object is built of a source for a platform: the first fault. With a broken form rule come the tables that break it, with
--- the platform's worst cases and with their functions as code.
-abbrev pub IsNotCompiledOn : List ℕ → List ℕ → SourceStop → Type 0
-IsNotCompiledOn bytes file (stop.Fault f) = IsWithFault bytes file (on.Compile (compile.Source f))
-IsNotCompiledOn bytes file (stop.Platform f) = IsWithFault bytes file (on.Platform f)
-IsNotCompiledOn bytes file (stop.IllFormed f tables) = IsWithFault bytes file (on.Compile (compile.IllFormed f)) × HasTypedOn bytes file (λ t. tables ≡ coded t)
-IsNotCompiledOn bytes file (stop.Unschedulable sel a b demand) = IsWithFault bytes file (on.Compile (compile.Unschedulable sel a b demand))
-IsNotCompiledOn bytes file stop.Memory = Unit {0}
 
 -- ---- of a platform file and the input
 

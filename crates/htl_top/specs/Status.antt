@@ -1,23 +1,14 @@
 -- The status of each answer, and the line that tells of it.
-use Rattle.std.specs.Prelude.{ℕ, List, [], ◌++◌, Option, None, Some, slice_get, codes, decimal}
-use Rattle.htl_top.specs.Common.{LogFault, LogKind, ObjectFault, Tables, ScriptFault, ScriptKind, PatchFault, PlatformFault}
+use Rattle.std.specs.Prelude.{ℕ, List, [], ◌++◌, Option, codes, decimal}
+use Rattle.htl_open.specs.Lines.{field_word, form_text, object_line, shelf_line}
+use Rattle.htl_top.specs.Common.{LogFault, LogKind, Tables, ScriptFault, ScriptKind, PatchFault, PlatformFault}
 use Rattle.htl_audit.specs.declared.slice.LogKind.TheVariants as log
-use Rattle.htl_ecode.specs.declared.fault.EKind.{EKind}
-use Rattle.htl_ecode.specs.declared.fault.EKind.TheVariants as departure
-use Rattle.htl_load.specs.declared.fault.ObjectFault.TheVariants as object
-use Rattle.htl_model.specs.Lines.{module_name, mode_name}
 use Rattle.htl_model.specs.declared.form_fault.FormFault.{FormFault}
 use Rattle.htl_script.specs.declared.fault.ScriptKind.TheVariants as kind
-use Rattle.htl_object.specs.declared.malformed.MalKind.{MalKind}
-use Rattle.htl_object.specs.declared.malformed.MalKind.TheVariants as field
 use Rattle.htl_patch.specs.declared.fault.PatchFault.TheVariants as patch
 use Rattle.htl_platform.specs.declared.fault.PlatformFault.TheVariants as platform
-use Rattle.htl_walk.specs.declared.miss.Miss.{Miss}
-use Rattle.htl_walk.specs.declared.miss.Miss.TheVariants as miss
 use Rattle.htl_top.specs.declared.outcome.Outcome.{Outcome}
 use Rattle.htl_top.specs.declared.outcome.Outcome.TheVariants.{Done, Usage, Source, IllFormed, Unschedulable, Platform, Task, Log, Patch, Object, Script, Shelf, Read, Write, Memory}
-use Rattle.htl_top.specs.declared.outcome.ShelfCause.{ShelfCause}
-use Rattle.htl_top.specs.declared.outcome.ShelfCause.TheVariants.{Failed, TooLong}
 use Rattle.htl_compile.specs.declared.source_fault.SourceFault.{SourceFault}
 use Rattle.htl_compile.specs.declared.source_fault.SourceFault.TheVariants.{TooLong as LongSource, Char, Number, NameLong, Long, Syntax, Twice, Unknown, Kind, NotATree, Limit, IllTyped, Deep}
 
@@ -55,30 +46,6 @@ source_line (Deep at) = codes "htl: source deep " ++ decimal at ++ codes "\n"
 
 -- ---- a broken form rule
 
--- the name of an invocation's task
-abbrev pub task_name : Tables → ℕ → List ℕ
-task_name t i =
-    elim (slice_get t.invs i) [ Some x ↦ elim (slice_get t.tasks x.task) [ Some k ↦ k.name | None ↦ [] ] | None ↦ [] ]
-
--- `module.mode`
-abbrev pub mode_place_text : Tables → FormFault → List ℕ
-mode_place_text t fault = module_name t fault.«module» ++ codes "." ++ mode_name t fault.mode
-
--- `module.mode`, or `module.mode.task` where an invocation is the place
-abbrev pub place_of_fault : Tables → FormFault → List ℕ
-place_of_fault t fault = elim fault.inv [ Some i ↦ mode_place_text t fault ++ codes "." ++ task_name t i | None ↦ mode_place_text t fault ]
-
--- the place by the names of tables; nothing where there are none
-abbrev pub place_in : Option Tables → FormFault → List ℕ
-place_in (Some t) fault = place_of_fault t fault
-place_in None fault = []
-
--- the rule, the place and the two numbers
-abbrev pub form_text : Option Tables → FormFault → List ℕ
-form_text tables fault =
-    decimal fault.rule ++ codes " at " ++ place_in tables fault ++ codes " have " ++ decimal fault.have ++ codes " need " ++ decimal fault.need
-    ++ codes "\n"
-
 abbrev pub form_line : Option Tables → FormFault → List ℕ
 form_line tables fault = codes "htl: ill-formed " ++ form_text tables fault
 
@@ -87,40 +54,6 @@ form_line tables fault = codes "htl: ill-formed " ++ form_text tables fault
 abbrev pub overload_line : ℕ → ℕ → ℕ → ℕ → List ℕ
 overload_line sel a b demand =
     codes "htl: unschedulable " ++ decimal sel ++ codes " from " ++ decimal a ++ codes " to " ++ decimal b ++ codes " demand " ++ decimal demand ++ codes "\n"
-
--- ---- a fault of an object
-
--- the kind of a bad field
-abbrev pub field_word : MalKind → List ℕ
-field_word field.Magic = codes "magic"
-field_word field.Version = codes "version"
-field_word field.Short = codes "short"
-field_word field.Index = codes "index"
-field_word field.Tag = codes "tag"
-field_word field.Spelling = codes "spelling"
-field_word field.Trailing = codes "trailing"
-
--- the kind of a departure of E code
-abbrev pub departure_word : EKind → List ℕ
-departure_word departure.Target = codes "target"
-departure_word departure.Action = codes "action"
-departure_word departure.Delay = codes "delay"
-departure_word departure.Endless = codes "endless"
-departure_word departure.Branch = codes "branch"
-
--- the first miss of a schedule, by positions and places
-abbrev pub miss_text : Miss → List ℕ
-miss_text (miss.Late p finish window_end) = codes "late " ++ decimal p ++ codes " finish " ++ decimal finish ++ codes " end " ++ decimal window_end
-miss_text (miss.Unfinished p left) = codes "unfinished " ++ decimal p ++ codes " left " ++ decimal left
-miss_text (miss.Before p predecessor at) = codes "before " ++ decimal p ++ codes " " ++ decimal predecessor ++ codes " at " ++ decimal at
-miss_text (miss.Order instr) = codes "order " ++ decimal instr
-
-abbrev pub object_line : Option Tables → ObjectFault → List ℕ
-object_line tables (object.Malformed bad) = codes "htl: object malformed " ++ field_word bad.kind ++ codes " " ++ decimal bad.offset ++ codes "\n"
-object_line tables (object.IllFormed fault) = codes "htl: object ill-formed " ++ form_text tables fault
-object_line tables (object.Function k) = codes "htl: object function " ++ decimal k ++ codes "\n"
-object_line tables (object.ECode fault) = codes "htl: object ecode " ++ decimal fault.address ++ codes " " ++ departure_word fault.kind ++ codes "\n"
-object_line tables (object.Schedule sel m) = codes "htl: object schedule " ++ decimal sel ++ codes " " ++ miss_text m ++ codes "\n"
 
 -- ---- a fault of a script
 
@@ -139,10 +72,6 @@ abbrev pub script_line : ScriptFault → List ℕ
 script_line fault = codes "htl: script " ++ decimal fault.line ++ codes " " ++ kind_text fault.kind ++ codes "\n"
 
 -- ----
-
-abbrev pub shelf_line : ShelfCause → List ℕ
-shelf_line Failed = codes "htl: shelf failed\n"
-shelf_line (TooLong seen) = codes "htl: shelf too-long " ++ decimal seen ++ codes "\n"
 
 -- the entries of a platform file are numbered
 abbrev pub platform_line : PlatformFault → List ℕ

@@ -143,18 +143,6 @@ second_file (Some (Audit name log)) = Some log
 second_file (Some (Patch name unit mode donor)) = Some donor
 second_file _ = None
 
-abbrev pub source_in : List (Bor (List ℕ)) → Option (List ℕ)
-source_in words = source_of (command_in words)
-
-abbrev pub object_word : List (Bor (List ℕ)) → Option (List ℕ)
-object_word words = command_object (command_in words)
-
-abbrev pub platform_word : List (Bor (List ℕ)) → Option (List ℕ)
-platform_word words = platform_file (command_in words)
-
-abbrev pub second_in : List (Bor (List ℕ)) → Option (List ℕ)
-second_in words = second_file (command_in words)
-
 -- the commands that run an object, or the audit of one
 abbrev pub RunsObject : Option Command → Type 0
 RunsObject (Some (Go name)) = Unit {0}

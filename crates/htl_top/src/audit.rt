@@ -2,20 +2,21 @@
 ghost use Rattle.std.specs.Prelude.{◌≡◌, ◌+◌, ◌<◌, List, ℕ, Some, All, length};
 ghost use Rattle.htl_base.specs.declared.limits.TheConstants as limit;
 ghost use Rattle.htl_script.specs.Reading.{LosesFront};
-ghost use Rattle.htl_top.specs.Answers.{files, streams};
+ghost use Rattle.htl_open.specs.Files.{files};
+ghost use Rattle.htl_top.specs.Answers.{streams};
 ghost use Rattle.htl_top.specs.Audited.{IsAuditRun, IsAuditOf, IsAudit};
-ghost use Rattle.htl_top.specs.Objects.{IsObjectTables};
+ghost use Rattle.htl_open.specs.Objects.{IsObjectTables};
 ghost use Rattle.htl_top.specs.ErrorLines.{SpeaksOf};
-ghost use Rattle.htl_top.specs.declared.outcome.ShelfCause.TheVariants as cause;
+ghost use Rattle.htl_open.specs.declared.stop.ShelfCause.TheVariants as cause;
 
 use crate::Outcome;
 use crate::answer::Answer;
 use crate::audit_play::play_audit;
 use crate::fetch::fetch_both;
-use crate::object::{ObjectStop, read_object};
 use htl_audit::{Auditor, LogStop, Slice, read_log};
 use htl_edge::{Shelf, Sink, Source};
 use htl_load::Loaded;
+use htl_open::object::{ObjectStop, read_object};
 use std::alloc::Global;
 
 // Audits the slices of a log for an accepted object, with the input as script. All memory is taken before anything is read.

@@ -1,8 +1,9 @@
 // The command `bulk`: a generated program, run on generated readings.
 ghost use Rattle.std.specs.Prelude.{◌≡◌, ◌≤◌, ◌<◌, ◌*◌, ◌++◌, ◌∷◌, ℕ, ℤ, List, [], get_or, length, pos, IfOk, OnOk};
 ghost use Rattle.htl_base.specs.declared.limits.TheConstants as limit;
+ghost use Rattle.htl_bulk.specs.BulkEvents.{readings_of};
+ghost use Rattle.htl_bulk.specs.BulkTree.{bulk_bytes};
 ghost use Rattle.htl_compile.specs.Building.{IsCompiledTo};
-ghost use Rattle.htl_compile.specs.BulkTree.{bulk_bytes};
 ghost use Rattle.htl_console.specs.declared.shown.Shown.TheVariants as shown;
 ghost use Rattle.htl_edge.specs.Content.{Puts};
 ghost use Rattle.htl_machine.specs.Calls.{Follows, IsFinished, IsSameRun, IsSensorValue};
@@ -11,13 +12,13 @@ ghost use Rattle.htl_model.specs.Lists.{up_to};
 ghost use Rattle.htl_model.specs.declared.event.Event.{Event as Told};
 ghost use Rattle.htl_model.specs.declared.event.Event.TheVariants as event;
 ghost use Rattle.htl_model.specs.declared.line.Line.TheVariants.{ValueLine};
-ghost use Rattle.htl_top.specs.Bulk.{readings_of, object_text, bulk_text, seen_text, value_seen, IsPut, IsBulkPut};
+ghost use Rattle.htl_top.specs.Bulk.{object_text, bulk_text, seen_text, value_seen, IsOutOfMemory, IsPut, IsBulkPut};
 
 use crate::Outcome;
 use crate::play::write_totals;
-use crate::source::compile_source;
 use htl_base::{Memory, Time, Value};
-use htl_compile::bulk_source;
+use htl_bulk::bulk_source;
+use htl_compile::{SourceStop, compile_source};
 use htl_console::{Shown, line_v};
 use htl_edge::{Failed, Sink};
 use htl_load::{LoadFault, Loaded, load};
@@ -48,9 +49,7 @@ pub fn bulk<W: Sink>(alloc: Global, modules: u32, out: &mut W) -> Outcome
     }
 }
 
-// The bytes of the generated program's object. That its source has no fault is tested and not proved: that needs the name rules, the
-// form rules and the schedules of the tree of every size. Want of memory is the one refusal that the command has, so it stands for a
-// fault too.
+// The bytes of the generated program's object. Its source has no fault, so the compiler refuses it for want of memory alone.
 fn generated_object(alloc: Global, modules: u32) -> Result<Vec<u8>, Memory>
     requires some { 1 ≤ modules }
     requires few { modules ≤ limit.MAX_MODULES }
@@ -62,13 +61,26 @@ fn generated_object(alloc: Global, modules: u32) -> Result<Vec<u8>, Memory>
     };
     match compile_source(alloc, source.as_slice()) {
         Ok(object) => Ok(object),
-        Err(_) => Err(Memory),
+        Err(refusal) => Err(memory_of(refusal)),
+    }
+}
+
+// What stops the source of the generated program: it has no fault, so no memory was left.
+fn memory_of(refusal: SourceStop) -> Memory
+    requires { IsOutOfMemory refusal }
+{
+    match refusal {
+        SourceStop::Memory => Memory,
+        SourceStop::Fault(_) => unreachable!(),
+        SourceStop::Platform(_) => unreachable!(),
+        SourceStop::IllFormed { .. } => unreachable!(),
+        SourceStop::Unschedulable { .. } => unreachable!(),
     }
 }
 
 // Loads the bytes of the generated program's object, which are accepted, and runs it.
 fn run_generated<W: Sink>(alloc: Global, object: &[u8], out: &mut W) -> Outcome
-    requires { (n : ℕ) × (n ≤ limit.MAX_MODULES) × IsCompiledTo (bulk_bytes n) object.now }
+    requires { (n : ℕ) × (1 ≤ n) × (n ≤ limit.MAX_MODULES) × IsCompiledTo (bulk_bytes n) object.now }
     ensures answer { (n : ℕ) (compiled : IsCompiledTo (bulk_bytes n) object.now) →
         IsPut (bulk_text compiled.tables) (W.written out.old) (W.written out.new) (W.faults out.old) (W.faults out.new) result }
     ensures write_count { (result ≡ Outcome.Write → ⊥) → W.faults out.new ≡ W.faults out.old }

@@ -1,11 +1,12 @@
 // The commands, by what the words of a command line say.
 ghost use Rattle.std.specs.Prelude.{◌≡◌, ℕ, List, Some};
 ghost use Rattle.htl_script.specs.Reading.{LosesFront};
-ghost use Rattle.htl_top.specs.Answers.{files, streams};
+ghost use Rattle.htl_open.specs.Files.{files};
+ghost use Rattle.htl_top.specs.Answers.{streams};
 ghost use Rattle.htl_top.specs.Calls.{IsCall, HasSource, HasObject};
 ghost use Rattle.htl_top.specs.ErrorLines.{SpeaksOf};
 ghost use Rattle.htl_top.specs.Words.{asked_for, command_in, most_taken, with_file, AreFewModules};
-ghost use Rattle.htl_top.specs.declared.outcome.ShelfCause.TheVariants as cause;
+ghost use Rattle.htl_open.specs.declared.stop.ShelfCause.TheVariants as cause;
 
 use crate::Outcome;
 use crate::answer::Answer;

@@ -4,21 +4,23 @@ ghost use Rattle.std.specs.Prelude.{◌≡◌, ◌≤◌, ◌+◌, ℕ, List, Op
 ghost use Rattle.htl_base.specs.declared.limits.TheConstants as limit;
 ghost use Rattle.htl_edge.specs.Holdings.{Holdings};
 ghost use Rattle.htl_script.specs.Reading.{LosesFront};
-ghost use Rattle.htl_top.specs.Answers.{Files, files, streams, IsWritten};
+ghost use Rattle.htl_open.specs.Files.{Files, files};
+ghost use Rattle.htl_top.specs.Answers.{streams, IsWritten};
 ghost use Rattle.htl_top.specs.Causes.{IsSource};
 ghost use Rattle.htl_top.specs.Compiling.{IsCompiling, IsBytesCompiled};
 ghost use Rattle.htl_top.specs.CompilingOn.{IsCompilingOn, IsBytesCompiledOn};
-ghost use Rattle.htl_top.specs.Sources.{HasTypedTables, IsTypedInput};
-ghost use Rattle.htl_top.specs.SourcesOn.{HasTypedOn, IsTypedOn};
+ghost use Rattle.htl_compile.specs.Stops.{HasTypedOn, HasTypedTables};
+ghost use Rattle.htl_top.specs.Sources.{IsTypedInput};
+ghost use Rattle.htl_top.specs.SourcesOn.{IsTypedOn};
 ghost use Rattle.htl_top.specs.ErrorLines.{SpeaksOf};
-ghost use Rattle.htl_top.specs.declared.outcome.ShelfCause.TheVariants as cause;
+ghost use Rattle.htl_open.specs.declared.stop.ShelfCause.TheVariants as cause;
 
 use crate::answer::Answer;
 use crate::input::{InputStop, read_input};
-use crate::source::{compile_source, compile_source_on};
+use crate::source::source_answer;
 use crate::{Outcome, ShelfCause};
 use htl_base::limits::MAX_SOURCE;
-use htl_compile::SourceFault;
+use htl_compile::{SourceFault, compile_source, compile_source_on};
 use htl_edge::{Shelf, ShelfFault, Sink, Source, put_all};
 use std::alloc::Global;
 
@@ -51,7 +53,7 @@ fn compile<W: Sink>(alloc: Global, bytes: &[u8], out: &mut W) -> Answer
 {
     match compile_source(alloc, bytes) {
         Ok(object) => Answer::plain(write_object(out, object.as_slice())),
-        Err(stop) => stop.answer(),
+        Err(stop) => source_answer(stop),
     }
 }
 
@@ -120,7 +122,7 @@ fn compile_on<W: Sink>(alloc: Global, bytes: &[u8], platform: &[u8], out: &mut W
 {
     match compile_source_on(alloc, bytes, platform) {
         Ok(object) => Answer::plain(write_object(out, object.as_slice())),
-        Err(stop) => stop.answer(),
+        Err(stop) => source_answer(stop),
     }
 }
 

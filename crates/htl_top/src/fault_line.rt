@@ -1,17 +1,17 @@
 // The lines that tell of answers.
 ghost use Rattle.std.specs.Prelude.{◌≡◌, ◌++◌, ◌+◌, ◌≤◌, codes, decimal, length};
 ghost use Rattle.std.specs.Option.{option_copied};
-ghost use Rattle.htl_top.specs.Answers.{Tells};
-ghost use Rattle.htl_top.specs.Status.{fault_line as line_of, source_line, form_line, form_text, overload_line, place_in, kind_text, script_line, shelf_line, platform_line, log_word, log_line};
+ghost use Rattle.htl_open.specs.Lines.{Tells};
+ghost use Rattle.htl_top.specs.Status.{fault_line as line_of, source_line, form_line, overload_line, kind_text, script_line, platform_line, log_word, log_line};
 
-use crate::object_line::object_line;
 use crate::patch_line::patch_line;
-use crate::place::place;
-use crate::{Outcome, ShelfCause, SourceFault};
+use crate::{Outcome, SourceFault};
 use htl_audit::{LogFault, LogKind};
 use htl_base::Time;
 use htl_edge::{LineBuffer, Sink, put_all};
 use htl_model::{FormFault, Tables};
+use htl_open::line::{form_text, numbered_line, plain_line, shelf_line};
+use htl_open::object_line;
 use htl_platform::PlatformFault;
 use htl_script::{ScriptFault, ScriptKind};
 
@@ -113,36 +113,6 @@ fn form_line(tables: Option<&Tables>, fault: &FormFault) -> LineBuffer
     form_text(b"htl: ill-formed ", tables, fault)
 }
 
-/// A text of at most 23 bytes, and then the broken form rule, its place and its two numbers.
-pub fn form_text(text: &[u8], tables: Option<&Tables>, fault: &FormFault) -> LineBuffer
-    requires { length text.now ≤ 23 }
-    ensures { result ≡ text.now ++ form_text (option_copied tables.entry) fault.now }
-{
-    let place = place_of(tables, fault);
-    let mut line = LineBuffer::new();
-    line.text(text);
-    line.number(fault.rule as u64);
-    line.text(b" at ");
-    line.text(place.as_bytes());
-    line.text(b" have ");
-    line.number(fault.have);
-    line.text(b" need ");
-    line.number(fault.need);
-    line.text(b"\n");
-    line
-}
-
-// The place of a fault by the names of tables; nothing where there are none.
-fn place_of(tables: Option<&Tables>, fault: &FormFault) -> LineBuffer
-    ensures text { result ≡ place_in (option_copied tables.entry) fault.now }
-    ensures short { length result ≤ 146 }
-{
-    match tables {
-        Some(t) => place(t, fault),
-        None => LineBuffer::new(),
-    }
-}
-
 fn script_line(fault: &ScriptFault) -> LineBuffer
     ensures { result ≡ script_line fault.now }
 {
@@ -185,15 +155,6 @@ fn overrun_text(took: u64, worst: u64) -> LineBuffer
     line
 }
 
-fn shelf_line(cause: &ShelfCause) -> LineBuffer
-    ensures { result ≡ shelf_line cause.now }
-{
-    match cause {
-        ShelfCause::Failed => plain_line(b"htl: shelf failed\n"),
-        ShelfCause::TooLong { seen } => numbered_line(b"htl: shelf too-long ", *seen),
-    }
-}
-
 fn platform_line(fault: &PlatformFault) -> LineBuffer
     ensures { result ≡ platform_line fault.now }
 {
@@ -231,27 +192,4 @@ fn log_word(kind: LogKind) -> LineBuffer
         LogKind::Before => plain_line(b"before"),
         LogKind::Short => plain_line(b"short"),
     }
-}
-
-/// The text alone.
-pub fn plain_line(text: &[u8]) -> LineBuffer
-    requires { length text.now ≤ 64 }
-    ensures text { result ≡ text.now }
-    ensures short { length result ≤ 64 }
-{
-    let mut line = LineBuffer::new();
-    line.text(text);
-    line
-}
-
-/// The text, a number and a line feed.
-pub fn numbered_line(text: &[u8], number: u64) -> LineBuffer
-    requires { length text.now ≤ 64 }
-    ensures { result ≡ text.now ++ decimal number ++ codes "\n" }
-{
-    let mut line = LineBuffer::new();
-    line.text(text);
-    line.number(number);
-    line.text(b"\n");
-    line
 }

@@ -1,13 +1,12 @@
 // Files that the shelf gives: an object, or an object and a second file beside it.
 ghost use Rattle.std.specs.Prelude.{◌≡◌, List, ℕ, Some, IfOk, IfErr};
-ghost use Rattle.htl_top.specs.Answers.{files};
+ghost use Rattle.htl_open.specs.Files.{files, IsObjectFile};
 ghost use Rattle.htl_top.specs.Fetching.{IsUnfetched, IsUnhad, IsOfFetch};
-ghost use Rattle.htl_top.specs.Objects.{IsObjectFile};
-ghost use Rattle.htl_top.specs.declared.outcome.ShelfCause.TheVariants as cause;
+ghost use Rattle.htl_open.specs.declared.stop.ShelfCause.TheVariants as cause;
 
-use crate::{Outcome, ShelfCause};
-use htl_base::limits::MAX_OBJECT;
-use htl_edge::{Shelf, ShelfFault};
+use crate::Outcome;
+use htl_edge::Shelf;
+use htl_open::{FetchStop, fetch};
 use std::alloc::Global;
 
 /// The bytes of two files.
@@ -36,11 +35,10 @@ pub fn fetch_file<S: Shelf>(alloc: Global, name: &str, shelf: &mut S) -> Result<
     ensures fetched_count { IfOk result (λ bytes. (file : List ℕ) → S.faults shelf.new file ≡ S.faults shelf.old file) }
     ensures stopped_count { IfErr result (λ o. (o ≡ Outcome.Shelf cause.Failed → ⊥) → (file : List ℕ) → S.faults shelf.new file ≡ S.faults shelf.old file) }
 {
-    match shelf.fetch(alloc, name, MAX_OBJECT) {
+    match fetch::fetch_file(alloc, name, shelf) {
         Ok(bytes) => Ok(bytes),
-        Err(ShelfFault::Failed) => Err(Outcome::Shelf(ShelfCause::Failed)),
-        Err(ShelfFault::TooLong { seen }) => Err(Outcome::Shelf(ShelfCause::TooLong { seen })),
-        Err(ShelfFault::Memory) => Err(Outcome::Memory),
+        Err(FetchStop::Shelf(why)) => Err(Outcome::Shelf(why)),
+        Err(FetchStop::Memory) => Err(Outcome::Memory),
     }
 }
 

@@ -5,18 +5,21 @@ ghost use Rattle.htl_compile.specs.Building.{IsCompiledTo};
 ghost use Rattle.htl_compile.specs.Built.{built};
 ghost use Rattle.htl_console.specs.declared.shown.Shown.TheVariants as shown;
 ghost use Rattle.htl_script.specs.Reading.{LosesFront};
-ghost use Rattle.htl_top.specs.Answers.{files, streams};
+ghost use Rattle.htl_open.specs.Files.{files};
+ghost use Rattle.htl_top.specs.Answers.{streams};
 ghost use Rattle.htl_top.specs.Going.{IsGoing, IsBytesGoing};
 ghost use Rattle.htl_top.specs.Runs.{IsRun};
-ghost use Rattle.htl_top.specs.Sources.{HasTypedTables, IsTypedProgram};
+ghost use Rattle.htl_compile.specs.Stops.{HasTypedTables};
+ghost use Rattle.htl_top.specs.Sources.{IsTypedProgram};
 ghost use Rattle.htl_top.specs.ErrorLines.{SpeaksOf};
-ghost use Rattle.htl_top.specs.declared.outcome.ShelfCause.TheVariants as cause;
+ghost use Rattle.htl_open.specs.declared.stop.ShelfCause.TheVariants as cause;
 
 use crate::answer::Answer;
 use crate::execute::execute;
-use crate::source::compile_source;
+use crate::source::source_answer;
 use crate::{Outcome, ShelfCause};
 use htl_base::limits::MAX_SOURCE;
+use htl_compile::compile_source;
 use htl_console::Shown;
 use htl_edge::{Shelf, ShelfFault, Sink, Source};
 use htl_load::{LoadFault, load};
@@ -64,7 +67,7 @@ fn go<R: Source, W: Sink>(alloc: Global, bytes: &[u8], input: &mut R, out: &mut 
 {
     match compile_source(alloc, bytes) {
         Ok(object) => Answer::plain(run_compiled(alloc, object.as_slice(), input, out)),
-        Err(stop) => stop.answer(),
+        Err(stop) => source_answer(stop),
     }
 }
 

@@ -1,7 +1,7 @@
 // What the values and lines of a run depend on, and what `go` shows of a source. Each law is a statement that the check has
 // proved; there is nothing to run.
 ghost use Rattle.htl_top.specs.FoundLaws.{GoValueLinesAreFound, NamesTellApart};
-ghost use Rattle.htl_top.specs.JobLaws.{GoShowsJobLines, GoTellsJobsInTime, GoJobLinesAreFound};
+ghost use Rattle.htl_top.specs.JobLaws.{GoShowsJobLines, GoTellsJobsInTime, GoJobLinesAreFound, GoTellsALegalLog};
 ghost use Rattle.htl_top.specs.Laws.{SensorsDecideLines, EarlierReadingsDecideValues, EarlierReadingsDecideTexts, GoShowsTheMeaning, GoKeepsDeadlines};
 
 /// Two scripts with the same sensor values up to an instant give the same lines of values and modes up to
@@ -50,6 +50,13 @@ pub fn go_tells_jobs_in_time()
 /// each job that a record finishes.
 pub fn go_job_lines_are_found()
     ensures { GoJobLinesAreFound }
+{}
+
+/// The lines of that text that begin with `j` are a legal log for the run, as an audit judges logs: each slice lies in a window of a job
+/// of its invocation, overlaps no other, gives the job no more ticks than it takes, and begins no earlier than the job's predecessors
+/// are done; and no job whose window ended by the end of the run has fewer ticks than it takes.
+pub fn go_tells_a_legal_log()
+    ensures { GoTellsALegalLog }
 {}
 
 /// So too the lines that begin with `v` or `m`: the reader finds those of the values and modes that change by the meaning of the source's

@@ -1,76 +1,31 @@
-// Files as accepted objects.
-ghost use Rattle.std.specs.Prelude.{◌≡◌, ℕ, List, IfOk, IfErr, Some, None};
-ghost use Rattle.htl_load.specs.Faults.{IsRefused};
-ghost use Rattle.htl_object.specs.Accepted.{IsAccepted};
-ghost use Rattle.htl_object.specs.Ranges.{IsInRange};
-ghost use Rattle.htl_top.specs.Answers.{files};
-ghost use Rattle.htl_top.specs.Objects.{IsObjectRead, IsAcceptedFile, IsObjectTables, IsStopped};
+// Accepted objects, or answers.
+ghost use Rattle.std.specs.Prelude.{◌≡◌, ℕ, List, IfOk, IfErr, Some};
+ghost use Rattle.htl_open.specs.Files.{files};
+ghost use Rattle.htl_open.specs.Objects.{IsAcceptedFile, IsObjectTables};
+ghost use Rattle.htl_open.specs.declared.stop.ShelfCause.TheVariants as cause;
 ghost use Rattle.htl_top.specs.ErrorLines.{SpeaksOf};
-ghost use Rattle.htl_top.specs.declared.outcome.ShelfCause.TheVariants as cause;
+ghost use Rattle.htl_top.specs.Fetching.{unopened_as, tables_unopened};
+ghost use Rattle.htl_top.specs.Objects.{IsStopped};
 
 use crate::Outcome;
 use crate::answer::Answer;
-use crate::fetch::fetch_file;
 use htl_edge::Shelf;
-use htl_load::{Loaded, ObjectFault, formed, scheduled, spelled};
-use htl_model::Tables;
-use htl_object::{DecodeFault, Object, decode};
+use htl_load::Loaded;
+use htl_open::{OpenStop, object};
 use std::alloc::Global;
 
-/// Why bytes aren't loaded as an accepted object.
-#[derive(Drop)]
-pub enum ObjectStop {
-    /// No accepted object has these bytes.
-    Refused {
-        /// The first fault.
-        fault: ObjectFault,
-        /// The tables of the object, where there is one.
-        tables: Option<Tables>,
-    },
-    /// No memory was left.
-    Memory,
-}
-
-// The three tests, one after the other; a refusal hands the object back.
-fn tested(o: Object) -> Result<Loaded, (Object, ObjectFault)>
-    requires { IsInRange o }
-    ensures accepted { IfOk result (λ l. (l ≡ o) × IsAccepted o) }
-    ensures refused { IfErr result (λ e. (e.0 ≡ o) × IsRefused o e.1) }
+// Why no accepted object is had, as an answer.
+fn unopened(stop: OpenStop) -> Answer
+    ensures outcome { result.outcome ≡ unopened_as stop }
+    ensures tables { result.tables ≡ tables_unopened stop }
 {
-    let formed = match formed(o) {
-        Ok(formed) => formed,
-        Err(refusal) => return Err(refusal),
-    };
-    let spelled = match spelled(formed) {
-        Ok(spelled) => spelled,
-        Err(refusal) => return Err(refusal),
-    };
-    match scheduled(spelled) {
-        Ok(loaded) => Ok(loaded),
-        Err(refusal) => Err(refusal),
-    }
-}
-
-/// The accepted object that has these bytes, or why there is none. Memory may come in place of either.
-pub fn read_object(alloc: Global, bytes: &[u8]) -> Result<Loaded, ObjectStop>
-    ensures { IsObjectRead bytes.now result }
-{
-    let o = match decode(alloc, bytes) {
-        Ok(o) => o,
-        Err(DecodeFault::Malformed(bad)) => {
-            return Err(ObjectStop::Refused {
-                fault: ObjectFault::Malformed(bad),
-                tables: None,
-            });
-        }
-        Err(DecodeFault::Memory) => return Err(ObjectStop::Memory),
-    };
-    match tested(o) {
-        Ok(loaded) => Ok(loaded),
-        Err((object, fault)) => Err(ObjectStop::Refused {
-            fault,
-            tables: Some(object.tables),
-        }),
+    match stop {
+        OpenStop::Shelf(why) => Answer::plain(Outcome::Shelf(why)),
+        OpenStop::Object { fault, tables } => Answer {
+            outcome: Outcome::Object(fault),
+            tables,
+        },
+        OpenStop::Memory => Answer::plain(Outcome::Memory),
     }
 }
 
@@ -83,16 +38,8 @@ pub fn open<S: Shelf>(alloc: Global, name: &str, shelf: &mut S) -> Result<Loaded
     ensures opened_count { IfOk result (λ l. (file : List ℕ) → S.faults shelf.new file ≡ S.faults shelf.old file) }
     ensures stopped_count { IfErr result (λ a. (a.outcome ≡ Outcome.Shelf cause.Failed → ⊥) → (file : List ℕ) → S.faults shelf.new file ≡ S.faults shelf.old file) }
 {
-    let bytes = match fetch_file(alloc, name, shelf) {
-        Ok(bytes) => bytes,
-        Err(outcome) => return Err(Answer::plain(outcome)),
-    };
-    match read_object(alloc, bytes.as_slice()) {
+    match object::open(alloc, name, shelf) {
         Ok(loaded) => Ok(loaded),
-        Err(ObjectStop::Refused { fault, tables }) => Err(Answer {
-            outcome: Outcome::Object(fault),
-            tables,
-        }),
-        Err(ObjectStop::Memory) => Err(Answer::plain(Outcome::Memory)),
+        Err(stop) => Err(unopened(stop)),
     }
 }

@@ -7,22 +7,10 @@ use htl_base::Time;
 use htl_compile::SourceFault;
 use htl_load::ObjectFault;
 use htl_model::FormFault;
+use htl_open::ShelfCause;
 use htl_patch::PatchFault;
 use htl_platform::PlatformFault;
 use htl_script::ScriptFault;
-
-/// Why the shelf didn't give a file.
-#[derive(Clone, Copy, PartialEq, Eq, Debug)]
-pub enum ShelfCause {
-    /// It failed, and counted it as a fault of the name; so it does where it has no such file.
-    Failed,
-    /// The file has too many bytes: more than 1,048,576 for a source or a platform file, more than 16,777,216 for an object or
-    /// a job log.
-    TooLong {
-        /// How many bytes were seen: all of them, where the shelf tells what it holds.
-        seen: u64,
-    },
-}
 
 /// What a command of the tool came to.
 #[derive(Clone, Copy, PartialEq, Eq, Debug)]

@@ -3,22 +3,22 @@ ghost use Rattle.std.specs.Prelude.{◌≡◌, ℕ, List, Option, Some};
 ghost use Rattle.htl_edge.specs.Holdings.{Holdings};
 ghost use Rattle.htl_load.specs.Loading.{HasBytes};
 ghost use Rattle.htl_object.specs.Ranges.{IsInRange};
-ghost use Rattle.htl_top.specs.Answers.{Files, files};
-ghost use Rattle.htl_top.specs.Objects.{IsObjectFile, IsObjectTables};
+ghost use Rattle.htl_open.specs.Files.{Files, files, IsObjectFile};
+ghost use Rattle.htl_open.specs.Objects.{IsObjectTables};
 ghost use Rattle.htl_top.specs.PatchedFiles.{IsDonorTold, IsObjectPut, IsPatchOfFiles, IsPatchedTables, HasPatchedTables};
 ghost use Rattle.htl_top.specs.PatchStops.{unpatched_as, new_tables, unloaded_as, object_tables};
 ghost use Rattle.htl_top.specs.ErrorLines.{SpeaksOf};
-ghost use Rattle.htl_top.specs.declared.outcome.ShelfCause.TheVariants as cause;
+ghost use Rattle.htl_open.specs.declared.stop.ShelfCause.TheVariants as cause;
 
 use crate::Outcome;
 use crate::answer::Answer;
 use crate::compile::write_object;
 use crate::fetch::fetch_both;
-use crate::object::{ObjectStop, read_object};
 use crate::words::ModeNames;
 use htl_edge::{Shelf, Sink};
 use htl_load::Loaded;
 use htl_object::{DecodeFault, Object, decode, encode};
+use htl_open::object::{ObjectStop, read_object};
 use htl_patch::{PatchFault, PatchStop, patch};
 use std::alloc::Global;
 

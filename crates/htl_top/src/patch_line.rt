@@ -3,10 +3,11 @@ ghost use Rattle.std.specs.Prelude.{◌≡◌};
 ghost use Rattle.std.specs.Option.{option_copied};
 ghost use Rattle.htl_top.specs.Status.{patch_line};
 
-use crate::fault_line::{form_text, limit_line, numbered_line, plain_line};
-use crate::object_line::field_line;
+use crate::fault_line::limit_line;
 use htl_edge::LineBuffer;
 use htl_model::Tables;
+use htl_open::field_line;
+use htl_open::line::{form_text, numbered_line, plain_line};
 use htl_patch::PatchFault;
 
 /// The line of a fault of a patch. That of a broken form rule has its names from `tables`, the new ones.

@@ -1,59 +1,23 @@
 // The command `plan`: one frame at a selection of running modes.
-ghost use Rattle.std.specs.Prelude.{◌≡◌, ◌+◌, ℕ, List, Some, None, IfOk, length};
+ghost use Rattle.std.specs.Prelude.{◌≡◌, ◌+◌, ℕ, List, Some};
 ghost use Rattle.htl_base.specs.declared.limits.TheConstants as limit;
-ghost use Rattle.htl_edge.specs.Content.{Puts};
-ghost use Rattle.htl_model.specs.Selected.{IsSelection};
 ghost use Rattle.htl_script.specs.Reading.{LosesFront};
-ghost use Rattle.htl_top.specs.Answers.{files, streams};
-ghost use Rattle.htl_top.specs.Objects.{IsOnObject, IsObjectTables};
-ghost use Rattle.htl_top.specs.Planned.{plan_text, IsPlanned};
+ghost use Rattle.htl_open.specs.Files.{files};
+ghost use Rattle.htl_top.specs.Answers.{streams};
+ghost use Rattle.htl_open.specs.Objects.{IsObjectTables};
+ghost use Rattle.htl_top.specs.Objects.{IsOnObject};
+ghost use Rattle.htl_top.specs.Planned.{IsPlanned};
 ghost use Rattle.htl_top.specs.ErrorLines.{SpeaksOf};
-ghost use Rattle.htl_top.specs.declared.outcome.ShelfCause.TheVariants as cause;
+ghost use Rattle.htl_open.specs.declared.stop.ShelfCause.TheVariants as cause;
 
 use crate::Outcome;
 use crate::answer::Answer;
 use crate::object::open;
-use crate::plan_lists::write_frame;
-use crate::selection::{ScriptStop, read_selection};
-use crate::staying::{staying_jobs, staying_path};
-use htl_base::limits::MAX_POSITIONS;
-use htl_base::{Memory, Seq};
-use htl_console::line_plan;
-use htl_edge::{Failed, Shelf, Sink, Source};
+use htl_edge::{Shelf, Sink, Source};
 use htl_load::Loaded;
-use htl_model::Tables;
-use htl_model::frame::Frame;
-use htl_refine::Selection;
-use htl_walk::Job;
+use htl_plan::{no_modes, read_selection, write_plan};
+use htl_script::ScriptStop;
 use std::alloc::Global;
-
-// One entry for each module, each of them none.
-fn no_modes(alloc: Global, t: &Tables) -> Result<Selection, Memory>
-    ensures { IfOk result (λ s. length s.modes ≡ length t.now.modules) }
-{
-    match vec![in alloc; None; t.parts().modules.as_slice().len()] {
-        Ok(modes) => Ok(Selection {
-            modes: Seq::new(modes),
-        }),
-        Err(_) => Err(Memory),
-    }
-}
-
-// Writes the plan of a selection. Without modules there is no frame.
-fn write_plan<W: Sink>(out: &mut W, l: &Loaded, s: &Selection) -> Result<(), Failed>
-    requires { IsSelection l.now.tables s.now.modes }
-    ensures { Puts (W.written out.old) (W.written out.new) (W.faults out.old) (W.faults out.new) (plan_text l.now.tables l.now.schedules s.now.modes) result }
-{
-    let t = l.tables();
-    let Some(end) = t.hyper() else {
-        return line_plan(out, 0, 0, 0);
-    };
-    let f = Frame::survey(t);
-    let mut jobs = [Job::ABSENT; MAX_POSITIONS];
-    let count = staying_jobs(t, &f, s, &mut jobs);
-    let path = staying_path(t, &f, s);
-    write_frame(out, l, &f, path, &jobs[..count], end)
-}
 
 // Reads a selection of running modes, and writes its plan.
 fn plan<R: Source, W: Sink>(alloc: Global, l: &Loaded, input: &mut R, out: &mut W) -> Outcome

@@ -2,12 +2,14 @@
 ghost use Rattle.std.specs.Prelude.{◌≡◌, ◌+◌, ℕ, List, Some};
 ghost use Rattle.htl_base.specs.declared.limits.TheConstants as limit;
 ghost use Rattle.htl_script.specs.Reading.{LosesFront};
-ghost use Rattle.htl_top.specs.Answers.{files, streams};
-ghost use Rattle.htl_top.specs.Objects.{IsOnObject, IsObjectTables};
+ghost use Rattle.htl_open.specs.Files.{files};
+ghost use Rattle.htl_top.specs.Answers.{streams};
+ghost use Rattle.htl_open.specs.Objects.{IsObjectTables};
+ghost use Rattle.htl_top.specs.Objects.{IsOnObject};
 ghost use Rattle.htl_top.specs.Runs.{IsRun};
 ghost use Rattle.htl_top.specs.ErrorLines.{SpeaksOf};
 ghost use Rattle.htl_top.specs.declared.outcome.Outcome.{Outcome};
-ghost use Rattle.htl_top.specs.declared.outcome.ShelfCause.TheVariants as cause;
+ghost use Rattle.htl_open.specs.declared.stop.ShelfCause.TheVariants as cause;
 
 use crate::answer::Answer;
 use crate::execute::execute;

@@ -1,11 +1,13 @@
 // The command `show`: the listing of an accepted object.
 ghost use Rattle.std.specs.Prelude.{◌≡◌, ℕ, List, Some};
 ghost use Rattle.htl_edge.specs.Content.{Puts};
-ghost use Rattle.htl_top.specs.Answers.{files, IsWritten};
-ghost use Rattle.htl_top.specs.Objects.{IsTextOnObject, IsObjectTables};
+ghost use Rattle.htl_open.specs.Files.{files};
+ghost use Rattle.htl_top.specs.Answers.{IsWritten};
+ghost use Rattle.htl_open.specs.Objects.{IsObjectTables};
+ghost use Rattle.htl_top.specs.Objects.{IsTextOnObject};
 ghost use Rattle.htl_top.specs.Shown.{show_text};
 ghost use Rattle.htl_top.specs.ErrorLines.{SpeaksOf};
-ghost use Rattle.htl_top.specs.declared.outcome.ShelfCause.TheVariants as cause;
+ghost use Rattle.htl_open.specs.declared.stop.ShelfCause.TheVariants as cause;
 
 use crate::Outcome;
 use crate::answer::Answer;

@@ -2,11 +2,11 @@
 ghost use Rattle.std.specs.Prelude.{◌≡◌, ◌↔◌, ◌<◌, ℕ, List, Some, None, IfOk, MatchOption, true, length};
 ghost use Rattle.htl_edge.specs.Content.{Puts};
 ghost use Rattle.htl_slack.specs.RootTasks.{IsRootTask, limit_of};
-ghost use Rattle.htl_top.specs.Answers.{files};
-ghost use Rattle.htl_top.specs.Objects.{IsObjectTables};
+ghost use Rattle.htl_open.specs.Files.{files};
+ghost use Rattle.htl_open.specs.Objects.{IsObjectTables};
 ghost use Rattle.htl_top.specs.Slacked.{has_names as has_names_of, IsRootNamed, NamesNoTask, slack_line as slack_line_of, above_line as above_line_of, overload_line as overload_line_of, slack_text, IsSlack, IsSlackTold, IsSlackOnObject};
 ghost use Rattle.htl_top.specs.ErrorLines.{SpeaksOf};
-ghost use Rattle.htl_top.specs.declared.outcome.ShelfCause.TheVariants as cause;
+ghost use Rattle.htl_open.specs.declared.stop.ShelfCause.TheVariants as cause;
 
 use crate::Outcome;
 use crate::answer::Answer;

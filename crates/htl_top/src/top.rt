@@ -1,69 +1,18 @@
 // The top call.
-ghost use Rattle.std.specs.Prelude.{◌≡◌, ◌≤◌, ◌<◌, ◌↔◌, ◌⊎◌, ℕ, List, Option, Some, None, Ok, length};
-ghost use Rattle.std.specs.Io.KnownBytes.{append_known};
-ghost use Rattle.htl_audit.specs.Faults.{IsFirstFault};
-ghost use Rattle.htl_audit.specs.Legal.{IsLegal};
-ghost use Rattle.htl_audit.specs.Logs.{log_of, Read as ReadLog, Refused as RefusedLog};
-ghost use Rattle.htl_audit.specs.declared.slice.LogFault.{LogFault};
-ghost use Rattle.htl_audit.specs.declared.slice.Slice.{Slice};
-ghost use Rattle.htl_base.specs.declared.limits.TheConstants as limit;
-ghost use Rattle.htl_compile.specs.BulkTree.{bulk_bytes};
-ghost use Rattle.htl_compile.specs.Built.{built, AreSchedulable};
-ghost use Rattle.htl_compile.specs.Building.{IsCompileFault};
-ghost use Rattle.htl_compile.specs.OnPlatform.{IsWithFault};
-ghost use Rattle.htl_compile.specs.Coded.{AreTyped};
-ghost use Rattle.htl_compile.specs.Sources.{IsTablesOf};
-ghost use Rattle.htl_compile.specs.declared.compiling.CompileFault.{CompileFault};
-ghost use Rattle.htl_compile.specs.declared.compiling.CompileFault.TheVariants as failing;
-ghost use Rattle.htl_compile.specs.declared.compiling_on.WithFault.{WithFault};
-ghost use Rattle.htl_compile.specs.declared.compiling_on.WithFault.TheVariants as on;
-ghost use Rattle.htl_compile.specs.declared.source_fault.SourceFault.{SourceFault};
-ghost use Rattle.htl_compile.specs.declared.source_fault.SourceFault.TheVariants as fault_of;
+ghost use Rattle.std.specs.Prelude.{◌≡◌, ◌<◌, ◌↔◌, ℕ, List, Some, None};
+ghost use Rattle.htl_compile.specs.Built.{built};
 ghost use Rattle.htl_console.specs.declared.shown.Shown.{Shown};
 ghost use Rattle.htl_console.specs.declared.shown.Shown.TheVariants as shown;
-ghost use Rattle.htl_edge.specs.Causes.{Rose};
-ghost use Rattle.htl_edge.specs.Content.{AppendsPrefix, none_left};
-ghost use Rattle.htl_load.specs.Loading.{HasBytes, RefusesBytes};
-ghost use Rattle.htl_load.specs.declared.fault.ObjectFault.{ObjectFault};
-ghost use Rattle.htl_model.specs.Broken.{Formed};
-ghost use Rattle.htl_model.specs.Tables.{Tables};
-ghost use Rattle.htl_model.specs.declared.event.Event.{Event};
-ghost use Rattle.htl_model.specs.declared.form_fault.FormFault.{FormFault};
-ghost use Rattle.htl_object.specs.declared.object.Object.{Object};
-ghost use Rattle.htl_object.specs.Objects.{object_bytes};
-ghost use Rattle.htl_patch.specs.Object.{CanPatch};
-ghost use Rattle.htl_patch.specs.Combined.{Replacement};
-ghost use Rattle.htl_patch.specs.declared.fault.PatchFault.{PatchFault};
-ghost use Rattle.htl_platform.specs.Applied.{with_worst};
-ghost use Rattle.htl_platform.specs.Platforms.{platform_of};
-ghost use Rattle.htl_platform.specs.declared.fault.PlatformFault.{PlatformFault};
-ghost use Rattle.htl_platform.specs.declared.platform.Platform.{Platform};
 ghost use Rattle.htl_script.specs.Reading.{LosesFront};
-ghost use Rattle.htl_script.specs.declared.fault.ScriptFault.{ScriptFault};
-ghost use Rattle.htl_top.specs.Answers.{files, streams, IsBeforeScript, IsBeforeRun, AreCountsKept, KeepsCounts, Tells};
-ghost use Rattle.htl_top.specs.Audited.{HasLog, IsWholeAudit, IsCutAudit, IsLogCause};
-ghost use Rattle.htl_top.specs.Bulk.{bulk_text};
+ghost use Rattle.htl_open.specs.Files.{files};
+ghost use Rattle.htl_top.specs.Answers.{streams, AreCountsKept, KeepsCounts};
 ghost use Rattle.htl_top.specs.Calls.{IsCall, HasSource, HasObject};
-ghost use Rattle.htl_top.specs.Causes.{IsFaultOf, IsLongFile, IsGiven, IsOrMemory};
-ghost use Rattle.htl_top.specs.Checked.{check_text};
-ghost use Rattle.htl_top.specs.Compiling.{compiled_bytes};
-ghost use Rattle.htl_top.specs.CompilingOn.{compiled_on, IsCompileCause, IsPlatformCause};
-ghost use Rattle.htl_top.specs.Files.{IsReadyFile};
-ghost use Rattle.htl_top.specs.Going.{IsReadySource};
-ghost use Rattle.htl_top.specs.Objects.{IsRefusedFile, IsAcceptedFile, IsReadyObject};
-ghost use Rattle.htl_top.specs.PatchedFiles.{AreFilesOf, HasPatch, IsDonorFault, IsPatchCause};
-ghost use Rattle.htl_top.specs.Planned.{IsWholePlan, IsCutPlan, IsBadSelection};
-ghost use Rattle.htl_top.specs.Runs.{IsWholeRun, IsFaultyRun, IsCutRun};
-ghost use Rattle.htl_top.specs.Scripts.{IsWhole, IsBad};
-ghost use Rattle.htl_top.specs.SelectionInput.{Whole, Bad, input_of};
-ghost use Rattle.htl_top.specs.Shown.{show_text};
-ghost use Rattle.htl_top.specs.Slacked.{HasSlack, IsRootNamed, NamesNoTask, IsTaskCause};
-ghost use Rattle.htl_top.specs.Sources.{HasTables, IsProgram, IsInputProgram, answer_of};
-ghost use Rattle.htl_top.specs.SourcesOn.{IsProgramOn, answer_on};
-ghost use Rattle.htl_top.specs.ErrorLines.{IsLineTold};
-ghost use Rattle.htl_top.specs.Words.{Go, Compile, CompileWith, Run, Check, Plan, Show, Bulk, Slack, Audit, Patch, command_in, source_in, platform_word, object_word, second_in, most_taken, RunsObject};
-ghost use Rattle.htl_top.specs.declared.outcome.ShelfCause.{ShelfCause};
-ghost use Rattle.htl_top.specs.declared.outcome.ShelfCause.TheVariants as cause;
+ghost use Rattle.htl_top.specs.Runs.{IsWholeRun};
+ghost use Rattle.htl_top.specs.Sources.{IsProgram};
+ghost use Rattle.htl_top.specs.ObjectRows.{RunRows, CheckRows, ShowRows, SlackRows, PlanRows, AuditRows, PatchRows};
+ghost use Rattle.htl_top.specs.SharedRows.{FaultRows, ObjectRows, KeptRows, IsTold};
+ghost use Rattle.htl_top.specs.SourceRows.{GoRows, CompileRows, CompileWithRows, BulkRows};
+ghost use Rattle.htl_top.specs.Words.{Go, Compile, CompileWith, Run, Check, Plan, Show, Bulk, Slack, Audit, Patch, command_in, most_taken};
 
 use crate::Outcome;
 use crate::commands::answer_to;
@@ -135,234 +84,47 @@ pub fn htl<S: Shelf, R: Source, W: Sink, E: Sink>(
     out: &mut W,
     err: &mut E,
 ) -> Outcome
-    // The words, and the file that they name: a source, an object or a platform file.
+    // The words that are a command.
     ensures usage { (result ≡ Outcome.Usage) ↔ (command_in words.now ≡ None) }
-    ensures shelf_failed { result ≡ Outcome.Shelf cause.Failed →
-        IsFaultOf (source_in words.now) (S.faults shelf.old) (S.faults shelf.new) ⊎ IsFaultOf (object_word words.now) (S.faults shelf.old) (S.faults shelf.new)
-        ⊎ IsFaultOf (platform_word words.now) (S.faults shelf.old) (S.faults shelf.new)
-        ⊎ IsFaultOf (second_in words.now) (S.faults shelf.old) (S.faults shelf.new) }
-    ensures shelf_long { (seen : ℕ) → result ≡ Outcome.Shelf (cause.TooLong seen) →
-        IsLongFile limit.MAX_SOURCE (source_in words.now) (S.holds shelf.old) seen ⊎ IsLongFile limit.MAX_OBJECT (object_word words.now) (S.holds shelf.old) seen
-        ⊎ IsLongFile limit.MAX_SOURCE (platform_word words.now) (S.holds shelf.old) seen
-        ⊎ IsLongFile limit.MAX_OBJECT (second_in words.now) (S.holds shelf.old) seen }
 
-    // The faults of a source, in a file for `go` and as the input for `compile`; and of a platform file.
-    ensures source { (fault : SourceFault) → result ≡ Outcome.Source fault →
-        IsCompileCause (command_in words.now) (S.holds shelf.old) (R.rest input.old) (failing.Source fault) }
-    ensures ill_formed { (fault : FormFault) → result ≡ Outcome.IllFormed fault →
-        IsCompileCause (command_in words.now) (S.holds shelf.old) (R.rest input.old) (failing.IllFormed fault) }
-    ensures unschedulable { (sel a b demand : ℕ) → result ≡ Outcome.Unschedulable sel a b demand →
-        IsCompileCause (command_in words.now) (S.holds shelf.old) (R.rest input.old) (failing.Unschedulable sel a b demand) }
-
-    ensures platform { (fault : PlatformFault) → result ≡ Outcome.Platform fault →
-        IsPlatformCause (command_in words.now) (S.holds shelf.old) (R.rest input.old) fault }
-
-    // `go`: each other answer and its cause. `done` is the headline: the text is that of the object of the source's tables.
-    ensures script { (name : List ℕ) → command_in words.now ≡ Some (Go name) → (fault : ScriptFault) → result ≡ Outcome.Script fault →
-        IsProgram (Some name) (S.holds shelf.old) (λ t. IsFaultyRun shown.Jobs t (built t) (R.rest input.old) (R.rest input.new) (W.written out.old) (W.written out.new) fault) }
-    ensures read { (name : List ℕ) → command_in words.now ≡ Some (Go name) → result ≡ Outcome.Read → Rose (R.faults input.old) (R.faults input.new)
-        × IsProgram (Some name) (S.holds shelf.old) (λ t. IsCutRun shown.Jobs t (built t) (R.rest input.old) (W.written out.old) (W.written out.new)) }
-    ensures write { (name : List ℕ) → command_in words.now ≡ Some (Go name) → result ≡ Outcome.Write → Rose (W.faults out.old) (W.faults out.new)
-        × IsProgram (Some name) (S.holds shelf.old) (λ t. IsCutRun shown.Jobs t (built t) (R.rest input.old) (W.written out.old) (W.written out.new)) }
+    // The headline: what is written when `go` is done.
     ensures done { (name : List ℕ) → command_in words.now ≡ Some (Go name) → result ≡ Outcome.Done →
         IsProgram (Some name) (S.holds shelf.old) (λ t. IsWholeRun shown.Jobs t (built t) (R.rest input.old) (R.rest input.new) (W.written out.old) (W.written out.new)) }
 
-    // Where the cause stands and no earlier one, this is the answer of `go`, or Memory.
-    ensures long_file { (bytes : List ℕ) → IsGiven (source_in words.now) (S.holds shelf.old) (S.faults shelf.old) (S.faults shelf.new) bytes
-        → limit.MAX_SOURCE < length bytes → IsOrMemory result (Outcome.Shelf (cause.TooLong (length bytes))) }
-    ensures faulty_source { (bytes : List ℕ) → IsGiven (source_in words.now) (S.holds shelf.old) (S.faults shelf.old) (S.faults shelf.new) bytes
-        → (fault : CompileFault) → (fault ≡ failing.Memory → ⊥) → length bytes ≤ limit.MAX_SOURCE → IsCompileFault bytes fault → IsOrMemory result (answer_of fault) }
-    ensures bad_script { (t : Tables) → IsReadySource (source_in words.now) (S.holds shelf.old) (S.faults shelf.old) (S.faults shelf.new) t
-        → (script : List ℕ) (fault : ScriptFault) (events : List Event) → R.rest input.old ≡ Some script → IsBad t script fault events
-        → (Rose (R.faults input.old) (R.faults input.new) → ⊥) → (Rose (W.faults out.old) (W.faults out.new) → ⊥) → IsOrMemory result (Outcome.Script fault) }
-    ensures complete { (t : Tables) → IsReadySource (source_in words.now) (S.holds shelf.old) (S.faults shelf.old) (S.faults shelf.new) t
-        → (script : List ℕ) (events : List Event) (end : ℕ) → R.rest input.old ≡ Some script → IsWhole t script events end
-        → (Rose (R.faults input.old) (R.faults input.new) → ⊥) → (Rose (W.faults out.old) (W.faults out.new) → ⊥) → IsOrMemory result Outcome.Done }
+    // Command by command, a row for each other answer with its cause, and for what must be the answer, or Memory.
+    ensures go { (name : List ℕ) → command_in words.now ≡ Some (Go name) → GoRows name (files S.holds S.faults shelf.old shelf.new)
+        (streams R.rest R.faults W.written W.faults input.old out.old) (streams R.rest R.faults W.written W.faults input.new out.new) result }
+    ensures compile { command_in words.now ≡ Some Compile → CompileRows (files S.holds S.faults shelf.old shelf.new)
+        (streams R.rest R.faults W.written W.faults input.old out.old) (streams R.rest R.faults W.written W.faults input.new out.new) result }
+    ensures compile_with { (platform : List ℕ) → command_in words.now ≡ Some (CompileWith platform) → CompileWithRows platform
+        (files S.holds S.faults shelf.old shelf.new)
+        (streams R.rest R.faults W.written W.faults input.old out.old) (streams R.rest R.faults W.written W.faults input.new out.new) result }
+    ensures run { (show : Shown) (name : List ℕ) → command_in words.now ≡ Some (Run show name) → RunRows show name (files S.holds S.faults shelf.old shelf.new)
+        (streams R.rest R.faults W.written W.faults input.old out.old) (streams R.rest R.faults W.written W.faults input.new out.new) result }
+    ensures check { (name : List ℕ) → command_in words.now ≡ Some (Check name) → CheckRows name (files S.holds S.faults shelf.old shelf.new)
+        (streams R.rest R.faults W.written W.faults input.old out.old) (streams R.rest R.faults W.written W.faults input.new out.new) result }
+    ensures show { (name : List ℕ) → command_in words.now ≡ Some (Show name) → ShowRows name (files S.holds S.faults shelf.old shelf.new)
+        (streams R.rest R.faults W.written W.faults input.old out.old) (streams R.rest R.faults W.written W.faults input.new out.new) result }
+    ensures plan { (name : List ℕ) → command_in words.now ≡ Some (Plan name) → PlanRows name (files S.holds S.faults shelf.old shelf.new)
+        (streams R.rest R.faults W.written W.faults input.old out.old) (streams R.rest R.faults W.written W.faults input.new out.new) result }
+    ensures slack { (name owner task : List ℕ) → command_in words.now ≡ Some (Slack name owner task) → SlackRows name owner task
+        (files S.holds S.faults shelf.old shelf.new)
+        (streams R.rest R.faults W.written W.faults input.old out.old) (streams R.rest R.faults W.written W.faults input.new out.new) result }
+    ensures audit { (name log : List ℕ) → command_in words.now ≡ Some (Audit name log) → AuditRows name log (files S.holds S.faults shelf.old shelf.new)
+        (streams R.rest R.faults W.written W.faults input.old out.old) (streams R.rest R.faults W.written W.faults input.new out.new) result }
+    ensures patch { (name unit mode donor : List ℕ) → command_in words.now ≡ Some (Patch name unit mode donor) → PatchRows name unit mode donor
+        (files S.holds S.faults shelf.old shelf.new)
+        (streams R.rest R.faults W.written W.faults input.old out.old) (streams R.rest R.faults W.written W.faults input.new out.new) result }
+    ensures bulk { (n : ℕ) → command_in words.now ≡ Some (Bulk n) → BulkRows n (files S.holds S.faults shelf.old shelf.new)
+        (streams R.rest R.faults W.written W.faults input.old out.old) (streams R.rest R.faults W.written W.faults input.new out.new) result }
 
-    // `compile`: each other answer and its cause, and where this must be the answer, or Memory.
-    ensures compiled { command_in words.now ≡ Some Compile → result ≡ Outcome.Done → (R.rest input.new ≡ none_left (R.rest input.old))
-        × IsInputProgram (R.rest input.old) (λ t. W.written out.new ≡ append_known (W.written out.old) (compiled_bytes t)) }
-    ensures compile_cut { command_in words.now ≡ Some Compile → result ≡ Outcome.Write → Rose (W.faults out.old) (W.faults out.new)
-        × IsInputProgram (R.rest input.old) (λ t. AppendsPrefix (W.written out.old) (W.written out.new) (compiled_bytes t)) }
-    ensures compile_read { command_in words.now ≡ Some Compile → result ≡ Outcome.Read → Rose (R.faults input.old) (R.faults input.new)
-        × (W.written out.new ≡ W.written out.old) }
-    ensures long_input { command_in words.now ≡ Some Compile → (bytes : List ℕ) → R.rest input.old ≡ Some bytes → limit.MAX_SOURCE < length bytes
-        → (Rose (R.faults input.old) (R.faults input.new) → ⊥) → IsOrMemory result (Outcome.Source (fault_of.TooLong 1048577)) }
-    ensures faulty_input { command_in words.now ≡ Some Compile → (bytes : List ℕ) → R.rest input.old ≡ Some bytes → length bytes ≤ limit.MAX_SOURCE
-        → (fault : CompileFault) → (fault ≡ failing.Memory → ⊥) → IsCompileFault bytes fault → (Rose (R.faults input.old) (R.faults input.new) → ⊥) → IsOrMemory result (answer_of fault) }
-    ensures compile_complete { command_in words.now ≡ Some Compile → (bytes : List ℕ) → R.rest input.old ≡ Some bytes → length bytes ≤ limit.MAX_SOURCE
-        → (t : Tables) → IsTablesOf bytes t → AreTyped t → Formed t → AreSchedulable t
-        → (Rose (R.faults input.old) (R.faults input.new) → ⊥) → (Rose (W.faults out.old) (W.faults out.new) → ⊥) → IsOrMemory result Outcome.Done }
-
-    // `compile with`: each other answer and its cause, and where this must be the answer, or Memory.
-    ensures compiled_on { (file : List ℕ) → command_in words.now ≡ Some (CompileWith file) → result ≡ Outcome.Done → (R.rest input.new ≡ none_left (R.rest input.old))
-        × IsProgramOn (Some file) (S.holds shelf.old) (R.rest input.old) (λ p t. W.written out.new ≡ append_known (W.written out.old) (compiled_on p t)) }
-    ensures compile_on_cut { (file : List ℕ) → command_in words.now ≡ Some (CompileWith file) → result ≡ Outcome.Write → Rose (W.faults out.old) (W.faults out.new)
-        × IsProgramOn (Some file) (S.holds shelf.old) (R.rest input.old) (λ p t. AppendsPrefix (W.written out.old) (W.written out.new) (compiled_on p t)) }
-    ensures compile_on_read { (file : List ℕ) → command_in words.now ≡ Some (CompileWith file) → result ≡ Outcome.Read → Rose (R.faults input.old) (R.faults input.new)
-        × (W.written out.new ≡ W.written out.old) }
-    ensures long_platform { (bytes : List ℕ) → IsGiven (platform_word words.now) (S.holds shelf.old) (S.faults shelf.old) (S.faults shelf.new) bytes
-        → limit.MAX_SOURCE < length bytes → IsOrMemory result (Outcome.Shelf (cause.TooLong (length bytes))) }
-    ensures long_input_on { (file : List ℕ) → IsGiven (platform_word words.now) (S.holds shelf.old) (S.faults shelf.old) (S.faults shelf.new) file → length file ≤ limit.MAX_SOURCE
-        → (bytes : List ℕ) → R.rest input.old ≡ Some bytes → limit.MAX_SOURCE < length bytes
-        → (Rose (R.faults input.old) (R.faults input.new) → ⊥) → IsOrMemory result (Outcome.Source (fault_of.TooLong 1048577)) }
-    ensures faulty_on { (file : List ℕ) → IsGiven (platform_word words.now) (S.holds shelf.old) (S.faults shelf.old) (S.faults shelf.new) file → length file ≤ limit.MAX_SOURCE
-        → (bytes : List ℕ) → R.rest input.old ≡ Some bytes → length bytes ≤ limit.MAX_SOURCE
-        → (fault : WithFault) → (fault ≡ on.Compile failing.Memory → ⊥) → IsWithFault bytes file fault → (Rose (R.faults input.old) (R.faults input.new) → ⊥) → IsOrMemory result (answer_on fault) }
-    ensures compile_on_complete { (file : List ℕ) → IsGiven (platform_word words.now) (S.holds shelf.old) (S.faults shelf.old) (S.faults shelf.new) file → length file ≤ limit.MAX_SOURCE
-        → (bytes : List ℕ) → R.rest input.old ≡ Some bytes → length bytes ≤ limit.MAX_SOURCE
-        → (t : Tables) (p : Platform) → IsTablesOf bytes t → AreTyped t → platform_of t file ≡ Ok p → Formed (with_worst t p.worst) → AreSchedulable (with_worst t p.worst)
-        → (Rose (R.faults input.old) (R.faults input.new) → ⊥) → (Rose (W.faults out.old) (W.faults out.new) → ⊥) → IsOrMemory result Outcome.Done }
-
-    // The object of the other commands: its faults, and where this must be the answer, or Memory. Where a second file is named, a log or a
-    // donor, that is had before the object is tested.
-    ensures object { (fault : ObjectFault) → result ≡ Outcome.Object fault → IsRefusedFile (object_word words.now) (S.holds shelf.old) fault }
-    ensures long_object { (bytes : List ℕ) → IsGiven (object_word words.now) (S.holds shelf.old) (S.faults shelf.old) (S.faults shelf.new) bytes
-        → limit.MAX_OBJECT < length bytes → IsOrMemory result (Outcome.Shelf (cause.TooLong (length bytes))) }
-    ensures faulty_object { (bytes : List ℕ) → IsGiven (object_word words.now) (S.holds shelf.old) (S.faults shelf.old) (S.faults shelf.new) bytes
-        → ((word : List ℕ) → second_in words.now ≡ Some word → (others : List ℕ) × IsReadyFile (Some word) (S.holds shelf.old) (S.faults shelf.old) (S.faults shelf.new) others)
-        → (fault : ObjectFault) → length bytes ≤ limit.MAX_OBJECT → RefusesBytes bytes fault → IsOrMemory result (Outcome.Object fault) }
-
-    // `run`, `jobs` and `code`: each other answer and its cause, and where this must be the answer, or Memory.
-    ensures ran { (show : Shown) (name : List ℕ) → command_in words.now ≡ Some (Run show name) → result ≡ Outcome.Done →
-        IsAcceptedFile (Some name) (S.holds shelf.old) (λ o. IsWholeRun show o.tables o (R.rest input.old) (R.rest input.new) (W.written out.old) (W.written out.new)) }
-    ensures run_fault { (show : Shown) (name : List ℕ) → command_in words.now ≡ Some (Run show name) → (fault : ScriptFault) → result ≡ Outcome.Script fault →
-        IsAcceptedFile (Some name) (S.holds shelf.old) (λ o. IsFaultyRun show o.tables o (R.rest input.old) (R.rest input.new) (W.written out.old) (W.written out.new) fault) }
-    ensures run_read { (show : Shown) (name : List ℕ) → command_in words.now ≡ Some (Run show name) → result ≡ Outcome.Read → Rose (R.faults input.old) (R.faults input.new)
-        × IsAcceptedFile (Some name) (S.holds shelf.old) (λ o. IsCutRun show o.tables o (R.rest input.old) (W.written out.old) (W.written out.new)) }
-    ensures run_cut { (show : Shown) (name : List ℕ) → command_in words.now ≡ Some (Run show name) → result ≡ Outcome.Write → Rose (W.faults out.old) (W.faults out.new)
-        × IsAcceptedFile (Some name) (S.holds shelf.old) (λ o. IsCutRun show o.tables o (R.rest input.old) (W.written out.old) (W.written out.new)) }
-    ensures run_bad_script { (show : Shown) (name : List ℕ) (o : Object) → command_in words.now ≡ Some (Run show name)
-        → IsReadyObject (Some name) (S.holds shelf.old) (S.faults shelf.old) (S.faults shelf.new) o
-        → (script : List ℕ) (fault : ScriptFault) (events : List Event) → R.rest input.old ≡ Some script → IsBad o.tables script fault events
-        → (Rose (R.faults input.old) (R.faults input.new) → ⊥) → (Rose (W.faults out.old) (W.faults out.new) → ⊥) → IsOrMemory result (Outcome.Script fault) }
-    ensures run_complete { (show : Shown) (name : List ℕ) (o : Object) → command_in words.now ≡ Some (Run show name)
-        → IsReadyObject (Some name) (S.holds shelf.old) (S.faults shelf.old) (S.faults shelf.new) o
-        → (script : List ℕ) (events : List Event) (end : ℕ) → R.rest input.old ≡ Some script → IsWhole o.tables script events end
-        → (Rose (R.faults input.old) (R.faults input.new) → ⊥) → (Rose (W.faults out.old) (W.faults out.new) → ⊥) → IsOrMemory result Outcome.Done }
-
-    // `check` writes its line and reads nothing.
-    ensures checked { (name : List ℕ) → command_in words.now ≡ Some (Check name) → result ≡ Outcome.Done →
-        IsAcceptedFile (Some name) (S.holds shelf.old) (λ o. W.written out.new ≡ append_known (W.written out.old) (check_text o.tables)) }
-    ensures check_cut { (name : List ℕ) → command_in words.now ≡ Some (Check name) → result ≡ Outcome.Write → Rose (W.faults out.old) (W.faults out.new)
-        × IsAcceptedFile (Some name) (S.holds shelf.old) (λ o. AppendsPrefix (W.written out.old) (W.written out.new) (check_text o.tables)) }
-    ensures check_unread { (name : List ℕ) → command_in words.now ≡ Some (Check name) → R.rest input.new ≡ R.rest input.old }
-    ensures check_complete { (name : List ℕ) (o : Object) → command_in words.now ≡ Some (Check name)
-        → IsReadyObject (Some name) (S.holds shelf.old) (S.faults shelf.old) (S.faults shelf.new) o
-        → (Rose (W.faults out.old) (W.faults out.new) → ⊥) → IsOrMemory result Outcome.Done }
-
-    // `show` writes the listing and reads nothing.
-    ensures shown { (name : List ℕ) → command_in words.now ≡ Some (Show name) → result ≡ Outcome.Done →
-        IsAcceptedFile (Some name) (S.holds shelf.old) (λ o. W.written out.new ≡ append_known (W.written out.old) (show_text o)) }
-    ensures show_cut { (name : List ℕ) → command_in words.now ≡ Some (Show name) → result ≡ Outcome.Write → Rose (W.faults out.old) (W.faults out.new)
-        × IsAcceptedFile (Some name) (S.holds shelf.old) (λ o. AppendsPrefix (W.written out.old) (W.written out.new) (show_text o)) }
-    ensures show_unread { (name : List ℕ) → command_in words.now ≡ Some (Show name) → R.rest input.new ≡ R.rest input.old }
-    ensures show_complete { (name : List ℕ) (o : Object) → command_in words.now ≡ Some (Show name)
-        → IsReadyObject (Some name) (S.holds shelf.old) (S.faults shelf.old) (S.faults shelf.new) o
-        → (Rose (W.faults out.old) (W.faults out.new) → ⊥) → IsOrMemory result Outcome.Done }
-
-    // `bulk` writes the last values and the totals of its generated program, and reads nothing.
-    ensures bulked { (n : ℕ) → command_in words.now ≡ Some (Bulk n) → result ≡ Outcome.Done →
-        HasTables (bulk_bytes n) (λ t. W.written out.new ≡ append_known (W.written out.old) (bulk_text t)) }
-    ensures bulk_cut { (n : ℕ) → command_in words.now ≡ Some (Bulk n) → result ≡ Outcome.Write → Rose (W.faults out.old) (W.faults out.new)
-        × HasTables (bulk_bytes n) (λ t. AppendsPrefix (W.written out.old) (W.written out.new) (bulk_text t)) }
-    ensures bulk_unread { (n : ℕ) → command_in words.now ≡ Some (Bulk n) → R.rest input.new ≡ R.rest input.old }
-    ensures bulk_complete { (n : ℕ) → command_in words.now ≡ Some (Bulk n) → (Rose (W.faults out.old) (W.faults out.new) → ⊥) → IsOrMemory result Outcome.Done }
-
-    // `slack` writes how far the worst case of a task can be raised, and reads nothing. `Task` comes where no task that is invoked in a
-    // root module has the names.
-    ensures slacked { (name owner task : List ℕ) → command_in words.now ≡ Some (Slack name owner task) → result ≡ Outcome.Done →
-        IsAcceptedFile (Some name) (S.holds shelf.old) (λ o. HasSlack o.tables owner task (λ text. W.written out.new ≡ append_known (W.written out.old) text)) }
-    ensures slack_cut { (name owner task : List ℕ) → command_in words.now ≡ Some (Slack name owner task) → result ≡ Outcome.Write → Rose (W.faults out.old) (W.faults out.new)
-        × IsAcceptedFile (Some name) (S.holds shelf.old) (λ o. HasSlack o.tables owner task (λ text. AppendsPrefix (W.written out.old) (W.written out.new) text)) }
-    ensures slack_unread { (name owner task : List ℕ) → command_in words.now ≡ Some (Slack name owner task) → R.rest input.new ≡ R.rest input.old }
-    ensures no_task { result ≡ Outcome.Task → IsTaskCause (command_in words.now) (S.holds shelf.old) }
-    ensures unknown_task { (name owner task : List ℕ) (o : Object) → command_in words.now ≡ Some (Slack name owner task)
-        → IsReadyObject (Some name) (S.holds shelf.old) (S.faults shelf.old) (S.faults shelf.new) o → NamesNoTask o.tables owner task → IsOrMemory result Outcome.Task }
-    ensures slack_complete { (name owner task : List ℕ) (o : Object) → command_in words.now ≡ Some (Slack name owner task)
-        → IsReadyObject (Some name) (S.holds shelf.old) (S.faults shelf.old) (S.faults shelf.new) o → (k : ℕ) → IsRootNamed o.tables owner task k
-        → (Rose (W.faults out.old) (W.faults out.new) → ⊥) → IsOrMemory result Outcome.Done }
-
-    // `audit` writes values and modes as `run` does, and then what was audited where the log is legal. `Log` comes for a line that can't be
-    // read, before anything is read or written, and else for the first fault of the log for the run of a whole script.
-    ensures audited { (name log : List ℕ) → command_in words.now ≡ Some (Audit name log) → result ≡ Outcome.Done →
-        IsAcceptedFile (Some name) (S.holds shelf.old) (λ o. HasLog log (S.holds shelf.old) o.tables (λ slices. IsWholeAudit o slices (R.rest input.old) (R.rest input.new) (W.written out.old) (W.written out.new))) }
-    ensures audit_fault { (fault : LogFault) → result ≡ Outcome.Log fault → IsLogCause (command_in words.now) (S.holds shelf.old)
-        (streams R.rest R.faults W.written W.faults input.old out.old) (streams R.rest R.faults W.written W.faults input.new out.new) fault }
-    ensures audit_script { (name log : List ℕ) → command_in words.now ≡ Some (Audit name log) → (fault : ScriptFault) → result ≡ Outcome.Script fault →
-        IsAcceptedFile (Some name) (S.holds shelf.old) (λ o. HasLog log (S.holds shelf.old) o.tables (λ slices. IsFaultyRun shown.Values o.tables o (R.rest input.old) (R.rest input.new) (W.written out.old) (W.written out.new) fault)) }
-    ensures audit_read { (name log : List ℕ) → command_in words.now ≡ Some (Audit name log) → result ≡ Outcome.Read → Rose (R.faults input.old) (R.faults input.new)
-        × IsAcceptedFile (Some name) (S.holds shelf.old) (λ o. HasLog log (S.holds shelf.old) o.tables (λ slices. IsCutAudit o slices (R.rest input.old) (W.written out.old) (W.written out.new))) }
-    ensures audit_cut { (name log : List ℕ) → command_in words.now ≡ Some (Audit name log) → result ≡ Outcome.Write → Rose (W.faults out.old) (W.faults out.new)
-        × IsAcceptedFile (Some name) (S.holds shelf.old) (λ o. HasLog log (S.holds shelf.old) o.tables (λ slices. IsCutAudit o slices (R.rest input.old) (W.written out.old) (W.written out.new))) }
-    ensures long_log { (name log bytes : List ℕ) → command_in words.now ≡ Some (Audit name log)
-        → IsReadyFile (Some name) (S.holds shelf.old) (S.faults shelf.old) (S.faults shelf.new) bytes
-        → (others : List ℕ) → IsGiven (Some log) (S.holds shelf.old) (S.faults shelf.old) (S.faults shelf.new) others
-        → limit.MAX_OBJECT < length others → IsOrMemory result (Outcome.Shelf (cause.TooLong (length others))) }
-    ensures faulty_log { (name log : List ℕ) (o : Object) → command_in words.now ≡ Some (Audit name log)
-        → IsReadyObject (Some name) (S.holds shelf.old) (S.faults shelf.old) (S.faults shelf.new) o
-        → (bytes : List ℕ) → IsReadyFile (Some log) (S.holds shelf.old) (S.faults shelf.old) (S.faults shelf.new) bytes
-        → (fault : LogFault) → log_of o.tables bytes ≡ RefusedLog fault.line fault.kind → IsOrMemory result (Outcome.Log fault) }
-    ensures audit_bad_script { (name log : List ℕ) (o : Object) → command_in words.now ≡ Some (Audit name log)
-        → IsReadyObject (Some name) (S.holds shelf.old) (S.faults shelf.old) (S.faults shelf.new) o
-        → (bytes : List ℕ) → IsReadyFile (Some log) (S.holds shelf.old) (S.faults shelf.old) (S.faults shelf.new) bytes → (slices : List Slice) → log_of o.tables bytes ≡ ReadLog slices
-        → (script : List ℕ) (fault : ScriptFault) (events : List Event) → R.rest input.old ≡ Some script → IsBad o.tables script fault events
-        → (Rose (R.faults input.old) (R.faults input.new) → ⊥) → (Rose (W.faults out.old) (W.faults out.new) → ⊥) → IsOrMemory result (Outcome.Script fault) }
-    ensures illegal_log { (name log : List ℕ) (o : Object) → command_in words.now ≡ Some (Audit name log)
-        → IsReadyObject (Some name) (S.holds shelf.old) (S.faults shelf.old) (S.faults shelf.new) o
-        → (bytes : List ℕ) → IsReadyFile (Some log) (S.holds shelf.old) (S.faults shelf.old) (S.faults shelf.new) bytes → (slices : List Slice) → log_of o.tables bytes ≡ ReadLog slices
-        → (script : List ℕ) (events : List Event) (end : ℕ) → R.rest input.old ≡ Some script → IsWhole o.tables script events end
-        → (fault : LogFault) → IsFirstFault o.tables events end slices fault
-        → (Rose (R.faults input.old) (R.faults input.new) → ⊥) → (Rose (W.faults out.old) (W.faults out.new) → ⊥) → IsOrMemory result (Outcome.Log fault) }
-    ensures audit_complete { (name log : List ℕ) (o : Object) → command_in words.now ≡ Some (Audit name log)
-        → IsReadyObject (Some name) (S.holds shelf.old) (S.faults shelf.old) (S.faults shelf.new) o
-        → (bytes : List ℕ) → IsReadyFile (Some log) (S.holds shelf.old) (S.faults shelf.old) (S.faults shelf.new) bytes → (slices : List Slice) → log_of o.tables bytes ≡ ReadLog slices
-        → (script : List ℕ) (events : List Event) (end : ℕ) → R.rest input.old ≡ Some script → IsWhole o.tables script events end → IsLegal o.tables events end slices
-        → (Rose (R.faults input.old) (R.faults input.new) → ⊥) → (Rose (W.faults out.old) (W.faults out.new) → ⊥) → IsOrMemory result Outcome.Done }
-
-    // `patch` writes the object with a donor's refinement, which is accepted, and reads nothing. `Patch` comes with the first cause for
-    // which the refinement isn't taken over.
-    ensures patched { (name unit mode donor : List ℕ) → command_in words.now ≡ Some (Patch name unit mode donor) → result ≡ Outcome.Done →
-        AreFilesOf (Some name) (Some donor) (S.holds shelf.old) (λ o bytes. HasPatch o unit mode bytes (λ p. W.written out.new ≡ append_known (W.written out.old) (object_bytes p))) }
-    ensures patch_cut { (name unit mode donor : List ℕ) → command_in words.now ≡ Some (Patch name unit mode donor) → result ≡ Outcome.Write → Rose (W.faults out.old) (W.faults out.new)
-        × AreFilesOf (Some name) (Some donor) (S.holds shelf.old) (λ o bytes. HasPatch o unit mode bytes (λ p. AppendsPrefix (W.written out.old) (W.written out.new) (object_bytes p))) }
-    ensures patch_unread { (name unit mode donor : List ℕ) → command_in words.now ≡ Some (Patch name unit mode donor) → R.rest input.new ≡ R.rest input.old }
-    ensures patch_fault { (fault : PatchFault) → result ≡ Outcome.Patch fault → IsPatchCause (command_in words.now) (S.holds shelf.old) fault }
-    ensures long_donor { (name unit mode donor host bytes : List ℕ) → command_in words.now ≡ Some (Patch name unit mode donor)
-        → IsReadyFile (Some name) (S.holds shelf.old) (S.faults shelf.old) (S.faults shelf.new) host → IsGiven (Some donor) (S.holds shelf.old) (S.faults shelf.old) (S.faults shelf.new) bytes
-        → limit.MAX_OBJECT < length bytes → IsOrMemory result (Outcome.Shelf (cause.TooLong (length bytes))) }
-    ensures faulty_donor { (name unit mode donor bytes : List ℕ) (o : Object) → command_in words.now ≡ Some (Patch name unit mode donor)
-        → IsReadyObject (Some name) (S.holds shelf.old) (S.faults shelf.old) (S.faults shelf.new) o → IsGiven (Some donor) (S.holds shelf.old) (S.faults shelf.old) (S.faults shelf.new) bytes
-        → length bytes ≤ limit.MAX_OBJECT → (fault : PatchFault) → IsDonorFault o unit mode bytes fault → IsOrMemory result (Outcome.Patch fault) }
-    ensures patch_complete { (name unit mode donor bytes : List ℕ) (o d : Object) (g : Replacement) → command_in words.now ≡ Some (Patch name unit mode donor)
-        → IsReadyObject (Some name) (S.holds shelf.old) (S.faults shelf.old) (S.faults shelf.new) o → IsGiven (Some donor) (S.holds shelf.old) (S.faults shelf.old) (S.faults shelf.new) bytes
-        → length bytes ≤ limit.MAX_OBJECT → HasBytes bytes d → CanPatch o d unit mode g → (Rose (W.faults out.old) (W.faults out.new) → ⊥) → IsOrMemory result Outcome.Done }
-
-    // `plan` reads a selection of running modes to its end, and writes its plan.
-    ensures planned { (name : List ℕ) → command_in words.now ≡ Some (Plan name) → result ≡ Outcome.Done →
-        IsAcceptedFile (Some name) (S.holds shelf.old) (λ o. IsWholePlan o (R.rest input.old) (R.rest input.new) (W.written out.old) (W.written out.new)) }
-    ensures plan_cut { (name : List ℕ) → command_in words.now ≡ Some (Plan name) → result ≡ Outcome.Write → Rose (W.faults out.old) (W.faults out.new)
-        × IsAcceptedFile (Some name) (S.holds shelf.old) (λ o. IsCutPlan o (R.rest input.old) (W.written out.old) (W.written out.new)) }
-    ensures plan_fault { (name : List ℕ) → command_in words.now ≡ Some (Plan name) → (fault : ScriptFault) → result ≡ Outcome.Script fault →
-        IsAcceptedFile (Some name) (S.holds shelf.old) (λ o. IsBadSelection o (R.rest input.old) fault) × (W.written out.new ≡ W.written out.old) }
-    ensures plan_read { (name : List ℕ) → command_in words.now ≡ Some (Plan name) → result ≡ Outcome.Read → Rose (R.faults input.old) (R.faults input.new)
-        × (W.written out.new ≡ W.written out.old) }
-    ensures bad_selection { (name : List ℕ) (o : Object) → command_in words.now ≡ Some (Plan name)
-        → IsReadyObject (Some name) (S.holds shelf.old) (S.faults shelf.old) (S.faults shelf.new) o
-        → (script : List ℕ) (fault : ScriptFault) → R.rest input.old ≡ Some script → input_of o.tables script ≡ Bad fault.line fault.kind
-        → (Rose (R.faults input.old) (R.faults input.new) → ⊥) → (Rose (W.faults out.old) (W.faults out.new) → ⊥) → IsOrMemory result (Outcome.Script fault) }
-    ensures plan_complete { (name : List ℕ) (o : Object) → command_in words.now ≡ Some (Plan name)
-        → IsReadyObject (Some name) (S.holds shelf.old) (S.faults shelf.old) (S.faults shelf.new) o
-        → (script : List ℕ) (modes : List (Option ℕ)) → R.rest input.old ≡ Some script → input_of o.tables script ≡ Whole modes
-        → (Rose (R.faults input.old) (R.faults input.new) → ⊥) → (Rose (W.faults out.old) (W.faults out.new) → ⊥) → IsOrMemory result Outcome.Done }
-
-    // What stays as it was, and how much of the input was taken.
-    ensures memory { result ≡ Outcome.Memory → W.written out.new ≡ W.written out.old }
-    ensures memory_unread { RunsObject (command_in words.now) → result ≡ Outcome.Memory → R.rest input.new ≡ R.rest input.old }
-    ensures unwritten { IsBeforeRun result → W.written out.new ≡ W.written out.old }
-    ensures unread { (command_in words.now ≡ Some Compile → ⊥) → ((file : List ℕ) → command_in words.now ≡ Some (CompileWith file) → ⊥)
-        → IsBeforeScript result → R.rest input.new ≡ R.rest input.old }
-    ensures unfetched { (why : ShelfCause) → result ≡ Outcome.Shelf why → R.rest input.new ≡ R.rest input.old }
+    // Whatever the command: the cause of each fault, the object that is named, and what stays as it was.
+    ensures causes { FaultRows (command_in words.now) (files S.holds S.faults shelf.old shelf.new)
+        (streams R.rest R.faults W.written W.faults input.old out.old) (streams R.rest R.faults W.written W.faults input.new out.new) result }
+    ensures object { ObjectRows (command_in words.now) (files S.holds S.faults shelf.old shelf.new)
+        (streams R.rest R.faults W.written W.faults input.old out.old) (streams R.rest R.faults W.written W.faults input.new out.new) result }
+    ensures memory { KeptRows (command_in words.now) (files S.holds S.faults shelf.old shelf.new)
+        (streams R.rest R.faults W.written W.faults input.old out.old) (streams R.rest R.faults W.written W.faults input.new out.new) result }
     ensures taken { LosesFront (most_taken (command_in words.now)) (R.rest input.old) (R.rest input.new) }
     ensures shelf { S.holds shelf.new ≡ S.holds shelf.old }
 
@@ -376,9 +138,8 @@ pub fn htl<S: Shelf, R: Source, W: Sink, E: Sink>(
         (streams R.rest R.faults W.written W.faults input.old out.old) (streams R.rest R.faults W.written W.faults input.new out.new) }
 
     // What tells of the answer.
-    ensures told { IsLineTold (HasSource (command_in words.now) (S.holds shelf.old) (R.rest input.old)) (HasObject (command_in words.now) (S.holds shelf.old))
-        (Tells (E.written err.old) (E.written err.new) (E.faults err.old) (E.faults err.new)) result }
-    ensures quiet { result ≡ Outcome.Done → E.written err.new ≡ E.written err.old }
+    ensures told { IsTold (HasSource (command_in words.now) (S.holds shelf.old) (R.rest input.old)) (HasObject (command_in words.now) (S.holds shelf.old))
+        (E.written err.old) (E.written err.new) (E.faults err.old) (E.faults err.new) result }
 
     // The causes in one, command by command and answer by answer.
     ensures answer { IsCall (command_in words.now)

@@ -5,6 +5,7 @@ use Rattle.htl_top.proofs.bulk.bulk.Goals as goal
 pub run_generated-requires : goal.run_generated-requires
 run_generated-requires g c = (
   c.args.modules,
+  c.requires.some,
   c.requires.few,
   subst (λ (bs : List ℕ). IsCompiledTo (bulk_bytes c.args.modules) bs) (sym c.as_slice.ensures.value) c.in-Ok.ensures,
 )

@@ -1,7 +1,7 @@
 use Rattle.std.proofs.Common.{arith, suc, ◌*◌, ◌++◌, ◌∷◌, [], Err, refl, add-one}
 use Rattle.htl_model.specs.declared.event.Event.TheVariants as event
 use Rattle.htl_top.proofs.Rounds.{running_start, still_in_order, put_nothing, running_on}
-use Rattle.htl_top.specs.Bulk.{readings_of}
+use Rattle.htl_bulk.specs.BulkEvents.{readings_of}
 use Rattle.htl_top.proofs.bulk.run_rounds.Goals as goal
 
 pub loop-round-init : goal.loop-round-init

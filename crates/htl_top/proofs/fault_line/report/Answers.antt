@@ -1,5 +1,5 @@
 use Rattle.std.proofs.Common.{◌∙◌}
-use Rattle.htl_top.proofs.Putting.{Tells-put}
+use Rattle.htl_open.proofs.Putting.{Tells-put}
 use Rattle.htl_top.proofs.fault_line.report.Goals as goal
 
 pub returns-clause-told : goal.returns-clause-told

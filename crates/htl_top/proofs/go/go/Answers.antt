@@ -25,7 +25,7 @@ returns-in-Ok-clause-tables g c =
 
 pub returns-in-Err-clause-tables : goal.returns-in-Err-clause-tables
 returns-in-Err-clause-tables g c =
-    of_answer (SpeaksOf (HasTypedTables c.args.bytes.now) (λ fact. ⊥)) c.in-Err.stop c.answer.result.outcome c.answer.result.tables c.answer.ensures.outcome c.answer.ensures.tables
+    of_answer (SpeaksOf (HasTypedTables c.args.bytes.now) (λ fact. ⊥)) c.in-Err.stop c.source_answer.result.outcome c.source_answer.result.tables c.source_answer.ensures.outcome c.source_answer.ensures.tables
     (SpeaksOf-stop (λ fact. ⊥) c.args.bytes.now c.in-Err.stop c.in-Err.ensures.fault)
 
 pub returns-in-Err-clause-taken : goal.returns-in-Err-clause-taken

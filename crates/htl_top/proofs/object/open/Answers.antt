@@ -1,14 +1,21 @@
-use Rattle.htl_top.proofs.Vocabulary.{Some, sym, subst, files, IsObjectTables, IsStopped, SpeaksOf, Outcome}
-use Rattle.htl_top.proofs.Fetching.{fetching_speaks, unfetched_stops}
+use Rattle.std.proofs.Common.{Option, Some, sym, ◌∙◌, subst}
+use Rattle.htl_top.proofs.Vocabulary.{files, IsObjectTables, IsStopped, SpeaksOf, Tables, Outcome}
+use Rattle.htl_top.proofs.Fetching.{unopened_failed, unopened_speaks, unopened_stops}
+use Rattle.htl_top.specs.Fetching.{unopened_as}
 use Rattle.htl_top.proofs.object.open.Goals as goal
 
 pub returns-in-Err-clause-stopped : goal.returns-in-Err-clause-stopped
 returns-in-Err-clause-stopped g c =
-    let shelf = files g.S.Shelf.holds g.S.Shelf.faults c.args.shelf.now c.fetch_file.new.shelf in
-    subst (λ (o : Outcome). IsStopped (Some c.args.name.now) shelf o) (sym c.plain.ensures.outcome) (unfetched_stops (Some c.args.name.now) shelf c.in-Err.outcome c.in-Err.ensures.stopped)
+    let shelf = files g.S.Shelf.holds g.S.Shelf.faults c.args.shelf.now c.open.new.shelf in
+    subst (λ (o : Outcome). IsStopped (Some c.args.name.now) shelf o) (sym c.unopened.ensures.outcome) (unopened_stops (Some c.args.name.now) shelf c.in-Err.stop c.in-Err.ensures.stopped)
 
 pub returns-in-Err-clause-tables : goal.returns-in-Err-clause-tables
 returns-in-Err-clause-tables g c =
-    let HasObject = IsObjectTables (Some c.args.name.now) (g.S.Shelf.holds c.args.shelf.now) in
-    subst (λ (o : Outcome). SpeaksOf (λ fact. ⊥) HasObject o c.plain.result.tables) (sym c.plain.ensures.outcome)
-    (fetching_speaks (λ fact. ⊥) HasObject c.in-Err.outcome c.plain.result.tables c.in-Err.ensures.fetching)
+    let shelf = files g.S.Shelf.holds g.S.Shelf.faults c.args.shelf.now c.open.new.shelf in
+    let HasObject = IsObjectTables (Some c.args.name.now) shelf.holds in
+    subst (λ (o : Outcome). SpeaksOf (λ fact. ⊥) HasObject o c.unopened.result.tables) (sym c.unopened.ensures.outcome)
+    (subst (λ (t : Option Tables). SpeaksOf (λ fact. ⊥) HasObject (unopened_as c.in-Err.stop) t) (sym c.unopened.ensures.tables)
+    (unopened_speaks (λ fact. ⊥) (Some c.args.name.now) shelf c.in-Err.stop c.in-Err.ensures.stopped))
+
+pub returns-in-Err-clause-stopped_count : goal.returns-in-Err-clause-stopped_count
+returns-in-Err-clause-stopped_count g c = λ apart. c.in-Err.ensures.stopped_count (λ failed. apart (c.unopened.ensures.outcome ∙ unopened_failed c.in-Err.stop failed))

@@ -1,0 +1,77 @@
+-- From the answer of `audit` to its rows.
+use Rattle.std.proofs.Common.{◌≡◌, ◌<◌, ◌⊎◌, ℕ, List, length, Option, None, Some, subst, inl, inr}
+use Rattle.htl_top.proofs.Vocabulary.{IsFirstFault, IsLegal, ReadLog, RefusedLog, log_of, LogFault, Slice, Values, Rose, Tables, Event, Object, ScriptFault, Files, Streams, IsUnhad, IsFileOf, IsReadyFile, HasLog, HasSlices, IsAudit, IsAuditOf, IsAuditRun, IsCutAudit, IsLogCause, IsLogRefused, IsWholeAudit, IsCall, IsGiven, IsOrMemory, IsAcceptedFile, IsReadyObject, IsFaultyRun, IsWhole, IsBad, Command, Go, Compile, CompileWith, Bulk, Slack, Audit, Patch, Outcome, Done, Usage, Log, Faulty, Shelf, Read, Write, Memory, TooLong}
+use Rattle.htl_top.proofs.Auditing as auditing
+use Rattle.htl_top.proofs.AuditScripts as scripts
+use Rattle.htl_top.proofs.ObjectAnswering as objects
+use Rattle.htl_top.specs.ObjectRows.{AuditRows}
+
+log_usage : (f : LogFault) → Log f ≡ Usage → ⊥
+log_usage f e = cc
+
+-- answers of a run alone: its log was read
+abbrev IsOfRun : Outcome → Type 0
+IsOfRun outcome = ((t : Tables) (bytes : List ℕ) → IsLogRefused t bytes outcome → ⊥) × ((name log : List ℕ) (shelf : Files) → IsUnhad (Some name) (Some log) shelf outcome → ⊥)
+
+module _ (shelf : Files) (old new : Streams) (outcome : Outcome) (name log : List ℕ) (call : IsAudit name log shelf old new outcome) where
+  -- the log was audited for the run
+  ran_as : (other : Outcome) → outcome ≡ other → IsOfRun other → IsAcceptedFile (Some name) shelf.holds (λ o. HasLog log shelf.holds o.tables (λ slices. IsAuditRun slices o old new other))
+  ran_as other same run = elim (subst (λ (o : Outcome). IsAudit name log shelf old new o) same call) [
+    | inl a ↦
+        objects.IsAcceptedFile-map (Some name) shelf.holds (λ o. IsFileOf (Some log) shelf.holds (λ bytes. IsAuditOf bytes o old new other))
+        (λ o. HasLog log shelf.holds o.tables (λ slices. IsAuditRun slices o old new other)) (λ o h. record { bytes = h.bytes; file = h.file; fact = read o h.bytes h.fact }) a
+    | inr s ↦ absurd (run.1 name log shelf s.0)
+  ]
+    where
+      read : (o : Object) (bytes : List ℕ) → IsAuditOf bytes o old new other → HasSlices o.tables bytes (λ slices. IsAuditRun slices o old new other)
+      read o bytes (inl h) = h
+      read o bytes (inr r) = absurd (run.0 o.tables bytes r.0)
+
+  -- where it is cut, a prefix was written
+  cut_as : (other : Outcome) → ((o : Object) (slices : List Slice) → IsAuditRun slices o old new other → IsCutAudit o slices old.rest old.written new.written)
+      → IsAcceptedFile (Some name) shelf.holds (λ o. HasLog log shelf.holds o.tables (λ slices. IsAuditRun slices o old new other))
+      → IsAcceptedFile (Some name) shelf.holds (λ o. HasLog log shelf.holds o.tables (λ slices. IsCutAudit o slices old.rest old.written new.written))
+  cut_as other f a =
+      objects.IsAcceptedFile-map (Some name) shelf.holds (λ o. HasLog log shelf.holds o.tables (λ slices. IsAuditRun slices o old new other))
+      (λ o. HasLog log shelf.holds o.tables (λ slices. IsCutAudit o slices old.rest old.written new.written))
+      (λ o h. record { bytes = h.bytes; file = h.file; fact = record { slices = h.fact.slices; read = h.fact.read; fact = f o h.fact.slices h.fact.fact } }) a
+
+  -- what is audited of a log that is read
+  run_of : {A : Type 0} (o : Object) → IsReadyObject (Some name) shelf.holds shelf.before shelf.after o → (bytes : List ℕ) → IsReadyFile (Some log) shelf.holds shelf.before shelf.after bytes
+      → (slices : List Slice) → log_of o.tables bytes ≡ ReadLog slices → (IsAuditRun slices o old new outcome → A ⊎ (outcome ≡ Memory)) → A ⊎ (outcome ≡ Memory)
+  run_of o is bytes file slices read f = elim (auditing.ready name log shelf old new o is bytes file outcome call) [
+    | inl h ↦ elim (scripts.of_slices o old new bytes slices read outcome h) [ inl r ↦ f r | inr m ↦ inr m ]
+    | inr m ↦ inr m
+  ]
+
+  pub audit_rows : AuditRows name log shelf old new outcome
+  audit_rows = record {
+    done = λ same. ran_as Done same (λ t bytes r. r, λ n l s r. r);
+    script = λ f same. ran_as (Faulty f) same (λ t bytes r. r, λ n l s r. r);
+    read = λ same. let a = ran_as Read same (λ t bytes r. r, λ n l s r. r) in (a.fact.fact.fact.0, cut_as Read (λ o slices h. h.1) a);
+    write = λ same. let a = ran_as Write same (λ t bytes r. r, λ n l s r. r) in (a.fact.fact.fact.0, cut_as Write (λ o slices h. h.1) a);
+    long_log = λ bytes is others given long. auditing.long_log name log shelf old new bytes is others given long outcome call;
+    faulty_log = λ o is bytes file f refused. elim (auditing.ready name log shelf old new o is bytes file outcome call) [
+      | inl h ↦ scripts.faulty_log o old new bytes f refused outcome h
+      | inr m ↦ inr m
+    ];
+    bad_script = λ o is bytes file slices read s f events told bad quiet still.
+        run_of o is bytes file slices read (λ r. scripts.bad_script o slices old new s told f events bad quiet still outcome r);
+    illegal_log = λ o is bytes file slices read s events end told whole f fault quiet still.
+        run_of o is bytes file slices read (λ r. scripts.illegal_log o slices old new s told events end whole quiet still f fault outcome r);
+    complete = λ o is bytes file slices read s events end told whole legal quiet still.
+        run_of o is bytes file slices read (λ r. scripts.legal_log o slices old new s told events end whole quiet still legal outcome r);
+  }
+
+module _ (shelf : Files) (old new : Streams) where
+  -- no other command has this answer
+  pub log_cause : (command : Option Command) (f : LogFault) → IsCall command shelf old new (Log f) → IsLogCause command shelf.holds old new f
+  log_cause None f call = log_usage f call.0
+  log_cause (Some (Go name)) f call = elim call [ inl p ↦ p.has.fact | inr s ↦ s.0 ]
+  log_cause (Some Compile) f call = call
+  log_cause (Some (CompileWith file)) f call = call
+  log_cause (Some (Bulk n)) f call = call
+  log_cause (Some (Slack name owner task)) f call = elim call [ inl a ↦ a.fact.1 | inr s ↦ s.0 ]
+  log_cause (Some (Patch name unit mode donor)) f call = elim call.1 [ inl a ↦ a.fact.fact | inr s ↦ s.0 ]
+  log_cause (Some (Audit name log)) f call = elim call [ inl a ↦ a | inr s ↦ absurd s.0 ]
+  log_cause _ f call = elim call [ inl a ↦ a.fact | inr s ↦ s.0 ]

@@ -1,0 +1,201 @@
+-- From the answer of a command on an object to its rows, and to those on the object itself.
+use Rattle.std.proofs.Common.{◌≡◌, ◌≤◌, ◌<◌, ◌⊎◌, ℕ, List, length, Option, None, Some, refl, subst, inl, inr}
+use Rattle.htl_top.proofs.Vocabulary.{append_known, Shown, Rose, AppendsPrefix, RefusesBytes, ObjectFault, PatchFault, Object, Files, Streams, IsCall, IsGiven, IsOrMemory, check_text, IsChecked, IsReadyFile, IsAcceptedFile, IsOnObject, IsReadyObject, IsTextAnswer, Work, IsPlanned, IsCutPlan, IsBadSelection, IsRun, IsCutRun, show_text, IsShown, HasSlack, NamesNoTask, IsSlacked, IsTaskCause, object_bytes, HasPatch, IsDonorFault, IsDonorTold, IsPatchCause, IsPatching, Command, Go, Compile, CompileWith, Run, Check, Plan, Show, Bulk, Slack, Audit, Patch, command_object, second_file, Outcome, Done, Usage, Refused, Script, Shelf, Task, Unpatched, Read, Write, Memory, TooLong}
+use Rattle.htl_top.proofs.Auditing as auditing
+use Rattle.htl_top.proofs.Calling.{RunOf, checking, showing, some_not_none, done_memory, write_memory, read_memory, script_memory}
+use Rattle.htl_top.proofs.ObjectAnswering as objects
+use Rattle.htl_top.proofs.ObjectAnswering.{IsWork}
+use Rattle.htl_top.proofs.Patching as patching
+use Rattle.htl_top.proofs.Planning.{planning, bad_input, whole_input}
+use Rattle.htl_top.proofs.Running.{running, bad_run, whole_run}
+use Rattle.htl_top.proofs.Slacking as slacking
+use Rattle.htl_top.proofs.Slacking.{slacking as slack_work}
+use Rattle.htl_top.specs.ObjectRows.{RunRows, CheckRows, ShowRows, SlackRows, PlanRows, PatchRows}
+
+-- ---- the object that is named
+
+module _ (shelf : Files) (old new : Streams) where
+  pub long_object : (command : Option Command) (bytes : List ℕ) (outcome : Outcome) → IsGiven (command_object command) shelf.holds shelf.before shelf.after bytes
+      → IsCall command shelf old new outcome → 16777216 < length bytes → IsOrMemory outcome (Shelf (TooLong (length bytes)))
+  long_object (Some (Run show name)) bytes outcome given call long = objects.long_object (RunOf show) (running show) (Some name) shelf old new bytes given outcome call long
+  long_object (Some (Check name)) bytes outcome given call long = objects.long_object IsChecked checking (Some name) shelf old new bytes given outcome call long
+  long_object (Some (Plan name)) bytes outcome given call long = objects.long_object IsPlanned planning (Some name) shelf old new bytes given outcome call long
+  long_object (Some (Show name)) bytes outcome given call long = objects.long_object IsShown showing (Some name) shelf old new bytes given outcome call long
+  long_object (Some (Slack name owner task)) bytes outcome given call long = objects.long_object (IsSlacked owner task) (slack_work owner task) (Some name) shelf old new bytes given outcome call long
+  long_object (Some (Audit name log)) bytes outcome given call long = auditing.long_object name log shelf old new bytes given outcome call long
+  long_object (Some (Patch name unit mode donor)) bytes outcome given call long = patching.long_object unit mode (Some name) (Some donor) shelf old new bytes given outcome call long
+  long_object _ bytes outcome given call long = absurd (some_not_none (List ℕ) None given.word given.named refl)
+
+  pub faulty_object : (command : Option Command) (bytes : List ℕ) (outcome : Outcome) → IsGiven (command_object command) shelf.holds shelf.before shelf.after bytes
+      → IsCall command shelf old new outcome → ((word : List ℕ) → second_file command ≡ Some word → (others : List ℕ) × IsReadyFile (Some word) shelf.holds shelf.before shelf.after others)
+      → (f : ObjectFault) → length bytes ≤ 16777216 → RefusesBytes bytes f → IsOrMemory outcome (Refused f)
+  faulty_object (Some (Run show name)) bytes outcome given call second f short refused =
+      objects.faulty_object (RunOf show) (running show) (Some name) shelf old new bytes given outcome call f short refused
+  faulty_object (Some (Check name)) bytes outcome given call second f short refused =
+      objects.faulty_object IsChecked checking (Some name) shelf old new bytes given outcome call f short refused
+  faulty_object (Some (Plan name)) bytes outcome given call second f short refused =
+      objects.faulty_object IsPlanned planning (Some name) shelf old new bytes given outcome call f short refused
+  faulty_object (Some (Show name)) bytes outcome given call second f short refused =
+      objects.faulty_object IsShown showing (Some name) shelf old new bytes given outcome call f short refused
+  faulty_object (Some (Slack name owner task)) bytes outcome given call second f short refused =
+      objects.faulty_object (IsSlacked owner task) (slack_work owner task) (Some name) shelf old new bytes given outcome call f short refused
+  faulty_object (Some (Audit name log)) bytes outcome given call second f short refused =
+      auditing.faulty_object name log shelf old new bytes given outcome call (second log refl) f short refused
+  faulty_object (Some (Patch name unit mode donor)) bytes outcome given call second f short refused =
+      let other = second donor refl in patching.faulty_object unit mode (Some name) (Some donor) shelf old new bytes given other.0 other.1.given other.1.short outcome call f short refused
+  faulty_object _ bytes outcome given call second f short refused = absurd (some_not_none (List ℕ) None given.word given.named refl)
+
+module _ (shelf : Files) (old new : Streams) (outcome : Outcome) (name : List ℕ) where
+  -- ---- what is done with an accepted object
+
+  module _ (Does : Work) (work : IsWork Does) (call : IsOnObject Does (Some name) shelf old new outcome) where
+    -- where the answer isn't Memory it was done
+    did : (other : Outcome) → outcome ≡ other → objects.IsOfWork other → (other ≡ Memory → ⊥) → IsAcceptedFile (Some name) shelf.holds (λ o. Does o old new other)
+    did other same is apart = objects.done_with Does work (Some name) shelf old new other (subst (λ (o : Outcome). IsOnObject Does (Some name) shelf old new o) same call) is apart
+
+    -- and what follows from it
+    did_map : (other : Outcome) → outcome ≡ other → objects.IsOfWork other → (other ≡ Memory → ⊥) → (Fact : Object → Type 0) → ((o : Object) → Does o old new other → Fact o)
+        → IsAcceptedFile (Some name) shelf.holds Fact
+    did_map other same is apart Fact f = objects.IsAcceptedFile-map (Some name) shelf.holds (λ o. Does o old new other) Fact f (did other same is apart)
+
+    -- with an object that is ready it is done, or there was no memory
+    ready : {A : Type 0} (o : Object) → IsReadyObject (Some name) shelf.holds shelf.before shelf.after o → (Does o old new outcome → A ⊎ (outcome ≡ Memory)) → A ⊎ (outcome ≡ Memory)
+    ready o is f = elim (objects.ready Does work (Some name) shelf old new o is outcome call) [ inl d ↦ f d | inr m ↦ inr m ]
+
+  -- ---- `run`, `jobs` and `code`
+
+  pub run_rows : (show : Shown) → IsOnObject (RunOf show) (Some name) shelf old new outcome → RunRows show name shelf old new outcome
+  run_rows show call = record {
+    done = λ same. did (RunOf show) (running show) call Done same tt done_memory;
+    script = λ f same. did (RunOf show) (running show) call (Script f) same tt (script_memory f);
+    read = λ same. (
+      (did (RunOf show) (running show) call Read same tt read_memory).fact.0,
+      did_map (RunOf show) (running show) call Read same tt read_memory (λ o. IsCutRun show o.tables o old.rest old.written new.written) (λ o r. r.1),
+    );
+    write = λ same. (
+      (did (RunOf show) (running show) call Write same tt write_memory).fact.0,
+      did_map (RunOf show) (running show) call Write same tt write_memory (λ o. IsCutRun show o.tables o old.rest old.written new.written) (λ o r. r.1),
+    );
+    bad_script = λ o is s f events told bad quiet still. ready (RunOf show) (running show) call o is (λ r. bad_run show o.tables o old new s told f events bad quiet still outcome r);
+    complete = λ o is s events end told whole quiet still. ready (RunOf show) (running show) call o is (λ r. whole_run show o.tables o old new s told events end whole quiet still outcome r);
+  }
+
+  -- ---- a text of an object
+
+  pub check_rows : IsOnObject IsChecked (Some name) shelf old new outcome → CheckRows name shelf old new outcome
+  check_rows call = record {
+    done = λ same. did_map IsChecked checking call Done same tt done_memory (λ o. new.written ≡ append_known old.written (check_text o.tables)) (λ o d. d.1);
+    write = λ same. (
+      (did IsChecked checking call Write same tt write_memory).fact.1,
+      did_map IsChecked checking call Write same tt write_memory (λ o. AppendsPrefix old.written new.written (check_text o.tables)) (λ o d. d.2),
+    );
+    unread = elim call [ inl a ↦ objects.text_unread (check_text a.object.tables) old new outcome a.fact | inr s ↦ s.1.rest ];
+    complete = λ o is still. ready IsChecked checking call o is (λ d. objects.text_done (check_text o.tables) old new outcome d still);
+  }
+
+  pub show_rows : IsOnObject IsShown (Some name) shelf old new outcome → ShowRows name shelf old new outcome
+  show_rows call = record {
+    done = λ same. did_map IsShown showing call Done same tt done_memory (λ o. new.written ≡ append_known old.written (show_text o)) (λ o d. d.1);
+    write = λ same. (
+      (did IsShown showing call Write same tt write_memory).fact.1,
+      did_map IsShown showing call Write same tt write_memory (λ o. AppendsPrefix old.written new.written (show_text o)) (λ o d. d.2),
+    );
+    unread = elim call [ inl a ↦ objects.text_unread (show_text a.object) old new outcome a.fact | inr s ↦ s.1.rest ];
+    complete = λ o is still. ready IsShown showing call o is (λ d. objects.text_done (show_text o) old new outcome d still);
+  }
+
+  -- ---- `plan`
+
+  pub plan_rows : IsOnObject IsPlanned (Some name) shelf old new outcome → PlanRows name shelf old new outcome
+  plan_rows call = record {
+    done = λ same. did IsPlanned planning call Done same tt done_memory;
+    write = λ same. (
+      (did IsPlanned planning call Write same tt write_memory).fact.0,
+      did_map IsPlanned planning call Write same tt write_memory (λ o. IsCutPlan o old.rest old.written new.written) (λ o p. p.1),
+    );
+    script = λ f same. (
+      did_map IsPlanned planning call (Script f) same tt (script_memory f) (λ o. IsBadSelection o old.rest f) (λ o p. p.0),
+      (did IsPlanned planning call (Script f) same tt (script_memory f)).fact.1,
+    );
+    read = λ same. (did IsPlanned planning call Read same tt read_memory).fact;
+    bad_selection = λ o is s f told bad quiet still. ready IsPlanned planning call o is (λ d. bad_input o old new s f told bad quiet still outcome d);
+    complete = λ o is s modes told whole quiet still. ready IsPlanned planning call o is (λ d. whole_input o old new s modes told whole quiet still outcome d);
+  }
+
+  -- ---- `slack`
+
+  pub slack_rows : (owner task : List ℕ) → IsOnObject (IsSlacked owner task) (Some name) shelf old new outcome → SlackRows name owner task shelf old new outcome
+  slack_rows owner task call = record {
+    done = λ same. did_map (IsSlacked owner task) (slack_work owner task) call Done same tt done_memory
+        (λ o. HasSlack o.tables owner task (λ text. new.written ≡ append_known old.written text)) (λ o a. a.1);
+    write = λ same. (
+      (did (IsSlacked owner task) (slack_work owner task) call Write same tt write_memory).fact.1.0,
+      did_map (IsSlacked owner task) (slack_work owner task) call Write same tt write_memory
+          (λ o. HasSlack o.tables owner task (λ text. AppendsPrefix old.written new.written text)) (λ o a. a.1.1),
+    );
+    unread = elim call [ inl a ↦ a.fact.0 | inr s ↦ s.1.rest ];
+    unknown_task = λ o is none. ready (IsSlacked owner task) (slack_work owner task) call o is (λ d. slacking.no_task owner task o old new outcome none d);
+    complete = λ o is k named still. ready (IsSlacked owner task) (slack_work owner task) call o is (λ d. slacking.slack_done owner task o old new k outcome named still d);
+  }
+
+  -- ---- `patch`
+
+  pub patch_rows : (unit mode donor : List ℕ) → IsPatching unit mode (Some name) (Some donor) shelf old new outcome → PatchRows name unit mode donor shelf old new outcome
+  patch_rows unit mode donor call = record {
+    done = λ same. elim (told Done same).1 [ inl a ↦ a | inr s ↦ absurd s.0 ];
+    write = λ same. elim (told Write same).1 [
+      | inl a ↦ (
+        a.fact.fact.0,
+        patching.AreFilesOf-map (Some name) (Some donor) shelf (λ o bytes. IsDonorTold o unit mode bytes old.written new.written old.write_faults new.write_faults Write)
+            (λ o bytes. HasPatch o unit mode bytes (λ p. AppendsPrefix old.written new.written (object_bytes p))) (λ o bytes t. t.1) a,
+      )
+      | inr s ↦ absurd s.0
+    ];
+    unread = call.0;
+    long_donor = λ host bytes had gift long. patching.long_donor unit mode (Some name) (Some donor) shelf old new host had.given bytes gift outcome call had.short long;
+    faulty_donor = λ bytes o is gift small f faulty. patching.faulty_donor unit mode (Some name) (Some donor) shelf old new o is bytes gift small f faulty outcome call;
+    complete = λ bytes o d g is gift small has can still. patching.complete unit mode (Some name) (Some donor) shelf old new o d g is bytes gift small has can still outcome call;
+  }
+    where
+      told : (other : Outcome) → outcome ≡ other → IsPatching unit mode (Some name) (Some donor) shelf old new other
+      told other same = subst (λ (o : Outcome). IsPatching unit mode (Some name) (Some donor) shelf old new o) same call
+
+-- ---- answers of one command alone
+
+task_usage : Task ≡ Usage → ⊥
+task_usage e = cc
+
+unpatched_usage : (f : PatchFault) → Unpatched f ≡ Usage → ⊥
+unpatched_usage f e = cc
+
+module _ (shelf : Files) (old new : Streams) where
+  pub task_cause : (command : Option Command) → IsCall command shelf old new Task → IsTaskCause command shelf.holds
+  task_cause None call = task_usage call.0
+  task_cause (Some (Go name)) call = elim call [ inl p ↦ p.has.fact | inr s ↦ s.0 ]
+  task_cause (Some Compile) call = call
+  task_cause (Some (CompileWith file)) call = call
+  task_cause (Some (Bulk n)) call = call
+  task_cause (Some (Audit name log)) call = auditing.no_task name log shelf old new call
+  task_cause (Some (Patch name unit mode donor)) call = patching.no_task unit mode (Some name) (Some donor) shelf old new call
+  task_cause (Some (Slack name owner task)) call = elim call [
+    | inl a ↦
+        objects.IsAcceptedFile-map (Some name) shelf.holds (λ o. IsSlacked owner task o old new Task) (λ o. NamesNoTask o.tables owner task) (λ o d. d.1.0) a
+    | inr s ↦ absurd s.0
+  ]
+  task_cause _ call = elim call [ inl a ↦ a.fact | inr s ↦ s.0 ]
+
+  pub patch_cause : (command : Option Command) (f : PatchFault) → IsCall command shelf old new (Unpatched f) → IsPatchCause command shelf.holds f
+  patch_cause None f call = unpatched_usage f call.0
+  patch_cause (Some (Go name)) f call = elim call [ inl p ↦ p.has.fact | inr s ↦ s.0 ]
+  patch_cause (Some Compile) f call = call
+  patch_cause (Some (CompileWith file)) f call = call
+  patch_cause (Some (Bulk n)) f call = call
+  patch_cause (Some (Slack name owner task)) f call = elim call [ inl a ↦ a.fact.1 | inr s ↦ s.0 ]
+  patch_cause (Some (Audit name log)) f call = elim call [ inl a ↦ elim a.fact.fact [ inl h ↦ h.fact | inr r ↦ r.0 ] | inr s ↦ s.0 ]
+  patch_cause (Some (Patch name unit mode donor)) f call = elim call.1 [
+    | inl a ↦
+        patching.AreFilesOf-map (Some name) (Some donor) shelf (λ o bytes. IsDonorTold o unit mode bytes old.written new.written old.write_faults new.write_faults (Unpatched f))
+        (λ o bytes. IsDonorFault o unit mode bytes f) (λ o bytes t. t.0) a
+    | inr s ↦ absurd s.0
+  ]
+  patch_cause _ f call = elim call [ inl a ↦ a.fact | inr s ↦ s.0 ]

@@ -1,7 +1,0 @@
-use Rattle.htl_top.proofs.fetch.fetch_file.Goals as goal
-
-pub returns-in-Err-TooLong-clause-stopped_count : goal.returns-in-Err-TooLong-clause-stopped_count
-returns-in-Err-TooLong-clause-stopped_count g c = λ long. rw c.in-Err-TooLong.field-0-is at c.in-Err-TooLong.ensures.kept
-
-pub returns-in-Err-Memory-clause-stopped_count : goal.returns-in-Err-Memory-clause-stopped_count
-returns-in-Err-Memory-clause-stopped_count g c = λ none. rw c.in-Err-Memory.field-0-is at c.in-Err-Memory.ensures.kept
