@@ -1,9 +1,9 @@
 // Readers and writers that fail, and files.
 use crate::asserts::{holds, same};
+use htl_adapters::folder::{Disk, Folder, read_up_to};
+use htl_adapters::input::Input;
+use htl_adapters::output::Output;
 use htl_edge::{Failed, Shelf, ShelfFault, Sink, Source};
-use htl_program::folder::{Disk, Folder, read_up_to};
-use htl_program::input::Input;
-use htl_program::output::Output;
 use htl_samples::files::is_fetched;
 use std::alloc::Global;
 use std::io::{Read, Write};

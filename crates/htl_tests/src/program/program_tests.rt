@@ -2,10 +2,10 @@
 ghost use Rattle.std.specs.Prelude.{None};
 
 use crate::asserts::{same, same_in};
+use htl_adapters::folder::{Folder, Open};
+use htl_adapters::input::Input;
+use htl_adapters::output::Output;
 use htl_edge::{Page, Tape};
-use htl_program::folder::{Folder, Open};
-use htl_program::input::Input;
-use htl_program::output::Output;
 use htl_program::program::command;
 use htl_samples::files::shelf_of;
 use std::alloc::{AllocError, Global};
