@@ -12,6 +12,12 @@ asked() {
 # This repository's bin/htl, with the true rt.
 true_htl() { PATH=${PATH#"$work/tools:"} "$root/bin/htl" "$@"; }
 
+# What the true `times` prints of the object in the file $2, asked once and kept by the name $1.
+times_of() {
+	[ -s "$work/times/$1" ] || { mkdir -p "$work/times" && true_htl times "$2" >"$work/times/$1"; }
+	cat "$work/times/$1"
+}
+
 # Puts down what to ask: a name, the file that is standard input (`lines`: what `lines` wrote last), and the words.
 ask() {
 	[ "$2" = lines ] && cp "$work/asked/lines" "$work/asked/cases/$1" || cp "$2" "$work/asked/cases/$1"

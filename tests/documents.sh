@@ -42,7 +42,7 @@ absent() {
 # names its crates, and that no file of specs/ has.
 bracketed() {
 	awk '
-	/^#/ { crates = ""; text = $0; while (match(text, /htl_[a-z]+/)) { crates = crates " " substr(text, RSTART, RLENGTH); text = substr(text, RSTART + RLENGTH) } }
+	/^#/ { crates = ""; text = $0; while (match(text, /htl_[a-z_]+/)) { crates = crates " " substr(text, RSTART, RLENGTH); text = substr(text, RSTART + RLENGTH) } }
 	/^## / { outer = crates }
 	/^### / { if (crates == "") crates = outer }
 	{ all = all " \001" crates "\002" $0 }

@@ -6,11 +6,12 @@ pages='thermostat tanks motor boiler overload cascade platforms patch audit inst
 # Makes a copy of this repository, as far as its pages need it, over tests/true-htl.
 make_copy() {
 	rm -rf "$1"
-	mkdir -p "$1/crates/htl/out"
+	mkdir -p "$1/crates/htl/out" "$1/crates/times/out"
 	cp -R "$root/bin" "$root/tools" "$root/examples" "$1/"
 	: >"$1/crates.txt"
 	cp "$root/tests/true-htl" "$1/crates/htl/out/htl"
-	chmod +x "$1/crates/htl/out/htl"
+	cp "$root/tests/true-times" "$1/crates/times/out/times"
+	chmod +x "$1/crates/htl/out/htl" "$1/crates/times/out/times"
 	stamp_program "$1"
 }
 

@@ -14,7 +14,7 @@ export LC_ALL=C.UTF-8
 # Makes the repository: with no program, with one that is proved, with one that isn't that of its stamp, or with one of other sources.
 set_up() {
 	rm -rf "$repo" "$work/tools" "$calls" "$calls.stdin"
-	mkdir -p "$repo/crates/htl/src" "$repo/crates/low/src" "$repo/crates/other/src" "$repo/crates/htl/data" "$work/tools"
+	mkdir -p "$repo/crates/htl/src" "$repo/crates/times" "$repo/crates/low/src" "$repo/crates/other/src" "$repo/crates/htl/data" "$work/tools"
 	cp -R "$root/bin" "$root/tools" "$repo/"
 	printf 'low:\nother: low\nhtl: low std\n' >"$repo/crates.txt"
 	echo '// a source' >"$repo/crates/low/src/lib.rt"
@@ -47,9 +47,10 @@ stamp_program() (
 )
 
 install_program() {
-	mkdir -p "$repo/crates/htl/out"
+	mkdir -p "$repo/crates/htl/out" "$repo/crates/times/out"
 	cp "$root/tests/fake-htl" "$repo/crates/htl/out/htl"
-	chmod +x "$repo/crates/htl/out/htl"
+	cp "$root/tests/fake-times" "$repo/crates/times/out/times"
+	chmod +x "$repo/crates/htl/out/htl" "$repo/crates/times/out/times"
 }
 
 # What bin/htl takes the program of a repository for, this one or the one named: proved, stale, foreign or none. `shell` runs it.

@@ -2,7 +2,7 @@
 
 _htl() {
 	local word=${COMP_WORDS[COMP_CWORD]} before=${COMP_WORDS[COMP_CWORD - 1]} i command=
-	local commands="go compile jobs run code check show plan slack audit patch bulk"
+	local commands="go compile jobs run code check show times plan slack audit patch bulk"
 	COMPREPLY=()
 	for ((i = 1; i < COMP_CWORD; i++)); do
 		case ${COMP_WORDS[i]} in
@@ -30,7 +30,7 @@ _htl() {
 		esac
 		;;
 	bulk) [ "$before" != bulk ] || COMPREPLY=($(compgen -W "1 2 4 8 16 32 64" -- "$word")) ;;
-	go | jobs | run | code | check | show | plan | slack | audit | patch)
+	go | jobs | run | code | check | show | times | plan | slack | audit | patch)
 		[ "$before" = "$command" ] || [ "$command:${COMP_WORDS[COMP_CWORD - 2]}" = audit:audit ] || [ "$command:${COMP_WORDS[COMP_CWORD - 3]-}" = patch:patch ] || return
 		compopt -o filenames 2>/dev/null
 		local IFS=$'\n' pattern='*'

@@ -71,7 +71,7 @@ at_entry() {
 # $1 the fault line, empty where there is none; $2 the source and $3 the script, where they are known.
 explain_fault() {
 	[ -n "$1" ] || return 0
-	set -- "$1" "${2:-/dev/null}" "$3"
+	set -- "htl: ${1#*: }" "${2:-/dev/null}" "$3"
 	found=$(look_up "$1") || return 0
 	meaning=$(echo "$found" | sed -n 's/^meaning //p')
 	{

@@ -1,27 +1,40 @@
 # The clauses of files of code, each with the definitions that it names: CRATE CALL CLAUSE FILE:NAME.. The call is the function's
 # name alone; a name counts where the file has it from a specs/ of one of the crates, by `ghost use`. A file in a folder of specs/
-# goes by its own name.
-function flush() {
-	if (clause != "" && fn != "") {
-		line = crate " " fn " " clause
-		rest = text
-		split("", seen)
-		while (match(rest, /[A-Za-z_][A-Za-z_0-9]*/)) {
-			word = substr(rest, RSTART, RLENGTH)
-			rest = substr(rest, RSTART + RLENGTH)
-			if (word in from && !(word in seen)) {
-				seen[word] = 1
-				line = line " " from[word]
-			}
+# goes by its own name. A clause that says the rows of a record of a specs/*Rows.antt comes with each row, as go.script; these files
+# come first, behind a specs/Common.antt that hands names on.
+# The definitions that a text names, each once.
+function cited(rest,    word, line) {
+	split("", seen)
+	while (match(rest, /[A-Za-z_][A-Za-z_0-9]*/)) {
+		word = substr(rest, RSTART, RLENGTH)
+		rest = substr(rest, RSTART + RLENGTH)
+		if (word in from && !(word in seen)) {
+			seen[word] = 1
+			line = line " " from[word]
 		}
-		print line
 	}
-	clause = ""
+	return line
 }
-FNR == 1 { flush(); fn = ""; crate = FILENAME; sub(/^crates\//, "", crate); sub(/\/.*/, "", crate); split("", from) }
-/^ghost use Rattle\.htl_[a-z]*\.specs\./ && !/\.declared\./ {
-	file = $0
-	sub(/^ghost use Rattle\.htl_[a-z]*\.specs\./, "", file)
+function flush(    it, n, k, part) {
+	if (record != "" && field != "") {
+		rows[crate, record] = rows[crate, record] " " field
+		row[crate, record, field] = cited(text)
+	} else if (clause != "" && fn != "") {
+		print crate " " fn " " clause cited(text)
+		n = split(text, it, /[^A-Za-z_]+/)
+		for (k = 1; k <= n; k++) if ((crate, it[k]) in rows) {
+			n = split(rows[crate, it[k]], part, " ")
+			record = it[k]
+			for (k = 1; k <= n; k++) print crate " " fn " " clause "." part[k] row[crate, record, part[k]]
+			record = ""
+		}
+	}
+	clause = field = ""
+}
+# What a line of imports brings: the names, each with its file.
+function imported(line,    file, names, n, part, i, own, name) {
+	file = line
+	sub(/^.*use Rattle\.htl_[a-z]*\.specs\./, "", file)
 	names = file
 	sub(/\.\{.*/, "", file)
 	sub(/^[a-z]+\./, "", file)
@@ -33,8 +46,19 @@ FNR == 1 { flush(); fn = ""; crate = FILENAME; sub(/^crates\//, "", crate); sub(
 		sub(/ as .*/, "", own)
 		name = part[i]
 		sub(/^.* as /, "", name)
-		from[name] = file ":" own
+		if (FILENAME ~ /Common\.antt$/) handed[crate, name] = file ":" own
+		else if (file == "Common") { if ((crate, own) in handed) from[name] = handed[crate, own] }
+		else from[name] = file ":" own
 	}
+}
+FNR == 1 { flush(); fn = record = ""; crate = FILENAME; sub(/^crates\//, "", crate); sub(/\/.*/, "", crate); split("", from) }
+/^(ghost |pub )?use Rattle\.htl_[a-z]*\.specs\..*\{/ && !/\.declared\./ { imported($0) }
+FILENAME ~ /antt$/ {
+	if (/^pub record /) { flush(); record = $3 }
+	else if (record != "" && /^  pub [a-z_]+ :/) { flush(); field = $2; text = $0 }
+	else if (/^ /) text = text " " $0
+	else { flush(); record = "" }
+	next
 }
 /^ *(pub(\([a-z]*\))? )?(const )?fn [a-z_0-9]+/ {
 	flush()

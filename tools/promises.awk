@@ -93,7 +93,7 @@ function row(words, calls, count, clauses, many, what,    k, i, bare, key, d, w,
 	text = cell[3] " " cell[4]
 	sub(/:.*/, "", text)
 	many = names(text)
-	for (i = j = 1; i <= many; i++) if (name[i] ~ /^[a-z_]+$/) clause[j++] = name[i]
+	for (i = j = 1; i <= many; i++) if (name[i] ~ /^[a-z_.]+$/) clause[j++] = name[i]
 	what = cell[2]
 	if (kind == "all" || !match(what, /`[a-z]+/)) what = ""
 	else what = substr(what, RSTART + 1, RLENGTH - 1)

@@ -21,14 +21,20 @@ elif [ "$input" != none ] && { true 3<&0; } 2>/dev/null && mkfifo "$room/pipe"; 
 	child=$!
 	exec 3<&- <"$room/pipe"
 fi
-if [ -n "$held" ]; then
-	"$program" "$@" 2>"$room/err" 3<&- >"$room/out"
-else
+# Runs the program, whose words may stand alone.
+run_program() {
+	[ -z "$alone" ] || shift
 	"$program" "$@" 2>"$room/err" 3<&-
+}
+
+if [ -n "$held" ]; then
+	run_program "$@" >"$room/out"
+else
+	run_program "$@"
 fi
 status=$?
 cat "$room/err" >&2
-line=$(grep '^htl: ' "$room/err" | tail -n 1)
+line=$(grep -E '^htl(-times)?: ' "$room/err" | tail -n 1)
 case $line in
 'htl: script '*)
 	# What was read last may not have reached the copy yet.

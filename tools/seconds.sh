@@ -2,7 +2,7 @@
 # seconds of a first proof of an hour, shared out as one run on a busy machine went.
 taken=$crate/out/prove.seconds
 
-# The crates below htl and htl itself, each behind those that it uses.
+# The crates below both programs and the programs themselves, each behind those that it uses.
 crates() {
 	awk '
 	{
@@ -17,7 +17,10 @@ crates() {
 		for (i = 1; i <= n; i++) visit(below[i])
 		print name
 	}
-	END { visit("htl") }' "$here/crates.txt"
+	END {
+		visit("htl")
+		visit("times")
+	}' "$here/crates.txt"
 }
 
 # Each of these crates with its seconds; one of which nothing is known has the mean of the others.

@@ -1,8 +1,12 @@
-# What stands at crates/htl/out/htl, by the stamp beside it: an item a line, `program SUM`, `machine ..` on which it runs, `sources SUM` of
-# all that the proof read, `toolchain ..` and `by WHO at COMMIT`. It guards against slips, and not against who may write both files.
+# What stands at crates/htl/out/htl, by the stamp beside it: an item a line, `program SUM`, `times SUM` of the second program at
+# crates/times/out/times, `machine ..` on which they run, `sources SUM` of all that the proof read, `toolchain ..` and `by WHO at COMMIT`. It guards against slips, and not against who may write both files.
 # Wants `here`, the folder of the repository.
 program=$here/crates/htl/out/htl
 stamp=$program.proved
+times=$here/crates/times/out/times
+# The item of the program that is run, and whether its words stand alone, without the first of bin/htl.
+item=program
+alone=
 sums=cksum
 ! command -v sha256sum >/dev/null 2>&1 || sums=sha256sum
 
@@ -19,6 +23,14 @@ read_by_proof() {
 	things="crates.txt crates"
 	[ ! -f HANDLES ] || things="HANDLES $things"
 	find $things \( -name out -o -name must-fail -o -name 'htl_*_tests' -o -name htl_tests -o -name htl_samples \) -prune -o "$@"
+}
+
+# The program that is run is `times`.
+take_times() {
+	crate=$here/crates/times
+	program=$times
+	item=times
+	alone=yes
 }
 
 # One sum of the names and contents of all that a proof reads.
@@ -48,7 +60,7 @@ now_for_stamp() { date +%Y%m%d%H%M.%S; }
 state() {
 	if [ ! -f "$program" ] || [ ! -x "$program" ]; then
 		echo none
-	elif [ ! -f "$stamp" ] || [ "$(of_stamp program)" != "$(sum_of <"$program")" ] || [ "$(of_stamp machine)" != "$(uname -s -m)" ]; then
+	elif [ ! -f "$stamp" ] || [ "$(of_stamp $item)" != "$(sum_of <"$program")" ] || [ "$(of_stamp machine)" != "$(uname -s -m)" ]; then
 		echo foreign
 	elif is_untouched; then
 		echo proved
@@ -77,6 +89,7 @@ write_stamp() {
 	}
 	{
 		echo "program $(sum_of <"$program")"
+		[ ! -f "$times" ] || echo "times $(sum_of <"$times")"
 		echo "machine $(uname -s -m)"
 		echo "sources $proved"
 		echo "toolchain $(rt version)"

@@ -55,14 +55,15 @@ why_not() {
 run_unproved() {
 	word=$1
 	shift
-	case $form in
-	file)
+	case $word:$form in
+	times:file) set -- --data "FILE=$room/file" -- FILE ;;
+	*:file)
 		shift
 		set -- --data "FILE=$room/file" -- "$word" FILE "$@"
 		;;
-	files) set -- --data "FILE=$room/file" --data "LOG=$room/log-file" -- "$word" FILE LOG ;;
-	donor) set -- --data "FILE=$room/file" --data "DONOR=$room/donor" -- "$word" FILE "$2" DONOR ;;
-	platform) set -- --data "FILE=$room/file" -- "$word" with FILE ;;
+	*:files) set -- --data "FILE=$room/file" --data "LOG=$room/log-file" -- "$word" FILE LOG ;;
+	*:donor) set -- --data "FILE=$room/file" --data "DONOR=$room/donor" -- "$word" FILE "$2" DONOR ;;
+	*:platform) set -- --data "FILE=$room/file" -- "$word" with FILE ;;
 	*) set -- -- "$word" "$@" ;;
 	esac
 	(cd "$crate" && exec rt try --seconds "$seconds" "$@") <"$room/in" >"$room/out" 2>"$room/log" &
@@ -81,7 +82,7 @@ is_short() { [ "$(wc -c <"$room/file")" -le 16777216 ]; }
 make_room
 judge_words "$@"
 . "$tools/explain.sh"
-[ "$form" != wrong ] || answer 2 'htl: usage'
+[ "$form" != wrong ] || answer 2 "htl${alone:+-times}: usage"
 case $form in
 file) take_file "$2" file ;;
 files)
@@ -100,7 +101,7 @@ asked) say "running the unproved build, which takes one to two minutes" ;;
 *)
 	case $now in
 	none) why="no proved program stands" ;;
-	foreign) why="crates/htl/out/htl isn't the program that was proved here (no stamp beside it, or another sum) and isn't run" ;;
+	foreign) why="${program#"$here/"} isn't the program that was proved here (no stamp beside it, or another sum) and isn't run" ;;
 	stale) why="sources changed since the last proof" ;;
 	esac
 	say "$why, so the same sources run unproved, compiled at each run, which takes one to two minutes"
@@ -123,4 +124,4 @@ elif [ -s "$room/out" ] && ! cat "$room/out" 2>/dev/null; then
 fi
 source=$room/in
 case $form in file | files | donor) source=$room/file ;; esac
-answer "$status" "$(grep '^htl: ' "$room/log" | tail -n 1)" "$source" "$room/in"
+answer "$status" "$(grep -E '^htl(-times)?: ' "$room/log" | tail -n 1)" "$source" "$room/in"

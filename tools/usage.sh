@@ -10,7 +10,7 @@ form_of() {
 	compile) echo "compile < SOURCE > OBJECT" ;;
 	with) echo "compile with PLATFORM < SOURCE > OBJECT" ;;
 	jobs | run | code) echo "$1 OBJECT < SCRIPT" ;;
-	check | show) echo "$1 OBJECT" ;;
+	check | show | times) echo "$1 OBJECT" ;;
 	plan) echo "plan OBJECT < MODES" ;;
 	slack) echo "slack OBJECT MODULE.TASK" ;;
 	audit) echo "audit OBJECT LOG < SCRIPT" ;;
@@ -26,7 +26,7 @@ form_of() {
 
 # The word that is likest to $1, if few signs are to be changed.
 likest_word() {
-	printf '%s\n' go compile jobs run code check show plan slack audit patch bulk --prove --each --unproved --explain --svg --vcd --version --help |
+	printf '%s\n' go compile jobs run code check show times plan slack audit patch bulk --prove --each --unproved --explain --svg --vcd --version --help |
 		WANTED=$1 LC_ALL=C awk -v most=$((${#1} < 5 ? 1 : 2)) -f "$tools/nearest.awk" | head -n 1
 }
 
@@ -104,7 +104,7 @@ wrong_words() {
 	audit:3) wrong="audit reads its script from standard input: bin/htl audit $(shown_word "$1") $(shown_word "$2") < $(shown_word "$3")" ;;
 	plan:2) wrong="plan reads the modes from standard input: bin/htl plan $(shown_word "$1") < $(shown_word "$2")" ;;
 	go:*) wrong_count $# 1 "a source" ;;
-	jobs:* | run:* | code:* | plan:* | check:* | show:*) wrong_count $# 1 "an object" ;;
+	jobs:* | run:* | code:* | plan:* | check:* | show:* | times:*) wrong_count $# 1 "an object" ;;
 	slack:2) wrong_names MODULE TASK "$2" ;;
 	slack:*) wrong_count $# 2 "an object and a task" ;;
 	audit:*) wrong_count $# 2 "an object and a log" ;;

@@ -53,7 +53,7 @@ judge_words() {
 	case $#:${1-} in
 	2:go | 2:jobs | 2:run | 2:code) form=file input=script ;;
 	2:plan) form=file input=modes ;;
-	2:check | 2:show) form=file ;;
+	2:check | 2:show | 2:times) form=file ;;
 	1:compile) form=plain input=source ;;
 	2:bulk) case $2 in [1-9] | [1-5][0-9] | 6[0-4]) form=plain ;; esac ;;
 	3:slack) ! are_joined "$3" || form=file ;;
