@@ -1,4 +1,4 @@
--- A worked row: a refinement that counts in tens is replaced by one that counts in twenties.
+-- A refinement that counts in tens is replaced by one that counts in twenties, worked.
 use Rattle.std.specs.Prelude.{◌≡◌, ℕ, zero, suc, Bool, true, false, List, [], ◌∷◌, Option, Some, None, refl, map, ℤ, pos}
 use Rattle.std.proofs.Common.{sym, ◌∙◌, ap, slice_get}
 use Rattle.htl_exchange.proofs.Words.{Event, End, Inv, Module, Switch, val}
