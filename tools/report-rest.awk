@@ -67,13 +67,13 @@ function print_origins() {
 	print "<section><h2 id=\"origins\">Where the numbers come from</h2>"
 	print "<p>What is called proved here are clauses of the proved program that answered: what it prints is what they say of the object. This page only arranges it, and is tested and not proved. All of it holds as far as the declared worst cases do.</p>"
 	print "<div class=\"wide\"><table><thead><tr><th>what</th><th>from</th><th>proved or tested</th></tr></thead><tbody>"
-	origin("accepted, and how many paths", "<code>htl check</code>", "proved (clause <code>checked</code>)")
-	origin("communicators, modules, modes, worst cases, windows, lists of schedules", "<code>htl show</code>", "proved (clause <code>shown</code>)")
-	origin("can take, and what stands above that", "<code>htl slack</code>, once a task", "proved (clause <code>slacked</code>)")
-	origin("when each job of a frame runs and is done", "<code>htl plan</code>, once a choice of modes", "proved (clause <code>planned</code>); drawn by awk")
-	origin("done by, left, and waits at most: the latest over all paths, with switches inside a frame too", "the lists of <code>htl show</code>, each job at its worst case", "worked out by awk, tested; each frame above was compared with it, job by job" (has_parents() ? ", and is no later" : ", and is the same"))
+	origin("accepted, and how many paths", "<code>htl check</code>", "proved (clause <code>check.done</code>)")
+	origin("communicators, modules, modes, worst cases, windows, lists of schedules", "<code>htl show</code>", "proved (clause <code>show.done</code>)")
+	origin("can take, and what stands above that", "<code>htl slack</code>, once a task", "proved (clause <code>slack.done</code>)")
+	origin("when each job of a frame runs and is done", "<code>htl plan</code>, once a choice of modes", "proved (clause <code>plan.done</code>); drawn by awk")
+	origin("done by, left, and waits at most: the latest over all paths, with switches inside a frame too; the busiest path", "<code>htl times</code>, each job at its worst case", "proved (clause <code>done</code> of <code>times</code>); the schedules below have no job done later")
 	if (has_parents()) origin("done by, with refinements", "an abstract job takes all that it is owed; what refines it is done by then", "a bound for every refinement: jobs may be done earlier, as in the frames above")
-	origin("the busiest path, who has the processor, and the modes of a node", "the lists of <code>htl show</code>", "worked out by awk, tested")
+	origin("who has the processor, and the modes of a node", "the lists of <code>htl show</code>, each job at its worst case", "worked out by awk, tested; each frame above was compared with it, job by job" (has_parents() ? ", and is no later" : ", and is the same"))
 	origin("switches", "the E code of <code>htl show</code>", "worked out by awk, tested")
 	if (sourced) origin("conditions of switches, who writes and reads at which instants", "the source", "read by awk, tested; names, switches and their targets were compared with the object&#8217;s")
 	print "</tbody></table></div></section>"

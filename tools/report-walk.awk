@@ -1,6 +1,5 @@
 # Of report.awk: the schedules that `show` lists, walked node by node with each job at its worst case: made, how many nodes there are; of node
-# id node_start[id], node_end[id], node_modes[id], and who has the processor, run[id, k], k from 1 to runs[id]; paths; latest[JOB], by when its
-# job is done at the latest, in ticks from the start of its round, over all paths; busiest, the most ticks that a path asks for.
+# id node_start[id], node_end[id], node_modes[id], and who has the processor, run[id, k], k from 1 to runs[id]; paths.
 # Nodes are numbered as they are met: at each start of a frame each choice of modes of the modules whose rounds begin there, the last first.
 
 # The starts of a frame: start[j], j from 1 to starts.
@@ -83,13 +82,13 @@ function go_through(id, j,    now, k, word, q, takes) {
 
 function end_job(q, now) {
 	done_at[q] = now
-	if (!(job[q] in latest) || now - round_start[q] > latest[job[q]]) latest[job[q]] = now - round_start[q]
+	if (now - round_start[q] > latest[job[q]] + 0) disagree("the walk of the schedules has " job[q] " done at " now - round_start[q] ", later than times tells")
 }
 
 function end_path(jobs, stays,    q, load, i, key) {
 	paths++
 	for (q = 0; q < jobs; q++) load += worst[job[q]]
-	if (load > busiest) busiest = load
+	if (load > busiest + 0) disagree("the walk of the schedules found a path of " counted(load, "tick") " where times tells " busiest " at most")
 	if (!stays) return
 	for (i = 1; i <= roots; i++) key = key " " chosen[i, 1]
 	for (q = 0; q < jobs; q++) stay_done[key, job[q], round_start[q]] = done_at[q]
@@ -101,8 +100,8 @@ function compare_plans(    p, k, word, name, top, at, found) {
 	for (p = 1; p <= plans; p++)
 		for (k = 1; k <= plan_dones[p]; k++) {
 			split(plan_done[p, k], word, " ")
-			name = top = word[1]
-			while (top in parent) top = parent[top]
+			name = word[1]
+			top = top_of(name)
 			at = word[2] - (word[2] - 1) % period_of[module_of(name)] - 1
 			if (!((root_choice[p], top, at) in stay_done)) disagree("the walk of the schedules lacks the job of " name " that plan tells")
 			found = stay_done[root_choice[p], top, at]
@@ -110,8 +109,14 @@ function compare_plans(    p, k, word, name, top, at, found) {
 		}
 }
 
+# The job of the first program in whose time a job runs.
+function top_of(name) {
+	while (name in parent) name = parent[name]
+	return name
+}
+
 # By when a job is done at the latest; one of a refinement within the time of its parent; empty where nothing serves it.
 function done_by(name) {
-	while (name in parent) name = parent[name]
+	name = top_of(name)
 	return name in latest ? latest[name] : ""
 }

@@ -1,7 +1,8 @@
-# The page of report.sh: with common.awk and the other files report-*.awk. Reads what `check` printed, the listing, what `slack` printed of
-# each task of the first program, plans with their choices of modes, and an outline of the source with its switches, where it is given.
+# The page of report.sh: with common.awk and the other files report-*.awk. Reads what `check` printed, the listing, what `times` printed,
+# what `slack` printed of each task of the first program, plans with their choices of modes, and an outline of the source with its switches,
+# where it is given.
 # Of module i of the listing: module[i]; of each mode[MODULE, k] the invocations inv_of[MODULE.MODE, q]; of each invocation, inv[i], worst,
-# release, window_end and parent.
+# release, window_end and parent; of each of the first program latest[i], by when it is done; busiest, the most ticks that a path asks for.
 
 function escaped(text) {
 	gsub(/&/, "\\&amp;", text)
@@ -72,6 +73,9 @@ reading == "listing" && $1 == "S" {
 	split($2, part, ":")
 	list[part[1], part[2]] = $3 " " $4 " " $6
 }
+
+reading == "times" && $8 == "done" { latest[$2] = $9 }
+reading == "times" && $1 == "frame" { busiest = $6 }
 
 reading == "slack" && $1 == "slack" {
 	task = $2

@@ -1,11 +1,11 @@
-# A page about an object: bin/htl --report OBJECT [SOURCE] > report.html. What check, show, slack and plan of the proved program print is
-# what it is made of, and with the source the conditions of switches, and who reads and writes which instance.
+# A page about an object: bin/htl --report OBJECT [SOURCE] > report.html. What check, show, slack, plan and times of the proved programs
+# print is what it is made of, and with the source the conditions of switches, and who reads and writes which instance.
 shift
 case $# in
 1 | 2) ;;
 *) fail "--report takes an object and, where it is at hand, its source: bin/htl --report OBJECT [SOURCE] > report.html" ;;
 esac
-[ "$(state)" = proved ] || fail "--report asks the proved program many things, and no such program stands; bin/htl --prove makes it"
+[ "$(state)$(take_times && state)" = provedproved ] || fail "--report asks both proved programs many things, and they don't stand; bin/htl --prove makes them"
 object=$1
 source=${2-}
 sourced=${2+yes}
@@ -39,6 +39,7 @@ draw_plan() {
 }
 
 ask show "$object" >"$room/listing" || cannot show
+"$times" "$object" >"$room/latest" 2>"$room/err" || cannot times
 awk '$1 == "module" && NF == 4 { root[$2] = 1 } $1 == "inv" { split($2, part, "."); name = part[1] "." part[3]; if (part[1] in root && !seen[name]++) print name }' "$room/listing" >"$room/tasks"
 while read -r name; do ask slack "$object" "$name" || cannot slack; done <"$room/tasks" >"$room/slack"
 # A frame in each choice of modes that stays, the first twelve of them.
@@ -66,6 +67,6 @@ for it in common svg-style report report-walk report-times report-modes report-r
 title=$(basename -- "$object" | tr -c ' -~\n' '?')
 export title room tools
 report_awk -v choices="$choices" -v sourced="$sourced" "$@" \
-	reading=check "$room/check" reading=listing "$room/listing" reading=slack "$room/slack" reading=plan "$room/plans" reading=source "$room/outline" >"$room/page" || exit 1
+	reading=check "$room/check" reading=listing "$room/listing" reading=times "$room/latest" reading=slack "$room/slack" reading=plan "$room/plans" reading=source "$room/outline" >"$room/page" || exit 1
 cat "$room/page" 2>/dev/null || fail "the output failed"
 exit 0
