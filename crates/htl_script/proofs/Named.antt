@@ -1,7 +1,7 @@
 -- The first item with a name, found among names in order.
 use Rattle.std.proofs.Common.{inl, inr, ◌≡◌, ◌≢◌, ◌+◌, ◌<◌, ℕ, zero, suc, Bool, true, false, ◌&&◌, not, cond, List, [], ◌∷◌, ◌++◌, length, get_or, Option, Some, None, Ok, Err, refl, ap, ◌∙◌, arith}
-use Rattle.htl_script.proofs.Words.{slice_get, position_from, bytes_eq, cases_Bool, none-some, same_Some, slice_get_within, bytes_eq-Decides, Comm, Inv, Mode, Module, Task, Tables, is_sensor, is_invocation, dotted, sensor_name, through, name_of, count_of, number_named, AreOrdered, IsPlace, Named, Sensor, Invocation}
-use Rattle.htl_script.proofs.Orders.{no_earlier, none_named}
+use Rattle.htl_script.proofs.Words.{slice_get, position_from, bytes_eq, cases_Bool, none-some, same_Some, slice_get_within, bytes_eq-Decides, Comm, Inv, Mode, Module, Task, Tables, is_sensor, is_invocation, dotted, sensor_name, through, name_of, count_of, number_named, IsOrder, IsPlace, Keyed, keyed, keyed_name, Named, Sensor, Invocation}
+use Rattle.htl_script.proofs.Orders.{no_earlier, none_named, unkeyed}
 
 -- ---- the first item that passes a test
 
@@ -38,7 +38,7 @@ missed_is (Some own) text n = elim (cases_Bool (bytes_eq own text)) [
 
 -- ---- items with names
 
-module _ {A : Type 0} (own : A → Option (List ℕ)) (test : A → Bool) (items : List A) (xs text : List ℕ) (each : (x : A) → test x ≡ tested (own x) text) (o : AreOrdered (λ n. through own (slice_get items n)) (length items) xs) where
+module _ {A : Type 0} (own : A → Option (List ℕ)) (test : A → Bool) (items : List A) (o : Keyed) (text : List ℕ) (each : (x : A) → test x ≡ tested (own x) text) (h : IsOrder (λ n. through own (slice_get items n)) (length items) o) where
   item : (q : ℕ) (r : Option A) → slice_get items q ≡ r → through own r ≡ Some text → (x : A) × (slice_get items q ≡ Some x) × (own x ≡ Some text)
   item q (Some x) e f = (x, e, f)
   item q None e f = absurd (none-some text f)
@@ -46,16 +46,18 @@ module _ {A : Type 0} (own : A → Option (List ℕ)) (test : A → Bool) (items
   miss : (q : ℕ) (y : A) → through own (slice_get items q) ≢ Some text → slice_get items q ≡ Some y → test y ≡ false
   miss q y n at = each y ∙ missed_is (own y) text (λ e. n (ap (through own) at ∙ e))
 
-  found : (i : ℕ) → IsPlace (λ n. through own (slice_get items n)) xs text (Ok i) → position_from test 0 items ≡ Some (get_or xs i 0)
-  found i at =
-      let x = item (get_or xs i 0) (slice_get items (get_or xs i 0)) refl at.1 in
-      first_is test items 0 (get_or xs i 0) x.0 x.1 (each x.0 ∙ hit_is (own x.0) text x.2)
-      (λ q y less e. miss q y (no_earlier (λ n. through own (slice_get items n)) (length items) xs text o i at q less) e)
-      ∙ ap (λ n. Some n) (let e : 0 + get_or xs i 0 ≡ get_or xs i 0 = omega arith in e)
+  abbrev name : ℕ → Option (List ℕ)
+  name n = through own (slice_get items n)
 
-  missing : (p : ℕ) → IsPlace (λ n. through own (slice_get items n)) xs text (Err p) → position_from test 0 items ≡ None
-  missing p at =
-      none_is test items 0 (λ q y e. miss q y (none_named (λ n. through own (slice_get items n)) (length items) xs text o p at q (slice_get_within items q y e)) e)
+  found : (i : ℕ) → IsPlace (keyed_name name) o.numbers (keyed text) (Ok i) → position_from test 0 items ≡ Some (get_or o.numbers i 0)
+  found i at =
+      let n : ℕ = get_or o.numbers i 0 in
+      let x = item n (slice_get items n) refl (unkeyed (name n) text at.1) in
+      first_is test items 0 n x.0 x.1 (each x.0 ∙ hit_is (own x.0) text x.2) (λ q y less e. miss q y (no_earlier name (length items) o text h i at q less) e)
+      ∙ ap (λ k. Some k) (let e : 0 + n ≡ n = omega arith in e)
+
+  missing : (p : ℕ) → IsPlace (keyed_name name) o.numbers (keyed text) (Err p) → position_from test 0 items ≡ None
+  missing p at = none_is test items 0 (λ q y e. miss q y (none_named name (length items) o text h p at q (slice_get_within items q y e)) e)
 
 -- ---- sensors and invocations
 
@@ -109,12 +111,12 @@ invocation_test t text i = by_task (slice_get t.tasks i.task)
     by_task (Some k) = by_mode k (slice_get t.modes i.mode)
     by_task None = refl
 
-pub found_named : (t : Tables) (kind : Named) (xs text : List ℕ) (i : ℕ) → AreOrdered (name_of t kind) (count_of t kind) xs → IsPlace (name_of t kind) xs text (Ok i)
-    → number_named t kind text ≡ Some (get_or xs i 0)
-found_named t Sensor xs text i o at = found sensor_name (is_sensor text) t.comms xs text (sensor_test text) o i at
-found_named t Invocation xs text i o at = found (dotted t) (is_invocation t text) t.invs xs text (invocation_test t text) o i at
+pub found_named : (t : Tables) (kind : Named) (o : Keyed) (text : List ℕ) (i : ℕ) → IsOrder (name_of t kind) (count_of t kind) o → IsPlace (keyed_name (name_of t kind)) o.numbers (keyed text) (Ok i)
+    → number_named t kind text ≡ Some (get_or o.numbers i 0)
+found_named t Sensor o text i h at = found sensor_name (is_sensor text) t.comms o text (sensor_test text) h i at
+found_named t Invocation o text i h at = found (dotted t) (is_invocation t text) t.invs o text (invocation_test t text) h i at
 
-pub none_found : (t : Tables) (kind : Named) (xs text : List ℕ) (p : ℕ) → AreOrdered (name_of t kind) (count_of t kind) xs → IsPlace (name_of t kind) xs text (Err p)
+pub none_found : (t : Tables) (kind : Named) (o : Keyed) (text : List ℕ) (p : ℕ) → IsOrder (name_of t kind) (count_of t kind) o → IsPlace (keyed_name (name_of t kind)) o.numbers (keyed text) (Err p)
     → number_named t kind text ≡ None
-none_found t Sensor xs text p o at = missing sensor_name (is_sensor text) t.comms xs text (sensor_test text) o p at
-none_found t Invocation xs text p o at = missing (dotted t) (is_invocation t text) t.invs xs text (invocation_test t text) o p at
+none_found t Sensor o text p h at = missing sensor_name (is_sensor text) t.comms o text (sensor_test text) h p at
+none_found t Invocation o text p h at = missing (dotted t) (is_invocation t text) t.invs o text (invocation_test t text) h p at

@@ -1,5 +1,5 @@
 -- Numbers in the order of their names: a search by halves, and a number that is put in its place.
-use Rattle.htl_script.proofs.Words.{take-append_seam, option_map, Ordering, Less, Equal, Greater, ordering_reverse, nat_cmp, is_eq, slice_cmp, nat_list_cmp_total, tied_itself, is_eq-slice_cmp, bytes_eq-Decides, same_Some, AreRising, AreOrdered, IsPlace, compared, cases_lt, cases_below_next, length-append, length-take, length-drop}
+use Rattle.htl_script.proofs.Words.{take-append_seam, option_map, Ordering, Less, Equal, Greater, ordering_reverse, nat_cmp, is_eq, slice_cmp, nat_list_cmp_total, tied_itself, is_eq-slice_cmp, bytes_eq-Decides, same_Some, AreRising, AreOrdered, IsPlace, IsOrder, Keyed, key_of, keyed, keyed_name, compared, cases_lt, cases_below_next, length-append, length-take, length-drop}
 use Rattle.std.proofs.Common.{inl, inr, ◌≡◌, ◌≢◌, ◌⊎◌, ◌+◌, ◌-◌, ◌<◌, ◌≤◌, ℕ, zero, suc, List, [], ◌∷◌, ◌++◌, length, get_or, set, take, drop, Option, Some, None, IsSome, Ok, Err, refl, sym, ap, ap₂, ◌∙◌, subst, arith, append_assoc}
 
 there : (o : Option (List ℕ)) → IsSome o → (a : List ℕ) × (o ≡ Some a)
@@ -58,6 +58,13 @@ equal_name None text e = absurd (let z : ⊥ = cc in z)
 equal_name (Some a) text e =
     let tied : slice_cmp nat_cmp a text ≡ Equal = same_order (slice_cmp nat_cmp a text) Equal e in
     ap (λ z. Some z) ((bytes_eq-Decides a text).0 (sym (is_eq-slice_cmp a text) ∙ ap is_eq tied))
+
+-- ---- keys before names
+
+-- a name with the key of a text is the text
+pub unkeyed : (o : Option (List ℕ)) (text : List ℕ) → option_map keyed o ≡ Some (keyed text) → o ≡ Some text
+unkeyed None text e = absurd (let z : ⊥ = cc in z)
+unkeyed (Some a) text e = ap (λ (k : List ℕ). Some (drop 1 k)) (same_Some (keyed a) (keyed text) e)
 
 -- ---- a number that is put at a place
 
@@ -215,16 +222,35 @@ module _ (name : ℕ → Option (List ℕ)) (count : ℕ) (xs text : List ℕ) (
   pub ordered_put : AreOrdered name (count + 1) (put xs p count)
   ordered_put = record { rising = record { named = named; rising = rising }; below = below_more; whole = whole }
 
--- a number without a name, or whose name stands already
-module _ (name : ℕ → Option (List ℕ)) (count : ℕ) (xs : List ℕ) (o : AreOrdered name count xs) where
-  order : (n k : ℕ) → n < k + 1 → (n < k) ⊎ (n ≡ k)
-  order n k h = grind arith
+-- the same with keys
+module _ (name : ℕ → Option (List ℕ)) (count key : ℕ) (o : Keyed) (text : List ℕ) (p : ℕ) (h : IsOrder name count o) (place : IsPlace (keyed_name name) o.numbers (keyed text) (Err p)) (here : name count ≡ Some text) (is : key_of text ≡ key) where
+  within : p ≤ length o.keys
+  within = omega (arith, h.keys.many, place.0)
+
+  keys_put : (i : ℕ) → i < length (put o.numbers p count) → option_map key_of (name (get_or (put o.numbers p count) i 0)) ≡ Some (get_or (put o.keys p key) i 0)
+  keys_put i less = elim (lies p i) [
+    | is_before l ↦
+        ap (λ n. option_map key_of (name n)) (put_before o.numbers p count i place.0 l) ∙ h.keys.each i (omega (arith, place.0)) ∙ ap (λ n. Some n) (sym (put_before o.keys p key i within l))
+    | is_at e ↦
+        ap (λ n. option_map key_of (name n)) (ap (λ k. get_or (put o.numbers p count) k 0) e ∙ put_here o.numbers p count place.0) ∙ ap (option_map key_of) here ∙ ap (λ n. Some n) is
+        ∙ ap (λ n. Some n) (sym (ap (λ k. get_or (put o.keys p key) k 0) e ∙ put_here o.keys p key within))
+    | is_behind k e l ↦
+        ap (λ n. option_map key_of (name n)) (ap (λ j. get_or (put o.numbers p count) j 0) e ∙ put_after o.numbers p count k place.0 l)
+        ∙ h.keys.each k (omega (arith, put_length o.numbers p count place.0))
+        ∙ ap (λ n. Some n) (sym (ap (λ j. get_or (put o.keys p key) j 0) e ∙ put_after o.keys p key k within l))
+  ]
+
+  pub order_put : IsOrder name (count + 1) (record { keys = put o.keys p key; numbers = put o.numbers p count })
+  order_put = record {
+    ordered = ordered_put (keyed_name name) count o.numbers (keyed text) p h.ordered place (ap (option_map keyed) here);
+    keys = record { many = omega (arith, h.keys.many, put_length o.numbers p count place.0, put_length o.keys p key within); each = keys_put };
+  }
 
 -- ---- what is found is the first number with the name
 
 module _ (name : ℕ → Option (List ℕ)) (count : ℕ) (xs text : List ℕ) (o : AreOrdered name count xs) where
-  pub no_earlier : (i : ℕ) → IsPlace name xs text (Ok i) → (q : ℕ) → q < get_or xs i 0 → name q ≢ Some text
-  no_earlier i at q less e =
+  no_earlier_at : (i : ℕ) → IsPlace name xs text (Ok i) → (q : ℕ) → q < get_or xs i 0 → name q ≢ Some text
+  no_earlier_at i at q less e =
       let w = o.whole q text (omega (arith, o.below i at.0)) e in
       elim (order w.0 i) [
         | inl l ↦ not_less text (o.rising.rising w.0 i text text l at.0 w.2 at.1)
@@ -237,11 +263,18 @@ module _ (name : ℕ → Option (List ℕ)) (count : ℕ) (xs text : List ℕ) (
       order : (a b : ℕ) → (a < b) ⊎ ((a ≡ b) ⊎ (b < a))
       order a b = grind arith
 
-  pub none_named : (p : ℕ) → IsPlace name xs text (Err p) → (q : ℕ) → q < count → name q ≢ Some text
-  none_named p at q less e =
+  none_at : (p : ℕ) → IsPlace name xs text (Err p) → (q : ℕ) → q < count → name q ≢ Some text
+  none_at p at q less e =
       let w = o.whole q text less e in
       let tied : compared name xs text w.0 ≡ Some Equal = compared_is name xs text w.0 text w.2 ∙ ap (λ x. Some x) (tied_itself nat_list_cmp_total text) in
       elim (cases_lt w.0 p) [
         | inl l ↦ let z : Some Equal ≡ Some Less = sym tied ∙ at.1 w.0 l in cc
         | inr l ↦ let z : Some Equal ≡ Some Greater = sym tied ∙ at.2 w.0 l w.1 in cc
       ]
+
+module _ (name : ℕ → Option (List ℕ)) (count : ℕ) (o : Keyed) (text : List ℕ) (h : IsOrder name count o) where
+  pub no_earlier : (i : ℕ) → IsPlace (keyed_name name) o.numbers (keyed text) (Ok i) → (q : ℕ) → q < get_or o.numbers i 0 → name q ≢ Some text
+  no_earlier i at q less e = no_earlier_at (keyed_name name) count o.numbers (keyed text) h.ordered i at q less (ap (option_map keyed) e)
+
+  pub none_named : (p : ℕ) → IsPlace (keyed_name name) o.numbers (keyed text) (Err p) → (q : ℕ) → q < count → name q ≢ Some text
+  none_named p at q less e = none_at (keyed_name name) count o.numbers (keyed text) h.ordered p at q less (ap (option_map keyed) e)

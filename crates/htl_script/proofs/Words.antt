@@ -22,7 +22,8 @@ pub use Rattle.htl_script.specs.Laws.{FunctionsDecideNoScript}
 pub use Rattle.htl_script.specs.Lines.{ScriptLine, feeds_of, is_line_feed, is_long, is_passed_over, is_past_limit, lines_of, lines_of_parts, size_of}
 pub use Rattle.htl_script.specs.Naming.{count_of, dotted, name_of, number_named, sensor_name, through}
 pub use Rattle.htl_script.specs.Numbers.{signed_of, with_digit}
-pub use Rattle.htl_script.specs.Orders.{AreOrdered, AreRising, IsPlace, compared}
+pub use Rattle.htl_script.specs.Keys.{Keyed, key_of}
+pub use Rattle.htl_script.specs.Orders.{AreKeys, AreOrdered, AreRising, IsOrder, IsPlace, compared, keyed, keyed_name}
 pub use Rattle.htl_script.specs.Readers.{Here, IsHere, next_line, rest_of}
 pub use Rattle.htl_script.specs.Reading.{LosesFront, OfScript, StopsAtLine, answered, behind, past_after_if, rest_at_end, rest_of_lines, with_digit_capped}
 pub use Rattle.htl_script.specs.Script.{Bad, Script, Whole, ended, events_of, listed, script_of, script_of_lines}
@@ -38,7 +39,7 @@ pub use Rattle.std.proofs.lemmas.List.Splits.{slice_split-cons_no, slice_split-c
 pub use Rattle.std.proofs.lemmas.List.Sums.{fails_before_first}
 pub use Rattle.std.specs.List.{All, fold, onto_first}
 pub use Rattle.std.specs.Option.{option_map}
-pub use Rattle.std.specs.Ordering.{ordering_reverse}
+pub use Rattle.std.specs.Ordering.{ordering_reverse, ordering_then}
 pub use Rattle.std.specs.Prelude.{OnErr}
 pub use Rattle.std.specs.declared.cmp.Ordering.{Ordering}
 pub use Rattle.std.specs.declared.cmp.Ordering.TheVariants.{Equal, Greater, Less}

@@ -1,5 +1,5 @@
--- Numbers in the order of their names.
-use Rattle.std.specs.Prelude.{◌≡◌, ℕ, ◌≤◌, ◌<◌, List, length, get_or, Option, Some, IsSome, Ok, Err}
+-- Numbers in the order of their names, with a key of each.
+use Rattle.std.specs.Prelude.{◌≡◌, ℕ, ◌≤◌, ◌<◌, List, ◌∷◌, length, get_or, Option, Some, IsSome, Ok, Err}
 use Rattle.std.specs.Option.{option_map}
 use Rattle.std.specs.declared.cmp.Ordering.{Ordering}
 use Rattle.std.specs.declared.cmp.Ordering.TheVariants.{Less, Greater}
@@ -7,9 +7,17 @@ use Rattle.std.specs.Ordering.{nat_cmp}
 use Rattle.std.specs.Cmp.Lexicographic.{slice_cmp}
 use Rattle.std.specs.declared.result.Result.{Result}
 use Rattle.htl_model.specs.Tables.{Tables}
+use Rattle.htl_script.specs.Keys.{Keyed, key_of}
 use Rattle.htl_script.specs.Naming.{name_of, count_of}
 use Rattle.htl_script.specs.declared.index.Index.{Index}
 use Rattle.htl_script.specs.declared.naming.Named.TheVariants.{Sensor, Invocation}
+
+-- a name with its key in front: keys decide first, and names where keys are equal
+abbrev pub keyed : List ℕ → List ℕ
+keyed name = key_of name ∷ name
+
+abbrev pub keyed_name : (ℕ → Option (List ℕ)) → ℕ → Option (List ℕ)
+keyed_name name n = option_map keyed (name n)
 
 -- each of the numbers has a name, and the names rise
 pub record AreRising (name : ℕ → Option (List ℕ)) (numbers : List ℕ) : Type 0 where
@@ -33,7 +41,17 @@ IsPlace name numbers text (Err i) =
     (i ≤ length numbers) × ((j : ℕ) → j < i → compared name numbers text j ≡ Some Less)
     × ((j : ℕ) → i ≤ j → j < length numbers → compared name numbers text j ≡ Some Greater)
 
+-- beside each number stands the key of its name
+pub record AreKeys (name : ℕ → Option (List ℕ)) (o : Keyed) : Type 0 where
+  pub many : length o.keys ≡ length o.numbers
+  pub each : (i : ℕ) → i < length o.numbers → option_map key_of (name (get_or o.numbers i 0)) ≡ Some (get_or o.keys i 0)
+
+-- numbers by the keys of their names, and the keys
+pub record IsOrder (name : ℕ → Option (List ℕ)) (count : ℕ) (o : Keyed) : Type 0 where
+  pub ordered : AreOrdered (keyed_name name) count o.numbers
+  pub keys : AreKeys name o
+
 -- the numbers of all sensors and of all concrete invocations
 pub record IsIndex (t : Tables) (x : Index) : Type 0 where
-  pub sensors : AreOrdered (name_of t Sensor) (count_of t Sensor) x.sensors
-  pub invocations : AreOrdered (name_of t Invocation) (count_of t Invocation) x.invocations
+  pub sensors : IsOrder (name_of t Sensor) (count_of t Sensor) x.sensors
+  pub invocations : IsOrder (name_of t Invocation) (count_of t Invocation) x.invocations

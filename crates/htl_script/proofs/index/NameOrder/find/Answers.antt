@@ -1,5 +1,5 @@
-use Rattle.std.proofs.Common.{◌<◌, List, ℕ, length, get_or, Some, Ok, Err, sym, ap, ◌∙◌, subst, arith}
-use Rattle.htl_script.proofs.Words.{length-take, get_or-take, Tables, name_of, IsPlace}
+use Rattle.std.proofs.Common.{◌<◌, ℕ, length, get_or, Some, Ok, Err, sym, ap, ◌∙◌, subst, arith}
+use Rattle.htl_script.proofs.Words.{length-take, get_or-take, Keyed, Tables, name_of, IsPlace, keyed, keyed_name}
 use Rattle.htl_script.proofs.Named.{found_named, none_found}
 use Rattle.htl_script.proofs.index.NameOrder.find.Goals as goal
 
@@ -7,17 +7,21 @@ pub returns-in-Ok : goal.returns-in-Ok
 returns-in-Ok c =
     let m = c.self.inside in
     let t = c.args.t.now in
-    let xs = c.args.self.now in
+    let o = c.args.self.now in
+    let text = c.args.text.now in
     let i = c.in-Ok.place in
-    let place : IsPlace (name_of t c.args.kind) xs c.args.text.now (Ok i) = subst (λ (z : Tables). IsPlace (name_of z c.args.kind) xs c.args.text.now (Ok i)) (sym c.parts.ensures.value) c.in-Ok.ensures in
-    let below : i < m.count = omega (arith, place.0, ap length c.self.view_is, length-take m.count m.numbers) in
-    sym (found_named t c.args.kind xs c.args.text.now i c.requires place
-    ∙ ap (λ (n : ℕ). Some n) (ap (λ (ys : List ℕ). get_or ys i 0) (sym c.self.view_is) ∙ get_or-take m.count m.numbers i 0 below))
+    let place : IsPlace (keyed_name (name_of t c.args.kind)) o.numbers (keyed text) (Ok i) =
+    subst (λ (z : Tables). IsPlace (keyed_name (name_of z c.args.kind)) o.numbers (keyed text) (Ok i)) (sym c.parts.ensures.value) c.in-Ok.ensures in
+    let below : i < m.count = omega (arith, place.0, ap (λ (k : Keyed). length k.numbers) c.self.view_is, length-take m.count m.numbers) in
+    sym (found_named t c.args.kind o text i c.requires place
+    ∙ ap (λ (n : ℕ). Some n) (ap (λ (k : Keyed). get_or k.numbers i 0) (sym c.self.view_is) ∙ get_or-take m.count m.numbers i 0 below))
 
 pub returns-in-Err : goal.returns-in-Err
 returns-in-Err c =
     let t = c.args.t.now in
-    let xs = c.args.self.now in
+    let o = c.args.self.now in
+    let text = c.args.text.now in
     let i = c.in-Err.field-0 in
-    let place : IsPlace (name_of t c.args.kind) xs c.args.text.now (Err i) = subst (λ (z : Tables). IsPlace (name_of z c.args.kind) xs c.args.text.now (Err i)) (sym c.parts.ensures.value) c.in-Err.ensures in
-    sym (none_found t c.args.kind xs c.args.text.now i c.requires place)
+    let place : IsPlace (keyed_name (name_of t c.args.kind)) o.numbers (keyed text) (Err i) =
+    subst (λ (z : Tables). IsPlace (keyed_name (name_of z c.args.kind)) o.numbers (keyed text) (Err i)) (sym c.parts.ensures.value) c.in-Err.ensures in
+    sym (none_found t c.args.kind o text i c.requires place)
