@@ -49,7 +49,8 @@ pub fn job_lines_are_found()
 
 /// Of an accepted object, whatever the sensors show and however long the jobs take within their worst cases, and whatever periods its
 /// root modules have: of each job of each frame whose window ended by the end of the run the text has one d line in its module's round,
-/// no later than the end of its window, and its j lines in the round lie in the window and have as many ticks as the job takes.
+/// about the instant at which it finishes, no later than the end of its window, and its j lines in the round lie in the window and have
+/// as many ticks as the job takes.
 pub fn every_job_is_told_in_time()
     ensures { EveryJobToldInTime }
 {}

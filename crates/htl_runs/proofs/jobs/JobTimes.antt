@@ -1,11 +1,11 @@
 -- The job lines of a run show each job whose window ended: one d line in time, and j lines in its window for all its ticks.
 use Rattle.std.proofs.Common.{◌≡◌, ◌≤◌, ◌<◌, inl, inr, ℕ, suc, ◌+◌, ◌*◌, Bool, true, false, ◌&&◌, eqb, ltb, leb, List, [], ◌∷◌, length, map, slice_get, get_or, Option, Some, None, refl, sym, ap, ap₂, ◌∙◌, subst, arith}
-use Rattle.htl_runs.proofs.Words.{flat_map, eqb-true, eqb-false, eq-eqb, lt-ltb, ltb-true, le-leb, leb-true, and_parts, Event, hyper, frame_of, starts, starts_below, root_periods, rounds_at, unit_period, multiple_of, joined, up_to, root_modules, Tables, Job, SInstr, Left, job_at, slices, first_point, AllWithin, work_some, job_there, job_is, derived_jobs, Frame, frame_modes, frame_at, running_places, walk_of, AreTookWithin, IsFeasibleRun, spent, IsServed, path_rises, not_some, frames_are_served, every_job_in_time, IsLoaded, RunLine, job_lines_at, job_lines_to, SliceLine, DoneLine, is_in, done_time, slice_time, job_round, inv_period, IsToldInTime, AllToldInTime, same_Some}
+use Rattle.htl_runs.proofs.Words.{flat_map, eqb-true, eqb-false, eq-eqb, lt-ltb, ltb-true, le-leb, leb-true, and_parts, Event, hyper, frame_of, starts, starts_below, root_periods, rounds_at, unit_period, multiple_of, joined, up_to, root_modules, Tables, Job, SInstr, Left, job_at, slices, first_point, AllWithin, work_some, job_there, job_is, derived_jobs, Frame, frame_modes, frame_at, running_places, walk_of, finish, AreTookWithin, IsFeasibleRun, spent, IsServed, path_rises, not_some, frames_are_served, every_job_in_time, IsLoaded, RunLine, job_lines_at, job_lines_to, SliceLine, DoneLine, is_in, done_time, slice_time, job_round, inv_period, IsToldInTime, AllToldInTime, same_Some}
 use Rattle.htl_runs.proofs.jobs.FrameLines.{owed, of_run}
 use Rattle.htl_runs.proofs.jobs.JobRounds.{IsPlaced, is_placed, only_job}
 use Rattle.htl_runs.proofs.lists.LoadedLists.{run_of}
 use Rattle.htl_runs.proofs.jobs.OneRecord.{Count, slice_claim, done_claim, out_of}
-use Rattle.htl_runs.proofs.jobs.PositionRecords.{shift, position_slice, position_done, all_slices, shifted_within, shifted_spent, within_at, done_once}
+use Rattle.htl_runs.proofs.jobs.PositionRecords.{shift, position_slice, position_done, all_slices, shifted_within, shifted_spent, within_at, done_once, first_done}
 use Rattle.htl_runs.proofs.lines.RecordTimes.{joined_each, before_now}
 use Rattle.htl_runs.proofs.jobs.WorkRecords.{DoesWork, works_in}
 
@@ -35,7 +35,7 @@ module _ (t : Tables) (lists : List (List SInstr)) (es : List Event) (run : IsFe
     pub late : l.at ≤ job.end
     pub ends : (u : ℕ × ℕ) → l.slice ≡ Some u → u.1 ≡ l.at
 
-  working : (k i : ℕ) (l : Left) → slice_get (walk_of (frame k)) i ≡ Some l → DoesWork l → IsWorking k l
+  pub working : (k i : ℕ) (l : Left) → slice_get (walk_of (frame k)) i ≡ Some l → DoesWork l → IsWorking k l
   working k i l at does =
       let p = frame k in
       let w = works_in p.jobs p.lists p.legs (first_point p.jobs p.lengths) i l at does in
@@ -127,16 +127,18 @@ module _ (t : Tables) (lists : List (List SInstr)) (es : List Event) (run : IsFe
         (λ mine u has. in_time i l is (inl (u, has)) mine))
         ∙ all_slices f q walk
 
-    pub told : IsToldInTime (job_lines_to t lists es end) start stop f j (get_or (frame k).lengths q 0)
+    pub told : IsToldInTime (job_lines_to t lists es end) start stop f j (get_or (frame k).lengths q 0) (finish walk q)
     told =
         let v = served k q j at here in
+        let once = done_once f q walk v.record_at v.finish_at v.done v.once in
         record {
           done_at = f + v.finish_at;
           done =
               lines (done_time j.inv start stop) (λ from to inv out. refl) (λ at inv out. out_of j.inv inv (ltb start at && leb at stop) (at ∷ []) out)
               ∙ joined_each (before_now (owed (done_time j.inv start stop) (frame k).jobs f) f (suc end)) (position_done f q) walk
               (λ i l is. done_claim (frame k).jobs f q (suc end) j.inv start stop l.at l.position l.slice l.finished (λ has. counts i l is (inr has)) (λ mine has. in_time i l is (inr has) mine))
-              ∙ done_once f q walk v.record_at v.finish_at v.done v.once;
+              ∙ once;
+          exact = first_done f q walk (f + v.finish_at) [] once;
           in_time = omega (arith, v.in_time);
           within = subst (AllWithin (f + j.release) (f + j.end)) (sym slices_are) (shifted_within f j.release j.end (slices walk q) v.within);
           whole = ap spent slices_are ∙ shifted_spent f (slices walk q) ∙ v.whole;
@@ -161,5 +163,6 @@ module _ (t : Tables) (lists : List (List SInstr)) (loaded : IsLoaded t lists) (
     where
       by : (us : List ℕ) → root_modules t ≡ us
           → IsToldInTime (job_lines_to t lists es end) (job_round t es (k * frame_of t) q) (job_round t es (k * frame_of t) q + inv_period t j.inv) (k * frame_of t) j (get_or (frame_at t lists es (k * frame_of t)).lengths q 0)
+          (finish (walk_of (frame_at t lists es (k * frame_of t))) q)
       by [] e = not_some j (ap (λ (js : List Job). slice_get js q) (sym (none_there t lists es (k * frame_of t) e)) ∙ at)
       by (u ∷ us) e = told t lists es (run_of t lists loaded es within (omega (arith, ap (λ (xs : List ℕ). length xs) e))) k end q j at here late

@@ -1,6 +1,6 @@
 -- The job lines of worked runs, computed.
 use Rattle.htl_runs.proofs.Words.{arith, filter, At, Sense, Took, Ends, preempted, doubling, Job, SInstr, RunLine, printed, job_lines_to, text_lines, begins_as_job, SliceLine, DoneLine, StepLine, TotalsLine, IsToldInTime}
-use Rattle.std.specs.Prelude.{◌≡◌, List, [], ◌∷◌, pos, true, refl, codes}
+use Rattle.std.specs.Prelude.{◌≡◌, List, [], ◌∷◌, pos, true, Some, refl, codes}
 use Rattle.std.specs.Fmt.{digits}
 use Rattle.htl_walk.specs.declared.schedule.SInstr.TheVariants.{Dispatch, End}
 
@@ -60,8 +60,8 @@ cut_and_chosen = refl
 abbrev first : Job
 first = record { present = true; inv = 0; release = 0; end = 10; worst = 7; preds = 0 }
 
-first_is_told : IsToldInTime interrupted 0 10 0 first 7
-first_is_told = record { done_at = 10; done = refl; in_time = omega arith; within = (omega arith, omega arith, (omega arith, omega arith, tt)); whole = refl }
+first_is_told : IsToldInTime interrupted 0 10 0 first 7 (Some 10)
+first_is_told = record { done_at = 10; done = refl; exact = refl; in_time = omega arith; within = (omega arith, omega arith, (omega arith, omega arith, tt)); whole = refl }
 
 -- one of two rounds that its module has in the frame from 0, beside a module that has one: of the two d lines of its invocation one counts
 abbrev of_two_periods : List RunLine
@@ -70,5 +70,5 @@ of_two_periods = SliceLine 0 3 0 ∷ DoneLine 3 0 ∷ SliceLine 3 10 1 ∷ Slice
 abbrev later : Job
 later = record { present = true; inv = 0; release = 10; end = 20; worst = 3; preds = 0 }
 
-later_is_told : IsToldInTime of_two_periods 10 20 0 later 3
-later_is_told = record { done_at = 15; done = refl; in_time = omega arith; within = (omega arith, omega arith, tt); whole = refl }
+later_is_told : IsToldInTime of_two_periods 10 20 0 later 3 (Some 15)
+later_is_told = record { done_at = 15; done = refl; exact = refl; in_time = omega arith; within = (omega arith, omega arith, tt); whole = refl }

@@ -1,6 +1,6 @@
 -- What the records of a walk show of one position: its slices and its end, as instants of a run in which the walk begins at s.
-use Rattle.std.proofs.Common.{◌≡◌, ◌≤◌, ℕ, zero, suc, ◌+◌, Bool, true, false, cond, ◌&&◌, List, [], ◌∷◌, ◌++◌, map, slice_get, Option, Some, None, refl, ap, ap₂, ◌∙◌, subst, arith}
-use Rattle.htl_runs.proofs.Words.{eqb-true, eq-eqb, and_parts, joined, Left, slice_onto, slices, is_position, AllWithin, spent, Finishes, not_some, same_Some}
+use Rattle.std.proofs.Common.{◌≡◌, ◌≤◌, ℕ, zero, suc, ◌+◌, Bool, true, false, cond, ◌&&◌, List, [], ◌∷◌, ◌++◌, map, slice_get, Option, Some, None, option_map, refl, ap, ap₂, ◌∙◌, subst, arith}
+use Rattle.htl_runs.proofs.Words.{eqb-true, eq-eqb, and_parts, joined, Left, finish, slice_onto, slices, is_position, AllWithin, spent, Finishes, not_some, same_Some}
 
 -- ---- its slices
 
@@ -78,3 +78,13 @@ done_once s q (l ∷ ls) (suc k) f done once = by (is_position l.position q && l
     by : (b : Bool) → (is_position l.position q && l.finished) ≡ b → joined (position_done s q) ls ≡ (s + f) ∷ [] → cond b ((s + l.at) ∷ []) [] ++ joined (position_done s q) ls ≡ (s + f) ∷ []
     by false e next = next
     by true e next = let is = and_parts (is_position l.position q) l.finished e in absurd (let z = once 0 l.at (l, refl, position_is l.position q is.0, is.1, refl) in omega (arith, z))
+
+-- the first of its ends is when it finishes
+pub first_done : (s q : ℕ) (ls : List Left) (n : ℕ) (rest : List ℕ) → joined (position_done s q) ls ≡ n ∷ rest → option_map (λ (g : ℕ). s + g) (finish ls q) ≡ Some n
+first_done s q [] n rest e = absurd (let z : ⊥ = cc in z)
+first_done s q (l ∷ ls) n rest e = by (is_position l.position q && l.finished) e (λ f. first_done s q ls n rest f)
+  where
+    by : (b : Bool) → cond b ((s + l.at) ∷ []) [] ++ joined (position_done s q) ls ≡ n ∷ rest
+        → (joined (position_done s q) ls ≡ n ∷ rest → option_map (λ (g : ℕ). s + g) (finish ls q) ≡ Some n) → option_map (λ (g : ℕ). s + g) (cond b (Some l.at) (finish ls q)) ≡ Some n
+    by true f next = let same : s + l.at ≡ n = cc in ap (λ (z : ℕ). Some z) same
+    by false f next = next f

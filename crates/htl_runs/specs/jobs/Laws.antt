@@ -50,8 +50,8 @@ JobLinesAreFound =
     → filter begins_as_job (text_lines (text_of o es show end)) ≡ map (printed o.tables) (job_lines_to o.tables (schedules_of o) es end)
 
 -- of an accepted object, whatever the sensors show and however long the jobs take within their worst cases: of each job of each frame
--- whose window ended by the end of the run there is one d line in its module's round, no later than the end of its window, and its
--- j lines in the round lie in the window and have as many ticks as it takes
+-- whose window ended by the end of the run there is one d line in its module's round, about the instant at which it finishes, no later
+-- than the end of its window, and its j lines in the round lie in the window and have as many ticks as it takes
 abbrev pub EveryJobToldInTime : Type 0
 EveryJobToldInTime =
     (o : Object) (es : List Event) (end : ℕ) → IsAccepted o → AreTookWithin o.tables es

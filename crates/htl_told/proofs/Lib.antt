@@ -1,0 +1,4 @@
+pub mod FrameRoots
+pub mod RecordsNoLater
+pub mod LinesNoLater
+mod Examples
