@@ -1,5 +1,5 @@
 -- The runs of an accepted object.
-use Rattle.std.specs.Prelude.{ℕ, ◌<◌, List, length}
+use Rattle.std.specs.Prelude.{◌<◌, List, length}
 use Rattle.htl_model.specs.declared.event.Event.{Event}
 use Rattle.htl_model.specs.Selections.{root_modules}
 use Rattle.htl_walk.specs.NodeWalks.{instrs_of}
