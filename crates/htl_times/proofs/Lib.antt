@@ -10,4 +10,5 @@ pub mod PathFinishes
 pub mod PathRounds
 pub mod Reached
 pub mod Rising
+pub mod RootRows
 pub mod Words
