@@ -1,4 +1,5 @@
 pub mod AcceptedRuns
+pub mod BareWalks
 pub mod Best
 pub mod Examples
 pub mod Fitting
@@ -6,6 +7,8 @@ pub mod Halfway
 pub mod Narrowed
 pub mod NoLater
 pub mod PathFinishes
+pub mod PathRounds
 pub mod Reached
 pub mod Rising
+pub mod RootRows
 pub mod Words

@@ -74,7 +74,7 @@ later_than_release t lists path q i at g range chain accepted placed fin =
     omega (arith, last.released, r.5, ap (λ (z : Job). z.release) (job_is ks q k here))
 
 -- and so after its round begins
-later_than_round : (t : Tables) (lists : List (List SInstr)) (path q i at g : ℕ) (run : AreInRange t) → AreChained 0 (frame_of t) (length (path_jobs t path)) (legs t path)
+pub later_than_round : (t : Tables) (lists : List (List SInstr)) (path q i at g : ℕ) (run : AreInRange t) → AreChained 0 (frame_of t) (length (path_jobs t path)) (legs t path)
     → IsPathAccepted (path_jobs t path) (legs t path) (lists_of t lists path) → slice_get (path_places t path) q ≡ Some (place i at) → worst_finish t lists path q ≡ Some g → at ≤ g
 later_than_round t lists path q i at g range chain accepted placed fin =
     let xs = path_places t path in

@@ -1,8 +1,11 @@
 -- The finishes of a path, list by list.
-use Rattle.std.proofs.Common.{◌≡◌, ℕ, suc, ◌<◌, List, [], ◌∷◌, ◌++◌, length, get_or, slice_get, Option, Some, None, refl, sym, ap, ◌∙◌, arith, append_assoc, append-nil}
+use Rattle.std.proofs.Common.{◌≡◌, ℕ, suc, ◌<◌, List, [], ◌∷◌, ◌++◌, length, get_or, map, slice_get, Option, Some, None, refl, sym, ap, ◌∙◌, arith, append_assoc, append-nil}
+use Rattle.std.proofs.lemmas.List.{length-map}
 use Rattle.htl_model.proofs.Listed.{list_same}
 use Rattle.htl_walk.proofs.NodeWalks.{reach_behind}
-use Rattle.htl_times.proofs.Words.{Frame, Place, IsFrame, or_else, starts, frame_of, node, path_places, list_to, Tables, Job, SInstr, Schedule, reach, reached, list_at, instrs_of, path_jobs, legs_of, list_point, walks_from, end_to_end, Point, Left, walk_from, last_point, first_point, finish, work, worst_cases, start_read, list_read, list_front}
+use Rattle.htl_times.proofs.Words.{Frame, Place, IsFrame, or_else, starts, frame_of, node, path_places, list_to, Tables, Job, SInstr, Schedule, reach, reached, list_at, instrs_of, path_jobs, legs_of, list_point, walks_from, end_to_end, Point, Left, walk_from, last_point, first_point, finish, work, worst_cases, start_read, left_length, list_read, list_front}
+use Rattle.htl_times.proofs.BareWalks.{bare_walk, bare_last}
+use Rattle.htl_times.specs.BareJobs.{bare}
 use Rattle.htl_times.specs.Noting.{AreFinishesTo, AreWorstFinishes, AreEmpty, list_walk, work_of}
 use Rattle.htl_times.proofs.Halfway.{finish_told, first_first}
 
@@ -55,7 +58,7 @@ module _ (t : Tables) (lists : List (List SInstr)) (path : ℕ) where
 -- ---- the code at list j
 
 module _ (t : Tables) (f : Frame) (lists : List Schedule) (path j n : ℕ) (jobs : List Job) (r : Schedule) (left : List ℕ) (frame : IsFrame t f) (below : j < length (starts t)) (within : n < length lists)
-    (jobs_are : jobs ≡ path_jobs t path) (node_is : n ≡ node t path j) (list_is : r ≡ get_or lists n r) (left_is : left ≡ (reached t (instrs_of lists) path j).left) where
+    (jobs_are : jobs ≡ map bare (path_jobs t path)) (node_is : n ≡ node t path j) (list_is : r ≡ get_or lists n r) (left_is : left ≡ (reached t (instrs_of lists) path j).left) where
   instrs_are : r.instrs ≡ list_at t (instrs_of lists) path j
   instrs_are = ap (λ (z : Schedule). z.instrs) list_is ∙ list_read lists r n within ∙ ap (λ m. get_or (instrs_of lists) m []) node_is
 
@@ -71,12 +74,14 @@ module _ (t : Tables) (f : Frame) (lists : List Schedule) (path j n : ℕ) (jobs
       ap (walk_from jobs r.instrs) begins_so
       ∙ ap (λ is. walk_from jobs is (list_point (get_or (starts t) j 0) (reached t (instrs_of lists) path j))) instrs_are
       ∙ ap (λ js. walk_from js (list_at t (instrs_of lists) path j) (list_point (get_or (starts t) j 0) (reached t (instrs_of lists) path j))) jobs_are
+      ∙ bare_walk (path_jobs t path) (list_at t (instrs_of lists) path j) (list_point (get_or (starts t) j 0) (reached t (instrs_of lists) path j))
 
   pub left_here : (last_point jobs r.instrs (record { time = get_or f.starts j 0; left = left })).left ≡ (reached t (instrs_of lists) path (suc j)).left
   left_here =
       ap (λ x. (last_point jobs r.instrs x).left) begins_so
       ∙ ap (λ is. (last_point jobs is (list_point (get_or (starts t) j 0) (reached t (instrs_of lists) path j))).left) instrs_are
       ∙ ap (λ js. (last_point js (list_at t (instrs_of lists) path j) (list_point (get_or (starts t) j 0) (reached t (instrs_of lists) path j))).left) jobs_are
+      ∙ ap (λ (x : Point). x.left) (bare_last (path_jobs t path) (list_at t (instrs_of lists) path j) (list_point (get_or (starts t) j 0) (reached t (instrs_of lists) path j)))
 
 -- ---- the work at first
 
@@ -85,3 +90,6 @@ work_is [] [] e h = refl
 work_is [] (x ∷ xs) e h = absurd (omega (arith, e))
 work_is (j ∷ js) [] e h = absurd (omega (arith, e))
 work_is (j ∷ js) (x ∷ xs) e h = ap (λ z. z ∷ xs) (h 0 j refl) ∙ ap (λ zs. work_of j ∷ zs) (work_is js xs (omega (arith, e)) (λ k i at. h (suc k) i at))
+
+pub bare_length : (t : Tables) (lists : List (List SInstr)) (path : ℕ) (jobs : List Job) (left : List ℕ) → jobs ≡ map bare (path_jobs t path) → left ≡ (reached t lists path 0).left → length left ≡ length jobs
+bare_length t lists path jobs left js ls = left_length t lists path 0 (path_jobs t path) left refl ls ∙ sym (ap (λ (xs : List Job). length xs) js ∙ length-map (path_jobs t path) bare)

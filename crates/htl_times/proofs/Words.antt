@@ -11,13 +11,14 @@ pub use Rattle.htl_model.specs.Chosen.StandsFor.{below, itself}
 pub use Rattle.htl_model.specs.FrameRules.{KeptApart}
 pub use Rattle.htl_model.specs.FrameTables.{IsFrame}
 pub use Rattle.htl_model.specs.First.{or_else}
-pub use Rattle.htl_model.specs.Frames.{choices, frame_limit, frame_of, multiple_of, no_place, node, nodes, path_places, paths, rounds, rounds_of, starts, starts_below, unit_period}
+pub use Rattle.htl_model.specs.Frames.{choices, frame_limit, frame_of, multiple_of, no_place, node, nodes, path_places, paths, places_in, places_of, rounds, rounds_of, starts, starts_below, unit_period}
 pub use Rattle.htl_model.specs.Lists.{list_to}
 pub use Rattle.htl_model.specs.PortOrder.Leads.{direct}
 pub use Rattle.htl_model.specs.Ranges.{AreInRange, IsInvInRange, IsModeInRange, IsModeThat}
 pub use Rattle.htl_model.specs.RefinementRules.{IsAbstractIn, ParentFault}
+pub use Rattle.htl_model.specs.RootModes.{modes_below}
 pub use Rattle.htl_model.specs.SecondWriters.{parent_mode}
-pub use Rattle.htl_model.specs.Selections.{root_modules}
+pub use Rattle.htl_model.specs.Selections.{invs_of, modes_of, root_modules}
 pub use Rattle.htl_model.specs.Tables.{Tables, mode_module, task_worst}
 pub use Rattle.htl_model.specs.declared.event.Event.{Event}
 pub use Rattle.htl_model.specs.declared.frame.Frame.{Frame}
@@ -52,17 +53,20 @@ pub use Rattle.htl_walk.proofs.Finishes.{finish_ahead, finish_later}
 pub use Rattle.htl_walk.proofs.Joining.{joined, show_joined, stays}
 pub use Rattle.htl_walk.proofs.NodeWalks.{list_front}
 pub use Rattle.htl_walk.proofs.PathReady.{walkable}
+pub use Rattle.htl_walk.proofs.Placing.{formed_times}
 pub use Rattle.htl_walk.proofs.Starts.{legs_follow}
 pub use Rattle.htl_walk.proofs.Steps.{left_falls}
 pub use Rattle.htl_walk.proofs.Work.{absent_precedes, job_cases, job_is, job_there, work_present, work_some, worst_at}
 pub use Rattle.htl_walk.specs.Feasible.{lists_of}
-pub use Rattle.htl_walk.specs.Jobs.{precedes}
+pub use Rattle.htl_walk.specs.Jobs.{absent_job, precedes}
 pub use Rattle.htl_walk.specs.NodeWalks.{instrs_of, list_at, reach, reached}
-pub use Rattle.htl_walk.specs.PathJobs.{job_in, legs, legs_of, path_jobs, placed_job, placed_jobs}
+pub use Rattle.htl_walk.specs.PathJobs.{job_in, legs, legs_of, path_jobs, placed, placed_job, placed_jobs}
 pub use Rattle.htl_walk.specs.PathLaws.{RefinesFront}
 pub use Rattle.htl_walk.specs.Paths.{AreChained, AreInOrder, IsPathAccepted, Leg, end_to_end, list_point, walk_path, walks_from}
+pub use Rattle.htl_walk.specs.Placing.{HasTimes}
 pub use Rattle.htl_walk.specs.Refinement.{AreWithinWorst, HasWork, HaveLengths, Refines}
-pub use Rattle.htl_walk.specs.Walk.{DoneBy, InOrder, Left, Point, finish, first_point, is_position, job_at, last_point, left_by, next_point, time_after, walk_from, work, work_after, worst_cases}
+pub use Rattle.htl_walk.specs.Walk.{DoneBy, InOrder, Left, Point, dispatch_begins, finish, finishes_by, first_point, is_position, job_at, last_point, left_by, next_point, slice_between, time_after, walk_from, work, work_after, worst_cases}
+pub use Rattle.htl_walk.specs.WellFormed.{IsWellFormed}
 pub use Rattle.htl_walk.specs.declared.job.Job.{Job}
 pub use Rattle.htl_walk.specs.declared.schedule.SInstr.{SInstr}
 pub use Rattle.htl_walk.specs.declared.schedule.SInstr.TheVariants.{Dispatch, End, Idle}

@@ -1,7 +1,9 @@
 pub mod Accepted
+pub mod BareJobs
 pub mod Busy
 pub mod Laws
 pub mod Narrowed
 pub mod Noting
+pub mod PathPlaces
 pub mod Response
 pub mod Roots

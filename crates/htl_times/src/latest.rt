@@ -15,8 +15,9 @@ use htl_load::Loaded;
 /// worst cases in ticks, where there is a path. `rows` has a row for each invocation, empty at first; those of invocations of modules with a
 /// parent stay empty: what stands for a root invocation finishes no later than it.
 ///
-/// All paths count, also those that no run takes. It takes no memory: one survey of the frame, and for each path two passes over its
-/// positions and one over the instructions of its lists.
+/// All paths count, also those that no run takes. It takes no memory: one survey of the frame, one pass over the modes for each of its
+/// rounds and one over the invocations for each mode; then for each path a step for each round, passes over its positions, one of them
+/// with their reads, and one over the instructions of its lists. Whose ports a job reads isn't asked: a finish doesn't depend on it.
 pub fn latest_finishes(o: &Loaded, rows: &mut [Option<Greatest>]) -> Option<Greatest>
     requires empty { AreEmpty rows.old }
     ensures latest { (i : ℕ) → i < length rows.old → IsLatestOf o.now.tables (instrs_of o.now.schedules) i (get_or rows.new i None) }

@@ -1,5 +1,5 @@
 //! The laws of response times, which crates above build on. Each is a statement that the check has proved; there is nothing to run.
-ghost use Rattle.htl_times.specs.Accepted.{AcceptedIsFeasible};
+ghost use Rattle.htl_times.specs.Accepted.{AcceptedIsFeasible, EachRootHasRow};
 ghost use Rattle.htl_times.specs.Laws.{PathFinishesNoLater, FinishesNoLater, WorstIsReached, LatestInWindow, UtilisationAtMostOne};
 ghost use Rattle.htl_times.specs.Narrowed.{NarrowedAccepted};
 ghost use Rattle.htl_times.specs.Roots.{EachHasRoot, StandsWithinRoot, ParentlessOfRoots};
@@ -55,4 +55,9 @@ pub fn stands_within_root()
 /// Where no form rule is broken, an invocation has no parent exactly where it is of a root module.
 pub fn parentless_of_roots()
     ensures { ParentlessOfRoots }
+{}
+
+/// Of an accepted object each root invocation has a latest finish.
+pub fn each_root_has_row()
+    ensures { EachRootHasRow }
 {}

@@ -6,16 +6,17 @@ ghost use Rattle.htl_model.specs.Frames.{frame_limit, paths as paths_of, nodes a
 ghost use Rattle.htl_walk.specs.NodeWalks.{AreWalkable, instrs_of};
 ghost use Rattle.htl_times.specs.Busy.{IsBusiestOf, busy as busy_of};
 ghost use Rattle.htl_times.specs.Noting.{AreEmpty, AreWorstFinishes, AreBestBefore, IsToldBy, rows_after, BusyBefore, IsBest};
+ghost use Rattle.htl_times.specs.PathPlaces.{IsSurvey};
 ghost use Rattle.htl_times.specs.Response.{IsLatestOf};
 
 use crate::Greatest;
 use crate::greatest::greater;
+use crate::path_places::{Survey, put_path};
 use crate::path_walk::{PathLists, path_finishes};
 use htl_base::Time;
 use htl_base::limits::MAX_POSITIONS;
 use htl_model::Tables;
 use htl_model::frame::{Frame, Place};
-use htl_model::places::fill_places;
 use htl_walk::Schedule;
 
 // What a position tells: its invocation, and after how many ticks of its round it finishes.
@@ -68,6 +69,7 @@ fn note_places(
 // Notes what a path tells, and answers how long it is busy.
 fn note_path(p: PathLists<'_>, rows: &mut [Option<Greatest>]) -> u64
     requires frame { IsFrame p.t.now p.f.now }
+    requires survey { IsSurvey p.t.now p.survey.now }
     requires walkable { AreWalkable p.t.now }
     requires path { p.path < paths_of p.t.now }
     requires lists { length p.lists.now ≡ nodes_of_frame p.t.now }
@@ -76,10 +78,8 @@ fn note_path(p: PathLists<'_>, rows: &mut [Option<Greatest>]) -> u64
     ensures busy { result ≡ busy_of p.entry.t.now p.entry.path }
     ensures len { length rows.new ≡ length rows.old }
 {
-    let PathLists { t, f, path, .. } = p;
-    t.keeps_ranges();
     let mut places = [Place { inv: None, at: 0 }; MAX_POSITIONS];
-    let count = fill_places(t, &f.rounds[..f.round_count], f.paths, path, &mut places);
+    let count = put_path(p.t, p.survey, p.path, &mut places);
     let mut finish = [None; MAX_POSITIONS];
     let busy = path_finishes(p, &places[..count], &mut finish[..count]);
     note_places(p, &places[..count], &finish[..count], rows);
@@ -97,11 +97,13 @@ fn note_paths(t: &Tables, lists: &[Schedule], rows: &mut [Option<Greatest>]) -> 
     ensures len { length rows.new ≡ length rows.old }
 {
     let f = Frame::survey(t);
+    let survey = Survey::new(t, &f);
     let mut busiest = None;
     for path in 0..f.paths {
         let here = PathLists {
             t,
             f: &f,
+            survey: &survey,
             lists,
             path,
         };

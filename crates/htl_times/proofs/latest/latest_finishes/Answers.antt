@@ -1,5 +1,5 @@
-use Rattle.std.proofs.Common.{◌≡◌, ◌<◌, ◌∙◌, ℕ, List, None, ap, arith, get_or, length, subst, sym}
-use Rattle.htl_times.proofs.Words.{KeptApart, Schedule, Tables, frame_limit, instrs_of, kept_12, kept_apart, nodes}
+use Rattle.std.proofs.Common.{◌<◌, ◌∙◌, ℕ, None, ap, arith, get_or, length, subst, sym}
+use Rattle.htl_times.proofs.Words.{KeptApart, Tables, frame_limit, instrs_of, kept_12, kept_apart, nodes}
 use Rattle.htl_times.specs.Busy.{IsBusiestOf}
 use Rattle.htl_times.specs.Response.{IsLatestOf}
 use Rattle.htl_times.proofs.AcceptedRuns.{all_no_later, of_object}

@@ -1,17 +1,18 @@
 use Rattle.std.proofs.Common.{◌≡◌, ◌<◌, length, get_or, None, refl, sym, ap, ◌∙◌, subst, arith, add-one}
-use Rattle.htl_times.proofs.Words.{or_else, starts, reached, instrs_of, Point, walk_from, last_point, finish, work, worst_cases, left_length}
+use Rattle.htl_times.proofs.Words.{or_else, starts, reached, instrs_of, Point, walk_from, last_point, finish, work, worst_cases, path_jobs}
 use Rattle.htl_times.specs.Noting.{AreFinishesTo}
-use Rattle.htl_times.proofs.PathFinishes.{none_yet, one_more, all_lists, walk_here, left_here}
+use Rattle.htl_times.proofs.BareWalks.{bare_start}
+use Rattle.htl_times.proofs.PathFinishes.{bare_length, none_yet, one_more, all_lists, walk_here, left_here}
 use Rattle.htl_times.proofs.path_walk.walk_lists.Goals as goal
 
 pub loop-j-init : goal.loop-j-init
 loop-j-init c =
-    let left = c.requires.left ∙ ap (λ js. work js (worst_cases js)) c.requires.jobs in
+    let left = c.requires.left ∙ ap (λ js. work js (worst_cases js)) c.requires.jobs ∙ bare_start (path_jobs c.args.p.t.now c.args.p.path) in
     record {
       left = left;
       finishes = none_yet c.args.p.t.now (instrs_of c.args.p.lists.now) c.args.p.path c.args.finish.now c.requires.empty;
       same = refl;
-      work = left_length c.args.p.t.now (instrs_of c.args.p.lists.now) c.args.p.path 0 c.args.jobs.now c.args.left.now c.requires.jobs left;
+      work = bare_length c.args.p.t.now (instrs_of c.args.p.lists.now) c.args.p.path c.args.jobs.now c.args.left.now c.requires.jobs left;
     }
 
 pub loop-j-preserved : goal.loop-j-preserved

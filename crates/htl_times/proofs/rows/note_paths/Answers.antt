@@ -1,4 +1,4 @@
-use Rattle.std.proofs.Common.{◌≡◌, ◌+◌, ◌∙◌, None, refl, sym, subst, arith, add-one}
+use Rattle.std.proofs.Common.{◌≡◌, ◌+◌, ◌∙◌, refl, sym, subst, arith, add-one}
 use Rattle.htl_times.proofs.Words.{paths, instrs_of}
 use Rattle.htl_times.specs.Noting.{AreBestBefore, BusyBefore, IsBest, greater_of}
 use Rattle.htl_times.proofs.Best.{busy_more, none_busy, nothing_seen}
