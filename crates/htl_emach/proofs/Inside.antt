@@ -1,5 +1,5 @@
 -- One instruction of a block that runs is the next of the path.
-use Rattle.std.proofs.Common.{◌≡◌, ℕ, zero, suc, ◌+◌, ◌<◌, Bool, true, false, cond, eqb, List, [], ◌∷◌, ◌++◌, slice_get, set, Option, Some, None, ℤ, refl, sym, ap, ◌∙◌, subst, arith, append_assoc, ◌⊎◌, inl, inr}
+use Rattle.std.proofs.Common.{◌≡◌, ℕ, suc, ◌+◌, ◌<◌, Bool, true, false, cond, eqb, List, [], ◌∷◌, ◌++◌, slice_get, set, Option, Some, None, ℤ, refl, sym, ap, ◌∙◌, subst, arith, append_assoc, ◌⊎◌, inl, inr}
 use Rattle.htl_emach.proofs.Words.{nat_tests, Event, Stay, Tables, mode_module, state, stay_of, mode_of, runs, ECode, EInstr, Done, on, holds_in, Trigger, Block, Calendar, list_at, goes, runs_in, calendar_effect, with_trigger, entry_of, going_on, stepped, Leads, Ends, goes_at, IsAllowed, Between, Entry, pending_entry, switched, closed, old_stay, new_stay, calendar_at, calendar_replay, phase_path, blocks_to_come, BlockRuns, IsInBlock, PhaseStands, Onward, nothing_ends, none-some, same_Some}
 use Rattle.htl_ecode.specs.declared.instr.EInstr.TheVariants as I
 use Rattle.htl_emach.proofs.Effects.{list_other}

@@ -27,12 +27,14 @@ fn tell_instr<W: Sink>(
     show: Shown,
     at: Time,
     address: u32,
-    instr: &EInstr,
+    instr: EInstr,
 ) -> Result<(), Failed>
-    ensures { Puts (W.written sink.old) (W.written sink.new) (W.faults sink.old) (W.faults sink.new) (instr_lines t.now show at address instr.now) result }
+    ensures { Puts (W.written sink.old) (W.written sink.new) (W.faults sink.old) (W.faults sink.new) (instr_lines t.now show at address instr) result }
 {
     if show.code() {
-        line_e(sink, t, at, address, instr)
+        // Only here does the instruction need a place in memory.
+        let told = instr;
+        line_e(sink, t, at, address, &told)
     } else {
         Ok(())
     }
@@ -86,6 +88,29 @@ pub fn do_instrs<W: Sink>(
 {
     let t = program.tables;
     let _parts = t.parts();
+    if !machines.emach.is_due(t, program.code, phase, at) {
+        return Ok(());
+    }
+    do_due(sink, machines, program, jobs, phase, at)
+}
+
+// The same, instruction by instruction.
+fn do_due<W: Sink>(
+    sink: &mut W,
+    machines: &mut Machines,
+    program: &Program<'_>,
+    jobs: &[Job],
+    phase: Phase,
+    at: Time,
+) -> Result<(), Failed>
+    requires given { PartGiven program.now jobs.now at machines.old }
+    requires starts { (es : List Event) × AreStarting program.now es at (number_of phase) machines.old }
+    ensures text { PhaseText program.now at phase machines.old (W.written sink.old) (W.written sink.new) (W.faults sink.old) (W.faults sink.new) result }
+    ensures events { DoesPhase program.now at phase machines.old machines.new result }
+    ensures keeps { OnOk result (PhaseKeeps program.now (number_of phase) machines.old machines.new) }
+{
+    let t = program.tables;
+    let _parts = t.parts();
     loop {
         match machines
             .emach
@@ -101,7 +126,7 @@ pub fn do_instrs<W: Sink>(
                     program.show,
                     at,
                     done.address,
-                    &done.instr,
+                    done.instr,
                 ) {
                     return Err(failed);
                 }

@@ -1,5 +1,5 @@
-use Rattle.std.proofs.Common.{◌≡◌, ℕ, List, ℤ, sym, subst}
-use Rattle.htl_emach.proofs.Words.{Event, Done, Midway, Onward, state, number_of, done_in, standing_after}
+use Rattle.std.proofs.Common.{◌≡◌, ℕ, List, subst}
+use Rattle.htl_emach.proofs.Words.{Event, Done, Midway, Onward, state, done_in, standing_after}
 use Rattle.htl_emach.proofs.PhaseNumbers.{number_of_phase}
 use Rattle.htl_emach.proofs.emach.EMach.instant.Goals as goal
 
