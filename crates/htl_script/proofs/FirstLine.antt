@@ -1,25 +1,14 @@
 -- What the first of the lines that are left makes of the rest of a script.
-use Rattle.std.proofs.Common.{◌≡◌, ◌+◌, ℕ, Bool, true, false, List, [], ◌∷◌, refl, Option, Some, None, Result, Ok, Err, ap, ◌∙◌}
-use Rattle.std.specs.Prelude.{if◌then◌else◌}
-use Rattle.htl_script.proofs.Words.{Event, Tables, ScriptKind, Past, ScriptLine, Script, size_of, is_past_limit, is_long, size_fault, judged_text, judged, Bad, listed, behind, rest_of_lines, past_after_if}
-use Rattle.htl_script.specs.declared.fault.ScriptKind.TheVariants as kind
+use Rattle.std.proofs.Common.{◌≡◌, ◌+◌, ℕ, List, [], ◌∷◌, Option, Some, None, Result, Ok, Err, ap, ◌∙◌}
+use Rattle.htl_script.proofs.Words.{Event, Tables, ScriptKind, Past, ScriptLine, Script, size_of, size_fault, judged_text, judged, Bad, listed, behind, rest_of_lines, past_after_if}
+use Rattle.htl_script.proofs.Splitting.{by_size}
 
 -- a line that breaks a rule on its size, and one that breaks none
-judged-by : (t : Tables) (start : ℕ) (past : Past) (x : ScriptLine) → judged t start past x ≡ elim (size_fault start x) [ Some k ↦ Err k | None ↦ judged_text t past x.text ]
-judged-by t start past x = by (is_past_limit start x) (is_long x)
-  where
-    by : (over long : Bool)
-        → (if over then Err kind.Size else if long then Err kind.Long else judged_text t past x.text)
-        ≡ elim (if over then Some kind.Size else if long then Some kind.Long else None) [ Some k ↦ Err k | None ↦ judged_text t past x.text ]
-    by true long = refl
-    by false true = refl
-    by false false = refl
-
 pub judged-sized : (t : Tables) (start : ℕ) (past : Past) (x : ScriptLine) (k : ScriptKind) → size_fault start x ≡ Some k → judged t start past x ≡ Err k
-judged-sized t start past x k e = judged-by t start past x ∙ ap (λ (o : Option ScriptKind). elim o as (λ _. Result (Option Event) ScriptKind) [ Some k ↦ Err k | None ↦ judged_text t past x.text ]) e
+judged-sized t start past x k e = by_size start x (judged_text t past x.text) ∙ ap (λ (o : Option ScriptKind). elim o as (λ _. Result (Option Event) ScriptKind) [ Some k ↦ Err k | None ↦ judged_text t past x.text ]) e
 
 pub judged-short : (t : Tables) (start : ℕ) (past : Past) (x : ScriptLine) → size_fault start x ≡ None → judged t start past x ≡ judged_text t past x.text
-judged-short t start past x e = judged-by t start past x ∙ ap (λ (o : Option ScriptKind). elim o as (λ _. Result (Option Event) ScriptKind) [ Some k ↦ Err k | None ↦ judged_text t past x.text ]) e
+judged-short t start past x e = by_size start x (judged_text t past x.text) ∙ ap (λ (o : Option ScriptKind). elim o as (λ _. Result (Option Event) ScriptKind) [ Some k ↦ Err k | None ↦ judged_text t past x.text ]) e
 
 -- what the lines give, by what the first gives
 pub rest_of_lines-first : (t : Tables) (line start : ℕ) (past : Past) (x : ScriptLine) (xs : List ScriptLine) (r : Result (Option Event) ScriptKind)

@@ -1,6 +1,7 @@
 -- A reader of lines that reads on.
-use Rattle.std.proofs.Common.{◌≡◌, ℕ, Bool, true, false, List, [], ◌++◌, Option, Some, None, Result, Ok, Err, refl, sym, ap, ◌∙◌, arith, append_assoc, append-nil, subst}
-use Rattle.htl_script.proofs.Words.{IsAtEnd, prepend_known, prepend_known-append, prepend_known-nil, true_not_false, feeds_of, Pending, Place, LinesAhead, SeesByte, ReadsOn, text_of, Gives}
+use Rattle.std.proofs.Common.{◌≡◌, ◌+◌, ◌∷◌, not, eqb, suc, length, length-append, drop, ℕ, Bool, true, false, List, [], ◌++◌, Option, Some, None, Result, Ok, Err, refl, sym, ap, ◌∙◌, arith, append_assoc, append-nil, subst}
+use Rattle.std.specs.Prelude.{if◌then◌else◌}
+use Rattle.htl_script.proofs.Words.{behind_line, bytes_taken, ne_eqb, IsAtEnd, prepend_known, prepend_known-append, prepend_known-nil, true_not_false, feeds_of, Pending, Place, LinesAhead, SeesByte, ReadsOn, text_of, Gives}
 use Rattle.htl_script.proofs.Feeds.{feeds_both, moved}
 
 pub reads_none : (a : LinesAhead) (rest : Option (List ℕ)) → ReadsOn a a rest rest
@@ -103,3 +104,19 @@ reads_text a b rest left r later =
 
 pub reads_gives : (a b : LinesAhead) (rest left : Option (List ℕ)) → ReadsOn a b rest left → Gives a.ahead.over b.ahead.over rest left (λ bytes later. text_of a bytes ≡ text_of b later)
 reads_gives a b rest left r = record { front = r.front; lost = r.lost; ends = r.ends; kept = r.kept; fact = λ later ok. reads_text a b rest left r later }
+
+-- ---- how many bytes were taken
+
+pub reads_count : (a b : LinesAhead) (rest left : Option (List ℕ)) (r : ReadsOn a b rest left) → bytes_taken b ≡ bytes_taken a + length r.front
+reads_count a b rest left r =
+    let parts : length a.ahead.bytes + length r.front ≡ length r.run + length b.ahead.bytes = sym (length-append a.ahead.bytes r.front) ∙ ap length r.parts ∙ length-append r.run b.ahead.bytes in
+    let start : b.place.start ≡ a.place.start = ap (λ (p : Place). p.start) r.place in
+    let line : length b.place.line ≡ length a.place.line + length r.run = ap (λ (p : Place). length p.line) r.place ∙ length-append a.place.line r.run in
+    omega (arith, parts, start, line)
+
+pub passed_count : (a : LinesAhead) → bytes_taken (behind_line a) ≡ bytes_taken a
+passed_count a = omega (arith, behind a.ahead.bytes)
+  where
+    behind : (bytes : List ℕ) → (if not (eqb (length bytes) 0) then 1 else 0) + length (drop 1 bytes) ≡ length bytes
+    behind [] = refl
+    behind (b ∷ bs) = ap (λ (c : Bool). (if not c then 1 else 0) + length (drop 1 (b ∷ bs))) (ne_eqb (suc (length bs)) 0 (λ none. absurd (omega (arith, none)))) ∙ omega arith

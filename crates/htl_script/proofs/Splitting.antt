@@ -1,5 +1,5 @@
 -- The first of the lines that are left.
-use Rattle.std.proofs.Common.{inl, inr, ◌≡◌, ◌+◌, ◌≤◌, ◌<◌, ℕ, suc, min, Bool, true, false, not, cond, List, [], ◌∷◌, ◌++◌, length, drop, Some, None, Ok, Err, refl, sym, ap, ap₂, ◌∙◌, subst, arith, eqb, append-nil, length-append}
+use Rattle.std.proofs.Common.{inl, inr, ◌≡◌, ◌+◌, ◌≤◌, ◌<◌, ℕ, suc, min, Bool, true, false, not, cond, List, [], ◌∷◌, ◌++◌, length, drop, Some, None, Result, Ok, Err, refl, sym, ap, ap₂, ◌∙◌, subst, arith, eqb, append-nil, length-append}
 use Rattle.std.specs.Prelude.{if◌then◌else◌}
 use Rattle.std.proofs.lemmas.List.{nil_from_length}
 use Rattle.htl_script.proofs.Words.{slice_split, onto_first, All, cases_Bool, le-leb, lt-ltb, le-ltb, and_from, and_right, ne_eqb, eqb-true, eqb-false, slice_split_none, slice_split_at, slice_split-cons_yes, slice_split-cons_no, ScriptKind, ScriptLine, is_line_feed, lines_of_parts, lines_of, size_of, is_past_limit, is_long, ScriptStop, LinesAhead, IsLinePlace, IsAtLine, IsRefused, AnswersLine, StopsBefore, line_in, size_fault, text_of}
@@ -101,6 +101,18 @@ size-none start x below short =
     let is : is_long x ≡ false = le-ltb 255 (length x.text) short in
     ap (λ (b : Bool). cond b (Some kind.Size) (cond (is_long x) (Some kind.Long) None)) within
     ∙ ap (λ (b : Bool). cond b (Some kind.Long) None) is
+
+-- how a line is judged whose text is judged so
+pub by_size : {A : Type 0} (start : ℕ) (x : ScriptLine) (r : Result A ScriptKind)
+    → (if is_past_limit start x then Err kind.Size else if is_long x then Err kind.Long else r) ≡ elim (size_fault start x) [ Some k ↦ Err k | None ↦ r ]
+by_size start x r = by (is_past_limit start x) (is_long x)
+  where
+    by : (over long : Bool)
+        → (if over then Err kind.Size else if long then Err kind.Long else r)
+        ≡ elim (if over then Some kind.Size else if long then Some kind.Long else None) [ Some k ↦ Err k | None ↦ r ]
+    by true long = refl
+    by false true = refl
+    by false false = refl
 
 -- ---- where a line ends
 

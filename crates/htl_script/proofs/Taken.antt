@@ -1,9 +1,9 @@
 -- How much of its source a reader takes: what it counts, with the bytes that it read ahead, and the lines in which these end.
-use Rattle.std.proofs.Common.{arith, ◌≡◌, ◌≤◌, ◌+◌, ℕ, suc, Bool, not, eqb, List, [], ◌∷◌, ◌++◌, length, length-append, take, drop, Option, Result, Ok, Err, IfOk, refl, sym, ap, ◌∙◌, subst, append-nil, append_assoc}
-use Rattle.std.specs.Prelude.{if◌then◌else◌}
-use Rattle.htl_script.proofs.Words.{prepend_known, LosesFront, StopsAtLine, ScriptStop, Event, Tables, Past, past_after_if, Place, Ahead, LinesAhead, TakesLine, lines_in, IsLinePlace, ReadsOn, behind_line, ahead_of, LosesPiece, at_start, taken_of, prepend_known-append, prepend_known-nil, is_line_feed, take-append-drop, length-drop, length-take, ne_eqb}
+use Rattle.std.proofs.Common.{arith, ◌≡◌, ◌≤◌, ◌+◌, ℕ, List, [], ◌++◌, length, length-append, take, drop, Option, Result, Ok, Err, IfOk, refl, sym, ap, ◌∙◌, subst, append-nil, append_assoc}
+use Rattle.htl_script.proofs.Words.{bytes_taken, prepend_known, LosesFront, StopsAtLine, ScriptStop, Event, Tables, Past, past_after_if, Place, Ahead, LinesAhead, TakesLine, lines_in, IsLinePlace, ReadsOn, behind_line, ahead_of, LosesPiece, at_start, taken_of, prepend_known-append, prepend_known-nil, is_line_feed, take-append-drop, length-drop, length-take}
 use Rattle.std.proofs.lemmas.List.Sums.{count_by-le-length}
 use Rattle.htl_script.specs.declared.fault.ScriptStop.TheVariants as stop
+use Rattle.htl_script.proofs.ReadingOn.{passed_count, reads_count}
 use Rattle.htl_script.proofs.Feeds.{feeds_both, moved}
 
 -- nothing
@@ -30,13 +30,8 @@ taken_on a b known rest x y h = record { front = h.front; lost = h.lost; few = h
 pub taken_on_line : {U F : Type 0} (first : Ahead) (past : Past) (a b : LinesAhead) (known rest left : Option (List ℕ)) (u : U) → LosesPiece {T = U} {E = F} first (ahead_of a past) known rest (Ok u) → ReadsOn a b rest left
     → IsLinePlace b.place → length b.ahead.bytes ≤ 256 → LosesPiece {T = U} {E = F} first (ahead_of b past) known left (Ok u)
 taken_on_line first past a b known rest left u was reads at few =
-    let counted : a.place.start + length a.place.line + length a.ahead.bytes ≡ taken_of first + length was.front = was.counted in
-    let parts : length a.ahead.bytes + length reads.front ≡ length reads.run + length b.ahead.bytes =
-    sym (length-append a.ahead.bytes reads.front) ∙ ap length reads.parts ∙ length-append reads.run b.ahead.bytes in
-    let start : b.place.start ≡ a.place.start = ap (λ (p : Place). p.start) reads.place in
-    let line : length b.place.line ≡ length a.place.line + length reads.run = ap (λ (p : Place). length p.line) reads.place ∙ length-append a.place.line reads.run in
-    let all : length (was.front ++ reads.front) ≡ length was.front + length reads.front = length-append was.front reads.front in
-    let count : b.place.start + length b.place.line + length b.ahead.bytes ≡ taken_of first + length (was.front ++ reads.front) = omega (arith, counted, parts, start, line, all) in
+    let counted : bytes_taken a ≡ taken_of first + length was.front = was.counted in
+    let count : bytes_taken b ≡ taken_of first + length (was.front ++ reads.front) = omega (arith, counted, reads_count a b rest left reads, length-append was.front reads.front) in
     record {
       front = was.front ++ reads.front;
       lost = prepend_known-append left was.front reads.front ∙ ap (prepend_known was.front) reads.lost ∙ was.lost;
@@ -54,12 +49,12 @@ taken_on_line first past a b known rest left u was reads at few =
 pub taken_line : {T U E F : Type 0} (first : Ahead) (past after : Past) (a : LinesAhead) (known rest : Option (List ℕ)) (u : U) (x : T) → LosesPiece {T = U} {E = F} first (ahead_of a past) known rest (Ok u)
     → LosesPiece {T = T} {E = E} first (ahead_of (behind_line a) after) known rest (Ok x)
 taken_line first past after a known rest u x was =
-    let counted : a.place.start + length a.place.line + length a.ahead.bytes ≡ taken_of first + length was.front = was.counted in
+    let counted : bytes_taken a ≡ taken_of first + length was.front = was.counted in
     record {
       front = was.front;
       lost = was.lost;
       few = was.few;
-      counted = omega (arith, counted, behind a.ahead.bytes);
+      counted = passed_count a ∙ counted;
       lines = was.lines ++ take 1 a.ahead.bytes;
       piece = drop 1 a.ahead.bytes;
       parts =
@@ -68,10 +63,6 @@ taken_line first past after a known rest u x was =
       short = λ fit. let short = was.short fit in omega (arith, short, ap length was.goes_on, length-drop 1 a.ahead.bytes);
       goes_on = refl;
     }
-  where
-    behind : (bytes : List ℕ) → (if not (eqb (length bytes) 0) then 1 else 0) + length (drop 1 bytes) ≡ length bytes
-    behind [] = refl
-    behind (b ∷ bs) = ap (λ (c : Bool). (if not c then 1 else 0) + length (drop 1 (b ∷ bs))) (ne_eqb (suc (length bs)) 0 (λ none. absurd (omega (arith, none)))) ∙ omega arith
 
 -- what is answered doesn't matter
 pub taken_as : {T U E F : Type 0} (first now : Ahead) (known rest : Option (List ℕ)) (u : U) (r : Result T E) → LosesPiece {T = U} {E = F} first now known rest (Ok u) → LosesPiece {T = T} {E = E} first now known rest r

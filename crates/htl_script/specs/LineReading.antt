@@ -73,6 +73,10 @@ StopsBefore p b (Err k) =
     ((k ≡ kind.Size) × (p.start + length p.line ≡ MAX_SCRIPT))
     ⊎ ((k ≡ kind.Long) × (is_line_feed b ≡ false) × (length p.line ≡ MAX_LINE) × (p.start + length p.line < MAX_SCRIPT))
 
+-- how many bytes of the source were taken so far
+abbrev pub bytes_taken : LinesAhead → ℕ
+bytes_taken a = a.place.start + length a.place.line + length a.ahead.bytes
+
 -- the line that was read, where it ends here
 abbrev pub line_in : LinesAhead → ScriptLine
 line_in a = record { text = a.place.line; fed = not (length a.ahead.bytes == 0) }
