@@ -4,7 +4,6 @@ pub mod PlanFrame
 pub mod PlanWalk
 pub mod SelectionEntries
 pub mod SelectionFields
-pub mod SelectionLines
 pub mod SelectionReading
 pub mod StayingJobs
 pub mod StayingPath

@@ -1,5 +1,5 @@
 -- The plans of a refinement and of two root modules of different periods, and inputs, worked.
-use Rattle.std.specs.Prelude.{◌≡◌, List, [], ◌∷◌, Some, None, refl, codes}
+use Rattle.std.specs.Prelude.{◌≡◌, List, [], ◌∷◌, Some, refl, codes}
 use Rattle.std.specs.Fmt.{digits}
 use Rattle.htl_plan.proofs.Words.{refined, two_periods, Dispatch, End, Schedule, plan_text}
 use Rattle.htl_script.specs.declared.fault.ScriptKind.TheVariants as kind

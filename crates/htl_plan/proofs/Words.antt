@@ -5,7 +5,7 @@ pub use Rattle.htl_console.proofs.Writing.{Puts-cut}
 pub use Rattle.htl_console.specs.Lines.{plan_line}
 pub use Rattle.htl_edge.proofs.Puts.{Puts-failed, Puts-second, append_known-more, append_known-start}
 pub use Rattle.htl_console.proofs.Writing.{nothing_put}
-pub use Rattle.htl_edge.specs.Content.{AppendsPrefix, Puts}
+pub use Rattle.htl_edge.specs.Content.{AppendsPrefix, Puts, none_left}
 pub use Rattle.htl_model.proofs.FrameLimits.{choices_append, choices_some, limits_kept, rounds_have}
 pub use Rattle.htl_model.proofs.Listed.{get_list_to, length-list_to}
 pub use Rattle.htl_model.proofs.Sources.{call, mode, refined, two_periods}
@@ -24,7 +24,6 @@ pub use Rattle.htl_object.specs.Accepted.{IsAccepted}
 pub use Rattle.htl_object.specs.declared.object.Object.{Object}
 pub use Rattle.htl_plan.specs.Plans.{done_text, finishes, frame_text, left_text, plan_text, slice_text, staying_frame, walk_text, work_of}
 pub use Rattle.htl_plan.specs.SelectionInput.{Bad, entered, input_of_lines, judged, judged_text, listed, named_by}
-pub use Rattle.htl_plan.specs.SelectionReaders.{IsPlace, Place, next_line, rest_of, selection_answered}
 pub use Rattle.htl_refine.proofs.BegunLimits.{choice_few, start_early}
 pub use Rattle.htl_refine.proofs.ListsFollow.{leg_from, legs_many, rises_next}
 pub use Rattle.htl_refine.proofs.Members.{of_flat}
@@ -36,7 +35,8 @@ pub use Rattle.htl_refine.proofs.WorkDone.{length-walk}
 pub use Rattle.htl_refine.specs.BegunJobs.{choice_of, new_jobs}
 pub use Rattle.htl_refine.specs.DerivedPaths.{derived_place}
 pub use Rattle.htl_refine.specs.FrameRuns.{frame_jobs, frame_places, path_in, path_of, running_places, walk_of}
-pub use Rattle.htl_script.proofs.Splitting.{lines_of-begun, lines_of-fed, lines_of-last, size_at_least, within_limit}
+pub use Rattle.htl_script.specs.LineReading.{AnswersLine, IsAtLine, IsLinePlace, IsRefused, LinesAhead, Place, ReadsOn, behind_line, bytes_taken, first_place, line_in, nothing_read, size_fault, text_of}
+pub use Rattle.htl_script.specs.Streaming.{Gives}
 pub use Rattle.htl_script.specs.Reading.{LosesFront, OfScript}
 pub use Rattle.htl_script.specs.Statements.{fields_of, is_space}
 pub use Rattle.htl_script.specs.declared.fault.ScriptFault.{ScriptFault}

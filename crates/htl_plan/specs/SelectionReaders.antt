@@ -1,60 +1,37 @@
--- Where a reader of a plan's input is.
-use Rattle.std.specs.Prelude.{◌≡◌, ◌≤◌, ℕ, ◌+◌, false, List, [], ◌++◌, length, take, All, Option, Ok, Err}
+-- What a reader of a plan's input has read, and what it answers.
+use Rattle.std.specs.Prelude.{◌≡◌, ◌≤◌, ◌==◌, ℕ, false, List, ◌++◌, length, take, Option, Ok, Err}
 use Rattle.std.specs.declared.result.Result.{Result}
 use Rattle.htl_edge.specs.Causes.{Rose}
 use Rattle.htl_model.specs.Tables.{Tables}
-use Rattle.htl_script.specs.declared.fault.ScriptKind.{ScriptKind}
-use Rattle.htl_script.specs.Lines.{is_line_feed, lines_of}
+use Rattle.htl_script.specs.declared.fault.ScriptKind.TheVariants as kind
 use Rattle.htl_script.specs.declared.fault.ScriptStop.{ScriptStop}
 use Rattle.htl_script.specs.declared.fault.ScriptStop.TheVariants as stop
-use Rattle.htl_plan.specs.SelectionInput.{Input, Whole, Bad, listed, input_of_lines}
+use Rattle.htl_script.specs.LineReading.{LinesAhead, text_of, behind_line}
+use Rattle.htl_script.specs.Lines.{lines_of}
+use Rattle.htl_plan.specs.SelectionInput.{Input, Whole, Bad, judged_text, listed, input_of_lines}
 
--- the number of the line that is being read, the bytes before it, what was read of it, and how many entries there are
-pub record Place : Type 0 where
-  pub number : ℕ
-  pub start : ℕ
-  pub line : List ℕ
-  pub done : ℕ
+-- what is left behind a reader of lines gives, where these bytes follow, with these entries
+abbrev pub rest_of : Tables → LinesAhead → List (Option ℕ) → List ℕ → Input
+rest_of t a entries later = input_of_lines t a.place.number a.place.start entries (lines_of (text_of a later))
 
-pub record IsPlace (p : Place) : Type 0 where
-  pub counted : p.number ≤ p.start + 1
-  pub small : p.start + length p.line ≤ 1073741824
-  pub plain : All (λ b. is_line_feed b ≡ false) p.line
-  pub short : length p.line ≤ 255
+-- The line that was read has an entry or none, the reader is behind it, and so many of the modes are then entries; or it has this fault.
+abbrev pub TakesLine : Tables → LinesAhead → List (Option ℕ) → ℕ → LinesAhead → List (Option ℕ) → Result ℕ ScriptStop → Type 0
+TakesLine t old modes done new entries (Ok n) =
+    (e : Option (Option ℕ)) × (judged_text t (take done modes) old.place.line ≡ Ok e) × (new ≡ behind_line old) × (take n entries ≡ take done modes ++ listed e)
+TakesLine t old modes done new entries (Err (stop.Script fault)) = (judged_text t (take done modes) old.place.line ≡ Err fault.kind) × (fault.line ≡ old.place.number)
+TakesLine t old modes done new entries (Err stop.Read) = ⊥
 
-abbrev pub first_place : Place
-first_place = record { number = 1; start = 0; line = []; done = 0 }
-
--- what the bytes behind a reader give, with the first of these entries
-abbrev pub rest_of : Tables → Place → List (Option ℕ) → List ℕ → Input
-rest_of t p modes bytes = input_of_lines t p.number p.start (take p.done modes) (lines_of (p.line ++ bytes))
-
--- the reader behind a line that gave an entry or nothing, and behind its line feed where it has one
-abbrev pub next_line : Place → ℕ → Option (Option ℕ) → Place
-next_line p feed e = record { number = p.number + 1; start = p.start + (length p.line + feed); line = []; done = p.done + length (listed e) }
-
--- what comes after a line's answer
-abbrev pub selection_answered : {T : Type 0} → ℕ → Result T ScriptKind → Input → Input
-selection_answered line (Ok e) later = later
-selection_answered line (Err k) later = Bad line k
-
--- what a reader does with bytes: all of them are read, or the input has its first fault in them
-abbrev pub Takes : {T : Type 0} → Tables → Place → List (Option ℕ) → Place → List (Option ℕ) → List ℕ → Result T ScriptStop → Type 0
-Takes t old modes new entries bytes (Ok done) = (later : List ℕ) → rest_of t old modes (bytes ++ later) ≡ rest_of t new entries later
-Takes t old modes new entries bytes (Err (stop.Script fault)) = (later : List ℕ) → rest_of t old modes (bytes ++ later) ≡ Bad fault.line fault.kind
-Takes t old modes new entries bytes (Err stop.Read) = ⊥
+-- What is answered behind the last line, where there are so many entries.
+abbrev pub AnswersEnd : {T : Type 0} → Tables → LinesAhead → ℕ → Result T ScriptStop → Type 0
+AnswersEnd t a done (Ok x) = done ≡ length t.modules
+AnswersEnd t a done (Err (stop.Script fault)) = ((done == length t.modules) ≡ false) × (fault ≡ record { line = a.place.number; kind = kind.NoEnd })
+AnswersEnd t a done (Err stop.Read) = ⊥
 
 -- what an input is, by the answer
 abbrev pub IsAnswer : {T : Type 0} → Input → List (Option ℕ) → Result T ScriptStop → Type 0
 IsAnswer input modes (Ok done) = input ≡ Whole modes
 IsAnswer input modes (Err (stop.Script fault)) = input ≡ Bad fault.line fault.kind
 IsAnswer input modes (Err stop.Read) = Unit {0}
-
--- what a reader does at the end
-abbrev pub Finishes : {T : Type 0} → Tables → Place → List (Option ℕ) → List (Option ℕ) → Result T ScriptStop → Type 0
-Finishes t old modes entries (Ok done) = rest_of t old modes [] ≡ Whole entries
-Finishes t old modes entries (Err (stop.Script fault)) = rest_of t old modes [] ≡ Bad fault.line fault.kind
-Finishes t old modes entries (Err stop.Read) = ⊥
 
 -- A count of faults doesn't fall. It rose where the reader stopped at a fault of its source, and else stands where it stood.
 pub record HasReadCause {T : Type 0} (before now : ℕ) (result : Result T ScriptStop) : Type 0 where

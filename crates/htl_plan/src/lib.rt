@@ -7,7 +7,6 @@ mod plan_walk;
 mod selection;
 mod selection_judge;
 mod selection_lookup;
-mod selection_reader;
 mod staying;
 
 pub use plan::{no_modes, write_plan};

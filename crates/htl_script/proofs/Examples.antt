@@ -1,7 +1,7 @@
 -- Worked scripts.
 use Rattle.std.proofs.Common.{◌≡◌, ◌+◌, ◌<◌, ◌≤◌, ℕ, Bool, true, false, List, [], ◌∷◌, ◌++◌, length, length-append, Some, None, pos, negsuc, codes, replicate, refl, ap, subst, arith}
 use Rattle.htl_script.proofs.Words.{IntTy, BoolTy, plain, sensor, mode, module_named, call, Task, Tables, is_past_limit, Whole, Bad, script_of, StopsAtLine, feeds_of, same_Some}
-use Rattle.htl_script.proofs.Taken.{feeds_both}
+use Rattle.htl_script.proofs.Feeds.{feeds_both}
 use Rattle.htl_model.specs.declared.event.Event.TheVariants as event
 use Rattle.htl_script.specs.declared.fault.ScriptKind.TheVariants as kind
 

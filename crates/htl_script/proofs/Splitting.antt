@@ -1,8 +1,10 @@
--- The first line of what is left of a script.
-use Rattle.std.proofs.Common.{inl, inr, ◌≡◌, ◌+◌, ◌≤◌, ◌<◌, ℕ, suc, min, Bool, true, false, cond, List, [], ◌∷◌, ◌++◌, length, Option, Result, Ok, Err, refl, sym, ap, ◌∙◌, arith, eqb, append-nil, length-append}
-use Rattle.std.specs.Prelude.{IfOk, if◌then◌else◌}
-use Rattle.htl_script.proofs.Words.{slice_split, onto_first, All, cases_Bool, le-leb, lt-ltb, le-ltb, and_from, and_right, ne_eqb, eqb-true, slice_split_none, slice_split_at, slice_split-cons_yes, slice_split-cons_no, Event, Tables, ScriptKind, Past, ScriptLine, is_line_feed, lines_of_parts, lines_of, size_of, is_past_limit, is_long, judged_text, judged, Bad, listed, behind, answered, rest_of_lines, past_after_if, Here, IsHere, rest_of, next_line}
+-- The first of the lines that are left.
+use Rattle.std.proofs.Common.{inl, inr, ◌≡◌, ◌+◌, ◌≤◌, ◌<◌, ℕ, suc, min, Bool, true, false, not, cond, List, [], ◌∷◌, ◌++◌, length, drop, Some, None, Result, Ok, Err, refl, sym, ap, ap₂, ◌∙◌, subst, arith, eqb, append-nil, length-append}
+use Rattle.std.specs.Prelude.{if◌then◌else◌}
+use Rattle.std.proofs.lemmas.List.{nil_from_length}
+use Rattle.htl_script.proofs.Words.{slice_split, onto_first, All, cases_Bool, le-leb, lt-ltb, le-ltb, and_from, and_right, ne_eqb, eqb-true, eqb-false, slice_split_none, slice_split_at, slice_split-cons_yes, slice_split-cons_no, ScriptKind, ScriptLine, is_line_feed, lines_of_parts, lines_of, size_of, is_past_limit, is_long, ScriptStop, LinesAhead, IsLinePlace, IsAtLine, IsRefused, AnswersLine, StopsBefore, line_in, size_fault, text_of}
 use Rattle.htl_script.specs.declared.fault.ScriptKind.TheVariants as kind
+use Rattle.htl_script.specs.declared.fault.ScriptStop.TheVariants as stop
 
 -- ---- lines
 
@@ -73,101 +75,120 @@ size_at_least x = sized x.fed
     sized true = omega arith
     sized false = omega arith
 
-judged-limit : (t : Tables) (start n : ℕ) (past : Past) (x : ScriptLine) → start + n ≡ 1073741824 → n ≤ 255 → n + 1 ≤ size_of x
-    → judged t start past x ≡ Err kind.Size
-judged-limit t start n past x at short long =
+-- the byte past the limit is one of its first bytes
+pub size-limit : (start n : ℕ) (x : ScriptLine) → start + n ≡ 1073741824 → n ≤ 255 → n + 1 ≤ size_of x → size_fault start x ≡ Some kind.Size
+size-limit start n x at short long =
     let size = size_of x in
     let over : is_past_limit start x ≡ true =
     and_from _ _ (le-leb start 1073741824 (omega (arith, at))) (lt-ltb 1073741824 (start + min 256 size) (omega (arith, at, short, long))) in
-    ap (λ (b : Bool). cond b (Err kind.Size) (cond (is_long x) (Err kind.Long) (judged_text t past x.text))) over
+    ap (λ (b : Bool). cond b (Some kind.Size) (cond (is_long x) (Some kind.Long) None)) over
 
 pub within_limit : (start : ℕ) (x : ScriptLine) → start + min 256 (size_of x) ≤ 1073741824 → is_past_limit start x ≡ false
 within_limit start x below = and_right _ _ (le-ltb 1073741824 (start + min 256 (size_of x)) below)
 
-judged-long : (t : Tables) (start : ℕ) (past : Past) (x : ScriptLine) → start + 256 ≤ 1073741824 → 256 ≤ length x.text
-    → judged t start past x ≡ Err kind.Long
-judged-long t start past x below long =
+pub size-long : (start : ℕ) (x : ScriptLine) → start + 256 ≤ 1073741824 → 256 ≤ length x.text → size_fault start x ≡ Some kind.Long
+size-long start x below long =
     let size = size_of x in
     let within = within_limit start x (omega (arith, below)) in
     let is : is_long x ≡ true = lt-ltb 255 (length x.text) (omega (arith, long)) in
-    ap (λ (b : Bool). cond b (Err kind.Size) (cond (is_long x) (Err kind.Long) (judged_text t past x.text))) within
-    ∙ ap (λ (b : Bool). cond b (Err kind.Long) (judged_text t past x.text)) is
+    ap (λ (b : Bool). cond b (Some kind.Size) (cond (is_long x) (Some kind.Long) None)) within
+    ∙ ap (λ (b : Bool). cond b (Some kind.Long) None) is
 
-judged-short : (t : Tables) (start : ℕ) (past : Past) (x : ScriptLine) → start + size_of x ≤ 1073741824 → length x.text ≤ 255
-    → judged t start past x ≡ judged_text t past x.text
-judged-short t start past x below short =
+pub size-none : (start : ℕ) (x : ScriptLine) → start + size_of x ≤ 1073741824 → length x.text ≤ 255 → size_fault start x ≡ None
+size-none start x below short =
     let size = size_of x in
     let within = within_limit start x (omega (arith, below)) in
     let is : is_long x ≡ false = le-ltb 255 (length x.text) short in
-    ap (λ (b : Bool). cond b (Err kind.Size) (cond (is_long x) (Err kind.Long) (judged_text t past x.text))) within
-    ∙ ap (λ (b : Bool). cond b (Err kind.Long) (judged_text t past x.text)) is
+    ap (λ (b : Bool). cond b (Some kind.Size) (cond (is_long x) (Some kind.Long) None)) within
+    ∙ ap (λ (b : Bool). cond b (Some kind.Long) None) is
 
--- ---- one more byte
+-- how a line is judged whose text is judged so
+pub by_size : {A : Type 0} (start : ℕ) (x : ScriptLine) (r : Result A ScriptKind)
+    → (if is_past_limit start x then Err kind.Size else if is_long x then Err kind.Long else r) ≡ elim (size_fault start x) [ Some k ↦ Err k | None ↦ r ]
+by_size start x r = by (is_past_limit start x) (is_long x)
+  where
+    by : (over long : Bool)
+        → (if over then Err kind.Size else if long then Err kind.Long else r)
+        ≡ elim (if over then Some kind.Size else if long then Some kind.Long else None) [ Some k ↦ Err k | None ↦ r ]
+    by true long = refl
+    by false true = refl
+    by false false = refl
 
--- what the lines give, by what the first gives
-pub rest_of_lines-first : (t : Tables) (line start : ℕ) (past : Past) (x : ScriptLine) (xs : List ScriptLine) (r : Result (Option Event) ScriptKind)
-    → judged t start past x ≡ r
-    → rest_of_lines t line start past (x ∷ xs)
-    ≡ elim r [ Ok e ↦ behind (listed e) (rest_of_lines t (line + 1) (start + size_of x) (past_after_if past e) xs) | Err k ↦ Bad line k [] ]
-rest_of_lines-first t line start past x xs r e =
-    ap (λ (v : Result (Option Event) ScriptKind). elim v [ Ok e ↦ behind (listed e) (rest_of_lines t (line + 1) (start + size_of x) (past_after_if past e) xs) | Err k ↦ Bad line k [] ]) e
+-- ---- where a line ends
 
-refused_first : (t : Tables) (h : Here) (bytes : List ℕ) (x : ScriptLine) (xs : List ScriptLine) (k : ScriptKind) → lines_of (h.line ++ bytes) ≡ x ∷ xs
-    → judged t h.start h.past x ≡ Err k → rest_of t h bytes ≡ Bad h.number k []
-refused_first t h bytes x xs k lines e =
-    ap (λ (ls : List ScriptLine). rest_of_lines t h.number h.start h.past ls) lines ∙ rest_of_lines-first t h.number h.start h.past x xs (Err k) e
+module _ (a : LinesAhead) (is : IsLinePlace a.place) where
+  -- a line feed stands ahead
+  pub at_feed : (b : ℕ) → a.ahead.bytes ≡ b ∷ drop 1 a.ahead.bytes → b ≡ 10 → a.place.start + length a.place.line < 1073741824 → IsAtLine a
+  at_feed b ahead ten below =
+      let full : eqb (length a.ahead.bytes) 0 ≡ false = ne_eqb (length a.ahead.bytes) 0 (λ none. absurd (omega (arith, ap length ahead, none))) in
+      let fed : line_in a ≡ record { text = a.place.line; fed = true } = ap (λ (c : Bool). record { text = a.place.line; fed = not c }) full in
+      let size : size_of (line_in a) ≡ length a.place.line + 1 = ap size_of fed in
+      record {
+        first = λ later over.
+            ap (λ (bs : List ℕ). lines_of (a.place.line ++ (bs ++ later))) ahead ∙ ap (λ (c : ℕ). lines_of (a.place.line ++ c ∷ (drop 1 a.ahead.bytes ++ later))) ten
+            ∙ lines_of-fed a.place.line (drop 1 a.ahead.bytes ++ later) is.plain ∙ ap (λ (x : ScriptLine). x ∷ lines_of (drop 1 a.ahead.bytes ++ later)) (sym fed);
+        sized = size-none a.place.start (line_in a) (omega (arith, size, below)) is.short;
+        room = omega (arith, size, below);
+        some = omega (arith, size);
+      }
 
--- the byte past the limit
-pub rest_of-limit : (t : Tables) (h : Here) (b : ℕ) (later : List ℕ) → IsHere h → h.start + length h.line ≡ 1073741824
-    → rest_of t h (b ∷ later) ≡ Bad h.number kind.Size []
-rest_of-limit t h b later is at =
-    elim (cases_Bool (is_line_feed b)) [
-      | inl feed ↦
-          let ten : b ≡ 10 = eqb-true b 10 feed in
-          refused_first t h (b ∷ later) (record { text = h.line; fed = true }) (lines_of later) kind.Size
-          (ap (λ (c : ℕ). lines_of (h.line ++ c ∷ later)) ten ∙ lines_of-fed h.line later is.plain)
-          (judged-limit t h.start (length h.line) h.past (record { text = h.line; fed = true }) at is.short (omega arith))
-      | inr other ↦
-          let first = lines_of-begun h.line b later is.plain other in
-          refused_first t h (b ∷ later) first.0 first.1 kind.Size first.2
-          (judged-limit t h.start (length h.line) h.past first.0 at is.short (omega (arith, first.3, size_at_least first.0)))
-    ]
+  -- the input has ended behind a last line without a line feed
+  pub at_last : a.ahead.bytes ≡ [] → a.ahead.over ≡ true → 1 ≤ length a.place.line → IsAtLine a
+  at_last ahead over some =
+      let last : line_in a ≡ record { text = a.place.line; fed = false } = ap (λ (bs : List ℕ). record { text = a.place.line; fed = not (eqb (length bs) 0) }) ahead in
+      let size : size_of (line_in a) ≡ length a.place.line + 0 = ap size_of last in
+      record {
+        first = λ later none.
+            ap (λ (bs : List ℕ). lines_of (a.place.line ++ (bs ++ later))) ahead ∙ ap (λ (bs : List ℕ). lines_of (a.place.line ++ bs)) (none over)
+            ∙ ap lines_of (append-nil a.place.line) ∙ lines_of-last a.place.line is.plain some
+            ∙ ap₂ (λ (x : ScriptLine) (bs : List ℕ). x ∷ lines_of bs) (sym last) (sym (ap₂ (λ (bs cs : List ℕ). drop 1 bs ++ cs) ahead (none over)));
+        sized = size-none a.place.start (line_in a) (omega (arith, size, is.small)) is.short;
+        room = omega (arith, size, is.small);
+        some = omega (arith, size, some);
+      }
 
--- the 256th byte of a line
-pub rest_of-long : (t : Tables) (h : Here) (b : ℕ) (later : List ℕ) → IsHere h → is_line_feed b ≡ false → length h.line ≡ 255
-    → h.start + length h.line < 1073741824 → rest_of t h (b ∷ later) ≡ Bad h.number kind.Long []
-rest_of-long t h b later is other full below =
-    let first = lines_of-begun h.line b later is.plain other in
-    refused_first t h (b ∷ later) first.0 first.1 kind.Long first.2
-    (judged-long t h.start h.past first.0 (omega (arith, full, below)) (omega (arith, first.3, full)))
+  -- the byte past the limit stands ahead
+  pub at_limit : (b : ℕ) → a.ahead.bytes ≡ b ∷ drop 1 a.ahead.bytes → a.place.start + length a.place.line ≡ 1073741824 → IsRefused a kind.Size
+  at_limit b ahead at = λ later.
+      let begins : lines_of (text_of a later) ≡ lines_of (a.place.line ++ b ∷ (drop 1 a.ahead.bytes ++ later)) = ap (λ (bs : List ℕ). lines_of (a.place.line ++ (bs ++ later))) ahead in
+      elim (cases_Bool (is_line_feed b)) [
+        | inl feed ↦ (
+          record { text = a.place.line; fed = true },
+          lines_of (drop 1 a.ahead.bytes ++ later),
+          begins ∙ ap (λ (c : ℕ). lines_of (a.place.line ++ c ∷ (drop 1 a.ahead.bytes ++ later))) (eqb-true b 10 feed)
+              ∙ lines_of-fed a.place.line (drop 1 a.ahead.bytes ++ later) is.plain,
+          size-limit a.place.start (length a.place.line) (record { text = a.place.line; fed = true }) at is.short (omega arith),
+        )
+        | inr other ↦
+            let first = lines_of-begun a.place.line b (drop 1 a.ahead.bytes ++ later) is.plain other in (
+              first.0,
+              first.1,
+              begins ∙ first.2,
+              size-limit a.place.start (length a.place.line) first.0 at is.short (omega (arith, first.3, size_at_least first.0)),
+            )
+      ]
 
--- a line and what comes behind it, by its answer
-line_answered : (t : Tables) (h new : Here) (fed : Bool) (bytes later : List ℕ) (r : Result (Option Event) ScriptKind)
-    → length h.line ≤ 255 → h.start + (length h.line + (if fed then 1 else 0)) ≤ 1073741824
-    → lines_of (h.line ++ bytes) ≡ record { text = h.line; fed = fed } ∷ lines_of later
-    → r ≡ judged_text t h.past h.line → IfOk r (λ e. new ≡ next_line h (if fed then 1 else 0) e)
-    → rest_of t h bytes ≡ answered h.number r (rest_of t new later)
-line_answered t h new fed bytes later (Ok e) short below lines is next =
-    let x : ScriptLine = record { text = h.line; fed = fed } in
-    ap (λ (ls : List ScriptLine). rest_of_lines t h.number h.start h.past ls) lines
-    ∙ rest_of_lines-first t h.number h.start h.past x (lines_of later) (Ok e) (judged-short t h.start h.past x below short ∙ sym is)
-    ∙ ap (λ (n : Here). behind (listed e) (rest_of t n later)) (sym next)
-line_answered t h new fed bytes later (Err k) short below lines is next =
-    let x : ScriptLine = record { text = h.line; fed = fed } in
-    refused_first t h bytes x (lines_of later) k lines (judged-short t h.start h.past x below short ∙ sym is)
+  -- the 256th byte of the line stands ahead
+  pub at_256th : (b : ℕ) → a.ahead.bytes ≡ b ∷ drop 1 a.ahead.bytes → is_line_feed b ≡ false → length a.place.line ≡ 255 → a.place.start + length a.place.line < 1073741824 → IsRefused a kind.Long
+  at_256th b ahead other full below = λ later.
+      let first = lines_of-begun a.place.line b (drop 1 a.ahead.bytes ++ later) is.plain other in (
+        first.0,
+        first.1,
+        ap (λ (bs : List ℕ). lines_of (a.place.line ++ (bs ++ later))) ahead ∙ first.2,
+        size-long a.place.start first.0 (omega (arith, full, below)) (omega (arith, first.3, full)),
+      )
 
--- a line feed
-pub rest_of-feed : (t : Tables) (h new : Here) (b : ℕ) (later : List ℕ) (r : Result (Option Event) ScriptKind) → IsHere h → b ≡ 10
-    → h.start + length h.line < 1073741824 → r ≡ judged_text t h.past h.line → IfOk r (λ e. new ≡ next_line h 1 e)
-    → rest_of t h (b ∷ later) ≡ answered h.number r (rest_of t new later)
-rest_of-feed t h new b later r is ten below e next =
-    line_answered t h new true (b ∷ later) later r is.short (omega (arith, below))
-    (ap (λ (c : ℕ). lines_of (h.line ++ c ∷ later)) ten ∙ lines_of-fed h.line later is.plain) e next
+  -- by what a byte that stands ahead says
+  pub answers-byte : (b : ℕ) (k : ScriptKind) → a.ahead.bytes ≡ b ∷ drop 1 a.ahead.bytes → StopsBefore a.place b (Err k) → IsRefused a k
+  answers-byte b k ahead (inl limit) = subst (IsRefused a) (sym limit.0) (at_limit b ahead limit.1)
+  answers-byte b k ahead (inr long) = subst (IsRefused a) (sym long.0) (at_256th b ahead long.1 long.2 long.3)
 
--- the end of a last line without a line feed
-pub rest_of-last : (t : Tables) (h new : Here) (r : Result (Option Event) ScriptKind) → IsHere h → 1 ≤ length h.line
-    → r ≡ judged_text t h.past h.line → IfOk r (λ e. new ≡ next_line h 0 e)
-    → rest_of t h [] ≡ answered h.number r (rest_of t new [])
-rest_of-last t h new r is some e next =
-    line_answered t h new false [] [] r is.short (omega (arith, is.small))
-    (ap (λ (bytes : List ℕ). lines_of bytes) (append-nil h.line) ∙ lines_of-last h.line is.plain some) e next
+  -- ---- what is answered
+
+  pub answers_refused : (k : ScriptKind) (s : ScriptStop) → s ≡ stop.Script (record { line = a.place.number; kind = k }) → IsRefused a k → AnswersLine a (Err s)
+  answers_refused k s e refused = subst (λ (x : ScriptStop). AnswersLine a (Err x)) (sym e) (refl, refused)
+
+  -- the input has ended
+  pub answers_over : (b : Bool) → a.ahead.bytes ≡ [] → a.ahead.over ≡ true → b ≡ eqb (length a.place.line) 0 → AnswersLine a (Ok (not b))
+  answers_over true ahead over e = (nil_from_length a.place.line (eqb-true (length a.place.line) 0 (sym e)), ahead, over)
+  answers_over false ahead over e = let some = eqb-false (length a.place.line) 0 (sym e) in at_last ahead over (omega (arith, some))

@@ -1,22 +1,10 @@
 -- How much of its source a reader takes: what it counts, with the bytes that it read ahead, and the lines in which these end.
-use Rattle.std.proofs.Common.{arith, ◌≡◌, ◌≤◌, ◌+◌, ℕ, false, List, [], ◌∷◌, ◌++◌, length, length-append, Option, Some, Result, Ok, Err, IfOk, refl, sym, ap, ◌∙◌, cond, append-nil, append_assoc}
-use Rattle.htl_script.proofs.Words.{All, prepend_known, LosesFront, StopsAtLine, Here, Ahead, Pending, GivesByte, LosesPiece, at_start, taken_of, prepend_known-append, prepend_known-nil, is_line_feed, feeds_of, length-slice_split, slice_split_none}
-use Rattle.std.proofs.lemmas.List.Sums.{sum_by-append}
-
--- ---- line feeds
-
-pub feeds_both : (xs ys : List ℕ) → feeds_of (xs ++ ys) ≡ feeds_of xs + feeds_of ys
-feeds_both = sum_by-append (λ b. cond (is_line_feed b) 1 0)
-
-pub no_feeds : (xs : List ℕ) → All (λ b. is_line_feed b ≡ false) xs → feeds_of xs ≡ 0
-no_feeds xs plain =
-    let one : length (xs ∷ []) ≡ feeds_of xs + 1 = sym (ap length (slice_split_none is_line_feed xs plain)) ∙ length-slice_split is_line_feed xs in
-    omega (arith, one)
-
--- bytes that were cut before others are cut anew
-moved : (a f g r p q s : List ℕ) → a ++ f ≡ r ++ p → p ++ g ≡ q ++ s → a ++ (f ++ g) ≡ (r ++ q) ++ s
-moved a f g r p q s first second =
-    sym (append_assoc a f g) ∙ ap (λ (xs : List ℕ). xs ++ g) first ∙ append_assoc r p g ∙ ap (λ (xs : List ℕ). r ++ xs) second ∙ sym (append_assoc r q s)
+use Rattle.std.proofs.Common.{arith, ◌≡◌, ◌≤◌, ◌+◌, ℕ, List, [], ◌++◌, length, length-append, take, drop, Option, Result, Ok, Err, IfOk, refl, sym, ap, ◌∙◌, subst, append-nil, append_assoc}
+use Rattle.htl_script.proofs.Words.{bytes_taken, prepend_known, LosesFront, StopsAtLine, ScriptStop, Event, Tables, Past, past_after_if, Place, Ahead, LinesAhead, TakesLine, lines_in, IsLinePlace, ReadsOn, behind_line, ahead_of, LosesPiece, at_start, taken_of, prepend_known-append, prepend_known-nil, is_line_feed, take-append-drop, length-drop, length-take}
+use Rattle.std.proofs.lemmas.List.Sums.{count_by-le-length}
+use Rattle.htl_script.specs.declared.fault.ScriptStop.TheVariants as stop
+use Rattle.htl_script.proofs.ReadingOn.{passed_count, reads_count}
+use Rattle.htl_script.proofs.Feeds.{feeds_both, moved}
 
 -- nothing
 pub taken_none : {T E : Type 0} (a : Ahead) (known : Option (List ℕ)) (x : T) → LosesPiece {T = T} {E = E} a a known known (Ok x)
@@ -34,83 +22,64 @@ taken_none a known x =
       goes_on = refl;
     }
 
--- what stands in front of a byte that was given, and that byte
-fits : (old new piece : List ℕ) (b : ℕ) → old ++ piece ≡ b ∷ new → length old + length piece ≡ length new + 1
-fits old new piece b is = let same : length (old ++ piece) ≡ length (b ∷ new) = ap length is in omega (arith, length-append old piece, same)
-
-module _ (F S U : Type 0) (first : Ahead) (here : Here) (old new : Pending) (known rest left : Option (List ℕ)) (u : U)
-    (was : LosesPiece {T = U} {E = F} first (record { here = here; ahead = old }) known rest (Ok u)) (b : ℕ) (gave : GivesByte {E = S} old new rest left (Ok (Some b))) (small : length new.bytes ≤ 255) where
-  before : here.start + length here.line + length old.bytes ≡ taken_of first + length was.front
-  before = was.counted
-
-  held : was.piece ++ gave.0 ≡ b ∷ new.bytes
-  held = ap (λ (xs : List ℕ). xs ++ gave.0) was.goes_on ∙ gave.2
-
-  lost : prepend_known (was.front ++ gave.0) left ≡ known
-  lost = prepend_known-append left was.front gave.0 ∙ ap (prepend_known was.front) gave.1 ∙ was.lost
-
-  -- a byte more was read, and the reader goes on
-  pub taken_byte : {T E : Type 0} (next : Here) (x : T) → next.start + length next.line ≡ here.start + length here.line + 1 → next.start + length next.line ≤ 1073741824
-      → here.number + feeds_of (b ∷ []) ≤ next.number → LosesPiece {T = T} {E = E} first (record { here = next; ahead = new }) known left (Ok x)
-  taken_byte next x counted few fed =
-      let piece = fits old.bytes new.bytes gave.0 b gave.2 in
-      let all = length-append was.front gave.0 in
-      let count = before in
-      record {
-        front = was.front ++ gave.0;
-        lost = lost;
-        few = λ fit. omega (arith, piece, all, count, counted, few, small);
-        counted = omega (arith, piece, all, count, counted);
-        lines = was.lines ++ b ∷ [];
-        piece = new.bytes;
-        parts = moved first.ahead.bytes was.front gave.0 was.lines was.piece (b ∷ []) new.bytes was.parts held;
-        within = omega (arith, was.within, fed, feeds_both was.lines (b ∷ []));
-        short = λ fit. omega (arith, small);
-        goes_on = refl;
-      }
-
-  -- with it the script has a fault
-  pub taken_fault : {T E : Type 0} (now : Ahead) (x : E) → here.start + length here.line ≤ 1073741824 → now.here ≡ here → LosesPiece {T = T} {E = E} first now known left (Err x)
-  taken_fault now x few same =
-      let piece = fits old.bytes new.bytes gave.0 b gave.2 in
-      let all = length-append was.front gave.0 in
-      let count = before in
-      record {
-        front = was.front ++ gave.0;
-        lost = lost;
-        few = λ fit. omega (arith, piece, all, count, few, small);
-        counted = tt;
-        lines = was.lines ++ [];
-        piece = b ∷ new.bytes;
-        parts = moved first.ahead.bytes was.front gave.0 was.lines was.piece [] (b ∷ new.bytes) was.parts held;
-        within = omega (arith, was.within, ap (λ (h : Here). h.number) same, feeds_both was.lines []);
-        short = λ fit. omega (arith, small);
-        goes_on = tt;
-      }
-
--- bytes that were read ahead are moved to the line
-pub taken_same : (first a b : Ahead) (known rest : Option (List ℕ)) → taken_of b ≡ taken_of a → (run : List ℕ) × (a.ahead.bytes ≡ run ++ b.ahead.bytes) × (feeds_of run ≡ 0) → b.here.number ≡ a.here.number
-    → LosesPiece {T = Unit {0}} {E = Unit {0}} first a known rest (Ok tt) → LosesPiece {T = Unit {0}} {E = Unit {0}} first b known rest (Ok tt)
-taken_same first a b known rest same run number h =
-    let fewer : length h.piece ≡ length run.0 + length b.ahead.bytes = ap length (h.goes_on ∙ run.1) ∙ length-append run.0 b.ahead.bytes in
-    record {
-      front = h.front;
-      lost = h.lost;
-      few = h.few;
-      counted = same ∙ h.counted;
-      lines = h.lines ++ run.0;
-      piece = b.ahead.bytes;
-      parts = h.parts ∙ ap (λ (xs : List ℕ). h.lines ++ xs) (h.goes_on ∙ run.1) ∙ sym (append_assoc h.lines run.0 b.ahead.bytes);
-      within = omega (arith, h.within, number, run.2, feeds_both h.lines run.0);
-      short = λ fit. let short = h.short fit in omega (arith, short, fewer);
-      goes_on = refl;
-    }
-
--- ---- more than one call
-
 -- what it gives doesn't matter
 pub taken_on : {T U E F : Type 0} (a b : Ahead) (known rest : Option (List ℕ)) (x : T) (y : U) → LosesPiece {T = T} {E = E} a b known rest (Ok x) → LosesPiece {T = U} {E = F} a b known rest (Ok y)
 taken_on a b known rest x y h = record { front = h.front; lost = h.lost; few = h.few; counted = h.counted; lines = h.lines; piece = h.piece; parts = h.parts; within = h.within; short = h.short; goes_on = h.goes_on }
+
+-- a reader of lines reads on
+pub taken_on_line : {U F : Type 0} (first : Ahead) (past : Past) (a b : LinesAhead) (known rest left : Option (List ℕ)) (u : U) → LosesPiece {T = U} {E = F} first (ahead_of a past) known rest (Ok u) → ReadsOn a b rest left
+    → IsLinePlace b.place → length b.ahead.bytes ≤ 256 → LosesPiece {T = U} {E = F} first (ahead_of b past) known left (Ok u)
+taken_on_line first past a b known rest left u was reads at few =
+    let counted : bytes_taken a ≡ taken_of first + length was.front = was.counted in
+    let count : bytes_taken b ≡ taken_of first + length (was.front ++ reads.front) = omega (arith, counted, reads_count a b rest left reads, length-append was.front reads.front) in
+    record {
+      front = was.front ++ reads.front;
+      lost = prepend_known-append left was.front reads.front ∙ ap (prepend_known was.front) reads.lost ∙ was.lost;
+      few = λ fit. omega (arith, sym count, at.small, few);
+      counted = count;
+      lines = was.lines ++ reads.run;
+      piece = b.ahead.bytes;
+      parts = moved first.ahead.bytes was.front reads.front was.lines was.piece reads.run b.ahead.bytes was.parts (ap (λ (xs : List ℕ). xs ++ reads.front) was.goes_on ∙ reads.parts);
+      within = omega (arith, was.within, reads.plain, feeds_both was.lines reads.run, ap (λ (p : Place). p.number) reads.place);
+      short = λ fit. few;
+      goes_on = refl;
+    }
+
+-- the line was read, and the reader goes behind it
+pub taken_line : {T U E F : Type 0} (first : Ahead) (past after : Past) (a : LinesAhead) (known rest : Option (List ℕ)) (u : U) (x : T) → LosesPiece {T = U} {E = F} first (ahead_of a past) known rest (Ok u)
+    → LosesPiece {T = T} {E = E} first (ahead_of (behind_line a) after) known rest (Ok x)
+taken_line first past after a known rest u x was =
+    let counted : bytes_taken a ≡ taken_of first + length was.front = was.counted in
+    record {
+      front = was.front;
+      lost = was.lost;
+      few = was.few;
+      counted = passed_count a ∙ counted;
+      lines = was.lines ++ take 1 a.ahead.bytes;
+      piece = drop 1 a.ahead.bytes;
+      parts =
+          was.parts ∙ ap (λ (xs : List ℕ). was.lines ++ xs) (was.goes_on ∙ sym (take-append-drop 1 a.ahead.bytes)) ∙ sym (append_assoc was.lines (take 1 a.ahead.bytes) (drop 1 a.ahead.bytes));
+      within = omega (arith, was.within, feeds_both was.lines (take 1 a.ahead.bytes), count_by-le-length is_line_feed (take 1 a.ahead.bytes), length-take 1 a.ahead.bytes);
+      short = λ fit. let short = was.short fit in omega (arith, short, ap length was.goes_on, length-drop 1 a.ahead.bytes);
+      goes_on = refl;
+    }
+
+-- what is answered doesn't matter
+pub taken_as : {T U E F : Type 0} (first now : Ahead) (known rest : Option (List ℕ)) (u : U) (r : Result T E) → LosesPiece {T = U} {E = F} first now known rest (Ok u) → LosesPiece {T = T} {E = E} first now known rest r
+taken_as first now known rest u (Ok x) h = taken_on first now known rest u x h
+taken_as first now known rest u (Err e) h =
+    record { front = h.front; lost = h.lost; few = h.few; counted = tt; lines = h.lines; piece = h.piece; parts = h.parts; within = h.within; short = h.short; goes_on = tt }
+
+-- the line was judged
+pub taken_judged : {U F : Type 0} (t : Tables) (first now new : Ahead) (known rest : Option (List ℕ)) (u : U) (r : Result (Option Event) ScriptStop) → TakesLine t now new r → LosesPiece {T = U} {E = F} first now known rest (Ok u)
+    → LosesPiece {T = Option Event} {E = ScriptStop} first new known rest r
+taken_judged t first now new known rest u (Ok e) took h =
+    subst (λ (a : Ahead). LosesPiece {E = ScriptStop} first a known rest (Ok e)) (sym took.1) (taken_line first now.here.past (past_after_if now.here.past e) (lines_in now) known rest u e h)
+taken_judged t first now new known rest u (Err (stop.Script fault)) took h =
+    subst (λ (a : Ahead). LosesPiece {T = Option Event} first a known rest (Err (stop.Script fault))) (sym took.2) (taken_as first now known rest u (Err (stop.Script fault)) h)
+taken_judged t first now new known rest u (Err stop.Read) took h = absurd took
+
+-- ---- more than one call
 
 -- what a call takes behind those before it
 pub taken_more : {T U E F : Type 0} (a b c : Ahead) (known rest left : Option (List ℕ)) (u : U) (r : Result T E) → LosesPiece {T = U} {E = F} a b known rest (Ok u)

@@ -24,11 +24,13 @@ pub use Rattle.htl_script.specs.Naming.{count_of, dotted, name_of, number_named,
 pub use Rattle.htl_script.specs.Numbers.{signed_of, with_digit}
 pub use Rattle.htl_script.specs.Keys.{Keyed, key_of}
 pub use Rattle.htl_script.specs.Orders.{AreKeys, AreOrdered, AreRising, IsOrder, IsPlace, compared, keyed, keyed_name}
-pub use Rattle.htl_script.specs.Readers.{Here, IsHere, next_line, rest_of}
-pub use Rattle.htl_script.specs.Reading.{LosesFront, OfScript, StopsAtLine, answered, behind, past_after_if, rest_at_end, rest_of_lines, with_digit_capped}
+pub use Rattle.htl_script.specs.LineReading.{AnswersLine, IsAtLine, IsLinePlace, IsRefused, LinesAhead, Pending, Place, ReadsOn, SeesByte, StopsBefore, behind_line, bytes_taken, line_in, size_fault, text_of}
+pub use Rattle.htl_script.specs.Readers.{Here, rest_of}
+pub use Rattle.htl_script.specs.Reading.{LosesFront, OfScript, StopsAtLine, behind, past_after_if, rest_at_end, rest_of_lines, with_digit_capped}
 pub use Rattle.htl_script.specs.Script.{Bad, Script, Whole, ended, events_of, listed, script_of, script_of_lines}
 pub use Rattle.htl_script.specs.Statements.{At, End, Sense, Statement, Took, fields_of, is_space, statement_of, statement_of_fields}
-pub use Rattle.htl_script.specs.Streaming.{Ahead, Gives, GivesByte, IsAnswer, IsSame, LineFollows, LosesPiece, Pending, at_start, still, taken_of}
+pub use Rattle.htl_script.specs.Streaming.{Ahead, AnswersEnd, Gives, Goes, IsAnswer, IsEventAfter, IsSame, LosesPiece, TakesLine, ahead_of, at_start, lines_in, still, taken_of}
+pub use Rattle.htl_script.specs.declared.fault.ScriptFault.{ScriptFault}
 pub use Rattle.htl_script.specs.declared.fault.ScriptKind.{ScriptKind}
 pub use Rattle.htl_script.specs.declared.fault.ScriptStop.{ScriptStop}
 pub use Rattle.htl_script.specs.declared.judge.Past.{Past}

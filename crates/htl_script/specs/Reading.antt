@@ -1,10 +1,8 @@
 -- A script that is read in parts: what is still to come of it.
 use Rattle.std.specs.Prelude.{ℕ, min, ◌+◌, ◌-◌, ◌*◌, ◌^◌, ◌≡◌, List, [], ◌∷◌, ◌++◌, Option, Some, None, Ok, Err, IfSome, ◌<◌, ◌≤◌, length}
-use Rattle.std.specs.declared.result.Result.{Result}
 use Rattle.std.specs.Io.KnownBytes.{prepend_known}
 use Rattle.htl_model.specs.declared.event.Event.{Event}
 use Rattle.htl_model.specs.Tables.{Tables}
-use Rattle.htl_script.specs.declared.fault.ScriptKind.{ScriptKind}
 use Rattle.htl_script.specs.declared.fault.ScriptKind.TheVariants as kind
 use Rattle.htl_script.specs.Lines.{ScriptLine, size_of, feeds_of}
 use Rattle.htl_script.specs.Judging.{past_after, judged}
@@ -36,11 +34,6 @@ rest_of_lines t line start past (x ∷ xs) =
       | Ok e ↦ behind (listed e) (rest_of_lines t (line + 1) (start + size_of x) (past_after_if past e) xs)
       | Err k ↦ Bad line k []
     ]
-
--- what comes after a line's answer
-abbrev pub answered : ℕ → Result (Option Event) ScriptKind → Script → Script
-answered line (Ok e) later = behind (listed e) later
-answered line (Err k) later = Bad line k []
 
 -- There is a script, namely the one that is known where it is, of which something holds.
 abbrev pub OfScript : Option (List ℕ) → (List ℕ → Type 0) → Type 0

@@ -1,42 +1,40 @@
 // The reader of a script, event by event, where the names are in order.
-ghost use Rattle.std.specs.Prelude.{◌≡◌, ◌≤◌, ◌<◌, ◌+◌, ◌++◌, [], List, ℕ, length, IfOk, IfSome, OnOk, None, Some, Ok, Err};
+ghost use Rattle.std.specs.Prelude.{◌≡◌, ◌≤◌, ◌<◌, ◌+◌, IfOk, IfSome, OnOk, None, Some, Ok, Err};
 ghost use Rattle.htl_base.specs.declared.limits.TheConstants as limit;
 ghost use Rattle.htl_edge.specs.Causes.{Rose};
-ghost use Rattle.htl_model.specs.Tables.{Tables};
-ghost use Rattle.htl_script.specs.Lines.{feeds_of};
 ghost use Rattle.htl_script.specs.declared.fault.ScriptFault.{ScriptFault as Fault};
 ghost use Rattle.htl_script.specs.declared.fault.ScriptStop.TheVariants as stop;
-ghost use Rattle.htl_script.specs.Streaming.{Gives, IsAnswer, IsEnd, Goes, LosesPiece, at_start, taken_of, still};
+ghost use Rattle.htl_script.specs.LineReading.{IsAtLine};
+ghost use Rattle.htl_script.specs.Streaming.{Gives, IsAnswer, AnswersEnd, TakesLine, Goes, LosesPiece, at_start, lines_in};
 
-use crate::chunk::Chunk;
+use crate::judge::{Past, judge};
+use crate::line_stream::LineStream;
 use crate::lookup::Names;
-use crate::reader::Reader;
-use crate::{ScriptFault, ScriptKind, ScriptStop};
+use crate::{ScriptKind, ScriptStop};
 use htl_edge::Source;
 use htl_model::Event;
 use std::marker::Model;
 
 /// Reads a script event by event, over a buffer of 256 bytes. Contracts see where it is and what it has read ahead.
 pub struct Stream {
-    reader: Reader,
-    chunk: Chunk,
+    // The reader of its lines.
+    lines: LineStream,
+    // What the events so far leave.
+    past: Past,
 }
 
 impl Drop for Stream {
     fn drop(self) {
-        let Self {
-            reader: _,
-            chunk: _,
-        } = self;
+        let Self { lines: _, past: _ } = self;
     }
 }
 
 impl Model for Stream {
-    ghost use Rattle.htl_script.specs.Streaming.{Ahead};
+    ghost use Rattle.htl_script.specs.Streaming.{Ahead, ahead_of};
 
     ghost Value = { Ahead };
 
-    ghost view = { λ s. record { here = s.reader; ahead = s.chunk } };
+    ghost view = { λ s. ahead_of s.lines s.past };
 }
 
 impl Stream {
@@ -45,8 +43,8 @@ impl Stream {
         ensures { result ≡ at_start }
     {
         Stream {
-            reader: Reader::new(),
-            chunk: Chunk::new(),
+            lines: LineStream::new(),
+            past: Past::new(),
         }
     }
 
@@ -66,66 +64,47 @@ impl Stream {
         ensures kept { (result ≡ Err stop.Read → ⊥) → R.faults src.new ≡ R.faults src.old }
         ensures read { result ≡ Err stop.Read → Rose (R.faults src.old) (R.faults src.new) }
     {
-        'bytes: loop {
-            let b = match self.chunk.byte(src) {
-                Ok(Some(b)) => b,
-                Ok(None) => return self.end(names),
-                Err(_) => return Err(ScriptStop::Read),
-            };
-            match self.reader.take(names, b) {
+        'lines: loop {
+            match self.lines.next(src) {
+                Ok(true) => {}
+                Ok(false) => return self.end(),
+                Err(stop) => return Err(stop),
+            }
+            match self.take_line(names) {
                 Ok(Some(event)) => return Ok(Some(event)),
-                Ok(None) => self.run_on(),
-                Err(kind) => return Err(self.fault(kind)),
+                Ok(None) => {}
+                Err(stop) => return Err(stop),
             }
         }
     }
 
-    // Moves the bytes that were read ahead, up to a line feed, to the line, as far as it may have them.
-    fn run_on(&mut self)
-        ensures same { (t : Tables) (later : List ℕ) → still t self.old later ≡ still t self.new later }
-        ensures taken { taken_of self.new ≡ taken_of self.old }
-        ensures moved { (run : List ℕ) × (self.old.ahead.bytes ≡ run ++ self.new.ahead.bytes) × (feeds_of run ≡ 0) }
-        ensures more { self.old.here.start + length self.old.here.line ≤ self.new.here.start + length self.new.here.line }
-        ensures past { self.new.here.past ≡ self.old.here.past }
-        ensures number { self.new.here.number ≡ self.old.here.number }
-        ensures over { self.new.ahead.over ≡ self.old.ahead.over }
+    // Judges the line that was read, and goes behind it. After a fault nothing is changed.
+    fn take_line(&mut self, names: &Names<'_>) -> Result<Option<Event>, ScriptStop>
+        requires { IsAtLine (lines_in self.old) }
+        ensures { TakesLine names.now self.old self.new result }
     {
-        let count = self.chunk.plain(self.reader.room());
-        self.reader.push_all(self.chunk.front(count));
-        self.chunk.skip(count);
-    }
-
-    // The event of a last line without a line feed; None behind it, where an `end` line was read.
-    fn end(&mut self, names: &Names<'_>) -> Result<Option<Event>, ScriptStop>
-        requires { self.old.ahead.bytes ≡ [] }
-        ensures answer { IsEnd names.now self.old self.new result }
-        ensures event { Goes names.now self.old.here.past self.new.here.past result }
-        ensures lines { IfOk result (λ o. IfSome o (λ e. self.old.here.number < self.new.here.number)) }
-        ensures few { IfOk result (λ o. self.new.here.number ≤ limit.MAX_SCRIPT + 1) }
-        ensures bytes { self.new.ahead ≡ self.old.ahead }
-        ensures taken { IfOk result (λ o. taken_of self.new ≡ taken_of self.old) }
-        ensures forward { self.old.here.number ≤ self.new.here.number }
-        ensures line { (fault : Fault) → result ≡ Err (stop.Script fault) → fault.line ≡ self.new.here.number }
-        ensures read { result ≡ Err stop.Read → ⊥ }
-    {
-        match self.reader.take_end(names) {
-            Ok(Some(event)) => Ok(Some(event)),
-            Ok(None) => if self.reader.is_ended() {
+        match judge(self.past, names, self.lines.text()) {
+            Ok(Some(event)) => {
+                self.past = self.past.after(event);
+                self.lines.pass();
+                Ok(Some(event))
+            }
+            Ok(None) => {
+                self.lines.pass();
                 Ok(None)
-            } else {
-                Err(self.fault(ScriptKind::NoEnd))
-            },
-            Err(kind) => Err(self.fault(kind)),
+            }
+            Err(kind) => Err(self.lines.fault(kind)),
         }
     }
 
-    // A fault of the line that is being read.
-    fn fault(&self, kind: ScriptKind) -> ScriptStop
-        ensures { result ≡ stop.Script (record { line = self.now.here.number; kind = kind }) }
+    // What is answered behind the last line.
+    fn end(&self) -> Result<Option<Event>, ScriptStop>
+        ensures { AnswersEnd self.now result }
     {
-        ScriptStop::Script(ScriptFault {
-            line: self.reader.number(),
-            kind,
-        })
+        if self.past.end.is_some() {
+            Ok(None)
+        } else {
+            Err(self.lines.fault(ScriptKind::NoEnd))
+        }
     }
 }

@@ -1,63 +1,50 @@
-use Rattle.std.proofs.Common.{◌<◌, ◌+◌, length, take, arith, ap, refl, ◌∙◌, length-take-le}
-use Rattle.htl_plan.proofs.SelectionReading.{reading_start, reading_step, answer_read, answer_stopped, answer_finished, finished_right, loses_piece, loses_same}
-use Rattle.htl_plan.specs.SelectionReaders.{Place}
+use Rattle.std.proofs.Common.{Bool, Ok, take, refl, ◌∙◌, subst, arith}
+use Rattle.htl_plan.proofs.Words.{AnswersLine}
+use Rattle.htl_plan.proofs.SelectionReading.{reading_start, reading_on, reading_line, answered_stop, answered_fault, answered_end, selected_end, loses_front}
 use Rattle.htl_plan.proofs.selection.read_entries.Goals as goal
 
-pub returns-then-count-eq0-clause-selection : goal.returns-then-count-eq0-clause-selection
-returns-then-count-eq0-clause-selection g c =
-    finished_right (Unit {0}) c.args.t.now c.chunks.reader c.chunks.modes c.finish.new.modes (g.R.Source.rest c.args.src.now) (g.R.Source.rest c.chunks.src) c.finish.result
-    c.parts-parts.ensures.ranges c.chunks.invariant.0 c.finish.ensures.finishes
+pub lines-init : goal.lines-init
+lines-init g c = (reading_start c.args.t.now c.new-lines.result c.args.modes.now (g.R.Source.rest c.args.src.now) c.new-lines.ensures, refl, c.requires, omega arith)
 
-pub chunks-init : goal.chunks-init
-chunks-init g c = (
-  reading_start c.args.t.now c.new-reader.result c.args.modes.now (g.R.Source.rest c.args.src.now) c.new-reader.ensures,
-  refl,
-  refl,
-  omega (arith, ap (λ (p : Place). p.start + length p.line) c.new-reader.ensures),
-  c.requires,
-  omega (arith, ap (λ (p : Place). p.done) c.new-reader.ensures),
-)
+pub returns-in-Ok-false-clause-input : goal.returns-in-Ok-false-clause-input
+returns-in-Ok-false-clause-input g c =
+    let reading = reading_on c.args.t.now c.lines.lines c.next.new.self (take c.lines.done c.lines.modes) (g.R.Source.rest c.args.src.now) (g.R.Source.rest c.lines.src) (g.R.Source.rest c.next.new.src) c.lines.invariant.0 c.next.ensures.reads in
+    let end = subst (λ (o : Bool). AnswersLine c.next.new.self (Ok o)) c.in-Ok-false.field-0-test c.in-Ok-false.ensures.answer in
+    answered_end c.args.t.now c.next.new.self c.lines.modes c.lines.done (g.R.Source.rest c.args.src.now) (g.R.Source.rest c.next.new.src) reading (Unit {0}) c.end.result c.lines.invariant.2 c.lines.invariant.3 end c.end.ensures
 
-pub returns-in_default-clause-taken : goal.returns-in_default-clause-taken
-returns-in_default-clause-taken g c =
-    loses_same c.args.t.now c.chunks.reader c.chunks.modes (g.R.Source.rest c.args.src.now) (g.R.Source.rest c.chunks.src) (g.R.Source.rest c.read.new.self)
-    c.chunks.invariant.0 c.chunks.invariant.3 c.in_default.ensures.bytes
-
-pub returns-then-count-eq0-clause-taken : goal.returns-then-count-eq0-clause-taken
-returns-then-count-eq0-clause-taken g c =
-    loses_piece c.args.t.now c.chunks.reader c.chunks.modes (g.R.Source.rest c.args.src.now) (g.R.Source.rest c.chunks.src) (g.R.Source.rest c.read.new.self)
-    (take c.in-Ok.count c.read.new.buf) c.chunks.invariant.0 c.chunks.invariant.3 c.in-Ok.ensures.bytes.0
-    (omega (arith, length-take-le c.in-Ok.count c.read.new.buf c.in-Ok.ensures.bound, c.in-Ok.ensures.bound, c.read.auto.buf, c.chunks.invariant.2))
-
-pub returns-in-Err-clause-taken : goal.returns-in-Err-clause-taken
-returns-in-Err-clause-taken g c =
-    loses_piece c.args.t.now c.chunks.reader c.chunks.modes (g.R.Source.rest c.args.src.now) (g.R.Source.rest c.chunks.src) (g.R.Source.rest c.read.new.self)
-    (take c.in-Ok.count c.read.new.buf) c.chunks.invariant.0 c.chunks.invariant.3 c.in-Ok.ensures.bytes.0
-    (omega (arith, length-take-le c.in-Ok.count c.read.new.buf c.in-Ok.ensures.bound, c.in-Ok.ensures.bound, c.read.auto.buf, c.chunks.invariant.2))
-
-pub returns-in_default-clause-input : goal.returns-in_default-clause-input
-returns-in_default-clause-input g c =
-    answer_read (Unit {0}) c.args.t.now c.chunks.reader c.chunks.modes (g.R.Source.rest c.args.src.now) (g.R.Source.rest c.chunks.src) c.chunks.invariant.0
-
-pub returns-then-count-eq0-clause-input : goal.returns-then-count-eq0-clause-input
-returns-then-count-eq0-clause-input g c =
-    let room : 0 < length c.read.new.buf = omega (arith, c.read.auto.buf, c.chunks.invariant.2) in
-    answer_finished (Unit {0}) c.args.t.now c.chunks.reader c.chunks.modes c.finish.new.modes (g.R.Source.rest c.args.src.now) (g.R.Source.rest c.chunks.src) c.finish.result
-    c.chunks.invariant.0 (c.in-Ok.ensures.bytes.1 c.if-count-eq0.true room) c.finish.ensures.finishes
+pub returns-in-Ok-false-clause-selection : goal.returns-in-Ok-false-clause-selection
+returns-in-Ok-false-clause-selection g c =
+    let reading = reading_on c.args.t.now c.lines.lines c.next.new.self (take c.lines.done c.lines.modes) (g.R.Source.rest c.args.src.now) (g.R.Source.rest c.lines.src) (g.R.Source.rest c.next.new.src) c.lines.invariant.0 c.next.ensures.reads in
+    let end = subst (λ (o : Bool). AnswersLine c.next.new.self (Ok o)) c.in-Ok-false.field-0-test c.in-Ok-false.ensures.answer in
+    selected_end c.args.t.now c.next.new.self c.lines.modes c.lines.done (g.R.Source.rest c.args.src.now) (g.R.Source.rest c.next.new.src) reading (Unit {0}) c.end.result c.parts-parts.ensures.ranges c.lines.invariant.2 c.lines.invariant.3 end c.end.ensures
 
 pub returns-in-Err-clause-input : goal.returns-in-Err-clause-input
 returns-in-Err-clause-input g c =
-    answer_stopped (Unit {0}) c.args.t.now c.chunks.reader c.take_all.new.reader c.chunks.modes c.take_all.new.modes (g.R.Source.rest c.args.src.now) (g.R.Source.rest c.chunks.src)
-    (g.R.Source.rest c.read.new.self) (take c.in-Ok.count c.read.new.buf) c.in-Err.stop c.chunks.invariant.0 c.in-Ok.ensures.bytes.0 c.in-Err.ensures.takes
+    let reading = reading_on c.args.t.now c.lines.lines c.next.new.self (take c.lines.done c.lines.modes) (g.R.Source.rest c.args.src.now) (g.R.Source.rest c.lines.src) (g.R.Source.rest c.next.new.src) c.lines.invariant.0 c.next.ensures.reads in
+    answered_stop c.args.t.now c.next.new.self c.lines.modes c.lines.done (g.R.Source.rest c.args.src.now) (g.R.Source.rest c.next.new.src) reading (Unit {0}) c.in-Err.stop c.lines.modes c.in-Err.ensures.answer
 
-pub chunks-preserved : goal.chunks-preserved
-chunks-preserved g c = (
-  reading_step c.args.t.now c.chunks.reader c.take_all.new.reader c.chunks.modes c.take_all.new.modes (g.R.Source.rest c.args.src.now) (g.R.Source.rest c.chunks.src)
-      (g.R.Source.rest c.read.new.self) (take c.in-Ok.count c.read.new.buf) c.chunks.invariant.0 c.in-Ok.ensures.bytes.0
-      (omega (arith, c.in_default-take_all.ensures.count, length-take-le c.in-Ok.count c.read.new.buf c.in-Ok.ensures.bound)) c.in_default-take_all.ensures.takes,
-  c.in-Ok.ensures.cause.kept ∙ c.chunks.invariant.1,
-  omega (arith, c.read.auto.buf, c.chunks.invariant.2),
-  c.in_default-take_all.ensures.bound c.chunks.invariant.3,
-  c.take_all.ensures.len ∙ c.chunks.invariant.4,
-  c.take_all.ensures.done,
-)
+pub returns-in-Err-clause-taken : goal.returns-in-Err-clause-taken
+returns-in-Err-clause-taken g c =
+    let reading = reading_on c.args.t.now c.lines.lines c.next.new.self (take c.lines.done c.lines.modes) (g.R.Source.rest c.args.src.now) (g.R.Source.rest c.lines.src) (g.R.Source.rest c.next.new.src) c.lines.invariant.0 c.next.ensures.reads in
+    loses_front c.args.t.now c.next.new.self c.lines.modes c.lines.done (g.R.Source.rest c.args.src.now) (g.R.Source.rest c.next.new.src) reading c.next.ensures.place c.next.ensures.few
+
+pub lines-preserved : goal.lines-preserved
+lines-preserved g c =
+    let reading = reading_on c.args.t.now c.lines.lines c.next.new.self (take c.lines.done c.lines.modes) (g.R.Source.rest c.args.src.now) (g.R.Source.rest c.lines.src) (g.R.Source.rest c.next.new.src) c.lines.invariant.0 c.next.ensures.reads in
+    let at = subst (λ (o : Bool). AnswersLine c.next.new.self (Ok o)) c.in-Ok-true.field-0-test c.in-Ok-true.ensures.answer in (
+      reading_line c.args.t.now c.next.new.self c.lines.modes c.lines.done (g.R.Source.rest c.args.src.now) (g.R.Source.rest c.next.new.src) reading c.take_line.new.lines c.take_line.new.modes c.in-Ok.count at c.in-Ok.ensures.takes,
+      c.in-Ok-true.ensures.kept (λ stopped. cc) ∙ c.lines.invariant.1,
+      c.take_line.ensures.len ∙ c.lines.invariant.2,
+      c.in-Ok.ensures.done,
+    )
+
+pub returns-in-Err-take_line-clause-input : goal.returns-in-Err-take_line-clause-input
+returns-in-Err-take_line-clause-input g c =
+    let reading = reading_on c.args.t.now c.lines.lines c.next.new.self (take c.lines.done c.lines.modes) (g.R.Source.rest c.args.src.now) (g.R.Source.rest c.lines.src) (g.R.Source.rest c.next.new.src) c.lines.invariant.0 c.next.ensures.reads in
+    let at = subst (λ (o : Bool). AnswersLine c.next.new.self (Ok o)) c.in-Ok-true.field-0-test c.in-Ok-true.ensures.answer in
+    answered_fault c.args.t.now c.next.new.self c.lines.modes c.lines.done (g.R.Source.rest c.args.src.now) (g.R.Source.rest c.next.new.src) reading (Unit {0}) c.in-Err-take_line.stop c.take_line.new.lines c.take_line.new.modes at c.in-Err-take_line.ensures.takes
+
+pub returns-in-Err-take_line-clause-taken : goal.returns-in-Err-take_line-clause-taken
+returns-in-Err-take_line-clause-taken g c =
+    let reading = reading_on c.args.t.now c.lines.lines c.next.new.self (take c.lines.done c.lines.modes) (g.R.Source.rest c.args.src.now) (g.R.Source.rest c.lines.src) (g.R.Source.rest c.next.new.src) c.lines.invariant.0 c.next.ensures.reads in
+    loses_front c.args.t.now c.next.new.self c.lines.modes c.lines.done (g.R.Source.rest c.args.src.now) (g.R.Source.rest c.next.new.src) reading c.next.ensures.place c.next.ensures.few
