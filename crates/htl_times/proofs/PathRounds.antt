@@ -1,14 +1,14 @@
 -- One round more of a path, by where the modes of its module and the invocations of its mode begin.
 use Rattle.std.proofs.Common.{◌≡◌, ℕ, zero, suc, ◌+◌, ◌-◌, ◌*◌, ◌/◌, ◌%◌, ◌≤◌, ◌<◌, List, ◌++◌, length, drop, set, get_or, refl, sym, ap, ◌∙◌, subst, arith, inl, inr}
 use Rattle.std.proofs.lemmas.Grind.{same_number_lists}
-use Rattle.std.proofs.lemmas.List.{get_or-map, get_or-take, get_or-set_other, get_or-set_same, length-map}
+use Rattle.std.proofs.lemmas.List.{get_or-map, get_or-take, get_or-set_other, get_or-set_same, length-append, length-map}
 use Rattle.std.proofs.Math.Nat.{mod-lt}
 use Rattle.htl_model.proofs.Listed.{length-list_to, get_list_to}
 use Rattle.htl_model.proofs.PlaceSteps.{place_next, round_at, no_round, choices_cut}
 use Rattle.htl_model.proofs.RisingKeys.{rises, run_length, run_at, most_below, none_below}
 use Rattle.htl_model.proofs.RootModeLaws.{modes_between, mode_between, modes_most}
 use Rattle.htl_model.specs.RootModes.{below}
-use Rattle.htl_times.proofs.Words.{cases_lt, Inv, Round, AreInRange, Tables, choices, invs_of, list_to, modes_below, modes_of, places_in, places_of, rounds}
+use Rattle.htl_times.proofs.Words.{cases_lt, Inv, Place, Round, AreInRange, Tables, choices, invs_of, list_to, modes_below, modes_of, places_in, places_of, rounds}
 use Rattle.htl_times.specs.PathPlaces.{round_modes, AreBegins, IsSurvey, run_places}
 use Rattle.htl_times.specs.declared.path_places.RoundModes.{RoundModes}
 use Rattle.htl_times.specs.declared.path_places.Survey.{Survey}
@@ -38,7 +38,7 @@ one_begins t begins n more room b is m l = elim (cases_lt n m) [
 
 -- ---- one round more
 
-pub run_count : (first count a : ℕ) → length (run_places first count a) ≡ count
+run_count : (first count a : ℕ) → length (run_places first count a) ≡ count
 run_count first count a = length-map (list_to (λ j. first + j) count) _ ∙ length-list_to (λ j. first + j) count
 
 abbrev pub no_modes : RoundModes
@@ -124,3 +124,11 @@ module _ (t : Tables) (range : AreInRange t) (s : Survey) (survey : IsSurvey t s
           n.1,
           n.2,
         )
+
+    pub round_length : get_or s.begins (x.first + path / (behind / x.count) % x.count + 1) 0 - get_or s.begins (x.first + path / (behind / x.count) % x.count) 0 + length (places_in t path (drop (k + 1) (rounds t)))
+        ≡ length (places_in t path (drop k (rounds t)))
+    round_length =
+        let begin = get_or s.begins mode 0 in
+        let many = get_or s.begins (mode + 1) 0 - begin in
+        let rest = places_in t path (drop (k + 1) (rounds t)) in
+        omega (arith, ap (λ (xs : List Place). length xs) next_round.0, length-append (run_places begin many x.at) rest, run_count begin many x.at)

@@ -1,16 +1,18 @@
 -- A root invocation stands on a path, and finishes there.
-use Rattle.std.proofs.Common.{◌≡◌, ◌≤◌, ◌<◌, ◌⊎◌, ℕ, zero, suc, ◌+◌, ◌-◌, ◌*◌, ◌%◌, Bool, true, false, cond, eqb, List, [], ◌∷◌, ◌++◌, length, drop, get_or, slice_get, Option, Some, None, refl, sym, ap, ◌∙◌, subst, arith, inl, inr}
+use Rattle.std.proofs.Common.{◌≡◌, ◌≤◌, ◌<◌, ℕ, zero, suc, ◌+◌, ◌-◌, ◌*◌, ◌%◌, cond, List, [], ◌∷◌, length, drop, get_or, map, slice_get, Option, Some, None, refl, sym, ap, ◌∙◌, subst, arith}
 use Rattle.std.proofs.lemmas.Bool.{eq-eqb}
+use Rattle.std.proofs.lemmas.List.{length-map}
 use Rattle.std.proofs.lemmas.Option.{get_or_from_slice_get, slice_get_within}
 use Rattle.std.proofs.Math.Nat.{mod-eq_of_lt, mul-div_cancel}
-use Rattle.htl_base.proofs.Numbers.{cases_below, grow_times, one_more_time, product_parts}
+use Rattle.htl_base.proofs.Numbers.{grow_times, one_more_time, product_parts}
 use Rattle.htl_base.proofs.Places.{get_front, into_back}
 use Rattle.htl_model.proofs.FrameLimits.{choices_some, rounds_have}
-use Rattle.htl_refine.proofs.ListsFollow.{begins_by}
+use Rattle.htl_walk.proofs.Starts.{first_start}
+use Rattle.htl_walk.specs.PathJobs.{next_of}
 use Rattle.htl_refine.proofs.Members.{at_place, in_flat}
 use Rattle.htl_refine.proofs.Positions.{root_is}
 use Rattle.htl_refine.proofs.ServedFrames.{paths_are}
-use Rattle.htl_model.specs.Frames.{begins, mode_in, root_periods, rounds_at}
+use Rattle.htl_model.specs.Frames.{mode_in, root_periods, rounds_at}
 use Rattle.htl_model.specs.Selections.{inv_of_mode, is_root, mode_of_module}
 use Rattle.htl_times.proofs.Words.{each_at, item_at, get_mapped, not_some, same_Some, Inv, Mode, Module, Round, Tables, AreInRange, IsInvInRange, IsModeInRange, KeptApart, kept_apart, choices, frame_of, frame_some, instrs_of, invs_of, mode_module, modes_of, parent_mode, path_places, paths, place, places_in, places_of, root_modules, rounds, rounds_of, starts, starts_below, unit_period, Object, IsAccepted, HasWork, Job, legs_follow, path_jobs, path_work, placed_job}
 use Rattle.htl_times.proofs.AcceptedRuns.{accepted_is_feasible}
@@ -21,40 +23,31 @@ use Rattle.htl_times.specs.Response.{FinishesAfter}
 
 -- ---- a round of a root module
 
-below_start : (ps : List ℕ) (h a : ℕ) → a < h → begins ps a ≡ true → (j : ℕ) × (slice_get (starts_below ps h) j ≡ Some a)
-below_start ps zero a l e = absurd (omega arith)
-below_start ps (suc h) a l e = by (cases_below a h l) (λ less. below_start ps h a less e)
-  where
-    by : (a < h) ⊎ (a ≡ h) → (a < h → (j : ℕ) × (slice_get (starts_below ps h) j ≡ Some a)) → (j : ℕ) × (slice_get (starts_below ps h ++ cond (begins ps h) (h ∷ []) []) j ≡ Some a)
-    by (inl less) ih = let r = ih less in (r.0, get_front (starts_below ps h) (cond (begins ps h) (h ∷ []) []) r.0 a r.1)
-    by (inr same) ih =
-        let test : begins ps h ≡ true = ap (begins ps) (sym same) ∙ e in
-        (length (starts_below ps h) + 0, into_back (starts_below ps h) (cond (begins ps h) (h ∷ []) []) 0 a (ap (λ b. slice_get (cond b (h ∷ []) []) 0) test ∙ ap (λ z. Some z) (sym same)))
+none_left : (n : ℕ) → 0 % n ≡ 0
+none_left zero = refl
+none_left (suc n) = mod-eq_of_lt (omega arith)
 
-in_rounds : (t : Tables) (a : ℕ) (us : List ℕ) (j u : ℕ) → slice_get us j ≡ Some u → a % unit_period t u ≡ 0 → (q : ℕ) × (slice_get (rounds_of t a us) q ≡ Some (record { at = a; unit = u }))
-in_rounds t a [] j u e g = not_some u e
-in_rounds t a (v ∷ us) zero u e g =
-    let same : v ≡ u = same_Some v u e in
-    let test : eqb (a % unit_period t v) 0 ≡ true = eq-eqb (a % unit_period t v) 0 (ap (λ z. a % unit_period t z) same ∙ g) in
-    (0, ap (λ b. slice_get (cond b (record { at = a; unit = v } ∷ rounds_of t a us) (rounds_of t a us)) 0) test ∙ ap (λ z. let r : Round = record { at = a; unit = z } in Some r) same)
-in_rounds t a (v ∷ us) (suc j) u e g = by (eqb (a % unit_period t v) 0) (in_rounds t a us j u e g)
-  where
-    by : (b : Bool) → (q : ℕ) × (slice_get (rounds_of t a us) q ≡ Some (record { at = a; unit = u }))
-        → (q : ℕ) × (slice_get (cond b (record { at = a; unit = v } ∷ rounds_of t a us) (rounds_of t a us)) q ≡ Some (record { at = a; unit = u }))
-    by true r = (suc r.0, r.1)
-    by false r = r
+abbrev begun : ℕ → Round
+begun u = record { at = 0; unit = u }
 
--- one begins with the frame
-first_round : (t : Tables) (j u : ℕ) → slice_get (root_modules t) j ≡ Some u → 0 < frame_of t → (q : ℕ) × (slice_get (rounds t) q ≡ Some (record { at = 0; unit = u }))
+-- with the frame begins a round of each root module
+all_begin : (t : Tables) (us : List ℕ) → rounds_of t 0 us ≡ map begun us
+all_begin t [] = refl
+all_begin t (u ∷ us) =
+    ap (λ b. cond b (begun u ∷ rounds_of t 0 us) (rounds_of t 0 us)) (eq-eqb (0 % unit_period t u) 0 (none_left (unit_period t u))) ∙ ap (λ rs. begun u ∷ rs) (all_begin t us)
+
+starts_first : (ps : List ℕ) (h : ℕ) → 0 < length ps → 0 < h → slice_get (starts_below ps h) 0 ≡ Some 0
+starts_first [] h some l = absurd (omega arith)
+starts_first (p ∷ ps) h some l = by (starts_below (p ∷ ps) h) (first_start p ps h l)
+  where
+    by : (as' : List ℕ) → next_of h as' ≡ 0 → slice_get as' 0 ≡ Some 0
+    by [] e = absurd (omega (arith, e, l))
+    by (a ∷ later) e = ap (λ z. Some z) e
+
+first_round : (t : Tables) (j u : ℕ) → slice_get (root_modules t) j ≡ Some u → 0 < frame_of t → (q : ℕ) × (slice_get (rounds t) q ≡ Some (begun u))
 first_round t j u e l =
-    let none : 0 % unit_period t u ≡ 0 = none_left (unit_period t u) in
-    let s = below_start (root_periods t) (frame_of t) 0 l (begins_by t (root_modules t) j u 0 e none) in
-    let r = in_rounds t 0 (root_modules t) j u e none in
-    in_flat (rounds_at t) (starts t) s.0 r.0 0 (record { at = 0; unit = u }) s.1 r.1
-  where
-    none_left : (n : ℕ) → 0 % n ≡ 0
-    none_left zero = refl
-    none_left (suc n) = mod-eq_of_lt (omega arith)
+    let some : 0 < length (root_periods t) = omega (arith, slice_get_within (root_modules t) j u e, length-map (root_modules t) (unit_period t)) in
+    in_flat (rounds_at t) (starts t) 0 j 0 (begun u) (starts_first (root_periods t) (frame_of t) some l) (ap (λ rs. slice_get rs j) (all_begin t (root_modules t)) ∙ get_mapped begun (root_modules t) j u e)
 
 -- ---- the paths that take a mode
 
@@ -127,7 +120,7 @@ module _ (t : Tables) (range : AreInRange t) where
       let j = root_at x.mode y.0 y.1 root in
       let modules : 0 < length (root_modules t) = omega (arith, slice_get_within (root_modules t) j.0 u j.1) in
       let q = first_round t j.0 u j.1 (frame_some t range modules) in
-      let r : Round = record { at = 0; unit = u } in
+      let r = begun u in
       let rs = drop (suc q.0) (rounds t) in
       let some = choices_some t (rounds t) (rounds_have t range) in
       let d = at_place (mode_of_module u) t.modes x.mode y.0 y.1 (eq-eqb u u refl) in

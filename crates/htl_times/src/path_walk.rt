@@ -52,16 +52,9 @@ fn walk_lists(p: PathLists<'_>, jobs: &[Job], left: &mut [Time], finish: &mut [O
     ensures finishes { AreWorstFinishes p.entry.t.now (instrs_of p.entry.lists.now) p.entry.path finish.new }
     ensures len { length finish.new ≡ length finish.old }
 {
-    let PathLists {
-        t,
-        f,
-        lists,
-        path,
-        ..
-    } = p;
-    for j in 0..f.count {
-        let list = &lists[node(t, f, path, j) as usize];
-        follow(jobs, list.instrs.as_slice(), f.starts[j], left, finish);
+    for j in 0..p.f.count {
+        let list = &p.lists[node(p.t, p.f, p.path, j) as usize];
+        follow(jobs, list.instrs.as_slice(), p.f.starts[j], left, finish);
     }
 }
 

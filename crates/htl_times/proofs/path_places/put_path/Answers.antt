@@ -1,9 +1,7 @@
-use Rattle.std.proofs.Common.{◌+◌, ◌-◌, ◌/◌, ◌%◌, ◌++◌, List, length, take, drop, get_or, arith, sym, ap, ◌∙◌, append_assoc}
-use Rattle.std.proofs.lemmas.List.{length-append}
+use Rattle.std.proofs.Common.{◌+◌, ◌++◌, List, take, drop, arith, sym, ap, ◌∙◌, append_assoc}
 use Rattle.htl_model.specs.declared.frame.Place.{Place}
-use Rattle.htl_times.specs.PathPlaces.{run_places}
 use Rattle.htl_model.specs.Frames.{places_in, rounds}
-use Rattle.htl_times.proofs.PathRounds.{no_modes, run_count, count_some, mode_within, begins_rise, ends_within, next_round}
+use Rattle.htl_times.proofs.PathRounds.{count_some, mode_within, begins_rise, ends_within, next_round, round_length}
 use Rattle.htl_times.proofs.path_places.put_path.Goals as goal
 
 pub nonzero_div-behind : goal.nonzero_div-behind
@@ -48,30 +46,28 @@ put_round-n-requires-clause-few c =
 
 pub put_round-n-requires-clause-room : goal.put_round-n-requires-clause-room
 put_round-n-requires-clause-room c =
-    let s = next_round c.args.t.now c.keeps_ranges.ensures.ranges c.args.survey.now c.requires.survey c.loop-k.k c.args.path c.loop-k.behind (omega (arith, c.loop-k-test.true, c.requires.survey.count)) c.loop-k.invariant.behind c.loop-k.invariant.some in
-    let x = get_or c.args.survey.now.rounds c.loop-k.k no_modes in
-    let mode = x.first + c.args.path / (c.loop-k.behind / x.count) % x.count in
-    let begin = get_or c.args.survey.now.begins mode 0 in
-    let front = run_places begin (get_or c.args.survey.now.begins (mode + 1) 0 - begin) x.at in
-    let rest = places_in c.args.t.now c.args.path (drop (c.loop-k.k + 1) (rounds c.args.t.now)) in
-    let size = ap (λ (xs : List Place). length xs) s.0 ∙ length-append front rest in
-    let many = run_count begin (get_or c.args.survey.now.begins (mode + 1) 0 - begin) x.at in
-    omega (arith, c.loop-k.invariant.count, c.loop-k.invariant.len, c.requires.room, c.requires.limits.positions c.args.path, size, many)
+    omega (
+      arith,
+      c.loop-k.invariant.count,
+      c.loop-k.invariant.len,
+      c.requires.room,
+      c.requires.limits.positions c.args.path,
+      round_length c.args.t.now c.keeps_ranges.ensures.ranges c.args.survey.now c.requires.survey c.loop-k.k c.args.path c.loop-k.behind (omega (arith, c.loop-k-test.true, c.requires.survey.count)) c.loop-k.invariant.behind c.loop-k.invariant.some,
+    )
 
 pub loop-k-preserved : goal.loop-k-preserved
 loop-k-preserved c =
     let s = next_round c.args.t.now c.keeps_ranges.ensures.ranges c.args.survey.now c.requires.survey c.loop-k.k c.args.path c.loop-k.behind (omega (arith, c.loop-k-test.true, c.requires.survey.count)) c.loop-k.invariant.behind c.loop-k.invariant.some in
-    let x = get_or c.args.survey.now.rounds c.loop-k.k no_modes in
-    let mode = x.first + c.args.path / (c.loop-k.behind / x.count) % x.count in
-    let begin = get_or c.args.survey.now.begins mode 0 in
-    let front = run_places begin (get_or c.args.survey.now.begins (mode + 1) 0 - begin) x.at in
     let rest = places_in c.args.t.now c.args.path (drop (c.loop-k.k + 1) (rounds c.args.t.now)) in
-    let size = ap (λ (xs : List Place). length xs) s.0 ∙ length-append front rest in
-    let many = run_count begin (get_or c.args.survey.now.begins (mode + 1) 0 - begin) x.at in
     record {
       behind = s.1;
       some = s.2;
-      front = ap (λ (xs : List Place). xs ++ rest) c.put_round-n.ensures.front ∙ append_assoc (take c.loop-k.n c.loop-k.out) front rest ∙ ap (λ (xs : List Place). take c.loop-k.n c.loop-k.out ++ xs) (sym s.0) ∙ c.loop-k.invariant.front;
-      count = omega (arith, c.put_round-n.ensures.count, c.loop-k.invariant.count, size, many);
+      front = ap (λ (xs : List Place). xs ++ rest) c.put_round-n.ensures.front ∙ append_assoc (take c.loop-k.n c.loop-k.out) _ rest ∙ ap (λ (xs : List Place). take c.loop-k.n c.loop-k.out ++ xs) (sym s.0) ∙ c.loop-k.invariant.front;
+      count = omega (
+        arith,
+        c.put_round-n.ensures.count,
+        c.loop-k.invariant.count,
+        round_length c.args.t.now c.keeps_ranges.ensures.ranges c.args.survey.now c.requires.survey c.loop-k.k c.args.path c.loop-k.behind (omega (arith, c.loop-k-test.true, c.requires.survey.count)) c.loop-k.invariant.behind c.loop-k.invariant.some,
+      );
       len = c.put_round-n.ensures.len ∙ c.loop-k.invariant.len;
     }

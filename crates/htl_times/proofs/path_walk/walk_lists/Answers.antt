@@ -1,5 +1,5 @@
 use Rattle.std.proofs.Common.{◌≡◌, ◌<◌, length, get_or, None, refl, sym, ap, ◌∙◌, subst, arith, add-one}
-use Rattle.htl_times.proofs.Words.{or_else, starts, reached, instrs_of, Point, walk_from, last_point, finish, work, worst_cases, path_jobs}
+use Rattle.htl_times.proofs.Words.{Schedule, or_else, starts, reached, instrs_of, Point, walk_from, last_point, finish, work, worst_cases, path_jobs}
 use Rattle.htl_times.specs.Noting.{AreFinishesTo}
 use Rattle.htl_times.proofs.BareWalks.{bare_start}
 use Rattle.htl_times.proofs.PathFinishes.{bare_length, none_yet, one_more, all_lists, walk_here, left_here}
@@ -24,12 +24,12 @@ loop-j-preserved c =
     let j = c.loop-j.j in
     let l : j < length (starts t) = omega (arith, c.loop-j-test.true, c.requires.frame.count) in
     let n = c.node.result in
-    let r = c.index-lists-node.result in
+    let r = c.index-p-node.result in
     let within : n < length c.args.p.lists.now = omega (arith, c.node.ensures.within, c.requires.lists) in
     let x : Point = record { time = get_or c.args.p.f.now.starts j 0; left = c.loop-j.left } in
-    let walk = walk_here t c.args.p.f.now c.args.p.lists.now path j n jobs r c.loop-j.left c.requires.frame l within c.requires.jobs c.node.ensures.node c.index-lists-node.is c.loop-j.invariant.left in
-    let left = left_here t c.args.p.f.now c.args.p.lists.now path j n jobs r c.loop-j.left c.requires.frame l within c.requires.jobs c.node.ensures.node c.index-lists-node.is c.loop-j.invariant.left in
-    let is : c.as_slice.result.now ≡ r.instrs = c.as_slice.ensures in
+    let walk = walk_here t c.args.p.f.now c.args.p.lists.now path j n jobs r c.loop-j.left c.requires.frame l within c.requires.jobs c.node.ensures.node c.index-p-node.is c.loop-j.invariant.left in
+    let left = left_here t c.args.p.f.now c.args.p.lists.now path j n jobs r c.loop-j.left c.requires.frame l within c.requires.jobs c.node.ensures.node c.index-p-node.is c.loop-j.invariant.left in
+    let is : c.as_slice.result.now ≡ r.instrs = c.as_slice.ensures ∙ ap (λ (z : Schedule). z.instrs) (sym c.index-p-node.is) in
     record {
       left = c.follow.ensures.left ∙ ap (λ ks. (last_point jobs ks x).left) is ∙ left ∙ sym (ap (λ m. (reached t lists path m).left) (add-one j));
       finishes = subst (λ m. AreFinishesTo t lists path m c.follow.new.finish) (sym (add-one j))
