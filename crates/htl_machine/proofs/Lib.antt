@@ -20,6 +20,7 @@ pub mod NextStands
 pub mod After
 pub mod Quiet
 pub mod ToClose
+pub mod RowBits
 pub mod MarkRows
 pub mod Marking
 pub mod Settling

@@ -8,4 +8,4 @@ abbrev pub row_of : Marks → ℕ → ℕ
 row_of m r = cond (has_bit m.used r) (get_or m.rows r 0) 0
 
 unfoldable pub is_marked : Marks → ℕ → Bool
-is_marked m k = has_bit (row_of m (k / 128)) (k % 128)
+is_marked m k = has_bit (row_of m (k / 64)) (k % 64)

@@ -1,16 +1,14 @@
 // Sets of numbers below 1,024, in place.
-ghost use Rattle.std.specs.Prelude.{◌≡◌, ◌≢◌, ◌≤◌, ◌<◌, ◌/◌, ◌%◌, ℕ, true, false, cond, eqb};
+ghost use Rattle.std.specs.Prelude.{◌≡◌, ◌≢◌, ◌≤◌, ◌<◌, ◌/◌, ◌%◌, ◌||◌, ℕ, true, false, cond, eqb};
 ghost use Rattle.htl_model.specs.Bits.{has_bit as has_bit_of};
 ghost use Rattle.htl_machine.specs.Marks.{is_marked, row_of};
-
-use htl_model::bits::{has_bit, with_bit};
 
 /// Which of 1,024 numbers are marked, a bit for each.
 #[derive(Clone, Copy)]
 pub struct Marks {
     // A bit for each row that was marked; what stands in the others doesn't count.
-    used: u128,
-    rows: [u128; 8],
+    used: u64,
+    rows: [u64; 16],
 }
 
 impl Marks {
@@ -20,7 +18,7 @@ impl Marks {
     {
         Marks {
             used: 0,
-            rows: [0; 8],
+            rows: [0; 16],
         }
     }
 
@@ -36,8 +34,8 @@ impl Marks {
         requires { number < 1024 }
         ensures { (k : ℕ) → is_marked self.new k ≡ cond (eqb k number) marked (is_marked self.old k) }
     {
-        let row = number / 128;
-        self.rows[row] = put_bit(self.row(row), (number % 128) as u32, marked);
+        let row = number / 64;
+        self.rows[row] = put_bit(self.row(row), (number % 64) as u32, marked);
         self.used = with_bit(self.used, row as u32);
     }
 
@@ -56,13 +54,13 @@ impl Marks {
         ensures skipped { (k : ℕ) → from ≤ k → k < result → is_marked self.now k ≡ false }
         ensures found { result < 1024 → is_marked self.now result ≡ true }
     {
-        let start = self.next_row(from / 128);
+        let start = self.next_row(from / 64);
         let mut row = start;
         let mut bit = first_bit(from, start);
-        while row < 8 {
+        while row < 16 {
             let next = next_bit(self.row(row), bit);
-            if next < 128 {
-                return row * 128 + next as usize;
+            if next < 64 {
+                return row * 64 + next as usize;
             }
             row = self.next_row(row + 1);
             bit = 0;
@@ -71,8 +69,8 @@ impl Marks {
     }
 
     // The marks of a row.
-    fn row(&self, row: usize) -> u128
-        requires { row < 8 }
+    fn row(&self, row: usize) -> u64
+        requires { row < 16 }
         ensures { result ≡ row_of self.now row }
     {
         if has_bit(self.used, row as u32) {
@@ -82,11 +80,11 @@ impl Marks {
         }
     }
 
-    // The first row with marks, from one on; 128 where there is none.
+    // The first row with marks, from one on; 64 where there is none.
     fn next_row(&self, from: usize) -> usize
-        requires { from ≤ 8 }
+        requires { from ≤ 16 }
         ensures low { from ≤ result }
-        ensures high { result ≤ 128 }
+        ensures high { result ≤ 64 }
         ensures skipped { (r : ℕ) → from ≤ r → r < result → row_of self.now r ≡ 0 }
     {
         next_bit(self.used, from as u32) as usize
@@ -95,20 +93,36 @@ impl Marks {
 
 // The first bit that is looked at in a row, from a number on.
 fn first_bit(from: usize, row: usize) -> u32
-    ensures low { result < 128 }
-    ensures here { row ≡ from / 128 → result ≡ from % 128 }
-    ensures later { row ≢ from / 128 → result ≡ 0 }
+    ensures low { result < 64 }
+    ensures here { row ≡ from / 64 → result ≡ from % 64 }
+    ensures later { row ≢ from / 64 → result ≡ 0 }
 {
-    if row == from / 128 {
-        (from % 128) as u32
+    if row == from / 64 {
+        (from % 64) as u32
     } else {
         0
     }
 }
 
+// Whether a row has a bit.
+fn has_bit(row: u64, bit: u32) -> bool
+    requires { bit < 64 }
+    ensures { result ≡ has_bit_of row bit }
+{
+    (row >> bit) & 1 == 1
+}
+
+// A row with one bit more.
+fn with_bit(row: u64, bit: u32) -> u64
+    requires { bit < 64 }
+    ensures { (k : ℕ) → has_bit_of result k ≡ (has_bit_of row k || eqb k bit) }
+{
+    row | (1 << bit)
+}
+
 // A row with a bit as given.
-fn put_bit(row: u128, bit: u32, set: bool) -> u128
-    requires { bit < 128 }
+fn put_bit(row: u64, bit: u32, set: bool) -> u64
+    requires { bit < 64 }
     ensures { (k : ℕ) → has_bit_of result k ≡ cond (eqb k bit) set (has_bit_of row k) }
 {
     if set {
@@ -118,17 +132,17 @@ fn put_bit(row: u128, bit: u32, set: bool) -> u128
     }
 }
 
-// The first bit of a row, from one on; 128 where there is none.
-fn next_bit(row: u128, from: u32) -> u32
-    requires { from < 128 }
+// The first bit of a row, from one on; 64 where there is none.
+fn next_bit(row: u64, from: u32) -> u32
+    requires { from < 64 }
     ensures low { from ≤ result }
-    ensures high { result ≤ 128 }
+    ensures high { result ≤ 64 }
     ensures skipped { (k : ℕ) → from ≤ k → k < result → has_bit_of row k ≡ false }
-    ensures found { result < 128 → has_bit_of row result ≡ true }
+    ensures found { result < 64 → has_bit_of row result ≡ true }
 {
     let rest = row >> from;
     if rest == 0 {
-        return 128;
+        return 64;
     }
-    (from + rest.trailing_zeros()).min(128)
+    (from + rest.trailing_zeros()).min(64)
 }

@@ -1,5 +1,5 @@
-use Rattle.std.proofs.Common.{◌≡◌, ◌/◌, ◌^◌, ◌<◌, true, ℕ, arith, sym, subst}
-use Rattle.htl_machine.proofs.Words.{trailing_zeros, w128, div-le_self, bit_at-trailing_zeros, has_bit}
+use Rattle.std.proofs.Common.{◌≡◌, ◌/◌, ◌^◌, ◌<◌, true, ℕ, w64, arith, sym, subst}
+use Rattle.htl_machine.proofs.Words.{trailing_zeros, div-le_self, bit_at-trailing_zeros, has_bit}
 use Rattle.htl_machine.proofs.MarkRows.{none_from, skipped_to, found_at}
 use Rattle.htl_machine.proofs.marks.next_bit.Goals as goal
 
@@ -11,11 +11,11 @@ returns-then-rest-eq0-clause-skipped c =
 pub returns-clause-skipped : goal.returns-clause-skipped
 returns-clause-skipped c =
     let rest = c.args.row / 2 ^ c.args.from in
-    let low = bit_at-trailing_zeros w128 rest (omega (arith, c.if-rest-eq0.false)) (omega (arith, div-le_self c.args.row (2 ^ c.args.from), c.ranges.row.fits)) in
-    λ k from high. skipped_to c.args.row c.args.from (trailing_zeros w128 rest) k low.2 from (subst (λ (n : ℕ). k < n) c.min.ensures high)
+    let low = bit_at-trailing_zeros w64 rest (omega (arith, c.if-rest-eq0.false)) (omega (arith, div-le_self c.args.row (2 ^ c.args.from), c.ranges.row.fits)) in
+    λ k from high. skipped_to c.args.row c.args.from (trailing_zeros w64 rest) k low.2 from (subst (λ (n : ℕ). k < n) c.min.ensures high)
 
 pub returns-clause-found : goal.returns-clause-found
 returns-clause-found c =
     let rest = c.args.row / 2 ^ c.args.from in
-    let low = bit_at-trailing_zeros w128 rest (omega (arith, c.if-rest-eq0.false)) (omega (arith, div-le_self c.args.row (2 ^ c.args.from), c.ranges.row.fits)) in
-    subst (λ (n : ℕ). n < 128 → has_bit c.args.row n ≡ true) (sym c.min.ensures) (found_at c.args.row c.args.from (trailing_zeros w128 rest) low.1)
+    let low = bit_at-trailing_zeros w64 rest (omega (arith, c.if-rest-eq0.false)) (omega (arith, div-le_self c.args.row (2 ^ c.args.from), c.ranges.row.fits)) in
+    subst (λ (n : ℕ). n < 64 → has_bit c.args.row n ≡ true) (sym c.min.ensures) (found_at c.args.row c.args.from (trailing_zeros w64 rest) low.1)

@@ -1,5 +1,6 @@
 use Rattle.std.proofs.Common.{cond, eqb, sym, ◌∙◌, ap, arith}
-use Rattle.htl_machine.proofs.Words.{has_bit, cleared}
+use Rattle.htl_machine.proofs.Words.{has_bit}
+use Rattle.htl_machine.proofs.RowBits.{cleared}
 use Rattle.htl_machine.proofs.marks.put_bit.Goals as goal
 
 pub returns-else-set : goal.returns-else-set
