@@ -94,7 +94,8 @@ pub fn do_instrs<W: Sink>(
     do_due(sink, machines, program, jobs, phase, at)
 }
 
-// The same, instruction by instruction.
+// The same, instruction by instruction. It stands alone, so that a phase in which nothing is due makes no room for it.
+#[inline(never)]
 fn do_due<W: Sink>(
     sink: &mut W,
     machines: &mut Machines,
