@@ -1,6 +1,7 @@
 // Tables: their parts, form rules, functions and platforms.
 mod accessors_tests;
 mod base_tests;
+mod copy_tests;
 mod fcode_tests;
 mod form_frame_tests;
 mod form_rules_tests;
