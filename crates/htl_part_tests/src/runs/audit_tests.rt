@@ -24,7 +24,7 @@ fn verdict(auditor: &Auditor<'_>) -> Verdict
 }
 
 // The same for a run without events that ends at 10; None where the page is full.
-fn ended(auditor: &mut Auditor<'_>, page: &mut Page) -> Option<Verdict>
+fn verdict_at_end(auditor: &mut Auditor<'_>, page: &mut Page) -> Option<Verdict>
     requires { AuditFollows auditor.old [] }
 {
     match auditor.finish(10, page) {
@@ -38,7 +38,7 @@ fn judged(alloc: Global, loaded: &Loaded, log: &[Slice]) -> Option<Verdict>
 {
     let mut page = Page::new(alloc, 128, &[]).ok()?;
     match Auditor::new(alloc, loaded, log) {
-        Ok(mut auditor) => ended(&mut auditor, &mut page),
+        Ok(mut auditor) => verdict_at_end(&mut auditor, &mut page),
         Err(_) => None,
     }
 }

@@ -1,6 +1,6 @@
 use Rattle.std.proofs.Common.{arith, [], sym, subst}
 use Rattle.htl_audit.specs.Auditing.{IsAudited}
-use Rattle.htl_part_tests.proofs.runs.audit_tests.ended.Goals as goal
+use Rattle.htl_part_tests.proofs.runs.audit_tests.verdict_at_end.Goals as goal
 
 pub finish-requires-clause-follows : goal.finish-requires-clause-follows
 finish-requires-clause-follows c = ([], c.requires)
