@@ -152,14 +152,14 @@ RunsObject _ = ⊥
 
 -- ---- the input
 
--- how many bytes of the input a command takes at most: those of the longest source or script, and one piece: of 256 bytes of a script that
--- is run, of 4,096 of a source or a selection
+-- how many bytes of the input a command takes at most: those of the longest source, script or selection, and one piece: of 256 bytes of a
+-- script or a selection, of 4,096 of a source
 abbrev pub most_taken : Option Command → ℕ
 most_taken (Some (Go name)) = MAX_SCRIPT + 256
 most_taken (Some Compile) = MAX_SOURCE + 4096
 most_taken (Some (CompileWith platform)) = MAX_SOURCE + 4096
 most_taken (Some (Run show name)) = MAX_SCRIPT + 256
-most_taken (Some (Plan name)) = MAX_SCRIPT + 4096
+most_taken (Some (Plan name)) = MAX_SCRIPT + 256
 most_taken (Some (Audit name log)) = MAX_SCRIPT + 256
 most_taken _ = 0
 

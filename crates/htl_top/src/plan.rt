@@ -24,7 +24,7 @@ fn plan<R: Source, W: Sink>(alloc: Global, l: &Loaded, input: &mut R, out: &mut 
     ensures answer { IsPlanned l.now
         (streams R.rest R.faults W.written W.faults input.old out.old) (streams R.rest R.faults W.written W.faults input.new out.new)
         result }
-    ensures taken { LosesFront (limit.MAX_SCRIPT + 4096) (R.rest input.old) (R.rest input.new) }
+    ensures taken { LosesFront (limit.MAX_SCRIPT + 256) (R.rest input.old) (R.rest input.new) }
     ensures read_count { (result ≡ Outcome.Read → ⊥) → R.faults input.new ≡ R.faults input.old }
     ensures write_count { (result ≡ Outcome.Write → ⊥) → W.faults out.new ≡ W.faults out.old }
 {
@@ -54,7 +54,7 @@ pub fn plan_file<S: Shelf, R: Source, W: Sink>(
         (streams R.rest R.faults W.written W.faults input.old out.old) (streams R.rest R.faults W.written W.faults input.new out.new)
         result.outcome }
     ensures tables { SpeaksOf (λ fact. ⊥) (IsObjectTables (Some name.now) (S.holds shelf.old)) result.outcome result.tables }
-    ensures taken { LosesFront (limit.MAX_SCRIPT + 4096) (R.rest input.old) (R.rest input.new) }
+    ensures taken { LosesFront (limit.MAX_SCRIPT + 256) (R.rest input.old) (R.rest input.new) }
     ensures shelf { S.holds shelf.new ≡ S.holds shelf.old }
     ensures shelf_count { (result.outcome ≡ Outcome.Shelf cause.Failed → ⊥) → (file : List ℕ) → S.faults shelf.new file ≡ S.faults shelf.old file }
     ensures read_count { (result.outcome ≡ Outcome.Read → ⊥) → R.faults input.new ≡ R.faults input.old }

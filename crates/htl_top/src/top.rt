@@ -70,8 +70,8 @@ use std::alloc::Global;
 /// `Object`, where the object under OBJ isn't accepted; `Patch`, with the first cause for which the refinement isn't taken over;
 /// `Write`; `Done`.
 ///
-/// A command takes no more of the input than a front of at most 1,073,745,920 bytes, or 1,052,672 for both forms of `compile`: the
-/// longest script, or source, and one piece of 4,096 bytes.
+/// A command takes no more of the input than a front of at most 1,073,742,080 bytes: the longest script, or selection, and one piece of
+/// 256 bytes; or 1,052,672 for both forms of `compile`: the longest source and one piece of 4,096.
 ///
 /// Other words are `Usage`. Want of memory may stand in place of any answer but `Usage`, before the first byte is written; for `go`,
 /// `run`, `jobs`, `code` and `audit` before the first is read. A line on `err` tells of every answer but `Done`; a failing `err` changes nothing

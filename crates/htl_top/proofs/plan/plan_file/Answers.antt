@@ -10,4 +10,4 @@ returns-in-Ok-clause-answer g c =
     (side c.plan.new.input c.plan.new.out) c.in-Ok.loaded c.plan.result c.plain.result.outcome c.plain.ensures.outcome c.in-Ok.ensures.opened c.plan.ensures.answer
 
 pub returns-in-Err-clause-taken : goal.returns-in-Err-clause-taken
-returns-in-Err-clause-taken g c = taken_none 1073745920 (g.R.Source.rest c.args.input.now)
+returns-in-Err-clause-taken g c = taken_none 1073742080 (g.R.Source.rest c.args.input.now)
