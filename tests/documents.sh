@@ -110,7 +110,7 @@ mapped() {
 # The numbers of docs/EVIDENCE.md that aren't those of the files, but for those that were measured; and that of README.md's answers.
 miscounted() {
 	bodies=$(ls "$root"/crates/*/must-fail/*.edit | grep -c .)
-	tests=$(cat "$root"/crates/*_tests/src/*/*.rt | grep -c '^ *#\[test\]')
+	tests=$(cat "$root"/crates/*_tests/src/*.rt "$root"/crates/*_tests/src/*/*.rt | grep -c '^ *#\[test\]')
 	crates=$(grep -c : "$root/crates.txt")
 	answers=$(sed -n '/pub enum Outcome/,/^}/p' "$root/crates/htl_top/src/outcome.rt" | grep -c '^    [A-Z]')
 	grep -v 'measured:' "$root/docs/EVIDENCE.md" | grep -o -E '[0-9]+ (wrong bodies|test functions|crates)|edits: [0-9]+ refused' |
