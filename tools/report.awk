@@ -74,8 +74,8 @@ reading == "listing" && $1 == "S" {
 	list[part[1], part[2]] = $3 " " $4 " " $6
 }
 
-reading == "times" && $8 == "done" { latest[$2] = $9 }
-reading == "times" && $1 == "frame" { busiest = $6 }
+reading == "times" && $8 == "done" { latest[$2] = $9 + 0 }
+reading == "times" && $1 == "frame" { busiest = $6 + 0 }
 
 reading == "slack" && $1 == "slack" {
 	task = $2
