@@ -1,5 +1,5 @@
 -- Where a machine stands before an instant and inside one, by the meaning of the tables.
-use Rattle.std.specs.Prelude.{◌≡◌, ℕ, zero, suc, ◌-◌, ◌≤◌, ◌<◌, cond, eqb, List, [], ◌∷◌, ◌++◌, length, slice_get, Option, Some, None}
+use Rattle.std.specs.Prelude.{◌≡◌, ℕ, zero, suc, ◌-◌, ◌≤◌, ◌<◌, cond, eqb, List, [], ◌∷◌, ◌++◌, length, slice_get, Option, Some, None, ℤ}
 use Rattle.htl_model.specs.declared.event.Event.{Event}
 use Rattle.htl_model.specs.Lists.{up_to}
 use Rattle.htl_model.specs.Tables.{Tables}
@@ -75,6 +75,15 @@ abbrev pub Onward : Tables → ECode → List Event → ℕ → ℕ → Standing
 Onward t code es now phase m done rest None = (rest ≡ []) × (m.running ≡ None) × Between t code es now phase m.calendar (length t.modules)
 Onward t code es now phase m done rest (Some d) =
     (more : List Done) × (rest ≡ done_of d ∷ more) × (slice_get code.instrs d.address ≡ Some d.instr) × IsAllowed t phase d.«module» d.instr × Midway t code es now phase m (done ++ done_of d ∷ []) more
+
+-- wherever in the phase the machine stood, it went on as its answer says; in the switch phase the values are those of the instant
+abbrev pub GoesOn : Tables → ECode → List Event → ℕ → ℕ → List ℤ → Standing → Standing → Option EDone → Type 0
+GoesOn t code es now phase values old new result =
+    (done rest : List Done) → (phase ≡ 2 → values ≡ (state t es now).values) → Midway t code es now phase old done rest → Onward t code es now phase new done rest result
+
+-- wherever in the phase the machine stands, all of its instructions are done
+abbrev pub IsThrough : Tables → ECode → List Event → ℕ → ℕ → Standing → Type 0
+IsThrough t code es now phase m = (done rest : List Done) → Midway t code es now phase m done rest → Onward t code es now phase m done rest None
 
 -- a machine stands before an instant: no block runs, and each module's mode and triggers are those that the rounds before the instant ask for
 pub record FollowsCode (t : Tables) (code : ECode) (es : List Event) (now : ℕ) (m : Standing) : Type 0 where
