@@ -1,7 +1,7 @@
 -- Lines that are judged by numbers that stand still at the end of 64 bits.
-use Rattle.std.proofs.Common.{◌≡◌, ◌-◌, ◌^◌, ◌≤◌, ℕ, min, Bool, true, false, not, List, [], ◌∷◌, length, Option, Some, None, Ok, Err, refl, sym, ap, ◌∙◌, arith}
+use Rattle.std.proofs.Common.{◌≡◌, ◌-◌, ◌^◌, ◌≤◌, ℕ, min, Bool, true, false, not, List, Option, Some, None, Ok, Err, refl, sym, ap, ◌∙◌, arith}
 use Rattle.std.specs.Prelude.{is_none, is_some, unwrap_or, if◌then◌else◌}
-use Rattle.htl_script.proofs.Words.{option_map, true≢false, leb-true, ltb-true, nat_tests, none-some, same_Some, length-slice_split, Ty, Event, ScriptKind, Tables, Past, Sense, is_space, fields_of, statement_of, statement_of_fields, sensor_of, type_of, is_value, is_unknown, is_out_of_range, fault_of, event_of, event_unless, number_with_sign, judged_statement}
+use Rattle.htl_script.proofs.Words.{option_map, true≢false, leb-true, ltb-true, nat_tests, none-some, same_Some, Ty, Event, ScriptKind, Tables, Past, Sense, sensor_of, type_of, is_value, is_unknown, is_out_of_range, fault_of, event_of, event_unless, number_with_sign, judged_statement}
 use Rattle.htl_base.specs.declared.Ty.TheVariants as ty
 use Rattle.htl_model.specs.declared.event.Event.TheVariants as event
 use Rattle.htl_script.specs.declared.fault.ScriptKind.TheVariants as kind
@@ -85,15 +85,3 @@ sense_value t past name (Some x) minus size c e found good read =
     let event_is : event_of t (Sense name x) ≡ event.Sense c (number_with_sign (minus, size)) =
     ap (λ (s : Option ℕ). event.Sense (unwrap_or s 0) (number_with_sign x)) found ∙ ap (λ (v : Bool × ℕ). event.Sense c (number_with_sign v)) (sym (same ∙ whole)) in
     sym (ap (λ (f : Option ScriptKind). event_unless f (event_of t (Sense name x))) fault ∙ ap (λ (e' : Event). Ok e') event_is)
-
--- four fields or more
-pub statement_of-many : (text rest digits word name more last : List ℕ) → fields_of text ≡ word ∷ fields_of rest
-    → fields_of rest ≡ name ∷ fields_of digits → fields_of digits ≡ more ∷ fields_of last → statement_of text ≡ None
-statement_of-many text rest digits word name more last first second third =
-    let all : fields_of text ≡ word ∷ name ∷ more ∷ fields_of last =
-    first ∙ ap (λ (fs : List (List ℕ)). word ∷ fs) (second ∙ ap (λ (fs : List (List ℕ)). name ∷ fs) third) in
-    ap statement_of_fields all ∙ four (fields_of last) (omega (arith, length-slice_split is_space last))
-  where
-    four : (fields : List (List ℕ)) → 1 ≤ length fields → statement_of_fields (word ∷ name ∷ more ∷ fields) ≡ None
-    four [] some = absurd (omega (arith, some))
-    four (field ∷ fields) some = refl

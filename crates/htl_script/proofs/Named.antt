@@ -1,23 +1,8 @@
 -- The first item with a name, found among names in order.
-use Rattle.std.proofs.Common.{inl, inr, ◌≡◌, ◌≢◌, ◌+◌, ◌<◌, ℕ, zero, suc, Bool, true, false, ◌&&◌, not, cond, List, [], ◌∷◌, ◌++◌, length, get_or, Option, Some, None, Ok, Err, refl, ap, ◌∙◌, arith}
+use Rattle.std.proofs.Common.{inl, inr, ◌≡◌, ◌≢◌, ◌+◌, ℕ, Bool, true, false, ◌&&◌, not, cond, List, ◌∷◌, ◌++◌, length, get_or, Option, Some, None, Ok, Err, refl, ap, ◌∙◌, arith}
 use Rattle.htl_script.proofs.Words.{slice_get, position_from, bytes_eq, cases_Bool, none-some, same_Some, slice_get_within, bytes_eq-Decides, Comm, Inv, Mode, Module, Task, Tables, is_sensor, is_invocation, dotted, sensor_name, through, name_of, count_of, number_named, IsOrder, IsPlace, Keyed, keyed, keyed_name, Named, Sensor, Invocation}
+use Rattle.htl_script.proofs.FirstItems.{first_is, none_is}
 use Rattle.htl_script.proofs.Orders.{no_earlier, none_named, unkeyed}
-
--- ---- the first item that passes a test
-
-first_is : {A : Type 0} (test : A → Bool) (items : List A) (k i : ℕ) (x : A) → slice_get items i ≡ Some x → test x ≡ true
-    → ((q : ℕ) (y : A) → q < i → slice_get items q ≡ Some y → test y ≡ false) → position_from test k items ≡ Some (k + i)
-first_is test [] k i x at hit missed = absurd (none-some x at)
-first_is test (y ∷ ys) k zero x at hit missed =
-    ap (λ b. cond b (Some k) (position_from test (k + 1) ys)) (ap test (same_Some y x at) ∙ hit) ∙ ap (λ n. Some n) (let e : k ≡ k + 0 = omega arith in e)
-first_is test (y ∷ ys) k (suc i) x at hit missed =
-    ap (λ b. cond b (Some k) (position_from test (k + 1) ys)) (missed 0 y (omega arith) refl)
-    ∙ first_is test ys (k + 1) i x at hit (λ q z less e. missed (suc q) z (omega arith) e) ∙ ap (λ n. Some n) (let e : k + 1 + i ≡ k + suc i = omega arith in e)
-
-none_is : {A : Type 0} (test : A → Bool) (items : List A) (k : ℕ) → ((q : ℕ) (y : A) → slice_get items q ≡ Some y → test y ≡ false) → position_from test k items ≡ None
-none_is test [] k missed = refl
-none_is test (y ∷ ys) k missed =
-    ap (λ b. cond b (Some k) (position_from test (k + 1) ys)) (missed 0 y refl) ∙ none_is test ys (k + 1) (λ q z e. missed (suc q) z e)
 
 -- ---- a name that is asked for
 

@@ -34,6 +34,18 @@ named_statement word name number =
     else if bytes_eq word (codes "took") then option_map (Took name) (number_of number)
     else None
 
+-- the same by the fields behind the word
+abbrev pub named_fields : List ℕ → List (List ℕ) → Option Statement
+named_fields word (name ∷ number ∷ []) = named_statement word name number
+named_fields word _ = None
+
+-- a word, and what follows the space behind it: no number has a space
+abbrev pub worded_statement : List ℕ → List ℕ → Option Statement
+worded_statement word rest =
+    if bytes_eq word (codes "at") then option_map At (number_of rest)
+    else if bytes_eq word (codes "end") then option_map End (number_of rest)
+    else named_fields word (fields_of rest)
+
 abbrev pub statement_of_fields : List (List ℕ) → Option Statement
 statement_of_fields (word ∷ instant ∷ []) = instant_statement word instant
 statement_of_fields (word ∷ name ∷ number ∷ []) = named_statement word name number

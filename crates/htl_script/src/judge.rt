@@ -5,10 +5,10 @@ ghost use Rattle.htl_base.specs.declared.Ty.TheVariants as ty;
 ghost use Rattle.htl_model.specs.declared.event.Event.TheVariants as event;
 ghost use Rattle.htl_script.specs.Judging.{past_after, at_first, judged_text, judged_statement, number_with_sign, is_value, is_above, is_below};
 ghost use Rattle.htl_script.specs.Numbers.{number_of, signed_of};
-ghost use Rattle.htl_script.specs.Statements.{statement_of, instant_statement, named_statement, At, End, Sense, Took};
+ghost use Rattle.htl_script.specs.Statements.{statement_of, worded_statement, named_statement, named_fields, fields_of, At, End, Sense, Took};
 
 use crate::ScriptKind;
-use crate::field::cut;
+use crate::field::{cut, cut_word};
 use crate::lookup::Names;
 use crate::number::{number, signed};
 use htl_base::limits::MAX_INSTANT;
@@ -54,6 +54,7 @@ impl Past {
 }
 
 // The event of a line of at most 255 bytes; None where it is passed over.
+#[inline(always)]
 pub fn judge(past: Past, names: &Names<'_>, text: &[u8]) -> Result<Option<Event>, ScriptKind>
     ensures { result ≡ judged_text names.now past text.now }
 {
@@ -69,29 +70,34 @@ pub fn judge(past: Past, names: &Names<'_>, text: &[u8]) -> Result<Option<Event>
     }
 }
 
+#[inline(always)]
 fn statement(past: Past, names: &Names<'_>, text: &[u8]) -> Result<Event, ScriptKind>
     ensures { result ≡ judged_statement names.now past (statement_of text.now) }
 {
-    let Some((word, rest)) = cut(text) else {
-        return Err(ScriptKind::Form);
-    };
-    let Some((name, digits)) = cut(rest) else {
-        return instant(past, names, word, rest);
-    };
-    match cut(digits) {
-        Some(_) => Err(ScriptKind::Form),
-        None => named(past, names, word, name, digits),
+    match cut_word(text) {
+        Some((word, rest)) => worded(past, names, word, rest),
+        None => Err(ScriptKind::Form),
     }
 }
 
-// `at T` or `end T`.
-fn instant(past: Past, names: &Names<'_>, word: &[u8], digits: &[u8]) -> Result<Event, ScriptKind>
-    ensures { result ≡ judged_statement names.now past (instant_statement word.now digits.now) }
+// A word, and what follows the space behind it.
+fn worded(past: Past, names: &Names<'_>, word: &[u8], rest: &[u8]) -> Result<Event, ScriptKind>
+    ensures { result ≡ judged_statement names.now past (worded_statement word.now rest.now) }
 {
     match word {
-        b"at" => at(past, names, digits),
-        b"end" => end(past, names, digits),
-        _ => Err(ScriptKind::Form),
+        b"at" => at(past, names, rest),
+        b"end" => end(past, names, rest),
+        _ => behind_word(past, names, word, rest),
+    }
+}
+
+// Of a word that wants a name.
+fn behind_word(past: Past, names: &Names<'_>, word: &[u8], rest: &[u8]) -> Result<Event, ScriptKind>
+    ensures { result ≡ judged_statement names.now past (named_fields word.now (fields_of rest.now)) }
+{
+    match cut(rest) {
+        Some((name, digits)) => named(past, names, word, name, digits),
+        None => Err(ScriptKind::Form),
     }
 }
 

@@ -48,6 +48,7 @@ impl LineStream {
     /// rule on its size: `Size` where byte 1,073,741,825 of the text is one of its first 256 bytes, its line feed counted, and else
     /// `Long` where it has a 256th byte. `Read` comes only where the source counted a fault. Behind a line `pass` comes before the next
     /// call.
+    #[inline(always)]
     pub fn next<R: Source>(&mut self, src: &mut R) -> Result<bool, ScriptStop>
         ensures answer { AnswersLine self.new result }
         ensures reads { ReadsOn self.old self.new (R.rest src.old) (R.rest src.new) }

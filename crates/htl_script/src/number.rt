@@ -1,20 +1,20 @@
 // The numbers in the lines of a script.
-ghost use Rattle.std.specs.Prelude.{◌≡◌, ◌-◌, ◌^◌, ℕ, Bool, min, MatchOption};
+ghost use Rattle.std.specs.Prelude.{◌≡◌, ◌-◌, ◌^◌, ◌&&◌, ◌||◌, ◌==◌, ℕ, Bool, Some, None, true, not, min, length, nat_lt, slice_index, if◌then◌else◌};
 ghost use Rattle.std.specs.Option.{option_map};
 ghost use Rattle.std.specs.List.{fold, list_all};
 ghost use Rattle.std.specs.Char.{is_ascii_digit};
 ghost use Rattle.htl_script.specs.Reading.{with_digit_capped};
-ghost use Rattle.htl_script.specs.Numbers.{is_numeral, number_of, signed_of, with_digit};
+ghost use Rattle.htl_script.specs.Numbers.{number_of, signed_of, with_digit as with_digit_of};
 
-// Ten times a smaller number, and a digit more, are a number of 64 bits.
-const SMALL: u64 = 1_000_000_000_000_000_000;
+// Ten times a smaller number, and a digit more, are far from the end of 64 bits.
+const SMALL: u64 = 1_000_000_000;
 
 // The number that a field spells, or 18,446,744,073,709,551,615 where it is larger.
 pub fn number(field: &[u8]) -> Option<u64>
     ensures { result ≡ option_map (λ (n : ℕ). min n (2 ^ 64 - 1)) (number_of field.now) }
 {
-    if is_numeral(field) {
-        Some(value(field))
+    if has_numeral_front(field) {
+        value(field)
     } else {
         None
     }
@@ -39,40 +39,36 @@ pub fn signed(field: &[u8]) -> Option<(bool, u64)>
     }
 }
 
-// Decimal digits, at least one, with no zero before others.
-fn is_numeral(field: &[u8]) -> bool
-    ensures { result ≡ is_numeral field.now }
+// A byte at least, and no zero before others.
+fn has_numeral_front(field: &[u8]) -> bool
+    ensures { result ≡ (nat_lt 0 (length field.now) && (not (slice_index field.now 0 == 48) || (length field.now == 1))) }
 {
     if field.is_empty() {
         return false;
     }
-    (field[0] != b'0' || field.len() == 1) && are_digits(field)
+    field[0] != b'0' || field.len() == 1
 }
 
-fn are_digits(field: &[u8]) -> bool
-    ensures { result ≡ list_all is_ascii_digit field.now }
+// The value of digits, or 18,446,744,073,709,551,615 where it is larger; None where another byte is among them.
+fn value(field: &[u8]) -> Option<u64>
+    ensures { result ≡ (if list_all is_ascii_digit field.now then Some (min (fold with_digit_of 0 field.now) (2 ^ 64 - 1)) else None) }
 {
-    field.iter().all(|b| b.is_ascii_digit())
-}
-
-// The value of digits, or 18,446,744,073,709,551,615 where it is larger.
-fn value(digits: &[u8]) -> u64
-    ensures { result ≡ min (fold with_digit 0 digits.now) (2 ^ 64 - 1) }
-{
-    capped(digits)
-}
-
-fn capped(digits: &[u8]) -> u64
-    ensures { result ≡ fold with_digit_capped 0 digits.now }
-{
-    digits.iter().fold(0u64, |n, digit| with_digit(n, *digit))
+    let mut n = 0;
+    for b in field {
+        if !b.is_ascii_digit() {
+            return None;
+        }
+        n = with_digit(n, *b);
+    }
+    Some(n)
 }
 
 // A number with one digit more. Most are far from the end of 64 bits.
 fn with_digit(n: u64, digit: u8) -> u64
+    requires { is_ascii_digit digit ≡ true }
     ensures { result ≡ with_digit_capped n digit }
 {
-    let last = u64::from(digit.saturating_sub(b'0'));
+    let last = u64::from(digit - b'0');
     if n < SMALL {
         n * 10 + last
     } else {

@@ -53,6 +53,7 @@ impl Script {
     /// taken than the lines up to the one where the reader then is, which a fault names, and one piece.
     ///
     /// The first call puts the names of the tables in order; then a line costs its own bytes.
+    #[inline(always)]
     pub fn next<R: Source>(&mut self, src: &mut R, t: &Tables) -> Result<Option<Event>, ScriptStop>
         requires same { self.old.ready ≡ true → IsIndex t.now self.old.index }
         ensures ready { self.new.ready ≡ true }
