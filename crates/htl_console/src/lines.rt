@@ -16,6 +16,7 @@ use htl_walk::SInstr;
 
 /// Writes `j A B NAME`: the processor ran the job of an invocation from A to B. The number of an invocation that the tables lack
 /// stands in place of its name, as in the lines of `line_d` and `line_e`.
+#[inline(always)]
 pub fn line_j<W: Sink>(
     sink: &mut W,
     t: &Tables,
@@ -37,6 +38,7 @@ pub fn line_j<W: Sink>(
 }
 
 /// Writes `d T NAME`: the job of an invocation is done.
+#[inline(always)]
 pub fn line_d<W: Sink>(sink: &mut W, t: &Tables, at: Time, inv: u16) -> Result<(), Failed>
     ensures { Puts (W.written sink.old) (W.written sink.new) (W.faults sink.old) (W.faults sink.new) (done_line t.now at inv) result }
 {

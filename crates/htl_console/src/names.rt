@@ -64,6 +64,7 @@ fn put_full_mode(line: &mut LineBuffer, t: &Tables, mode: u16)
 }
 
 /// Adds `MODULE.MODE.TASK` of an invocation: at most 146 bytes.
+#[inline(always)]
 pub fn put_full_inv(line: &mut LineBuffer, t: &Tables, inv: &Inv)
     requires room { length line.old + 146 ≤ limit.MAX_LINE }
     ensures bytes { line.new ≡ line.old ++ full_inv t.now inv.now }
@@ -75,6 +76,7 @@ pub fn put_full_inv(line: &mut LineBuffer, t: &Tables, inv: &Inv)
 }
 
 /// Adds the name of an invocation, or its number: at most 146 bytes.
+#[inline(always)]
 pub fn put_inv(line: &mut LineBuffer, t: &Tables, inv: u16)
     requires room { length line.old + 146 ≤ limit.MAX_LINE }
     ensures bytes { line.new ≡ line.old ++ inv_name t.now inv }

@@ -147,6 +147,7 @@ fn put_modes<W: Sink>(
 }
 
 /// Writes the lines of the values and modes that are others than before.
+#[inline(always)]
 pub fn put_changes<W: Sink>(
     sink: &mut W,
     machines: &Machines,

@@ -14,6 +14,7 @@ use htl_walk::Job;
 
 /// The reads of an instant once its switches are done, with the releases, and the lines of what changed. After `Failed` a
 /// prefix of the lines was written.
+#[inline(always)]
 pub fn read_instant<W: Sink>(
     sink: &mut W,
     machines: &mut Machines,

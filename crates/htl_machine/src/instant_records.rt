@@ -10,6 +10,7 @@ use htl_edge::{Failed, Sink};
 
 /// Leaves the instructions of the list that are left at an instant or before, puts out what the jobs do that they
 /// finish, and writes and counts them; nothing where none runs. After `Failed` a prefix of the lines was written.
+#[inline(always)]
 pub fn leave_records<W: Sink>(
     sink: &mut W,
     works: &mut Works,

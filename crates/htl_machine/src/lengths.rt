@@ -15,7 +15,7 @@ use htl_walk::Job;
 fn is_of(job: &Job, inv: u16) -> bool
     ensures { result ≡ (job.now.present && eqb job.now.inv inv) }
 {
-    job.present && job.inv == inv
+    job.inv == inv && job.present
 }
 
 // The last position of an invocation among the jobs of a frame: that of its present round.

@@ -259,6 +259,7 @@ impl<'a> Machine<'a> {
 
     // The first instant, from one behind the first on, at which something is due: a trigger, an instruction that is left, or a
     // sensor that is shown another value than it has; 1,000,000,001 where there is none.
+    #[inline(always)]
     fn next_due(&self, from: Time) -> Time
         requires before { (es : List Told) × IsUpTo self.now es from }
         requires read { self.now.run_state.reading ≤ from }

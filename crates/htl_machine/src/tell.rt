@@ -113,6 +113,7 @@ fn tell_step<W: Sink>(
 }
 
 /// Writes the lines of a record.
+#[inline(always)]
 pub fn tell_record<W: Sink>(
     sink: &mut W,
     program: &Program<'_>,
