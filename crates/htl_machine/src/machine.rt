@@ -180,6 +180,7 @@ impl<'a> Machine<'a> {
     /// Does all instants before `to`, in ticks, writes their lines, and makes `to` the reading. The machine isn't spent, and `to` is
     /// from the reading to 1,000,000,000. `Failed` comes only where the sink's count rose: then a prefix of the lines was written,
     /// and the machine is spent.
+    #[inline(always)]
     pub fn advance<W: Sink>(&mut self, to: Time, sink: &mut W) -> Result<(), Failed>
         requires follows { (es : List Told) × Follows self.old es }
         requires order { self.old.run_state.reading ≤ to }
@@ -219,6 +220,7 @@ impl<'a> Machine<'a> {
     }
 
     // Does the instants from the reading up to before `to`, and tells up to before which instant nothing is due from there on.
+    #[inline(always)]
     fn pass<W: Sink>(&mut self, to: Time, sink: &mut W) -> Result<Time, Failed>
         requires follows { (es : List Told) × Follows self.old es }
         requires order { self.old.run_state.reading ≤ to }
@@ -259,7 +261,6 @@ impl<'a> Machine<'a> {
 
     // The first instant, from one behind the first on, at which something is due: a trigger, an instruction that is left, or a
     // sensor that is shown another value than it has; 1,000,000,001 where there is none.
-    #[inline(always)]
     fn next_due(&self, from: Time) -> Time
         requires before { (es : List Told) × IsUpTo self.now es from }
         requires read { self.now.run_state.reading ≤ from }
@@ -283,6 +284,7 @@ impl<'a> Machine<'a> {
 
     // Does one instant: the records that are due, the writes and the sensors; then the switches, a list where one begins, the
     // reads with the releases, and what changed.
+    #[inline(never)]
     fn instant<W: Sink>(&mut self, at: Time, sink: &mut W) -> Result<(), Failed>
         requires before { (es : List Told) × IsUpTo self.old es at }
         requires read { self.old.run_state.reading ≤ at }

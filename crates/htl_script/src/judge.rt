@@ -34,21 +34,14 @@ impl Past {
         }
     }
 
-    // What one more event leaves.
-    pub fn after(self, event: Event) -> Past
-        ensures { result ≡ past_after self event }
+    // Goes behind one more event.
+    pub fn follow(&mut self, event: Event)
+        ensures { self.new ≡ past_after self.old event }
     {
         match event {
-            Event::At(instant) => Past {
-                reading: Some(instant),
-                end: self.end,
-            },
-            Event::Sense { .. } => self,
-            Event::Took { .. } => self,
-            Event::End(instant) => Past {
-                reading: self.reading,
-                end: Some(instant),
-            },
+            Event::At(instant) => self.reading = Some(instant),
+            Event::End(instant) => self.end = Some(instant),
+            Event::Sense { .. } | Event::Took { .. } => {}
         }
     }
 }
@@ -81,6 +74,7 @@ fn statement(past: Past, names: &Names<'_>, text: &[u8]) -> Result<Event, Script
 }
 
 // A word, and what follows the space behind it.
+#[inline(always)]
 fn worded(past: Past, names: &Names<'_>, word: &[u8], rest: &[u8]) -> Result<Event, ScriptKind>
     ensures { result ≡ judged_statement names.now past (worded_statement word.now rest.now) }
 {

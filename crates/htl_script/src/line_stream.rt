@@ -59,7 +59,7 @@ impl LineStream {
         ensures read { result ≡ Err stop.Read → Rose (R.faults src.old) (R.faults src.new) }
     {
         'pieces: loop {
-            let room = self.lines.room();
+            self.lines.keeps_place();
             let b = match self.chunk.first(src) {
                 Ok(Some(b)) => b,
                 Ok(None) => return Ok(!self.lines.text().is_empty()),
@@ -67,7 +67,10 @@ impl LineStream {
             };
             match self.lines.ends_before(b) {
                 Ok(true) => return Ok(true),
-                Ok(false) => self.run_on(room),
+                Ok(false) => {
+                    let room = self.lines.room();
+                    self.run_on(room);
+                }
                 Err(kind) => return Err(self.fault(kind)),
             }
         }

@@ -55,8 +55,16 @@ impl Lines {
     pub fn number(&self) -> u64
         ensures value { result ≡ self.now.number }
         ensures few { result ≤ limit.MAX_SCRIPT + 1 }
+        ensures place { IsLinePlace self.now }
     {
         self.number
+    }
+
+    // Its invariant, for callers: the line is plain and short, and stands within the limit.
+    pub fn keeps_place(&self)
+        ensures { IsLinePlace self.now }
+    {
+        self.number();
     }
 
     // What was read of the line.
@@ -102,7 +110,6 @@ impl Lines {
     pub fn room(&self) -> usize
         ensures line { length self.now.line + result ≤ limit.MAX_LINE }
         ensures script { self.now.start + length self.now.line + result ≤ limit.MAX_SCRIPT }
-        ensures place { IsLinePlace self.now }
         ensures some { length self.now.line < limit.MAX_LINE → self.now.start + length self.now.line < limit.MAX_SCRIPT → 1 ≤ result }
     {
         let size = self.line.as_bytes().len();

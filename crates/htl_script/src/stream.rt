@@ -88,7 +88,7 @@ impl Stream {
     {
         match judge(self.past, names, self.lines.text()) {
             Ok(Some(event)) => {
-                self.past = self.past.after(event);
+                self.past.follow(event);
                 self.lines.pass();
                 Ok(Some(event))
             }

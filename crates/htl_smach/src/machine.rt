@@ -186,6 +186,7 @@ impl SMach {
     ///
     /// The schedule is the list that runs, keeps its form, has at most 4,294,967,295 instructions and is the same in all
     /// calls of one list, and no release falls before `until` that hasn't been told.
+    #[inline(always)]
     pub fn run_to(&mut self, s: &Schedule, until: Time) -> Option<Left>
         requires form { self.old.running ≡ true → IsInForm self.old s.now.instrs }
         requires instrs { length s.now.instrs ≤ 4294967295 }

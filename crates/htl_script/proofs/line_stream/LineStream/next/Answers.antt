@@ -10,13 +10,13 @@ pieces-init g c = (reads_none c.args.self.now (g.R.Source.rest c.args.src.now), 
 pub returns-in-Ok-None-clause-answer : goal.returns-in-Ok-None-clause-answer
 returns-in-Ok-None-clause-answer g c =
     let sees = subst (λ (o : Option ℕ). SeesByte {E = Failed} c.self.inside.chunk c.first.new.self (g.R.Source.rest c.pieces.src) (g.R.Source.rest c.first.new.src) (Ok o)) c.in-Ok-None.field-0-is c.in-Ok-None.ensures.byte in
-    answers_over (record { place = c.self.inside.lines; ahead = c.first.new.self }) c.room-room.ensures.place c.is_empty.result sees.1 sees.3 (c.is_empty.ensures ∙ ap (λ (xs : List ℕ). eqb (length xs) 0) c.text.ensures)
+    answers_over (record { place = c.self.inside.lines; ahead = c.first.new.self }) c.keeps_place.ensures c.is_empty.result sees.1 sees.3 (c.is_empty.ensures ∙ ap (λ (xs : List ℕ). eqb (length xs) 0) c.text.ensures)
 
 pub returns-in-Ok-true-clause-answer : goal.returns-in-Ok-true-clause-answer
 returns-in-Ok-true-clause-answer g c =
     let sees = subst (λ (o : Option ℕ). SeesByte {E = Failed} c.self.inside.chunk c.first.new.self (g.R.Source.rest c.pieces.src) (g.R.Source.rest c.first.new.src) (Ok o)) c.in-Ok-Some.field-0-is c.in-Ok-Some.ensures.byte in
     let stops = subst (λ (o : Bool). StopsBefore c.self.inside.lines c.in-Ok-Some.b (Ok o)) c.in-Ok-true.field-0-test c.in-Ok-true.ensures in
-    at_feed (record { place = c.self.inside.lines; ahead = c.first.new.self }) c.room-room.ensures.place c.in-Ok-Some.b sees.3 stops.0 stops.1
+    at_feed (record { place = c.self.inside.lines; ahead = c.first.new.self }) c.keeps_place.ensures c.in-Ok-Some.b sees.3 stops.0 stops.1
 
 pub returns-in-Ok-true-clause-reads : goal.returns-in-Ok-true-clause-reads
 returns-in-Ok-true-clause-reads g c =
@@ -36,7 +36,7 @@ pub returns-in-Err-ends_before-clause-answer : goal.returns-in-Err-ends_before-c
 returns-in-Err-ends_before-clause-answer g c =
     let a : LinesAhead = record { place = c.self.inside.lines; ahead = c.first.new.self } in
     let sees = subst (λ (o : Option ℕ). SeesByte {E = Failed} c.self.inside.chunk c.first.new.self (g.R.Source.rest c.pieces.src) (g.R.Source.rest c.first.new.src) (Ok o)) c.in-Ok-Some.field-0-is c.in-Ok-Some.ensures.byte in
-    answers_refused a c.room-room.ensures.place c.in-Err-ends_before.kind c.fault.result c.fault.ensures (answers-byte a c.room-room.ensures.place c.in-Ok-Some.b c.in-Err-ends_before.kind sees.3 c.in-Err-ends_before.ensures)
+    answers_refused a c.keeps_place.ensures c.in-Err-ends_before.kind c.fault.result c.fault.ensures (answers-byte a c.keeps_place.ensures c.in-Ok-Some.b c.in-Err-ends_before.kind sees.3 c.in-Err-ends_before.ensures)
 
 pub returns-in-Err-ends_before-clause-reads : goal.returns-in-Err-ends_before-clause-reads
 returns-in-Err-ends_before-clause-reads g c =
