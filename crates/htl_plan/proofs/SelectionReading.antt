@@ -1,7 +1,7 @@
 -- A reader that takes a plan's input line by line.
 use Rattle.std.proofs.Common.{◌≡◌, ◌≤◌, ◌+◌, ℕ, Bool, true, false, List, [], ◌∷◌, ◌++◌, length, take, Option, Some, None, Result, Ok, Err, refl, sym, ap, ap₂, ◌∙◌, subst, arith, length-append}
 use Rattle.std.specs.Prelude.{◌==◌, if◌then◌else◌}
-use Rattle.htl_plan.proofs.Words.{OnOk, length-take, prepend_known, prepend_known-append, prepend_known-nil, AreInRange, Tables, IsSelection, OfScript, LosesFront, ScriptFault, ScriptKind, Place, LinesAhead, IsLinePlace, IsAtLine, AnswersLine, ReadsOn, Gives, behind_line, bytes_taken, first_place, nothing_read, line_in, size_fault, text_of, none_left}
+use Rattle.htl_plan.proofs.Words.{OnOk, length-take, prepend_known, prepend_known-append, prepend_known-nil, AreInRange, Tables, IsSelection, OfScript, LosesFront, ScriptFault, ScriptKind, Place, LinesAhead, IsLinePlace, IsAtLine, AnswersLine, ReadsOn, Gives, behind_line, bytes_taken, first_place, nothing_read, line_in, size_fault, text_of}
 use Rattle.htl_base.proofs.Tests.{true_not_false}
 use Rattle.std.proofs.lemmas.Bool.{eq-eqb}
 use Rattle.std.proofs.lemmas.List.{take_all}
@@ -11,7 +11,7 @@ use Rattle.htl_script.specs.declared.fault.ScriptKind.TheVariants as kind
 use Rattle.htl_script.specs.declared.fault.ScriptStop.TheVariants as stop
 use Rattle.htl_script.proofs.ReadingOn.{passed_count, reads_count, reads_gives}
 use Rattle.htl_script.proofs.Splitting.{by_size}
-use Rattle.htl_script.proofs.Streaming.{gives_map, gives_more, given_all, given_script}
+use Rattle.htl_script.proofs.Streaming.{gives_map, gives_more, given_script}
 use Rattle.htl_plan.specs.SelectionInput.{Input, Whole, Bad, judged_text, listed, ended, input_of_lines, input_of}
 use Rattle.htl_plan.specs.SelectionReaders.{rest_of, TakesLine, AnswersEnd, IsAnswer}
 use Rattle.htl_plan.proofs.SelectionEntries.{whole_right}
@@ -137,10 +137,6 @@ module _ (t : Tables) (now : LinesAhead) (modes : List (Option ℕ)) (done : ℕ
   pub selected_end : (T : Type 0) (r : Result T ScriptStop) → AreInRange t → length modes ≡ length t.modules → done ≤ length t.modules → AnswersLine now (Ok false) → AnswersEnd t now done r → OnOk r (IsSelection t modes)
   selected_end T (Ok x) range same few end says = let whole = answered_end T (Ok x) same few end says in whole_right t range whole.0 modes whole.2
   selected_end T (Err s) range same few end says = tt
-
-  pub whole_end : (T : Type 0) (r : Result T ScriptStop) → AnswersLine now (Ok false) → OnOk r (rest ≡ none_left known)
-  whole_end T (Ok x) end = given_all now.ahead.over known rest Given reading.gives end.2
-  whole_end T (Err s) end = tt
 
   pub loses_front : IsLinePlace now.place → length now.ahead.bytes ≤ 256 → LosesFront 1073742080 known rest
   loses_front at few = (reading.taken, omega (arith, reading.counted, at.small, few), reading.told)
