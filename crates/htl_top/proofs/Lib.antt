@@ -30,6 +30,7 @@ pub mod Running
 pub mod SourceNames
 pub mod SourceRows
 pub mod Stopping
+pub mod Stops
 pub mod StreamEnd
 pub mod Streaming
 pub mod Totals

@@ -29,6 +29,7 @@ pub mod Sources
 pub mod SourcesOn
 pub mod Status
 pub mod ErrorLines
+pub mod Stops
 pub mod Texts
 pub mod Words
 mod Common

@@ -1,12 +1,26 @@
 -- What a command on an object answers.
-use Rattle.std.specs.Prelude.{ℕ, ◌≡◌, ◌⊎◌, Option, List}
+use Rattle.std.specs.Prelude.{ℕ, ◌≡◌, ◌⊎◌, Option, List, Ok, Err}
 use Rattle.htl_open.specs.Files.{Files}
 use Rattle.htl_open.specs.Objects.{IsAcceptedFile, IsRefusedFile}
-use Rattle.htl_open.specs.Stops.{IsShelfCause}
+use Rattle.htl_open.specs.Stops.{IsShelfCause, IsUnopened}
 use Rattle.htl_top.specs.Common.{append_known, Rose, AppendsPrefix, Object}
 use Rattle.htl_top.specs.Answers.{Streams, IsUntouched, IsWritten}
+use Rattle.htl_top.specs.Stops.{Ended}
+use Rattle.htl_top.specs.declared.stop.OnObject.{OnObject}
+use Rattle.htl_top.specs.declared.stop.OnObject.TheVariants as on
 use Rattle.htl_top.specs.declared.outcome.Outcome.{Outcome}
 use Rattle.htl_top.specs.declared.outcome.Outcome.TheVariants.{Done, Object as Refused, Shelf, Write, Memory}
+
+-- ---- by stops
+
+-- What a command on an object came to: an accepted object was had, and this was done with it, to its end or to a stop; or none was had, and
+-- this stays.
+abbrev pub IsOnFile : {A : Type 0} → (Object → Ended A → Type 0) → Type 0 → Option (List ℕ) → Files → Ended (OnObject A) → Type 0
+IsOnFile Does Stays name shelf (Ok done) = IsAcceptedFile name shelf.holds (λ o. Does o (Ok done))
+IsOnFile Does Stays name shelf (Err (on.Work stop)) = IsAcceptedFile name shelf.holds (λ o. Does o (Err stop))
+IsOnFile Does Stays name shelf (Err (on.Open stop)) = IsUnopened name shelf stop × Stays
+
+-- ---- by outcomes
 
 -- why no accepted object was had, answer by answer
 abbrev pub IsStopped : Option (List ℕ) → Files → Outcome → Type 0

@@ -25,6 +25,7 @@ mod run;
 mod show;
 mod slack;
 mod source;
+mod stop;
 mod top;
 mod words;
 
