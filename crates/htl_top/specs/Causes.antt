@@ -2,6 +2,10 @@
 use Rattle.std.specs.Prelude.{ℕ, ◌≡◌, ◌≤◌, ◌⊎◌, Option, Some, List, length}
 use Rattle.htl_top.specs.Common.{MAX_SOURCE}
 use Rattle.htl_edge.specs.Holdings.{Holdings, HoldsUnder}
+use Rattle.htl_open.specs.Files.{Files, IsFaultOf, IsLongFile}
+use Rattle.htl_open.specs.declared.stop.FetchStop.{FetchStop}
+use Rattle.htl_open.specs.declared.stop.FetchStop.TheVariants as fetch
+use Rattle.htl_open.specs.declared.stop.ShelfCause.TheVariants.{Failed, TooLong}
 use Rattle.htl_top.specs.declared.outcome.Outcome.{Outcome}
 use Rattle.htl_top.specs.declared.outcome.Outcome.TheVariants.{Memory}
 
@@ -11,6 +15,12 @@ pub record IsSource (name : Option (List ℕ)) (holds : Option Holdings) (bytes 
   pub named : name ≡ Some word
   pub held : HoldsUnder holds word bytes
   pub short : length bytes ≤ MAX_SOURCE
+
+-- Why a file of at most 1,048,576 bytes isn't had: the shelf counted a fault of the name, or has more bytes under it.
+abbrev pub IsFileStop : Option (List ℕ) → Files → FetchStop → Type 0
+IsFileStop name shelf (fetch.Shelf Failed) = IsFaultOf name shelf.before shelf.after
+IsFileStop name shelf (fetch.Shelf (TooLong seen)) = IsLongFile MAX_SOURCE name shelf.holds seen
+IsFileStop name shelf fetch.Memory = Unit {0}
 
 -- ---- what must be answered
 
