@@ -1,7 +1,7 @@
 -- From the answer of a command to the clauses of the top call that all commands share.
 use Rattle.std.proofs.Common.{◌≡◌, ◌⊎◌, ℕ, List, Option, None, Some, refl, subst, inl, inr}
 use Rattle.std.specs.Prelude.{◌↔◌}
-use Rattle.htl_top.proofs.Vocabulary.{MAX_SOURCE, MAX_OBJECT, CompileFault, Shown, ObjectFault, PlatformFault, ScriptFault, Files, Streams, IsBeforeScript, IsBeforeRun, IsAudit, IsBulked, IsCall, IsFaultOf, IsLongFile, check_text, IsChecked, IsCompiling, IsCompileCause, IsPlatformCause, IsCompilingOn, IsGoing, IsRefusedFile, IsOnObject, IsStopped, Work, IsPatching, IsPlanned, IsRun, show_text, IsShown, IsSlacked, answer_of, Command, Go, Compile, CompileWith, Run, Check, Plan, Show, Bulk, Slack, Audit, Patch, RunsObject, source_of, platform_file, command_object, second_file, Outcome, Done, Usage, Platform, Refused, Script, Shelf, Read, Write, Memory, ShelfCause, Failed, TooLong}
+use Rattle.htl_top.proofs.Vocabulary.{MAX_SOURCE, MAX_OBJECT, CompileFault, Shown, ObjectFault, PlatformFault, ScriptFault, Files, Streams, IsBeforeScript, IsBeforeRun, IsAudit, IsBulked, IsFaultOf, IsLongFile, check_text, IsChecked, IsCompiling, IsCompileCause, IsPlatformCause, IsCompilingOn, IsGoing, IsRefusedFile, IsOnObject, IsStopped, Work, IsPatching, IsPlanned, IsRun, show_text, IsShown, IsSlacked, answer_of, Command, Go, Compile, CompileWith, Run, Check, Plan, Show, Bulk, Slack, Audit, Patch, RunsObject, source_of, platform_file, command_object, second_file, Outcome, Done, Usage, Platform, Refused, Script, Shelf, Read, Write, Memory, ShelfCause, Failed, TooLong}
 use Rattle.htl_compile.specs.declared.compiling.CompileFault.TheVariants as compile
 use Rattle.htl_top.proofs.Auditing as auditing
 use Rattle.htl_top.proofs.Bulking as bulking
@@ -13,10 +13,8 @@ use Rattle.htl_top.proofs.ObjectAnswering.{IsWork, text_is_work}
 use Rattle.htl_top.proofs.Patching as patching
 use Rattle.htl_top.proofs.Planning.{planning}
 use Rattle.htl_top.proofs.Running.{running}
+use Rattle.htl_top.proofs.Seen.{IsSeen, RunOf}
 use Rattle.htl_top.proofs.Slacking.{slacking}
-
-abbrev pub RunOf : Shown → Work
-RunOf show o = IsRun show o.tables o
 
 pub checking : IsWork IsChecked
 checking = text_is_work (λ o. check_text o.tables)
@@ -61,7 +59,7 @@ module _ (shelf : Files) (old new : Streams) where
   not_asked : (command : Command) (Answered : Type 0) → (Answered → ⊥) → Answered ↔ (Some command ≡ None)
   not_asked command Answered never = (λ e. absurd (never e), λ e. absurd (some_not_none Command (Some command) command refl e))
 
-  pub usage : (command : Option Command) (outcome : Outcome) → IsCall command shelf old new outcome → (outcome ≡ Usage) ↔ (command ≡ None)
+  pub usage : (command : Option Command) (outcome : Outcome) → IsSeen command shelf old new outcome → (outcome ≡ Usage) ↔ (command ≡ None)
   usage None outcome call = (λ e. refl, λ e. call.0)
   usage (Some (Go name)) outcome call =
       not_asked (Go name) (outcome ≡ Usage) (λ e. going.no_usage (Some name) shelf old new (subst (λ o. IsGoing (Some name) shelf old new o) e call))
@@ -86,7 +84,7 @@ module _ (shelf : Files) (old new : Streams) where
 
   -- ---- of an answer
 
-  pub shelf_failed : (command : Option Command) → IsCall command shelf old new (Shelf Failed)
+  pub shelf_failed : (command : Option Command) → IsSeen command shelf old new (Shelf Failed)
       → IsFaultOf (source_of command) shelf.before shelf.after ⊎ IsFaultOf (command_object command) shelf.before shelf.after ⊎ IsFaultOf (platform_file command) shelf.before shelf.after
       ⊎ IsFaultOf (second_file command) shelf.before shelf.after
   shelf_failed None call = absurd (failed_usage call.0)
@@ -99,9 +97,10 @@ module _ (shelf : Files) (old new : Streams) where
   shelf_failed (Some (Slack name owner task)) call = inr (inl (objects.shelf_failed (IsSlacked owner task) (slacking owner task) (Some name) shelf old new call))
   shelf_failed (Some (Audit name log)) call = elim (auditing.unfetched name log shelf old new Failed call) [ inl s ↦ inr (inl s) | inr s ↦ inr (inr (inr s.1)) ]
   shelf_failed (Some (Patch name unit mode donor)) call = elim (patching.shelf_failed unit mode (Some name) (Some donor) shelf old new call) [ inl h ↦ inr (inl h) | inr d ↦ inr (inr (inr d)) ]
-  shelf_failed _ call = absurd call
+  shelf_failed (Some Compile) call = absurd call
+  shelf_failed (Some (Bulk n)) call = absurd call
 
-  pub shelf_long : (command : Option Command) (seen : ℕ) → IsCall command shelf old new (Shelf (TooLong seen))
+  pub shelf_long : (command : Option Command) (seen : ℕ) → IsSeen command shelf old new (Shelf (TooLong seen))
       → IsLongFile MAX_SOURCE (source_of command) shelf.holds seen ⊎ IsLongFile MAX_OBJECT (command_object command) shelf.holds seen ⊎ IsLongFile MAX_SOURCE (platform_file command) shelf.holds seen
       ⊎ IsLongFile MAX_OBJECT (second_file command) shelf.holds seen
   shelf_long None seen call = absurd (long_usage seen call.0)
@@ -114,7 +113,8 @@ module _ (shelf : Files) (old new : Streams) where
   shelf_long (Some (Slack name owner task)) seen call = inr (inl (objects.shelf_long (IsSlacked owner task) (slacking owner task) (Some name) shelf old new seen call))
   shelf_long (Some (Audit name log)) seen call = elim (auditing.unfetched name log shelf old new (TooLong seen) call) [ inl s ↦ inr (inl s) | inr s ↦ inr (inr (inr s.1)) ]
   shelf_long (Some (Patch name unit mode donor)) seen call = elim (patching.shelf_long unit mode (Some name) (Some donor) shelf old new seen call) [ inl h ↦ inr (inl h) | inr d ↦ inr (inr (inr d)) ]
-  shelf_long _ seen call = absurd call
+  shelf_long (Some Compile) seen call = absurd call
+  shelf_long (Some (Bulk n)) seen call = absurd call
 
   -- no object has an answer of a source
   of_no_work : (f : CompileFault) → (f ≡ compile.Memory → ⊥) → objects.IsOfWork (answer_of f) → ⊥
@@ -128,7 +128,7 @@ module _ (shelf : Files) (old new : Streams) where
   no_source : (Does : Work) (work : IsWork Does) (name : List ℕ) (f : CompileFault) → (f ≡ compile.Memory → ⊥) → IsOnObject Does (Some name) shelf old new (answer_of f) → ⊥
   no_source Does work name f told on = not_stopped (Some name) f told (objects.stopped Does work (Some name) shelf old new (answer_of f) on (of_no_work f told))
 
-  pub cause : (command : Option Command) (f : CompileFault) → (f ≡ compile.Memory → ⊥) → IsCall command shelf old new (answer_of f) → IsCompileCause command shelf.holds old.rest f
+  pub cause : (command : Option Command) (f : CompileFault) → (f ≡ compile.Memory → ⊥) → IsSeen command shelf old new (answer_of f) → IsCompileCause command shelf.holds old.rest f
   cause None f told call = fault_usage f call.0
   cause (Some (Go name)) f told call = going.cause (Some name) shelf old new f told call
   cause (Some Compile) f told call = compiling.cause old new f told call
@@ -146,7 +146,7 @@ module _ (shelf : Files) (old new : Streams) where
   no_platform : (Does : Work) (work : IsWork Does) (name : List ℕ) (f : PlatformFault) → IsOnObject Does (Some name) shelf old new (Platform f) → ⊥
   no_platform Does work name f on = objects.stopped Does work (Some name) shelf old new (Platform f) on (λ w. w)
 
-  pub platform : (command : Option Command) (f : PlatformFault) → IsCall command shelf old new (Platform f) → IsPlatformCause command shelf.holds old.rest f
+  pub platform : (command : Option Command) (f : PlatformFault) → IsSeen command shelf old new (Platform f) → IsPlatformCause command shelf.holds old.rest f
   platform None f call = absurd (platform_usage f call.0)
   platform (Some (Go name)) f call = absurd (going.no_platform (Some name) shelf old new f call)
   platform (Some (CompileWith file)) f call = call.0
@@ -157,9 +157,10 @@ module _ (shelf : Files) (old new : Streams) where
   platform (Some (Slack name owner task)) f call = absurd (no_platform (IsSlacked owner task) (slacking owner task) name f call)
   platform (Some (Audit name log)) f call = absurd (auditing.no_platform name log shelf old new f call)
   platform (Some (Patch name unit mode donor)) f call = absurd (patching.no_platform unit mode (Some name) (Some donor) shelf old new f call)
-  platform _ f call = absurd call
+  platform (Some Compile) f call = absurd call
+  platform (Some (Bulk n)) f call = absurd call
 
-  pub object : (command : Option Command) (f : ObjectFault) → IsCall command shelf old new (Refused f) → IsRefusedFile (command_object command) shelf.holds f
+  pub object : (command : Option Command) (f : ObjectFault) → IsSeen command shelf old new (Refused f) → IsRefusedFile (command_object command) shelf.holds f
   object None f call = absurd (refused_usage f call.0)
   object (Some (Go name)) f call = absurd (going.no_object (Some name) shelf old new f call)
   object (Some (Run show name)) f call = objects.object (RunOf show) (running show) (Some name) shelf old new f call
@@ -169,11 +170,13 @@ module _ (shelf : Files) (old new : Streams) where
   object (Some (Slack name owner task)) f call = objects.object (IsSlacked owner task) (slacking owner task) (Some name) shelf old new f call
   object (Some (Audit name log)) f call = auditing.object name log shelf old new f call
   object (Some (Patch name unit mode donor)) f call = patching.object unit mode (Some name) (Some donor) shelf old new f call
-  object _ f call = absurd call
+  object (Some Compile) f call = absurd call
+  object (Some (CompileWith file)) f call = absurd call
+  object (Some (Bulk n)) f call = absurd call
 
   -- ---- what stays as it was
 
-  pub unread : (command : Option Command) (outcome : Outcome) → IsCall command shelf old new outcome → (command ≡ Some Compile → ⊥) → ((file : List ℕ) → command ≡ Some (CompileWith file) → ⊥)
+  pub unread : (command : Option Command) (outcome : Outcome) → IsSeen command shelf old new outcome → (command ≡ Some Compile → ⊥) → ((file : List ℕ) → command ≡ Some (CompileWith file) → ⊥)
       → IsBeforeScript outcome → new.rest ≡ old.rest
   unread None outcome call other apart early = call.1.rest
   unread (Some (Go name)) outcome call other apart early = going.unread (Some name) shelf old new outcome call early
@@ -188,10 +191,10 @@ module _ (shelf : Files) (old new : Streams) where
   unread (Some (Patch name unit mode donor)) outcome call other apart early = call.0
   unread (Some (Bulk n)) outcome call other apart early = bulking.unread n old new outcome call
 
-  pub unfetched : (command : Option Command) (outcome : Outcome) → IsCall command shelf old new outcome → (why : ShelfCause) → outcome ≡ Shelf why → new.rest ≡ old.rest
-  unfetched command outcome call why is = by command why (subst (λ (o : Outcome). IsCall command shelf old new o) is call)
+  pub unfetched : (command : Option Command) (outcome : Outcome) → IsSeen command shelf old new outcome → (why : ShelfCause) → outcome ≡ Shelf why → new.rest ≡ old.rest
+  unfetched command outcome call why is = by command why (subst (λ (o : Outcome). IsSeen command shelf old new o) is call)
     where
-      by : (command : Option Command) (why : ShelfCause) → IsCall command shelf old new (Shelf why) → new.rest ≡ old.rest
+      by : (command : Option Command) (why : ShelfCause) → IsSeen command shelf old new (Shelf why) → new.rest ≡ old.rest
       by None why call = call.1.rest
       by (Some (Go name)) why call = going.unread (Some name) shelf old new (Shelf why) call tt
       by (Some Compile) why call = absurd call
@@ -206,7 +209,7 @@ module _ (shelf : Files) (old new : Streams) where
       by (Some (Patch name unit mode donor)) why call = call.0
       by (Some (Bulk n)) why call = absurd call
 
-  pub unwritten : (command : Option Command) (outcome : Outcome) → IsCall command shelf old new outcome → IsBeforeRun outcome → new.written ≡ old.written
+  pub unwritten : (command : Option Command) (outcome : Outcome) → IsSeen command shelf old new outcome → IsBeforeRun outcome → new.written ≡ old.written
   unwritten None outcome call early = call.1.written
   unwritten (Some (Go name)) outcome call early = going.unwritten (Some name) shelf old new outcome call early
   unwritten (Some Compile) outcome call early = compiling.unwritten old new outcome call early
@@ -221,7 +224,7 @@ module _ (shelf : Files) (old new : Streams) where
   unwritten (Some (Bulk n)) outcome call early = bulking.unwritten n old new outcome call early
 
   -- want of memory comes before the first byte of a script is read
-  pub memory_unread : (command : Option Command) → IsCall command shelf old new Memory → RunsObject command → new.rest ≡ old.rest
+  pub memory_unread : (command : Option Command) → IsSeen command shelf old new Memory → RunsObject command → new.rest ≡ old.rest
   memory_unread (Some (Go name)) call runs = going.memory_unread (Some name) shelf old new call
   memory_unread (Some (Run show name)) call runs = elim call [ inl a ↦ a.fact.rest | inr s ↦ s.1.rest ]
   memory_unread (Some (Audit name log)) call runs = auditing.memory_unread name log shelf old new call

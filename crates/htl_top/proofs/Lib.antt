@@ -27,6 +27,7 @@ pub mod Playing
 pub mod PathPositions
 pub mod Rounds
 pub mod Running
+pub mod Seen
 pub mod SourceNames
 pub mod SourceRows
 pub mod Stopping

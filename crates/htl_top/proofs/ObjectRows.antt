@@ -1,13 +1,14 @@
 -- From the answer of a command on an object to its rows, and to those on the object itself.
 use Rattle.std.proofs.Common.{◌≡◌, ◌≤◌, ◌<◌, ◌⊎◌, ℕ, List, length, Option, None, Some, refl, subst, inl, inr}
-use Rattle.htl_top.proofs.Vocabulary.{append_known, Shown, Rose, AppendsPrefix, RefusesBytes, ObjectFault, PatchFault, Object, Files, Streams, IsCall, IsGiven, IsOrMemory, check_text, IsChecked, IsReadyFile, IsAcceptedFile, IsOnObject, IsReadyObject, IsTextAnswer, Work, IsPlanned, IsCutPlan, IsBadSelection, IsRun, IsCutRun, show_text, IsShown, HasSlack, NamesNoTask, IsSlacked, IsTaskCause, object_bytes, HasPatch, IsDonorFault, IsDonorTold, IsPatchCause, IsPatching, Command, Go, Compile, CompileWith, Run, Check, Plan, Show, Bulk, Slack, Audit, Patch, command_object, second_file, Outcome, Done, Usage, Refused, Script, Shelf, Task, Unpatched, Read, Write, Memory, TooLong}
+use Rattle.htl_top.proofs.Vocabulary.{append_known, Shown, Rose, AppendsPrefix, RefusesBytes, ObjectFault, PatchFault, Object, Files, Streams, IsGiven, IsOrMemory, check_text, IsChecked, IsReadyFile, IsAcceptedFile, IsOnObject, IsReadyObject, IsTextAnswer, Work, IsPlanned, IsCutPlan, IsBadSelection, IsRun, IsCutRun, show_text, IsShown, HasSlack, NamesNoTask, IsSlacked, IsTaskCause, object_bytes, HasPatch, IsDonorFault, IsDonorTold, IsPatchCause, IsPatching, Command, Go, Compile, CompileWith, Run, Check, Plan, Show, Bulk, Slack, Audit, Patch, command_object, second_file, Outcome, Done, Usage, Refused, Script, Shelf, Task, Unpatched, Read, Write, Memory, TooLong}
 use Rattle.htl_top.proofs.Auditing as auditing
-use Rattle.htl_top.proofs.Calling.{RunOf, checking, showing, some_not_none, done_memory, write_memory, read_memory, script_memory}
+use Rattle.htl_top.proofs.Calling.{checking, showing, some_not_none, done_memory, write_memory, read_memory, script_memory}
 use Rattle.htl_top.proofs.ObjectAnswering as objects
 use Rattle.htl_top.proofs.ObjectAnswering.{IsWork}
 use Rattle.htl_top.proofs.Patching as patching
 use Rattle.htl_top.proofs.Planning.{planning, bad_input, whole_input}
 use Rattle.htl_top.proofs.Running.{running, bad_run, whole_run}
+use Rattle.htl_top.proofs.Seen.{IsSeen, RunOf}
 use Rattle.htl_top.proofs.Slacking as slacking
 use Rattle.htl_top.proofs.Slacking.{slacking as slack_work}
 use Rattle.htl_top.specs.ObjectRows.{RunRows, CheckRows, ShowRows, SlackRows, PlanRows, PatchRows}
@@ -16,7 +17,7 @@ use Rattle.htl_top.specs.ObjectRows.{RunRows, CheckRows, ShowRows, SlackRows, Pl
 
 module _ (shelf : Files) (old new : Streams) where
   pub long_object : (command : Option Command) (bytes : List ℕ) (outcome : Outcome) → IsGiven (command_object command) shelf.holds shelf.before shelf.after bytes
-      → IsCall command shelf old new outcome → 16777216 < length bytes → IsOrMemory outcome (Shelf (TooLong (length bytes)))
+      → IsSeen command shelf old new outcome → 16777216 < length bytes → IsOrMemory outcome (Shelf (TooLong (length bytes)))
   long_object (Some (Run show name)) bytes outcome given call long = objects.long_object (RunOf show) (running show) (Some name) shelf old new bytes given outcome call long
   long_object (Some (Check name)) bytes outcome given call long = objects.long_object IsChecked checking (Some name) shelf old new bytes given outcome call long
   long_object (Some (Plan name)) bytes outcome given call long = objects.long_object IsPlanned planning (Some name) shelf old new bytes given outcome call long
@@ -27,7 +28,7 @@ module _ (shelf : Files) (old new : Streams) where
   long_object _ bytes outcome given call long = absurd (some_not_none (List ℕ) None given.word given.named refl)
 
   pub faulty_object : (command : Option Command) (bytes : List ℕ) (outcome : Outcome) → IsGiven (command_object command) shelf.holds shelf.before shelf.after bytes
-      → IsCall command shelf old new outcome → ((word : List ℕ) → second_file command ≡ Some word → (others : List ℕ) × IsReadyFile (Some word) shelf.holds shelf.before shelf.after others)
+      → IsSeen command shelf old new outcome → ((word : List ℕ) → second_file command ≡ Some word → (others : List ℕ) × IsReadyFile (Some word) shelf.holds shelf.before shelf.after others)
       → (f : ObjectFault) → length bytes ≤ 16777216 → RefusesBytes bytes f → IsOrMemory outcome (Refused f)
   faulty_object (Some (Run show name)) bytes outcome given call second f short refused =
       objects.faulty_object (RunOf show) (running show) (Some name) shelf old new bytes given outcome call f short refused
@@ -169,7 +170,7 @@ unpatched_usage : (f : PatchFault) → Unpatched f ≡ Usage → ⊥
 unpatched_usage f e = cc
 
 module _ (shelf : Files) (old new : Streams) where
-  pub task_cause : (command : Option Command) → IsCall command shelf old new Task → IsTaskCause command shelf.holds
+  pub task_cause : (command : Option Command) → IsSeen command shelf old new Task → IsTaskCause command shelf.holds
   task_cause None call = task_usage call.0
   task_cause (Some (Go name)) call = elim call [ inl p ↦ p.has.fact | inr s ↦ s.0 ]
   task_cause (Some Compile) call = call
@@ -182,9 +183,12 @@ module _ (shelf : Files) (old new : Streams) where
         objects.IsAcceptedFile-map (Some name) shelf.holds (λ o. IsSlacked owner task o old new Task) (λ o. NamesNoTask o.tables owner task) (λ o d. d.1.0) a
     | inr s ↦ absurd s.0
   ]
-  task_cause _ call = elim call [ inl a ↦ a.fact | inr s ↦ s.0 ]
+  task_cause (Some (Run show name)) call = elim call [ inl a ↦ a.fact | inr s ↦ s.0 ]
+  task_cause (Some (Check name)) call = elim call [ inl a ↦ a.fact | inr s ↦ s.0 ]
+  task_cause (Some (Plan name)) call = elim call [ inl a ↦ a.fact | inr s ↦ s.0 ]
+  task_cause (Some (Show name)) call = elim call [ inl a ↦ a.fact | inr s ↦ s.0 ]
 
-  pub patch_cause : (command : Option Command) (f : PatchFault) → IsCall command shelf old new (Unpatched f) → IsPatchCause command shelf.holds f
+  pub patch_cause : (command : Option Command) (f : PatchFault) → IsSeen command shelf old new (Unpatched f) → IsPatchCause command shelf.holds f
   patch_cause None f call = unpatched_usage f call.0
   patch_cause (Some (Go name)) f call = elim call [ inl p ↦ p.has.fact | inr s ↦ s.0 ]
   patch_cause (Some Compile) f call = call
@@ -198,4 +202,7 @@ module _ (shelf : Files) (old new : Streams) where
         (λ o bytes. IsDonorFault o unit mode bytes f) (λ o bytes t. t.0) a
     | inr s ↦ absurd s.0
   ]
-  patch_cause _ f call = elim call [ inl a ↦ a.fact | inr s ↦ s.0 ]
+  patch_cause (Some (Run show name)) f call = elim call [ inl a ↦ a.fact | inr s ↦ s.0 ]
+  patch_cause (Some (Check name)) f call = elim call [ inl a ↦ a.fact | inr s ↦ s.0 ]
+  patch_cause (Some (Plan name)) f call = elim call [ inl a ↦ a.fact | inr s ↦ s.0 ]
+  patch_cause (Some (Show name)) f call = elim call [ inl a ↦ a.fact | inr s ↦ s.0 ]

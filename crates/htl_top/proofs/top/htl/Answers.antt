@@ -4,8 +4,9 @@ use Rattle.htl_top.proofs.Calling as calling
 use Rattle.htl_top.proofs.Counts as counts
 use Rattle.htl_top.proofs.ErrorLineNames as line_names
 use Rattle.htl_top.proofs.ObjectRows as objects
+use Rattle.htl_top.proofs.Seen.{IsSeen, seen}
 use Rattle.htl_top.proofs.SourceRows as sources
-use Rattle.htl_top.proofs.Vocabulary.{subst, files, streams, Tells, IsCall, command_in, Command, Go, Compile, CompileWith, Run, Check, Plan, Show, Bulk, Slack, Audit, Patch, Outcome, Memory}
+use Rattle.htl_top.proofs.Vocabulary.{subst, files, streams, Tells, command_in, Command, Go, Compile, CompileWith, Run, Check, Plan, Show, Bulk, Slack, Audit, Patch, Outcome, Memory}
 use Rattle.htl_compile.specs.declared.compiling.CompileFault.TheVariants as compile
 use Rattle.htl_top.proofs.top.htl.Goals as goal
 
@@ -17,9 +18,9 @@ returns g c =
     let old = side c.args.input.now c.args.out.now in
     let new = side c.answer_to-answer.new.input c.answer_to-answer.new.out in
     let outcome = c.answer_to-answer.result.outcome in
-    let answer = c.answer_to-answer.ensures.answer in
-    let Answered : Outcome → Type 0 = λ o. IsCall command shelf old new o in
-    let of : (asked : Command) → command ≡ Some asked → IsCall (Some asked) shelf old new outcome = λ asked is. subst (λ (c : Option Command). IsCall c shelf old new outcome) is answer in
+    let answer = seen command shelf old new outcome c.answer_to-answer.ensures.answer in
+    let Answered : Outcome → Type 0 = λ o. IsSeen command shelf old new o in
+    let of : (asked : Command) → command ≡ Some asked → IsSeen (Some asked) shelf old new outcome = λ asked is. subst (λ (c : Option Command). IsSeen c shelf old new outcome) is answer in
     record {
       usage = calling.usage shelf old new command outcome answer;
       done = λ name is. sources.go_done shelf old new outcome name (of (Go name) is);
@@ -68,5 +69,5 @@ returns g c =
             c.answer_to-answer.result.tables outcome c.answer_to-answer.ensures.tables (rw c.as_ref.ensures.value at c.report.ensures.told);
         quiet = c.report.ensures.quiet;
       };
-      answer = answer;
+      answer = c.answer_to-answer.ensures.answer;
     }

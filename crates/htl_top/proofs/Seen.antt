@@ -1,0 +1,35 @@
+-- What a command answered, as its proofs see it: by what was done, and by the answer.
+use Rattle.std.proofs.Common.{◌≡◌, List, ℕ, Option, None, Some}
+use Rattle.htl_top.proofs.Vocabulary.{Shown, Files, Streams, IsAudit, IsBulked, IsCall, IsChecked, IsCompiling, IsCompilingOn, IsGoing, IsOnObject, IsPatching, IsPlanned, IsRun, IsShown, IsSlacked, Work, Command, Go, Compile, CompileWith, Run, Check, Plan, Show, Bulk, Slack, Audit, Patch, Outcome, Usage}
+use Rattle.htl_top.specs.Answers.{IsUntouched}
+
+abbrev pub RunOf : Shown → Work
+RunOf show o = IsRun show o.tables o
+
+abbrev pub IsSeen : Option Command → Files → Streams → Streams → Outcome → Type 0
+IsSeen None shelf old new outcome = (outcome ≡ Usage) × IsUntouched old new
+IsSeen (Some (Go name)) shelf old new outcome = IsGoing (Some name) shelf old new outcome
+IsSeen (Some Compile) shelf old new outcome = IsCompiling old new outcome
+IsSeen (Some (CompileWith platform)) shelf old new outcome = IsCompilingOn (Some platform) shelf old new outcome
+IsSeen (Some (Run show name)) shelf old new outcome = IsOnObject (RunOf show) (Some name) shelf old new outcome
+IsSeen (Some (Check name)) shelf old new outcome = IsOnObject IsChecked (Some name) shelf old new outcome
+IsSeen (Some (Plan name)) shelf old new outcome = IsOnObject IsPlanned (Some name) shelf old new outcome
+IsSeen (Some (Show name)) shelf old new outcome = IsOnObject IsShown (Some name) shelf old new outcome
+IsSeen (Some (Bulk n)) shelf old new outcome = IsBulked n old new outcome
+IsSeen (Some (Slack name owner task)) shelf old new outcome = IsOnObject (IsSlacked owner task) (Some name) shelf old new outcome
+IsSeen (Some (Audit name log)) shelf old new outcome = IsAudit name log shelf old new outcome
+IsSeen (Some (Patch name unit mode donor)) shelf old new outcome = IsPatching unit mode (Some name) (Some donor) shelf old new outcome
+
+pub seen : (command : Option Command) (shelf : Files) (old new : Streams) (outcome : Outcome) → IsCall command shelf old new outcome → IsSeen command shelf old new outcome
+seen None shelf old new outcome call = call
+seen (Some (Go name)) shelf old new outcome call = call
+seen (Some Compile) shelf old new outcome call = call
+seen (Some (CompileWith platform)) shelf old new outcome call = call
+seen (Some (Run show name)) shelf old new outcome call = call
+seen (Some (Check name)) shelf old new outcome call = call
+seen (Some (Plan name)) shelf old new outcome call = call
+seen (Some (Show name)) shelf old new outcome call = call
+seen (Some (Bulk n)) shelf old new outcome call = call
+seen (Some (Slack name owner task)) shelf old new outcome call = call
+seen (Some (Audit name log)) shelf old new outcome call = call
+seen (Some (Patch name unit mode donor)) shelf old new outcome call = call
