@@ -1,10 +1,11 @@
 -- From the answer of `audit` to its rows.
 use Rattle.std.proofs.Common.{◌≡◌, ◌<◌, ◌⊎◌, ℕ, List, length, Option, None, Some, subst, inl, inr}
-use Rattle.htl_top.proofs.Vocabulary.{IsFirstFault, IsLegal, ReadLog, RefusedLog, log_of, LogFault, Slice, Values, Rose, Tables, Event, Object, ScriptFault, Files, Streams, IsUnhad, IsFileOf, IsReadyFile, HasLog, HasSlices, IsAudit, IsAuditOf, IsAuditRun, IsCutAudit, IsLogCause, IsLogRefused, IsWholeAudit, IsGiven, IsOrMemory, IsAcceptedFile, IsReadyObject, IsFaultyRun, IsWhole, IsBad, Command, Go, Compile, CompileWith, Run, Check, Plan, Show, Bulk, Slack, Audit, Patch, Outcome, Done, Usage, Log, Faulty, Shelf, Read, Write, Memory, TooLong}
+use Rattle.htl_top.proofs.Vocabulary.{check_text, show_text, IsFirstFault, IsLegal, ReadLog, RefusedLog, log_of, LogFault, Slice, Values, Rose, Tables, Event, Object, ScriptFault, Files, Streams, IsUnhad, IsFileOf, IsReadyFile, HasLog, HasSlices, IsAudit, IsAuditOf, IsAuditRun, IsCutAudit, IsLogCause, IsLogRefused, IsWholeAudit, IsGiven, IsOrMemory, IsAcceptedFile, IsReadyObject, IsFaultyRun, IsWhole, IsBad, Command, Go, Compile, CompileWith, Run, Check, Plan, Show, Bulk, Slack, Audit, Patch, Outcome, Done, Usage, Log, Faulty, Shelf, Read, Write, Memory, TooLong}
 use Rattle.htl_top.proofs.Auditing as auditing
 use Rattle.htl_top.proofs.AuditScripts as scripts
 use Rattle.htl_top.proofs.ObjectAnswering as objects
 use Rattle.htl_top.proofs.Seen.{IsSeen}
+use Rattle.htl_top.proofs.Telling.{no_put}
 use Rattle.htl_top.specs.ObjectRows.{AuditRows}
 
 log_usage : (f : LogFault) → Log f ≡ Usage → ⊥
@@ -76,6 +77,6 @@ module _ (shelf : Files) (old new : Streams) where
   log_cause (Some (Patch name unit mode donor)) f call = elim call.1 [ inl a ↦ a.fact.fact | inr s ↦ s.0 ]
   log_cause (Some (Audit name log)) f call = elim call [ inl a ↦ a | inr s ↦ absurd s.0 ]
   log_cause (Some (Run show name)) f call = elim call [ inl a ↦ a.fact | inr s ↦ s.0 ]
-  log_cause (Some (Check name)) f call = elim call [ inl a ↦ a.fact | inr s ↦ s.0 ]
+  log_cause (Some (Check name)) f call = elim call [ inl a ↦ no_put (λ (o : Object). check_text o.tables) a.object old new (Log f) a.fact | inr s ↦ s.0 ]
   log_cause (Some (Plan name)) f call = elim call [ inl a ↦ a.fact | inr s ↦ s.0 ]
-  log_cause (Some (Show name)) f call = elim call [ inl a ↦ a.fact | inr s ↦ s.0 ]
+  log_cause (Some (Show name)) f call = elim call [ inl a ↦ no_put show_text a.object old new (Log f) a.fact | inr s ↦ s.0 ]

@@ -1,7 +1,7 @@
 -- From the answer of a command to the clauses of the top call that all commands share.
 use Rattle.std.proofs.Common.{◌≡◌, ◌⊎◌, ℕ, List, Option, None, Some, refl, subst, inl, inr}
 use Rattle.std.specs.Prelude.{◌↔◌}
-use Rattle.htl_top.proofs.Vocabulary.{MAX_SOURCE, MAX_OBJECT, CompileFault, Shown, ObjectFault, PlatformFault, ScriptFault, Files, Streams, IsBeforeScript, IsBeforeRun, IsAudit, IsBulked, IsFaultOf, IsLongFile, check_text, IsChecked, IsCompiling, IsCompileCause, IsPlatformCause, IsCompilingOn, IsGoing, IsRefusedFile, IsOnObject, IsStopped, Work, IsPatching, IsPlanned, IsRun, show_text, IsShown, IsSlacked, answer_of, Command, Go, Compile, CompileWith, Run, Check, Plan, Show, Bulk, Slack, Audit, Patch, RunsObject, source_of, platform_file, command_object, second_file, Outcome, Done, Usage, Platform, Refused, Script, Shelf, Read, Write, Memory, ShelfCause, Failed, TooLong}
+use Rattle.htl_top.proofs.Vocabulary.{MAX_SOURCE, MAX_OBJECT, CompileFault, Shown, ObjectFault, PlatformFault, ScriptFault, Files, Streams, IsBeforeScript, IsBeforeRun, IsAudit, IsBulked, IsFaultOf, IsLongFile, check_text, IsCompiling, IsCompileCause, IsPlatformCause, IsCompilingOn, IsGoing, IsRefusedFile, IsOnObject, IsStopped, Work, IsPatching, IsPlanned, IsRun, show_text, IsSlacked, answer_of, Command, Go, Compile, CompileWith, Run, Check, Plan, Show, Bulk, Slack, Audit, Patch, RunsObject, source_of, platform_file, command_object, second_file, Outcome, Done, Usage, Platform, Refused, Script, Shelf, Read, Write, Memory, ShelfCause, Failed, TooLong}
 use Rattle.htl_compile.specs.declared.compiling.CompileFault.TheVariants as compile
 use Rattle.htl_top.proofs.Auditing as auditing
 use Rattle.htl_top.proofs.Bulking as bulking
@@ -9,18 +9,19 @@ use Rattle.htl_top.proofs.Compiling as compiling
 use Rattle.htl_top.proofs.CompilingOn as platforms
 use Rattle.htl_top.proofs.Going as going
 use Rattle.htl_top.proofs.ObjectAnswering as objects
-use Rattle.htl_top.proofs.ObjectAnswering.{IsWork, text_is_work}
+use Rattle.htl_top.proofs.ObjectAnswering.{IsWork}
 use Rattle.htl_top.proofs.Patching as patching
 use Rattle.htl_top.proofs.Planning.{planning}
 use Rattle.htl_top.proofs.Running.{running}
-use Rattle.htl_top.proofs.Seen.{IsSeen, RunOf}
+use Rattle.htl_top.proofs.Seen.{IsChecked, IsSeen, IsShown, RunOf}
 use Rattle.htl_top.proofs.Slacking.{slacking}
+use Rattle.htl_top.proofs.Telling.{telling}
 
 pub checking : IsWork IsChecked
-checking = text_is_work (λ o. check_text o.tables)
+checking = telling (λ o. check_text o.tables)
 
 pub showing : IsWork IsShown
-showing = text_is_work show_text
+showing = telling show_text
 
 pub some_not_none : (A : Type 0) (o : Option A) (x : A) → o ≡ Some x → o ≡ None → ⊥
 some_not_none A o x p q = cc

@@ -34,6 +34,7 @@ pub mod Stopping
 pub mod Stops
 pub mod StreamEnd
 pub mod Streaming
+pub mod Telling
 pub mod Totals
 pub mod NoneOverloaded
 pub mod Slacking

@@ -1,22 +1,8 @@
 -- What a command on an object answers, by what it does with an accepted one.
 use Rattle.std.proofs.Common.{arith, ◌≡◌, ◌≤◌, ◌<◌, ◌⊎◌, ℕ, List, length, Option, refl, sym, ap, subst, inl, inr}
-use Rattle.htl_top.proofs.Vocabulary.{MAX_OBJECT, Rose, HasBytes, RefusesBytes, ObjectFault, IsAccepted, Object, Files, Streams, IsWritten, IsBeforeScript, IsBeforeRun, IsFaultOf, IsLongFile, IsGiven, IsOrMemory, IsRefusedFile, IsAcceptedFile, IsStopped, IsOnObject, IsTextAnswer, IsTextOnObject, IsReadyObject, Work, Outcome, Done, Usage, Task, Refused, Script, Shelf, Read, Write, Memory, Failed, TooLong}
+use Rattle.htl_top.proofs.Vocabulary.{MAX_OBJECT, HasBytes, RefusesBytes, ObjectFault, IsAccepted, Object, Files, Streams, IsBeforeScript, IsBeforeRun, IsFaultOf, IsLongFile, IsGiven, IsOrMemory, IsRefusedFile, IsAcceptedFile, IsStopped, IsOnObject, IsReadyObject, Work, Outcome, Done, Usage, Task, Refused, Script, Shelf, Read, Write, Memory, Failed, TooLong}
 pub use Rattle.htl_open.proofs.OneObject.{IsAcceptedFile-map, one_of_bytes, accepted_or_refused, object_or_bad, one_refusal}
 use Rattle.htl_open.proofs.GivenFiles as files
-
--- ---- a text
-
--- an accepted object was had, and its text was written
-pub IsTextOnObject-opened : (text : Object → List ℕ) (name : Option (List ℕ)) (shelf : Files) (old new : Option (List ℕ)) (before now : ℕ) (loaded : Object) (put : List ℕ) → put ≡ text loaded
-    → (given outcome : Outcome) → outcome ≡ given → IsAcceptedFile name shelf.holds (λ o. o ≡ loaded) → IsWritten put Done old new before now given
-    → IsTextOnObject text name shelf old new before now outcome
-IsTextOnObject-opened text name shelf old new before now loaded put same given outcome is opened written =
-    let told : IsWritten (text loaded) Done old new before now outcome =
-    subst (λ (bs : List ℕ). IsWritten bs Done old new before now outcome) same (subst (λ (o : Outcome). IsWritten put Done old new before now o) (sym is) written) in
-    inl (
-    IsAcceptedFile-map name shelf.holds (λ o. o ≡ loaded) (λ o. IsWritten (text o) Done old new before now outcome)
-    (λ o e. subst (λ (p : Object). IsWritten (text p) Done old new before now outcome) (sym e) told) opened
-    )
 
 -- an accepted object was had, and the command did its work
 pub IsOnObject-opened : (Does : Work) (name : Option (List ℕ)) (shelf : Files) (old new : Streams) (loaded : Object) (given outcome : Outcome) → outcome ≡ given
@@ -45,35 +31,6 @@ pub record IsWork (Does : Work) : Type 0 where
   pub only : (o : Object) (old new : Streams) (outcome : Outcome) → Does o old new outcome → IsOfWork outcome
   pub unwritten : (o : Object) (old new : Streams) (outcome : Outcome) → Does o old new outcome → IsBeforeRun outcome → new.written ≡ old.written
   pub unread : (o : Object) (old new : Streams) → Does o old new Task → new.rest ≡ old.rest
-
-text_only : (text : List ℕ) (old new : Streams) (outcome : Outcome) → IsTextAnswer text old new outcome → IsOfWork outcome
-text_only text old new Done answer = tt
-text_only text old new Write answer = tt
-text_only text old new _ answer = absurd answer
-
-text_unwritten : (text : List ℕ) (old new : Streams) (outcome : Outcome) → IsTextAnswer text old new outcome → IsBeforeRun outcome → new.written ≡ old.written
-text_unwritten text old new Done answer early = absurd early
-text_unwritten text old new Write answer early = absurd early
-text_unwritten text old new _ answer early = absurd answer
-
-pub text_is_work : (text : Object → List ℕ) → IsWork (λ o old new outcome. IsTextAnswer (text o) old new outcome)
-text_is_work text = record {
-  only = λ o old new outcome answer. text_only (text o) old new outcome answer;
-  unwritten = λ o old new outcome answer early. text_unwritten (text o) old new outcome answer early;
-  unread = λ o old new answer. absurd answer;
-}
-
--- nothing is read for a text
-pub text_unread : (text : List ℕ) (old new : Streams) (outcome : Outcome) → IsTextAnswer text old new outcome → new.rest ≡ old.rest
-text_unread text old new Done answer = answer.0
-text_unread text old new Write answer = answer.0
-text_unread text old new _ answer = absurd answer
-
--- a text is written where the output doesn't fail
-pub text_done : (text : List ℕ) (old new : Streams) (outcome : Outcome) → IsTextAnswer text old new outcome → (Rose old.write_faults new.write_faults → ⊥) → IsOrMemory outcome Done
-text_done text old new Done answer still = inl refl
-text_done text old new Write answer still = absurd (still answer.1)
-text_done text old new _ answer still = absurd answer
 
 -- ---- the clauses
 

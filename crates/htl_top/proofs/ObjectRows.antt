@@ -1,6 +1,6 @@
 -- From the answer of a command on an object to its rows, and to those on the object itself.
 use Rattle.std.proofs.Common.{◌≡◌, ◌≤◌, ◌<◌, ◌⊎◌, ℕ, List, length, Option, None, Some, refl, subst, inl, inr}
-use Rattle.htl_top.proofs.Vocabulary.{append_known, Shown, Rose, AppendsPrefix, RefusesBytes, ObjectFault, PatchFault, Object, Files, Streams, IsGiven, IsOrMemory, check_text, IsChecked, IsReadyFile, IsAcceptedFile, IsOnObject, IsReadyObject, IsTextAnswer, Work, IsPlanned, IsCutPlan, IsBadSelection, IsRun, IsCutRun, show_text, IsShown, HasSlack, NamesNoTask, IsSlacked, IsTaskCause, object_bytes, HasPatch, IsDonorFault, IsDonorTold, IsPatchCause, IsPatching, Command, Go, Compile, CompileWith, Run, Check, Plan, Show, Bulk, Slack, Audit, Patch, command_object, second_file, Outcome, Done, Usage, Refused, Script, Shelf, Task, Unpatched, Read, Write, Memory, TooLong}
+use Rattle.htl_top.proofs.Vocabulary.{append_known, Shown, Rose, AppendsPrefix, RefusesBytes, ObjectFault, PatchFault, Object, Files, Streams, IsGiven, IsOrMemory, check_text, IsReadyFile, IsAcceptedFile, IsOnObject, IsReadyObject, Work, IsPlanned, IsCutPlan, IsBadSelection, IsRun, IsCutRun, show_text, HasSlack, NamesNoTask, IsSlacked, IsTaskCause, object_bytes, HasPatch, IsDonorFault, IsDonorTold, IsPatchCause, IsPatching, Command, Go, Compile, CompileWith, Run, Check, Plan, Show, Bulk, Slack, Audit, Patch, command_object, second_file, Outcome, Done, Usage, Refused, Script, Shelf, Task, Unpatched, Read, Write, Memory, TooLong}
 use Rattle.htl_top.proofs.Auditing as auditing
 use Rattle.htl_top.proofs.Calling.{checking, showing, some_not_none, done_memory, write_memory, read_memory, script_memory}
 use Rattle.htl_top.proofs.ObjectAnswering as objects
@@ -8,9 +8,11 @@ use Rattle.htl_top.proofs.ObjectAnswering.{IsWork}
 use Rattle.htl_top.proofs.Patching as patching
 use Rattle.htl_top.proofs.Planning.{planning, bad_input, whole_input}
 use Rattle.htl_top.proofs.Running.{running, bad_run, whole_run}
-use Rattle.htl_top.proofs.Seen.{IsSeen, RunOf}
+use Rattle.htl_top.proofs.Seen.{IsChecked, IsSeen, IsShown, RunOf}
 use Rattle.htl_top.proofs.Slacking as slacking
 use Rattle.htl_top.proofs.Slacking.{slacking as slack_work}
+use Rattle.htl_top.proofs.Telling as texts
+use Rattle.htl_top.proofs.Telling.{TextOf, telling}
 use Rattle.htl_top.specs.ObjectRows.{RunRows, CheckRows, ShowRows, SlackRows, PlanRows, PatchRows}
 
 -- ---- the object that is named
@@ -83,27 +85,31 @@ module _ (shelf : Files) (old new : Streams) (outcome : Outcome) (name : List �
 
   -- ---- a text of an object
 
+  module _ (text : Object → List ℕ) (call : IsOnObject (TextOf text) (Some name) shelf old new outcome) where
+    text_whole : outcome ≡ Done → IsAcceptedFile (Some name) shelf.holds (λ o. new.written ≡ append_known old.written (text o))
+    text_whole same = did_map (TextOf text) (telling text) call Done same tt done_memory (λ o. new.written ≡ append_known old.written (text o)) (λ o d. texts.whole (text o) old new d.1)
+
+    text_part : outcome ≡ Write → Rose old.write_faults new.write_faults × IsAcceptedFile (Some name) shelf.holds (λ o. AppendsPrefix old.written new.written (text o))
+    text_part same =
+        let a = did (TextOf text) (telling text) call Write same tt write_memory in (
+          (texts.part (text a.object) old new a.fact.1).0,
+          did_map (TextOf text) (telling text) call Write same tt write_memory (λ o. AppendsPrefix old.written new.written (text o)) (λ o d. (texts.part (text o) old new d.1).1),
+        )
+
+    text_unread : new.rest ≡ old.rest
+    text_unread = elim call [ inl a ↦ a.fact.0 | inr s ↦ s.1.rest ]
+
+    text_complete : (o : Object) → IsReadyObject (Some name) shelf.holds shelf.before shelf.after o → (Rose old.write_faults new.write_faults → ⊥) → IsOrMemory outcome Done
+    text_complete o is still = ready (TextOf text) (telling text) call o is (λ d. texts.complete (text o) old new outcome d.1 still)
+
   pub check_rows : IsOnObject IsChecked (Some name) shelf old new outcome → CheckRows name shelf old new outcome
-  check_rows call = record {
-    done = λ same. did_map IsChecked checking call Done same tt done_memory (λ o. new.written ≡ append_known old.written (check_text o.tables)) (λ o d. d.1);
-    write = λ same. (
-      (did IsChecked checking call Write same tt write_memory).fact.1,
-      did_map IsChecked checking call Write same tt write_memory (λ o. AppendsPrefix old.written new.written (check_text o.tables)) (λ o d. d.2),
-    );
-    unread = elim call [ inl a ↦ objects.text_unread (check_text a.object.tables) old new outcome a.fact | inr s ↦ s.1.rest ];
-    complete = λ o is still. ready IsChecked checking call o is (λ d. objects.text_done (check_text o.tables) old new outcome d still);
-  }
+  check_rows call =
+      let text : Object → List ℕ = λ o. check_text o.tables in
+      record { done = text_whole text call; write = text_part text call; unread = text_unread text call; complete = text_complete text call }
 
   pub show_rows : IsOnObject IsShown (Some name) shelf old new outcome → ShowRows name shelf old new outcome
-  show_rows call = record {
-    done = λ same. did_map IsShown showing call Done same tt done_memory (λ o. new.written ≡ append_known old.written (show_text o)) (λ o d. d.1);
-    write = λ same. (
-      (did IsShown showing call Write same tt write_memory).fact.1,
-      did_map IsShown showing call Write same tt write_memory (λ o. AppendsPrefix old.written new.written (show_text o)) (λ o d. d.2),
-    );
-    unread = elim call [ inl a ↦ objects.text_unread (show_text a.object) old new outcome a.fact | inr s ↦ s.1.rest ];
-    complete = λ o is still. ready IsShown showing call o is (λ d. objects.text_done (show_text o) old new outcome d still);
-  }
+  show_rows call =
+      record { done = text_whole show_text call; write = text_part show_text call; unread = text_unread show_text call; complete = text_complete show_text call }
 
   -- ---- `plan`
 
@@ -184,9 +190,9 @@ module _ (shelf : Files) (old new : Streams) where
     | inr s ↦ absurd s.0
   ]
   task_cause (Some (Run show name)) call = elim call [ inl a ↦ a.fact | inr s ↦ s.0 ]
-  task_cause (Some (Check name)) call = elim call [ inl a ↦ a.fact | inr s ↦ s.0 ]
+  task_cause (Some (Check name)) call = elim call [ inl a ↦ texts.no_put (λ (o : Object). check_text o.tables) a.object old new Task a.fact | inr s ↦ s.0 ]
   task_cause (Some (Plan name)) call = elim call [ inl a ↦ a.fact | inr s ↦ s.0 ]
-  task_cause (Some (Show name)) call = elim call [ inl a ↦ a.fact | inr s ↦ s.0 ]
+  task_cause (Some (Show name)) call = elim call [ inl a ↦ texts.no_put show_text a.object old new Task a.fact | inr s ↦ s.0 ]
 
   pub patch_cause : (command : Option Command) (f : PatchFault) → IsSeen command shelf old new (Unpatched f) → IsPatchCause command shelf.holds f
   patch_cause None f call = unpatched_usage f call.0
@@ -203,6 +209,6 @@ module _ (shelf : Files) (old new : Streams) where
     | inr s ↦ absurd s.0
   ]
   patch_cause (Some (Run show name)) f call = elim call [ inl a ↦ a.fact | inr s ↦ s.0 ]
-  patch_cause (Some (Check name)) f call = elim call [ inl a ↦ a.fact | inr s ↦ s.0 ]
+  patch_cause (Some (Check name)) f call = elim call [ inl a ↦ texts.no_put (λ (o : Object). check_text o.tables) a.object old new (Unpatched f) a.fact | inr s ↦ s.0 ]
   patch_cause (Some (Plan name)) f call = elim call [ inl a ↦ a.fact | inr s ↦ s.0 ]
-  patch_cause (Some (Show name)) f call = elim call [ inl a ↦ a.fact | inr s ↦ s.0 ]
+  patch_cause (Some (Show name)) f call = elim call [ inl a ↦ texts.no_put show_text a.object old new (Unpatched f) a.fact | inr s ↦ s.0 ]

@@ -1,10 +1,17 @@
 -- What a command answered, as its proofs see it: by what was done, and by the answer.
 use Rattle.std.proofs.Common.{◌≡◌, List, ℕ, Option, None, Some}
-use Rattle.htl_top.proofs.Vocabulary.{Shown, Files, Streams, IsAudit, IsBulked, IsCall, IsChecked, IsCompiling, IsCompilingOn, IsGoing, IsOnObject, IsPatching, IsPlanned, IsRun, IsShown, IsSlacked, Work, Command, Go, Compile, CompileWith, Run, Check, Plan, Show, Bulk, Slack, Audit, Patch, Outcome, Usage}
+use Rattle.htl_top.proofs.Vocabulary.{check_text, show_text, Shown, Files, Streams, IsAudit, IsBulked, IsCall, IsCompiling, IsCompilingOn, IsGoing, IsOnObject, IsPatching, IsPlanned, IsRun, IsSlacked, Object, Work, Command, Go, Compile, CompileWith, Run, Check, Plan, Show, Bulk, Slack, Audit, Patch, Outcome, Usage}
+use Rattle.htl_top.proofs.Telling.{TextOf, seen_text}
 use Rattle.htl_top.specs.Answers.{IsUntouched}
 
 abbrev pub RunOf : Shown → Work
 RunOf show o = IsRun show o.tables o
+
+abbrev pub IsChecked : Work
+IsChecked = TextOf (λ (o : Object). check_text o.tables)
+
+abbrev pub IsShown : Work
+IsShown = TextOf show_text
 
 abbrev pub IsSeen : Option Command → Files → Streams → Streams → Outcome → Type 0
 IsSeen None shelf old new outcome = (outcome ≡ Usage) × IsUntouched old new
@@ -26,9 +33,9 @@ seen (Some (Go name)) shelf old new outcome call = call
 seen (Some Compile) shelf old new outcome call = call
 seen (Some (CompileWith platform)) shelf old new outcome call = call
 seen (Some (Run show name)) shelf old new outcome call = call
-seen (Some (Check name)) shelf old new outcome call = call
+seen (Some (Check name)) shelf old new outcome call = seen_text (λ o. check_text o.tables) (Some name) shelf old new outcome call
 seen (Some (Plan name)) shelf old new outcome call = call
-seen (Some (Show name)) shelf old new outcome call = call
+seen (Some (Show name)) shelf old new outcome call = seen_text show_text (Some name) shelf old new outcome call
 seen (Some (Bulk n)) shelf old new outcome call = call
 seen (Some (Slack name owner task)) shelf old new outcome call = call
 seen (Some (Audit name log)) shelf old new outcome call = call

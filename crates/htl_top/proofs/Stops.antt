@@ -33,6 +33,11 @@ open_speaks Sources name shelf open_stop.Memory is = tt
 
 -- ---- a command on an object
 
+-- the accepted object that is had is the one that was loaded, so what is done with that is done with it
+pub loaded_does : (name : Option (List ℕ)) (shelf : Files) (Fact : Object → Type 0) (loaded : Object) → IsAcceptedFile name shelf.holds (λ o. o ≡ loaded) → Fact loaded
+    → IsAcceptedFile name shelf.holds Fact
+loaded_does name shelf Fact loaded had fact = IsAcceptedFile-map name shelf.holds (λ o. o ≡ loaded) Fact (λ o e. subst Fact (sym e) fact) had
+
 module _ (A : Type 0) (of : A → Outcome) (Does : Object → Ended A → Type 0) (Stays : Type 0) (name : Option (List ℕ)) (shelf : Files) where
   -- an answer, by what was done and what stays
   module _ (Doing : Work) (old new : Streams) (outcome : Outcome) (stays : Stays → IsUntouched old new) (does : (o : Object) → Came of (Does o) outcome → Doing o old new outcome) where

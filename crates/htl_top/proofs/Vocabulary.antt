@@ -107,7 +107,7 @@ pub use Rattle.htl_top.specs.Audited.{HasLog, HasSlices, IsAudit, IsAuditOf, IsA
 pub use Rattle.htl_top.specs.Bulk.{IsBulked, object_text, totals_text, value_seen}
 pub use Rattle.htl_top.specs.Calls.{HasObject, HasSource, IsCall}
 pub use Rattle.htl_top.specs.Causes.{IsOrMemory, IsSource}
-pub use Rattle.htl_top.specs.Checked.{IsChecked, check_text, most_positions_below}
+pub use Rattle.htl_top.specs.Checked.{check_text, most_positions_below}
 pub use Rattle.htl_top.specs.Compiling.{IsBytesCompiled, IsCompiling, compiled_bytes}
 pub use Rattle.htl_top.specs.CompilingOn.{IsBytesCompiledOn, IsCompileCause, IsCompilingOn, IsPlatformCause, compiled_on}
 pub use Rattle.htl_top.specs.ErrorLines.{IsFaultTold, IsLineTold, IsPatchFaultTold, SpeaksOf}
@@ -116,14 +116,14 @@ pub use Rattle.htl_top.specs.Files.{IsFileOf, IsHad, IsReadyFile}
 pub use Rattle.htl_top.specs.Going.{IsBytesGoing, IsGoing, IsReadySource, IsUncompiled}
 pub use Rattle.htl_top.specs.JobLaws.{GoJobLinesAreFound, GoShowsJobLines, GoTellsJobsInTime}
 pub use Rattle.htl_top.specs.Laws.{EarlierReadingsDecideTexts, EarlierReadingsDecideValues, GoKeepsDeadlines, GoShowsTheMeaning, read_where}
-pub use Rattle.htl_top.specs.Objects.{IsOnObject, IsStopped, IsTextAnswer, IsTextOnObject, Work}
+pub use Rattle.htl_top.specs.Objects.{IsOnObject, IsStopped, Work}
 pub use Rattle.htl_top.specs.PatchStops.{new_tables, object_tables, unloaded_as, unpatched_as}
 pub use Rattle.htl_top.specs.PatchedFiles.{AreFilesOf, HasPatch, HasPatchedTables, IsBadDonor, IsDonorFault, IsDonorTold, IsObjectPut, IsPatchCause, IsPatchOfFiles, IsPatchedTables, IsPatching, RefusesDonor, SpeaksOfPatch}
 pub use Rattle.htl_top.specs.Planned.{IsBadSelection, IsCutPlan, IsPlanned}
 pub use Rattle.htl_top.specs.Playing.{HaveNoEnd, IsBehind, IsNext, IsPlaying, IsTold, text_more}
 pub use Rattle.htl_top.specs.Runs.{IsCutRun, IsFaultyRun, IsRun, IsWholeRun}
 pub use Rattle.htl_top.specs.Scripts.{EndsAt, IsBad, IsWhole}
-pub use Rattle.htl_top.specs.Shown.{IsShown, show_text}
+pub use Rattle.htl_top.specs.Shown.{show_text}
 pub use Rattle.htl_top.specs.Slacked.{HasSlack, IsNamed, IsRootNamed, IsSlackOnObject, IsSlackTold, IsSlacked, IsTaskCause, NamesNoTask, has_names}
 pub use Rattle.htl_top.specs.Sources.{HasTables, IsFaultyInput, IsFaultyProgram, IsInput, IsInputFault, IsInputProgram, IsLongInput, IsProgram, IsTypedInput, IsTypedProgram, answer_of, outcome_of, tables_of_stop}
 pub use Rattle.htl_top.specs.SourcesOn.{IsFaultyOn, IsInputFaultOn, IsProgramOn, IsTypedOn, answer_on}

@@ -5,16 +5,16 @@ use Rattle.htl_open.specs.Files.{Files}
 use Rattle.htl_top.specs.Answers.{Streams, IsUntouched}
 use Rattle.htl_top.specs.Audited.{IsAudit}
 use Rattle.htl_top.specs.Bulk.{IsBulked}
-use Rattle.htl_top.specs.Checked.{IsChecked}
+use Rattle.htl_top.specs.Checked.{check_text}
 use Rattle.htl_top.specs.Compiling.{IsCompiling}
 use Rattle.htl_top.specs.CompilingOn.{IsCompilingOn}
 use Rattle.htl_top.specs.Going.{IsGoing}
 use Rattle.htl_open.specs.Objects.{IsObjectTables}
-use Rattle.htl_top.specs.Objects.{IsOnObject}
+use Rattle.htl_top.specs.Objects.{IsOnObject, IsTextCall}
 use Rattle.htl_top.specs.PatchedFiles.{IsPatching, IsPatchedTables}
 use Rattle.htl_top.specs.Planned.{IsPlanned}
 use Rattle.htl_top.specs.Runs.{IsRun}
-use Rattle.htl_top.specs.Shown.{IsShown}
+use Rattle.htl_top.specs.Shown.{show_text}
 use Rattle.htl_top.specs.Slacked.{IsSlacked}
 use Rattle.htl_top.specs.Sources.{IsTypedProgram, IsTypedInput}
 use Rattle.htl_top.specs.SourcesOn.{IsTypedOn}
@@ -29,9 +29,9 @@ IsCall (Some (Go name)) shelf old new outcome = IsGoing (Some name) shelf old ne
 IsCall (Some Compile) shelf old new outcome = IsCompiling old new outcome
 IsCall (Some (CompileWith platform)) shelf old new outcome = IsCompilingOn (Some platform) shelf old new outcome
 IsCall (Some (Run show name)) shelf old new outcome = IsOnObject (λ o. IsRun show o.tables o) (Some name) shelf old new outcome
-IsCall (Some (Check name)) shelf old new outcome = IsOnObject IsChecked (Some name) shelf old new outcome
+IsCall (Some (Check name)) shelf old new outcome = IsTextCall (λ o. check_text o.tables) (Some name) shelf old new outcome
 IsCall (Some (Plan name)) shelf old new outcome = IsOnObject IsPlanned (Some name) shelf old new outcome
-IsCall (Some (Show name)) shelf old new outcome = IsOnObject IsShown (Some name) shelf old new outcome
+IsCall (Some (Show name)) shelf old new outcome = IsTextCall show_text (Some name) shelf old new outcome
 IsCall (Some (Bulk n)) shelf old new outcome = IsBulked n old new outcome
 IsCall (Some (Slack name owner task)) shelf old new outcome = IsOnObject (IsSlacked owner task) (Some name) shelf old new outcome
 IsCall (Some (Audit name log)) shelf old new outcome = IsAudit name log shelf old new outcome

@@ -2,7 +2,6 @@
 use Rattle.std.specs.Prelude.{ℕ, zero, suc, max, List, length, ◌++◌, codes, decimal}
 use Rattle.htl_model.specs.Frames.{paths, path_places}
 use Rattle.htl_model.specs.Tables.{Tables}
-use Rattle.htl_top.specs.Objects.{Work, IsTextAnswer}
 
 -- the greatest number of positions of a path below a number; 0 without one
 abbrev pub most_positions_below : Tables → ℕ → ℕ
@@ -12,7 +11,3 @@ most_positions_below t (suc n) = max (most_positions_below t n) (length (path_pl
 -- `accepted selections N positions P`: the number of paths through a frame, and the greatest number of positions of one
 abbrev pub check_text : Tables → List ℕ
 check_text t = codes "accepted selections " ++ decimal (paths t) ++ codes " positions " ++ decimal (most_positions_below t (paths t)) ++ codes "\n"
-
--- the line is written
-abbrev pub IsChecked : Work
-IsChecked o old new outcome = IsTextAnswer (check_text o.tables) old new outcome

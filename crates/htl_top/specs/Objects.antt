@@ -3,13 +3,15 @@ use Rattle.std.specs.Prelude.{ℕ, ◌≡◌, ◌⊎◌, Option, List, Ok, Err}
 use Rattle.htl_open.specs.Files.{Files}
 use Rattle.htl_open.specs.Objects.{IsAcceptedFile, IsRefusedFile}
 use Rattle.htl_open.specs.Stops.{IsShelfCause, IsUnopened}
-use Rattle.htl_top.specs.Common.{append_known, Rose, AppendsPrefix, Object}
-use Rattle.htl_top.specs.Answers.{Streams, IsUntouched, IsWritten}
-use Rattle.htl_top.specs.Stops.{Ended}
+use Rattle.htl_edge.specs.Content.{Puts}
+use Rattle.htl_edge.specs.declared.Failed.{Failed}
+use Rattle.htl_top.specs.Common.{Object}
+use Rattle.htl_top.specs.Answers.{Streams, IsUntouched}
+use Rattle.htl_top.specs.Stops.{Came, Ended, object_as, write_as}
 use Rattle.htl_top.specs.declared.stop.OnObject.{OnObject}
 use Rattle.htl_top.specs.declared.stop.OnObject.TheVariants as on
 use Rattle.htl_top.specs.declared.outcome.Outcome.{Outcome}
-use Rattle.htl_top.specs.declared.outcome.Outcome.TheVariants.{Done, Object as Refused, Shelf, Write, Memory}
+use Rattle.htl_top.specs.declared.outcome.Outcome.TheVariants.{Object as Refused, Shelf, Memory}
 
 -- ---- by stops
 
@@ -19,6 +21,15 @@ abbrev pub IsOnFile : {A : Type 0} → (Object → Ended A → Type 0) → Type 
 IsOnFile Does Stays name shelf (Ok done) = IsAcceptedFile name shelf.holds (λ o. Does o (Ok done))
 IsOnFile Does Stays name shelf (Err (on.Work stop)) = IsAcceptedFile name shelf.holds (λ o. Does o (Err stop))
 IsOnFile Does Stays name shelf (Err (on.Open stop)) = IsUnopened name shelf stop × Stays
+
+-- A command wrote a text of an accepted object, or a prefix of it; or none was had, and nothing was written.
+abbrev pub IsTextOnObject : (Object → List ℕ) → Option (List ℕ) → Files → Option (List ℕ) → Option (List ℕ) → ℕ → ℕ → Ended (OnObject Failed) → Type 0
+IsTextOnObject text name shelf old new before now r = IsOnFile (λ o s. Puts old new before now (text o) s) (new ≡ old) name shelf r
+
+-- and nothing is read
+abbrev pub IsTextCall : (Object → List ℕ) → Option (List ℕ) → Files → Streams → Streams → Outcome → Type 0
+IsTextCall text name shelf old new outcome =
+    (new.rest ≡ old.rest) × Came (object_as write_as) (IsTextOnObject text name shelf old.written new.written old.write_faults new.write_faults) outcome
 
 -- ---- by outcomes
 
@@ -37,14 +48,3 @@ Work = Object → Streams → Streams → Outcome → Type 0
 abbrev pub IsOnObject : Work → Option (List ℕ) → Files → Streams → Streams → Outcome → Type 0
 IsOnObject Does name shelf old new outcome =
     IsAcceptedFile name shelf.holds (λ o. Does o old new outcome) ⊎ (IsStopped name shelf outcome × IsUntouched old new)
-
--- A text was written, answer by answer. Nothing was read.
-abbrev pub IsTextAnswer : List ℕ → Streams → Streams → Outcome → Type 0
-IsTextAnswer text old new Done = (new.rest ≡ old.rest) × (new.written ≡ append_known old.written text)
-IsTextAnswer text old new Write = (new.rest ≡ old.rest) × Rose old.write_faults new.write_faults × AppendsPrefix old.written new.written text
-IsTextAnswer text old new _ = ⊥
-
--- A command wrote a text of an accepted object; or none was had, and nothing was written.
-abbrev pub IsTextOnObject : (Object → List ℕ) → Option (List ℕ) → Files → Option (List ℕ) → Option (List ℕ) → ℕ → ℕ → Outcome → Type 0
-IsTextOnObject text name shelf old new before now outcome =
-    IsAcceptedFile name shelf.holds (λ o. IsWritten (text o) Done old new before now outcome) ⊎ (IsStopped name shelf outcome × (new ≡ old))

@@ -1,22 +1,19 @@
 // The command `check`: what is told of an accepted object.
-ghost use Rattle.std.specs.Prelude.{◌≡◌, ◌++◌, ℕ, List, Some, None, codes, decimal};
+ghost use Rattle.std.specs.Prelude.{◌≡◌, ◌++◌, ℕ, List, Some, None, Err, codes, decimal};
 ghost use Rattle.htl_edge.specs.Content.{Puts};
 ghost use Rattle.htl_model.specs.Frames.{frame_limit};
 ghost use Rattle.htl_open.specs.Files.{files};
-ghost use Rattle.htl_top.specs.Answers.{IsWritten};
 ghost use Rattle.htl_top.specs.Checked.{check_text};
-ghost use Rattle.htl_open.specs.Objects.{IsObjectTables};
 ghost use Rattle.htl_top.specs.Objects.{IsTextOnObject};
-ghost use Rattle.htl_top.specs.ErrorLines.{SpeaksOf};
+ghost use Rattle.htl_open.specs.declared.stop.OpenStop.TheVariants as open_stop;
 ghost use Rattle.htl_open.specs.declared.stop.ShelfCause.TheVariants as cause;
 
-use crate::Outcome;
-use crate::answer::Answer;
-use crate::object::open;
 use crate::positions::most_positions;
+use crate::stop::OnObject;
 use htl_edge::{Failed, LineBuffer, Shelf, Sink, put_all};
 use htl_model::Tables;
 use htl_model::frame::Frame;
+use htl_open::object::open;
 use std::alloc::Global;
 
 // The line of an accepted object.
@@ -42,34 +39,22 @@ fn write_check<W: Sink>(out: &mut W, t: &Tables) -> Result<(), Failed>
     put_all(out, line.as_bytes())
 }
 
-// Tells of an accepted object, by its tables.
-fn check<W: Sink>(out: &mut W, t: &Tables) -> Outcome
-    requires { frame_limit t.now ≡ None }
-    ensures text { IsWritten (check_text t.now) Outcome.Done (W.written out.old) (W.written out.new) (W.faults out.old) (W.faults out.new) result }
-    ensures write_count { (result ≡ Outcome.Write → ⊥) → W.faults out.new ≡ W.faults out.old }
-{
-    match write_check(out, t) {
-        Ok(()) => Outcome::Done,
-        Err(_) => Outcome::Write,
-    }
-}
-
 /// Tests the object in a file, and tells of an accepted one.
 pub fn check_file<S: Shelf, W: Sink>(
     alloc: Global,
     name: &str,
     shelf: &mut S,
     out: &mut W,
-) -> Answer
+) -> Result<(), OnObject<Failed>>
     ensures answer { IsTextOnObject (λ o. check_text o.tables) (Some name.now) (files S.holds S.faults shelf.old shelf.new)
-        (W.written out.old) (W.written out.new) (W.faults out.old) (W.faults out.new) result.outcome }
-    ensures tables { SpeaksOf (λ fact. ⊥) (IsObjectTables (Some name.now) (S.holds shelf.old)) result.outcome result.tables }
+        (W.written out.old) (W.written out.new) (W.faults out.old) (W.faults out.new) result }
     ensures shelf { S.holds shelf.new ≡ S.holds shelf.old }
-    ensures shelf_count { (result.outcome ≡ Outcome.Shelf cause.Failed → ⊥) → (file : List ℕ) → S.faults shelf.new file ≡ S.faults shelf.old file }
-    ensures write_count { (result.outcome ≡ Outcome.Write → ⊥) → W.faults out.new ≡ W.faults out.old }
+    ensures shelf_count { (result ≡ Err (OnObject.Open (open_stop.Shelf cause.Failed)) → ⊥) → (file : List ℕ) → S.faults shelf.new file ≡ S.faults shelf.old file }
+    ensures write_count { (result ≡ Err (OnObject.Work (record {})) → ⊥) → W.faults out.new ≡ W.faults out.old }
 {
-    match open(alloc, name, shelf) {
-        Ok(loaded) => Answer::plain(check(out, loaded.tables())),
-        Err(answer) => answer,
+    let loaded = open(alloc, name, shelf)?;
+    match write_check(out, loaded.tables()) {
+        Ok(()) => Ok(()),
+        Err(failed) => Err(OnObject::Work(failed)),
     }
 }

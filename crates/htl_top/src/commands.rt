@@ -9,7 +9,7 @@ ghost use Rattle.htl_top.specs.Words.{asked_for, command_in, most_taken, with_fi
 ghost use Rattle.htl_open.specs.declared.stop.ShelfCause.TheVariants as cause;
 
 use crate::Outcome;
-use crate::answer::Answer;
+use crate::answer::{Answer, of_text};
 use crate::audit::audit_file;
 use crate::bulk::bulk;
 use crate::check::check_file;
@@ -111,8 +111,8 @@ fn about_file<S: Shelf, R: Source, W: Sink>(
         Verb::Run => run_file(alloc, name, Shown::Values, shelf, input, out),
         Verb::Jobs => run_file(alloc, name, Shown::Jobs, shelf, input, out),
         Verb::Code => run_file(alloc, name, Shown::Code, shelf, input, out),
-        Verb::Check => check_file(alloc, name, shelf, out),
+        Verb::Check => of_text(check_file(alloc, name, shelf, out)),
         Verb::Plan => plan_file(alloc, name, shelf, input, out),
-        Verb::Show => show_file(alloc, name, shelf, out),
+        Verb::Show => of_text(show_file(alloc, name, shelf, out)),
     }
 }
