@@ -1,7 +1,7 @@
 -- From the answer of a command to the clauses of the top call that all commands share.
-use Rattle.std.proofs.Common.{◌≡◌, ◌⊎◌, ℕ, List, Option, None, Some, refl, subst, inl, inr}
+use Rattle.std.proofs.Common.{◌≡◌, ◌⊎◌, ℕ, List, Option, None, Some, refl, sym, subst, inl, inr}
 use Rattle.std.specs.Prelude.{◌↔◌}
-use Rattle.htl_top.proofs.Vocabulary.{MAX_SOURCE, MAX_OBJECT, CompileFault, Shown, ObjectFault, PlatformFault, ScriptFault, Files, Streams, IsBeforeScript, IsBeforeRun, IsAudit, IsBulked, IsFaultOf, IsLongFile, check_text, IsCompiling, IsCompileCause, IsPlatformCause, IsCompilingOn, IsGoing, IsRefusedFile, IsOnObject, IsStopped, Work, IsPatching, IsPlanned, IsRun, show_text, IsSlacked, answer_of, Command, Go, Compile, CompileWith, Run, Check, Plan, Show, Bulk, Slack, Audit, Patch, RunsObject, source_of, platform_file, command_object, second_file, Outcome, Done, Usage, Platform, Refused, Script, Shelf, Read, Write, Memory, ShelfCause, Failed, TooLong}
+use Rattle.htl_top.proofs.Vocabulary.{MAX_SOURCE, MAX_OBJECT, CompileFault, Shown, ObjectFault, PlatformFault, ScriptFault, Files, Streams, IsBeforeScript, IsBeforeRun, IsAudit, IsBulked, IsFaultOf, IsLongFile, check_text, IsCompiling, IsCompileCause, IsPlatformCause, IsCompilingOn, IsRefusedFile, IsOnObject, IsStopped, Work, IsPatching, show_text, IsSlacked, answer_of, Command, Go, Compile, CompileWith, Run, Check, Plan, Show, Bulk, Slack, Audit, Patch, RunsObject, source_of, platform_file, command_object, second_file, Outcome, Done, Usage, Platform, Refused, Script, Shelf, Read, Write, Memory, ShelfCause, Failed, TooLong}
 use Rattle.htl_compile.specs.declared.compiling.CompileFault.TheVariants as compile
 use Rattle.htl_top.proofs.Auditing as auditing
 use Rattle.htl_top.proofs.Bulking as bulking
@@ -11,9 +11,9 @@ use Rattle.htl_top.proofs.Going as going
 use Rattle.htl_top.proofs.ObjectAnswering as objects
 use Rattle.htl_top.proofs.ObjectAnswering.{IsWork}
 use Rattle.htl_top.proofs.Patching as patching
-use Rattle.htl_top.proofs.Planning.{planning}
-use Rattle.htl_top.proofs.Running.{running}
-use Rattle.htl_top.proofs.Seen.{IsChecked, IsSeen, IsShown, RunOf}
+use Rattle.htl_top.proofs.Planning.{PlanOf, planning}
+use Rattle.htl_top.proofs.Running.{RunOf, memory_run, running}
+use Rattle.htl_top.proofs.Seen.{IsChecked, IsSeen, IsShown}
 use Rattle.htl_top.proofs.Slacking.{slacking}
 use Rattle.htl_top.proofs.Telling.{telling}
 
@@ -63,7 +63,7 @@ module _ (shelf : Files) (old new : Streams) where
   pub usage : (command : Option Command) (outcome : Outcome) → IsSeen command shelf old new outcome → (outcome ≡ Usage) ↔ (command ≡ None)
   usage None outcome call = (λ e. refl, λ e. call.0)
   usage (Some (Go name)) outcome call =
-      not_asked (Go name) (outcome ≡ Usage) (λ e. going.no_usage (Some name) shelf old new (subst (λ o. IsGoing (Some name) shelf old new o) e call))
+      not_asked (Go name) (outcome ≡ Usage) (λ e. going.tells (Some name) shelf old new Usage (subst (going.Gone (Some name) shelf old new) e call))
   usage (Some Compile) outcome call = not_asked Compile (outcome ≡ Usage) (λ e. subst (λ o. IsCompiling old new o) e call)
   usage (Some (CompileWith file)) outcome call = not_asked (CompileWith file) (outcome ≡ Usage) (λ e. subst (λ o. IsCompilingOn (Some file) shelf old new o) e call)
   usage (Some (Run show name)) outcome call =
@@ -72,7 +72,7 @@ module _ (shelf : Files) (old new : Streams) where
   usage (Some (Check name)) outcome call =
       not_asked (Check name) (outcome ≡ Usage) (λ e. objects.no_usage IsChecked checking (Some name) shelf old new (subst (λ o. IsOnObject IsChecked (Some name) shelf old new o) e call))
   usage (Some (Plan name)) outcome call =
-      not_asked (Plan name) (outcome ≡ Usage) (λ e. objects.no_usage IsPlanned planning (Some name) shelf old new (subst (λ o. IsOnObject IsPlanned (Some name) shelf old new o) e call))
+      not_asked (Plan name) (outcome ≡ Usage) (λ e. objects.no_usage PlanOf planning (Some name) shelf old new (subst (λ o. IsOnObject PlanOf (Some name) shelf old new o) e call))
   usage (Some (Show name)) outcome call =
       not_asked (Show name) (outcome ≡ Usage) (λ e. objects.no_usage IsShown showing (Some name) shelf old new (subst (λ o. IsOnObject IsShown (Some name) shelf old new o) e call))
   usage (Some (Slack name owner task)) outcome call =
@@ -89,11 +89,11 @@ module _ (shelf : Files) (old new : Streams) where
       → IsFaultOf (source_of command) shelf.before shelf.after ⊎ IsFaultOf (command_object command) shelf.before shelf.after ⊎ IsFaultOf (platform_file command) shelf.before shelf.after
       ⊎ IsFaultOf (second_file command) shelf.before shelf.after
   shelf_failed None call = absurd (failed_usage call.0)
-  shelf_failed (Some (Go name)) call = inl (going.shelf_failed (Some name) shelf old new call)
+  shelf_failed (Some (Go name)) call = inl (going.tells (Some name) shelf old new (Shelf Failed) call)
   shelf_failed (Some (CompileWith file)) call = inr (inr (inl call.0))
   shelf_failed (Some (Run show name)) call = inr (inl (objects.shelf_failed (RunOf show) (running show) (Some name) shelf old new call))
   shelf_failed (Some (Check name)) call = inr (inl (objects.shelf_failed IsChecked checking (Some name) shelf old new call))
-  shelf_failed (Some (Plan name)) call = inr (inl (objects.shelf_failed IsPlanned planning (Some name) shelf old new call))
+  shelf_failed (Some (Plan name)) call = inr (inl (objects.shelf_failed PlanOf planning (Some name) shelf old new call))
   shelf_failed (Some (Show name)) call = inr (inl (objects.shelf_failed IsShown showing (Some name) shelf old new call))
   shelf_failed (Some (Slack name owner task)) call = inr (inl (objects.shelf_failed (IsSlacked owner task) (slacking owner task) (Some name) shelf old new call))
   shelf_failed (Some (Audit name log)) call = elim (auditing.unfetched name log shelf old new Failed call) [ inl s ↦ inr (inl s) | inr s ↦ inr (inr (inr s.1)) ]
@@ -105,11 +105,11 @@ module _ (shelf : Files) (old new : Streams) where
       → IsLongFile MAX_SOURCE (source_of command) shelf.holds seen ⊎ IsLongFile MAX_OBJECT (command_object command) shelf.holds seen ⊎ IsLongFile MAX_SOURCE (platform_file command) shelf.holds seen
       ⊎ IsLongFile MAX_OBJECT (second_file command) shelf.holds seen
   shelf_long None seen call = absurd (long_usage seen call.0)
-  shelf_long (Some (Go name)) seen call = inl (going.shelf_long (Some name) shelf old new seen call)
+  shelf_long (Some (Go name)) seen call = inl (going.tells (Some name) shelf old new (Shelf (TooLong seen)) call)
   shelf_long (Some (CompileWith file)) seen call = inr (inr (inl call.0))
   shelf_long (Some (Run show name)) seen call = inr (inl (objects.shelf_long (RunOf show) (running show) (Some name) shelf old new seen call))
   shelf_long (Some (Check name)) seen call = inr (inl (objects.shelf_long IsChecked checking (Some name) shelf old new seen call))
-  shelf_long (Some (Plan name)) seen call = inr (inl (objects.shelf_long IsPlanned planning (Some name) shelf old new seen call))
+  shelf_long (Some (Plan name)) seen call = inr (inl (objects.shelf_long PlanOf planning (Some name) shelf old new seen call))
   shelf_long (Some (Show name)) seen call = inr (inl (objects.shelf_long IsShown showing (Some name) shelf old new seen call))
   shelf_long (Some (Slack name owner task)) seen call = inr (inl (objects.shelf_long (IsSlacked owner task) (slacking owner task) (Some name) shelf old new seen call))
   shelf_long (Some (Audit name log)) seen call = elim (auditing.unfetched name log shelf old new (TooLong seen) call) [ inl s ↦ inr (inl s) | inr s ↦ inr (inr (inr s.1)) ]
@@ -136,7 +136,7 @@ module _ (shelf : Files) (old new : Streams) where
   cause (Some (CompileWith file)) f told call = platforms.cause (Some file) shelf old new f told call
   cause (Some (Run show name)) f told call = no_source (RunOf show) (running show) name f told call
   cause (Some (Check name)) f told call = no_source IsChecked checking name f told call
-  cause (Some (Plan name)) f told call = no_source IsPlanned planning name f told call
+  cause (Some (Plan name)) f told call = no_source PlanOf planning name f told call
   cause (Some (Show name)) f told call = no_source IsShown showing name f told call
   cause (Some (Slack name owner task)) f told call = no_source (IsSlacked owner task) (slacking owner task) name f told call
   cause (Some (Audit name log)) f told call = auditing.no_cause name log shelf old new f told call
@@ -149,11 +149,11 @@ module _ (shelf : Files) (old new : Streams) where
 
   pub platform : (command : Option Command) (f : PlatformFault) → IsSeen command shelf old new (Platform f) → IsPlatformCause command shelf.holds old.rest f
   platform None f call = absurd (platform_usage f call.0)
-  platform (Some (Go name)) f call = absurd (going.no_platform (Some name) shelf old new f call)
+  platform (Some (Go name)) f call = absurd (going.tells (Some name) shelf old new (Platform f) call)
   platform (Some (CompileWith file)) f call = call.0
   platform (Some (Run show name)) f call = absurd (no_platform (RunOf show) (running show) name f call)
   platform (Some (Check name)) f call = absurd (no_platform IsChecked checking name f call)
-  platform (Some (Plan name)) f call = absurd (no_platform IsPlanned planning name f call)
+  platform (Some (Plan name)) f call = absurd (no_platform PlanOf planning name f call)
   platform (Some (Show name)) f call = absurd (no_platform IsShown showing name f call)
   platform (Some (Slack name owner task)) f call = absurd (no_platform (IsSlacked owner task) (slacking owner task) name f call)
   platform (Some (Audit name log)) f call = absurd (auditing.no_platform name log shelf old new f call)
@@ -163,10 +163,10 @@ module _ (shelf : Files) (old new : Streams) where
 
   pub object : (command : Option Command) (f : ObjectFault) → IsSeen command shelf old new (Refused f) → IsRefusedFile (command_object command) shelf.holds f
   object None f call = absurd (refused_usage f call.0)
-  object (Some (Go name)) f call = absurd (going.no_object (Some name) shelf old new f call)
+  object (Some (Go name)) f call = absurd (going.tells (Some name) shelf old new (Refused f) call)
   object (Some (Run show name)) f call = objects.object (RunOf show) (running show) (Some name) shelf old new f call
   object (Some (Check name)) f call = objects.object IsChecked checking (Some name) shelf old new f call
-  object (Some (Plan name)) f call = objects.object IsPlanned planning (Some name) shelf old new f call
+  object (Some (Plan name)) f call = objects.object PlanOf planning (Some name) shelf old new f call
   object (Some (Show name)) f call = objects.object IsShown showing (Some name) shelf old new f call
   object (Some (Slack name owner task)) f call = objects.object (IsSlacked owner task) (slacking owner task) (Some name) shelf old new f call
   object (Some (Audit name log)) f call = auditing.object name log shelf old new f call
@@ -185,7 +185,7 @@ module _ (shelf : Files) (old new : Streams) where
   unread (Some (CompileWith file)) outcome call other apart early = absurd (apart file refl)
   unread (Some (Run show name)) outcome call other apart early = objects.unread (RunOf show) (running show) (Some name) shelf old new outcome call early
   unread (Some (Check name)) outcome call other apart early = objects.unread IsChecked checking (Some name) shelf old new outcome call early
-  unread (Some (Plan name)) outcome call other apart early = objects.unread IsPlanned planning (Some name) shelf old new outcome call early
+  unread (Some (Plan name)) outcome call other apart early = objects.unread PlanOf planning (Some name) shelf old new outcome call early
   unread (Some (Show name)) outcome call other apart early = objects.unread IsShown showing (Some name) shelf old new outcome call early
   unread (Some (Slack name owner task)) outcome call other apart early = objects.unread (IsSlacked owner task) (slacking owner task) (Some name) shelf old new outcome call early
   unread (Some (Audit name log)) outcome call other apart early = auditing.unread name log shelf old new outcome call early
@@ -203,7 +203,7 @@ module _ (shelf : Files) (old new : Streams) where
       by (Some (CompileWith file)) (TooLong seen) call = call.1.rest
       by (Some (Run show name)) why call = objects.unread (RunOf show) (running show) (Some name) shelf old new (Shelf why) call tt
       by (Some (Check name)) why call = objects.unread IsChecked checking (Some name) shelf old new (Shelf why) call tt
-      by (Some (Plan name)) why call = objects.unread IsPlanned planning (Some name) shelf old new (Shelf why) call tt
+      by (Some (Plan name)) why call = objects.unread PlanOf planning (Some name) shelf old new (Shelf why) call tt
       by (Some (Show name)) why call = objects.unread IsShown showing (Some name) shelf old new (Shelf why) call tt
       by (Some (Slack name owner task)) why call = objects.unread (IsSlacked owner task) (slacking owner task) (Some name) shelf old new (Shelf why) call tt
       by (Some (Audit name log)) why call = auditing.unread name log shelf old new (Shelf why) call tt
@@ -217,7 +217,7 @@ module _ (shelf : Files) (old new : Streams) where
   unwritten (Some (CompileWith file)) outcome call early = platforms.unwritten (Some file) shelf old new outcome call early
   unwritten (Some (Run show name)) outcome call early = objects.unwritten (RunOf show) (running show) (Some name) shelf old new outcome call early
   unwritten (Some (Check name)) outcome call early = objects.unwritten IsChecked checking (Some name) shelf old new outcome call early
-  unwritten (Some (Plan name)) outcome call early = objects.unwritten IsPlanned planning (Some name) shelf old new outcome call early
+  unwritten (Some (Plan name)) outcome call early = objects.unwritten PlanOf planning (Some name) shelf old new outcome call early
   unwritten (Some (Show name)) outcome call early = objects.unwritten IsShown showing (Some name) shelf old new outcome call early
   unwritten (Some (Slack name owner task)) outcome call early = objects.unwritten (IsSlacked owner task) (slacking owner task) (Some name) shelf old new outcome call early
   unwritten (Some (Audit name log)) outcome call early = auditing.unwritten name log shelf old new outcome call early
@@ -226,7 +226,10 @@ module _ (shelf : Files) (old new : Streams) where
 
   -- want of memory comes before the first byte of a script is read
   pub memory_unread : (command : Option Command) → IsSeen command shelf old new Memory → RunsObject command → new.rest ≡ old.rest
-  memory_unread (Some (Go name)) call runs = going.memory_unread (Some name) shelf old new call
-  memory_unread (Some (Run show name)) call runs = elim call [ inl a ↦ a.fact.rest | inr s ↦ s.1.rest ]
+  memory_unread (Some (Go name)) call runs = going.tells (Some name) shelf old new Memory call
+  memory_unread (Some (Run show name)) call runs = elim call [
+    | inl a ↦ (memory_run show a.object.tables a.object old new a.fact.result (sym a.fact.is) a.fact.came).rest
+    | inr s ↦ s.1.rest
+  ]
   memory_unread (Some (Audit name log)) call runs = auditing.memory_unread name log shelf old new call
   memory_unread _ call runs = absurd runs

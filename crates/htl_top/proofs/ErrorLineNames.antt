@@ -1,18 +1,21 @@
 -- The line that tells of an answer has names of the tables that it speaks of.
-use Rattle.std.proofs.Common.{◌≡◌, List, ℕ, Option, Some, refl, ap, ◌∙◌, subst}
-use Rattle.htl_top.proofs.Vocabulary.{coded, Shown, Holdings, ObjectFault, Tables, FormFault, ObjectOf, patched, PatchFault, with_worst, Streams, IsBulked, HasSource, HasObject, IsSource, IsObjectTables, SpeaksOfObject, HasPatchedTables, IsDonorTold, IsPatchedTables, SpeaksOfPatch, IsRun, HasTypedTables, IsInput, IsNotCompiled, IsTypedInput, IsTypedProgram, outcome_of, tables_of_stop, HasTypedOn, IsTypedOn, IsNotCompiledOn, fault_line, SpeaksOf, IsFaultTold, IsPatchFaultTold, IsLineTold, Command, Go, Compile, CompileWith, Run, Check, Plan, Show, Slack, Audit, Patch, Outcome, SourceStop}
+use Rattle.std.proofs.Common.{◌≡◌, List, ℕ, Option, Some, Err, refl, sym, ap, ◌∙◌, subst}
+use Rattle.htl_top.proofs.Vocabulary.{coded, Shown, Holdings, ObjectFault, Tables, FormFault, ObjectOf, patched, PatchFault, with_worst, Files, Streams, IsBulked, HasSource, HasObject, IsSource, IsObjectTables, SpeaksOfObject, HasPatchedTables, IsDonorTold, IsPatchedTables, SpeaksOfPatch, IsGoing, HasTypedTables, IsInput, IsNotCompiled, IsTypedInput, IsTypedProgram, outcome_of, tables_of_stop, HasTypedOn, IsTypedOn, IsNotCompiledOn, fault_line, SpeaksOf, IsFaultTold, IsPatchFaultTold, IsLineTold, Command, Go, Compile, CompileWith, Run, Check, Plan, Show, Slack, Audit, Patch, Outcome, SourceStop}
 use Rattle.htl_load.specs.declared.fault.ObjectFault.TheVariants as fault
 use Rattle.htl_patch.specs.declared.fault.PatchFault.TheVariants as patch
 use Rattle.htl_top.specs.declared.outcome.Outcome.TheVariants.{IllFormed, Patch as Unpatched, Object}
 use Rattle.htl_compile.specs.declared.stop.SourceStop.TheVariants as stop
+use Rattle.htl_open.specs.declared.stop.FetchStop.TheVariants as fetch
+use Rattle.htl_top.specs.Stops.{Ended, ended_as, ended_tables, go_as, go_tables, run_as}
+use Rattle.htl_top.specs.declared.stop.GoStop.{GoStop}
+use Rattle.htl_top.specs.declared.stop.GoStop.TheVariants as go
+use Rattle.htl_top.specs.declared.stop.RunStop.{RunStop}
+use Rattle.htl_top.specs.declared.stop.RunStop.TheVariants as run_stop
 
--- a run breaks no form rule
-pub SpeaksOf-run : (Sources Objects : (Tables → Type 0) → Type 0) (show : Shown) (t : Tables) (o : ObjectOf) (old new : Streams) (outcome : Outcome) (told : Option Tables)
-    → IsRun show t o old new outcome → SpeaksOf Sources Objects outcome told
-SpeaksOf-run Sources Objects show t o old new (Unpatched f) told run = absurd run
-SpeaksOf-run Sources Objects show t o old new (IllFormed f) told run = absurd run
-SpeaksOf-run Sources Objects show t o old new (Object f) told run = absurd run
-SpeaksOf-run Sources Objects show t o old new _ told run = tt
+-- what stops a run breaks no form rule
+pub SpeaksOf-run : (Sources Objects : (Tables → Type 0) → Type 0) (s : RunStop) (told : Option Tables) → SpeaksOf Sources Objects (run_as s) told
+SpeaksOf-run Sources Objects run_stop.Memory told = tt
+SpeaksOf-run Sources Objects _ told = tt
 
 -- nor does a generated program
 pub SpeaksOf-bulk : (Sources Objects : (Tables → Type 0) → Type 0) (n : ℕ) (old new : Streams) (outcome : Outcome) (told : Option Tables)
@@ -32,6 +35,22 @@ pub SpeaksOf-stop-on : (Objects : (Tables → Type 0) → Type 0) (bytes file : 
 SpeaksOf-stop-on Objects bytes file (stop.IllFormed f u) is =
     let t = is.1 in record { tables = t.tables; of = t.of; platform = t.platform; says = t.says; can = t.can; fact = ap Some t.fact }
 SpeaksOf-stop-on Objects bytes file _ is = tt
+
+-- and what stops `go` of those of its file
+speaks_go : (Objects : (Tables → Type 0) → Type 0) (name : Option (List ℕ)) (shelf : Files) (old new : Streams) (r : Ended GoStop) → IsGoing name shelf old new r
+    → SpeaksOf (IsTypedProgram name shelf.holds) Objects (ended_as go_as r) (ended_tables go_tables r)
+speaks_go Objects name shelf old new (Err (go.Source (stop.IllFormed f u))) is =
+    let t = is.0.stopped.1 in
+    record { bytes = is.0.bytes; source = is.0.source; has = record { tables = t.tables; of = t.of; can = t.can; fact = ap Some t.fact } }
+speaks_go Objects name shelf old new (Err (go.File fetch.Memory)) is = tt
+speaks_go Objects name shelf old new (Err (go.Run run_stop.Memory)) is = tt
+speaks_go Objects name shelf old new _ is = tt
+
+pub SpeaksOf-go : (Objects : (Tables → Type 0) → Type 0) (name : Option (List ℕ)) (shelf : Files) (old new : Streams) (r : Ended GoStop) (outcome : Outcome) (told : Option Tables)
+    → outcome ≡ ended_as go_as r → told ≡ ended_tables go_tables r → IsGoing name shelf old new r → SpeaksOf (IsTypedProgram name shelf.holds) Objects outcome told
+SpeaksOf-go Objects name shelf old new r outcome told is same going =
+    subst (λ (o : Outcome). SpeaksOf (IsTypedProgram name shelf.holds) Objects o told) (sym is)
+    (subst (λ (t : Option Tables). SpeaksOf (IsTypedProgram name shelf.holds) Objects (ended_as go_as r) t) (sym same) (speaks_go Objects name shelf old new r going))
 
 SpeaksOfPatch-source : (Sources Others : (Tables → Type 0) → Type 0) (f : PatchFault) (told : Option Tables) → ((Fact : Tables → Type 0) → Sources Fact → Others Fact)
     → SpeaksOfPatch Sources f told → SpeaksOfPatch Others f told

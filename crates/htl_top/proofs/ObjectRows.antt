@@ -1,16 +1,20 @@
 -- From the answer of a command on an object to its rows, and to those on the object itself.
-use Rattle.std.proofs.Common.{◌≡◌, ◌≤◌, ◌<◌, ◌⊎◌, ℕ, List, length, Option, None, Some, refl, subst, inl, inr}
-use Rattle.htl_top.proofs.Vocabulary.{append_known, Shown, Rose, AppendsPrefix, RefusesBytes, ObjectFault, PatchFault, Object, Files, Streams, IsGiven, IsOrMemory, check_text, IsReadyFile, IsAcceptedFile, IsOnObject, IsReadyObject, Work, IsPlanned, IsCutPlan, IsBadSelection, IsRun, IsCutRun, show_text, HasSlack, NamesNoTask, IsSlacked, IsTaskCause, object_bytes, HasPatch, IsDonorFault, IsDonorTold, IsPatchCause, IsPatching, Command, Go, Compile, CompileWith, Run, Check, Plan, Show, Bulk, Slack, Audit, Patch, command_object, second_file, Outcome, Done, Usage, Refused, Script, Shelf, Task, Unpatched, Read, Write, Memory, TooLong}
+use Rattle.std.proofs.Common.{◌≡◌, ◌≤◌, ◌<◌, ◌⊎◌, ℕ, List, length, Option, None, Some, refl, sym, subst, inl, inr}
+use Rattle.htl_top.proofs.Vocabulary.{append_known, Shown, Rose, AppendsPrefix, RefusesBytes, ObjectFault, PatchFault, Object, Files, Streams, IsGiven, IsOrMemory, check_text, IsReadyFile, IsAcceptedFile, IsOnObject, IsReadyObject, Work, IsPlanned, IsCutPlan, IsBadSelection, IsRun, IsWholeRun, IsFaultyRun, IsCutRun, show_text, HasSlack, NamesNoTask, IsSlacked, IsTaskCause, object_bytes, HasPatch, IsDonorFault, IsDonorTold, IsPatchCause, IsPatching, Command, Go, Compile, CompileWith, Run, Check, Plan, Show, Bulk, Slack, Audit, Patch, command_object, second_file, Outcome, Done, Usage, Refused, Script, Shelf, Task, Unpatched, Read, Write, Memory, TooLong}
 use Rattle.htl_top.proofs.Auditing as auditing
 use Rattle.htl_top.proofs.Calling.{checking, showing, some_not_none, done_memory, write_memory, read_memory, script_memory}
 use Rattle.htl_top.proofs.ObjectAnswering as objects
 use Rattle.htl_top.proofs.ObjectAnswering.{IsWork}
 use Rattle.htl_top.proofs.Patching as patching
-use Rattle.htl_top.proofs.Planning.{planning, bad_input, whole_input}
-use Rattle.htl_top.proofs.Running.{running, bad_run, whole_run}
-use Rattle.htl_top.proofs.Seen.{IsChecked, IsSeen, IsShown, RunOf}
+use Rattle.htl_top.proofs.Going as going
+use Rattle.htl_top.proofs.Planning.{PlanOf, bad_input, done_plan, faulty_plan, planning, read_plan, whole_input, write_plan}
+use Rattle.htl_top.proofs.Running.{RunOf, bad_run, done_run, faulty_run, not_task, read_run, running, whole_run, write_run}
+use Rattle.htl_top.proofs.Seen.{IsChecked, IsSeen, IsShown}
 use Rattle.htl_top.proofs.Slacking as slacking
 use Rattle.htl_top.proofs.Slacking.{slacking as slack_work}
+use Rattle.htl_top.proofs.Stops.{must}
+use Rattle.htl_top.specs.Planned.{IsWholePlan}
+use Rattle.htl_top.specs.Stops.{run_as}
 use Rattle.htl_top.proofs.Telling as texts
 use Rattle.htl_top.proofs.Telling.{TextOf, telling}
 use Rattle.htl_top.specs.ObjectRows.{RunRows, CheckRows, ShowRows, SlackRows, PlanRows, PatchRows}
@@ -22,7 +26,7 @@ module _ (shelf : Files) (old new : Streams) where
       → IsSeen command shelf old new outcome → 16777216 < length bytes → IsOrMemory outcome (Shelf (TooLong (length bytes)))
   long_object (Some (Run show name)) bytes outcome given call long = objects.long_object (RunOf show) (running show) (Some name) shelf old new bytes given outcome call long
   long_object (Some (Check name)) bytes outcome given call long = objects.long_object IsChecked checking (Some name) shelf old new bytes given outcome call long
-  long_object (Some (Plan name)) bytes outcome given call long = objects.long_object IsPlanned planning (Some name) shelf old new bytes given outcome call long
+  long_object (Some (Plan name)) bytes outcome given call long = objects.long_object PlanOf planning (Some name) shelf old new bytes given outcome call long
   long_object (Some (Show name)) bytes outcome given call long = objects.long_object IsShown showing (Some name) shelf old new bytes given outcome call long
   long_object (Some (Slack name owner task)) bytes outcome given call long = objects.long_object (IsSlacked owner task) (slack_work owner task) (Some name) shelf old new bytes given outcome call long
   long_object (Some (Audit name log)) bytes outcome given call long = auditing.long_object name log shelf old new bytes given outcome call long
@@ -37,7 +41,7 @@ module _ (shelf : Files) (old new : Streams) where
   faulty_object (Some (Check name)) bytes outcome given call second f short refused =
       objects.faulty_object IsChecked checking (Some name) shelf old new bytes given outcome call f short refused
   faulty_object (Some (Plan name)) bytes outcome given call second f short refused =
-      objects.faulty_object IsPlanned planning (Some name) shelf old new bytes given outcome call f short refused
+      objects.faulty_object PlanOf planning (Some name) shelf old new bytes given outcome call f short refused
   faulty_object (Some (Show name)) bytes outcome given call second f short refused =
       objects.faulty_object IsShown showing (Some name) shelf old new bytes given outcome call f short refused
   faulty_object (Some (Slack name owner task)) bytes outcome given call second f short refused =
@@ -69,18 +73,22 @@ module _ (shelf : Files) (old new : Streams) (outcome : Outcome) (name : List �
 
   pub run_rows : (show : Shown) → IsOnObject (RunOf show) (Some name) shelf old new outcome → RunRows show name shelf old new outcome
   run_rows show call = record {
-    done = λ same. did (RunOf show) (running show) call Done same tt done_memory;
-    script = λ f same. did (RunOf show) (running show) call (Script f) same tt (script_memory f);
-    read = λ same. (
-      (did (RunOf show) (running show) call Read same tt read_memory).fact.0,
-      did_map (RunOf show) (running show) call Read same tt read_memory (λ o. IsCutRun show o.tables o old.rest old.written new.written) (λ o r. r.1),
-    );
-    write = λ same. (
-      (did (RunOf show) (running show) call Write same tt write_memory).fact.0,
-      did_map (RunOf show) (running show) call Write same tt write_memory (λ o. IsCutRun show o.tables o old.rest old.written new.written) (λ o r. r.1),
-    );
-    bad_script = λ o is s f events told bad quiet still. ready (RunOf show) (running show) call o is (λ r. bad_run show o.tables o old new s told f events bad quiet still outcome r);
-    complete = λ o is s events end told whole quiet still. ready (RunOf show) (running show) call o is (λ r. whole_run show o.tables o old new s told events end whole quiet still outcome r);
+    done = λ same. did_map (RunOf show) (running show) call Done same tt done_memory
+        (λ o. IsWholeRun show o.tables o old.rest new.rest old.written new.written) (λ o r. done_run show o.tables o old new r.result (sym r.is) r.came);
+    script = λ f same. did_map (RunOf show) (running show) call (Script f) same tt (script_memory f)
+        (λ o. IsFaultyRun show o.tables o old.rest new.rest old.written new.written f) (λ o r. faulty_run show o.tables o old new r.result f (sym r.is) r.came);
+    read = λ same.
+        let a = did (RunOf show) (running show) call Read same tt read_memory in
+        let cut = λ (o : Object) (r : RunOf show o old new Read). read_run show o.tables o old new r.result (sym r.is) r.came in
+        ((cut a.object a.fact).0, did_map (RunOf show) (running show) call Read same tt read_memory (λ o. IsCutRun show o.tables o old.rest old.written new.written) (λ o r. (cut o r).1));
+    write = λ same.
+        let a = did (RunOf show) (running show) call Write same tt write_memory in
+        let cut = λ (o : Object) (r : RunOf show o old new Write). write_run show o.tables o old new r.result (sym r.is) r.came in
+        ((cut a.object a.fact).0, did_map (RunOf show) (running show) call Write same tt write_memory (λ o. IsCutRun show o.tables o old.rest old.written new.written) (λ o r. (cut o r).1));
+    bad_script = λ o is s f events told bad quiet still. ready (RunOf show) (running show) call o is
+        (λ r. must run_as (IsRun show o.tables o old new) outcome (Script f) r (bad_run show o.tables o old new s told f events bad quiet still));
+    complete = λ o is s events end told whole quiet still. ready (RunOf show) (running show) call o is
+        (λ r. must run_as (IsRun show o.tables o old new) outcome Done r (whole_run show o.tables o old new s told events end whole quiet still));
   }
 
   -- ---- a text of an object
@@ -113,20 +121,23 @@ module _ (shelf : Files) (old new : Streams) (outcome : Outcome) (name : List �
 
   -- ---- `plan`
 
-  pub plan_rows : IsOnObject IsPlanned (Some name) shelf old new outcome → PlanRows name shelf old new outcome
+  pub plan_rows : IsOnObject PlanOf (Some name) shelf old new outcome → PlanRows name shelf old new outcome
   plan_rows call = record {
-    done = λ same. did IsPlanned planning call Done same tt done_memory;
-    write = λ same. (
-      (did IsPlanned planning call Write same tt write_memory).fact.0,
-      did_map IsPlanned planning call Write same tt write_memory (λ o. IsCutPlan o old.rest old.written new.written) (λ o p. p.1),
-    );
-    script = λ f same. (
-      did_map IsPlanned planning call (Script f) same tt (script_memory f) (λ o. IsBadSelection o old.rest f) (λ o p. p.0),
-      (did IsPlanned planning call (Script f) same tt (script_memory f)).fact.1,
-    );
-    read = λ same. (did IsPlanned planning call Read same tt read_memory).fact;
-    bad_selection = λ o is s f told bad quiet still. ready IsPlanned planning call o is (λ d. bad_input o old new s f told bad quiet still outcome d);
-    complete = λ o is s modes told whole quiet still. ready IsPlanned planning call o is (λ d. whole_input o old new s modes told whole quiet still outcome d);
+    done = λ same. did_map PlanOf planning call Done same tt done_memory
+        (λ o. IsWholePlan o old.rest new.rest old.written new.written) (λ o r. done_plan o old new r.result (sym r.is) r.came);
+    write = λ same.
+        let a = did PlanOf planning call Write same tt write_memory in
+        let cut = λ (o : Object) (r : PlanOf o old new Write). write_plan o old new r.result (sym r.is) r.came in
+        ((cut a.object a.fact).0, did_map PlanOf planning call Write same tt write_memory (λ o. IsCutPlan o old.rest old.written new.written) (λ o r. (cut o r).1));
+    script = λ f same.
+        let a = did PlanOf planning call (Script f) same tt (script_memory f) in
+        let bad = λ (o : Object) (r : PlanOf o old new (Script f)). faulty_plan o old new r.result f (sym r.is) r.came in
+        (did_map PlanOf planning call (Script f) same tt (script_memory f) (λ o. IsBadSelection o old.rest f) (λ o r. (bad o r).0), (bad a.object a.fact).1);
+    read = λ same. let a = did PlanOf planning call Read same tt read_memory in read_plan a.object old new a.fact.result (sym a.fact.is) a.fact.came;
+    bad_selection = λ o is s f told bad quiet still. ready PlanOf planning call o is
+        (λ r. must run_as (IsPlanned o old new) outcome (Script f) r (bad_input o old new s f told bad quiet still));
+    complete = λ o is s modes told whole quiet still. ready PlanOf planning call o is
+        (λ r. must run_as (IsPlanned o old new) outcome Done r (whole_input o old new s modes told whole quiet still));
   }
 
   -- ---- `slack`
@@ -178,7 +189,7 @@ unpatched_usage f e = cc
 module _ (shelf : Files) (old new : Streams) where
   pub task_cause : (command : Option Command) → IsSeen command shelf old new Task → IsTaskCause command shelf.holds
   task_cause None call = task_usage call.0
-  task_cause (Some (Go name)) call = elim call [ inl p ↦ p.has.fact | inr s ↦ s.0 ]
+  task_cause (Some (Go name)) call = going.tells (Some name) shelf old new Task call
   task_cause (Some Compile) call = call
   task_cause (Some (CompileWith file)) call = call
   task_cause (Some (Bulk n)) call = call
@@ -189,14 +200,14 @@ module _ (shelf : Files) (old new : Streams) where
         objects.IsAcceptedFile-map (Some name) shelf.holds (λ o. IsSlacked owner task o old new Task) (λ o. NamesNoTask o.tables owner task) (λ o d. d.1.0) a
     | inr s ↦ absurd s.0
   ]
-  task_cause (Some (Run show name)) call = elim call [ inl a ↦ a.fact | inr s ↦ s.0 ]
+  task_cause (Some (Run show name)) call = elim call [ inl a ↦ not_task a.fact.result (sym a.fact.is) | inr s ↦ s.0 ]
   task_cause (Some (Check name)) call = elim call [ inl a ↦ texts.no_put (λ (o : Object). check_text o.tables) a.object old new Task a.fact | inr s ↦ s.0 ]
-  task_cause (Some (Plan name)) call = elim call [ inl a ↦ a.fact | inr s ↦ s.0 ]
+  task_cause (Some (Plan name)) call = elim call [ inl a ↦ not_task a.fact.result (sym a.fact.is) | inr s ↦ s.0 ]
   task_cause (Some (Show name)) call = elim call [ inl a ↦ texts.no_put show_text a.object old new Task a.fact | inr s ↦ s.0 ]
 
   pub patch_cause : (command : Option Command) (f : PatchFault) → IsSeen command shelf old new (Unpatched f) → IsPatchCause command shelf.holds f
   patch_cause None f call = unpatched_usage f call.0
-  patch_cause (Some (Go name)) f call = elim call [ inl p ↦ p.has.fact | inr s ↦ s.0 ]
+  patch_cause (Some (Go name)) f call = going.tells (Some name) shelf old new (Unpatched f) call
   patch_cause (Some Compile) f call = call
   patch_cause (Some (CompileWith file)) f call = call
   patch_cause (Some (Bulk n)) f call = call
@@ -208,7 +219,7 @@ module _ (shelf : Files) (old new : Streams) where
         (λ o bytes. IsDonorFault o unit mode bytes f) (λ o bytes t. t.0) a
     | inr s ↦ absurd s.0
   ]
-  patch_cause (Some (Run show name)) f call = elim call [ inl a ↦ a.fact | inr s ↦ s.0 ]
+  patch_cause (Some (Run show name)) f call = objects.stopped (RunOf show) (running show) (Some name) shelf old new (Unpatched f) call (λ w. w)
   patch_cause (Some (Check name)) f call = elim call [ inl a ↦ texts.no_put (λ (o : Object). check_text o.tables) a.object old new (Unpatched f) a.fact | inr s ↦ s.0 ]
-  patch_cause (Some (Plan name)) f call = elim call [ inl a ↦ a.fact | inr s ↦ s.0 ]
+  patch_cause (Some (Plan name)) f call = objects.stopped PlanOf planning (Some name) shelf old new (Unpatched f) call (λ w. w)
   patch_cause (Some (Show name)) f call = elim call [ inl a ↦ texts.no_put show_text a.object old new (Unpatched f) a.fact | inr s ↦ s.0 ]

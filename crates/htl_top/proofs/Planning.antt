@@ -1,27 +1,55 @@
 -- What a plan answers, by its input.
-use Rattle.std.proofs.Common.{◌≡◌, ℕ, List, Option, Some, refl, sym, ap, ◌∙◌, subst, inl, inr}
-use Rattle.htl_top.proofs.Vocabulary.{IfSome, Rose, Object, OfScript, ScriptFault, ScriptKind, Streams, IsBeforeRun, IsOrMemory, IsPlanned, Outcome, Done, Script, Read, Write, Memory}
+use Rattle.std.proofs.Common.{◌≡◌, ℕ, List, Option, Some, Ok, Err, refl, sym, ap, ◌∙◌, subst, inl, inr}
+use Rattle.htl_top.proofs.Vocabulary.{IfSome, Rose, Object, OfScript, ScriptFault, ScriptKind, Files, Streams, IsBeforeRun, IsOnObject, IsOrMemory, IsPlanned, IsCutPlan, IsBadSelection, Work, Outcome, Done, Script, Read, Write}
 use Rattle.htl_top.proofs.ObjectAnswering.{IsWork, IsOfWork}
+use Rattle.htl_top.proofs.Running.{ended_work, not_task}
+use Rattle.htl_top.proofs.Stops.{answered}
 use Rattle.htl_plan.specs.SelectionInput.{Input, Whole, Bad, input_of}
+use Rattle.htl_top.specs.Answers.{IsUntouched}
+use Rattle.htl_top.specs.Planned.{IsPlannedOnFile, IsWholePlan}
+use Rattle.htl_top.specs.Stops.{Came, Ended, ended_as, object_as, run_as}
+use Rattle.htl_top.specs.declared.stop.RunStop.{RunStop}
+use Rattle.htl_top.specs.declared.stop.RunStop.TheVariants as stop
 
-plan_only : (o : Object) (old new : Streams) (outcome : Outcome) → IsPlanned o old new outcome → IsOfWork outcome
-plan_only o old new Done answer = tt
-plan_only o old new (Script f) answer = tt
-plan_only o old new Read answer = tt
-plan_only o old new Write answer = tt
-plan_only o old new Memory answer = tt
-plan_only o old new _ answer = absurd answer
+module _ (o : Object) (old new : Streams) where
+  unwritten_by : (r : Ended RunStop) → IsPlanned o old new r → IsBeforeRun (ended_as run_as r) → new.written ≡ old.written
+  unwritten_by (Err stop.Memory) plan early = plan.written
+  unwritten_by _ plan early = absurd early
 
-plan_unwritten : (o : Object) (old new : Streams) (outcome : Outcome) → IsPlanned o old new outcome → IsBeforeRun outcome → new.written ≡ old.written
-plan_unwritten o old new Done answer early = absurd early
-plan_unwritten o old new (Script f) answer early = absurd early
-plan_unwritten o old new Read answer early = answer.1
-plan_unwritten o old new Write answer early = absurd early
-plan_unwritten o old new Memory answer early = answer.written
-plan_unwritten o old new _ answer early = absurd answer
+  pub done_plan : (r : Ended RunStop) → ended_as run_as r ≡ Done → IsPlanned o old new r → IsWholePlan o old.rest new.rest old.written new.written
+  done_plan (Ok done) e plan = plan
+  done_plan (Err stop.Memory) e plan = absurd (let p = e in cc)
+  done_plan _ e plan = absurd (let p = e in cc)
 
-pub planning : IsWork IsPlanned
-planning = record { only = plan_only; unwritten = plan_unwritten; unread = λ o old new answer. absurd answer }
+  pub faulty_plan : (r : Ended RunStop) (f : ScriptFault) → ended_as run_as r ≡ Script f → IsPlanned o old new r → IsBadSelection o old.rest f × (new.written ≡ old.written)
+  faulty_plan (Err (stop.Script g)) f e plan =
+      let same : g ≡ f = let p = e in cc in
+      (subst (λ (h : ScriptFault). IsBadSelection o old.rest h) same plan.0, plan.1)
+  faulty_plan _ f e plan = absurd (let p = e in cc)
+
+  pub read_plan : (r : Ended RunStop) → ended_as run_as r ≡ Read → IsPlanned o old new r → Rose old.read_faults new.read_faults × (new.written ≡ old.written)
+  read_plan (Err stop.Read) e plan = plan
+  read_plan _ e plan = absurd (let p = e in cc)
+
+  pub write_plan : (r : Ended RunStop) → ended_as run_as r ≡ Write → IsPlanned o old new r → Rose old.write_faults new.write_faults × IsCutPlan o old.rest old.written new.written
+  write_plan (Err stop.Write) e plan = plan
+  write_plan _ e plan = absurd (let p = e in cc)
+
+-- a plan of an object, by its answer
+abbrev pub PlanOf : Work
+PlanOf o old new outcome = Came run_as (IsPlanned o old new) outcome
+
+pub plan_answered : (name : Option (List ℕ)) (shelf : Files) (old new : Streams) (outcome : Outcome)
+    → Came (object_as run_as) (IsPlannedOnFile name shelf old new) outcome → IsOnObject PlanOf name shelf old new outcome
+plan_answered name shelf old new outcome call =
+    answered RunStop run_as (λ o. IsPlanned o old new) (IsUntouched old new) name shelf PlanOf old new outcome (λ s. s) (λ o r. r) call
+
+pub planning : IsWork PlanOf
+planning = record {
+  only = λ o old new outcome plan. subst IsOfWork (sym plan.is) (ended_work plan.result);
+  unwritten = λ o old new outcome plan early. unwritten_by o old new plan.result plan.came (subst IsBeforeRun plan.is early);
+  unread = λ o old new plan. absurd (not_task plan.result (sym plan.is));
+}
 
 -- ---- what an input is
 
@@ -45,22 +73,20 @@ module _ (o : Object) (old new : Streams) (script : List ℕ) where
       subst P (sym same) is.2
 
   pub bad_input : (f : ScriptFault) → old.rest ≡ Some script → input_of o.tables script ≡ Bad f.line f.kind → (Rose old.read_faults new.read_faults → ⊥)
-      → (Rose old.write_faults new.write_faults → ⊥) → (outcome : Outcome) → IsPlanned o old new outcome → IsOrMemory outcome (Script f)
-  bad_input f told bad quiet still Done answer =
-      absurd (whole_or_bad (input_of o.tables script) answer.modes f.line f.kind (given (λ bytes. input_of o.tables bytes ≡ Whole answer.modes) told answer.selected.told) bad)
-  bad_input f told bad quiet still (Script g) answer =
-      inl (ap (λ (h : ScriptFault). Script h) (same_fault (input_of o.tables script) g f (given (λ bytes. input_of o.tables bytes ≡ Bad g.line g.kind) told answer.0) bad))
-  bad_input f told bad quiet still Read answer = absurd (quiet answer.0)
-  bad_input f told bad quiet still Write answer = absurd (still answer.0)
-  bad_input f told bad quiet still Memory answer = inr refl
-  bad_input f told bad quiet still _ answer = absurd answer
+      → (Rose old.write_faults new.write_faults → ⊥) → (r : Ended RunStop) → IsPlanned o old new r → IsOrMemory (ended_as run_as r) (Script f)
+  bad_input f told bad quiet still (Ok done) plan =
+      absurd (whole_or_bad (input_of o.tables script) plan.modes f.line f.kind (given (λ bytes. input_of o.tables bytes ≡ Whole plan.modes) told plan.selected.told) bad)
+  bad_input f told bad quiet still (Err (stop.Script g)) plan =
+      inl (ap (λ (h : ScriptFault). Script h) (same_fault (input_of o.tables script) g f (given (λ bytes. input_of o.tables bytes ≡ Bad g.line g.kind) told plan.0) bad))
+  bad_input f told bad quiet still (Err stop.Read) plan = absurd (quiet plan.0)
+  bad_input f told bad quiet still (Err stop.Write) plan = absurd (still plan.0)
+  bad_input f told bad quiet still (Err stop.Memory) plan = inr refl
 
   pub whole_input : (modes : List (Option ℕ)) → old.rest ≡ Some script → input_of o.tables script ≡ Whole modes → (Rose old.read_faults new.read_faults → ⊥)
-      → (Rose old.write_faults new.write_faults → ⊥) → (outcome : Outcome) → IsPlanned o old new outcome → IsOrMemory outcome Done
-  whole_input modes told whole quiet still Done answer = inl refl
-  whole_input modes told whole quiet still (Script g) answer =
-      absurd (whole_or_bad (input_of o.tables script) modes g.line g.kind whole (given (λ bytes. input_of o.tables bytes ≡ Bad g.line g.kind) told answer.0))
-  whole_input modes told whole quiet still Read answer = absurd (quiet answer.0)
-  whole_input modes told whole quiet still Write answer = absurd (still answer.0)
-  whole_input modes told whole quiet still Memory answer = inr refl
-  whole_input modes told whole quiet still _ answer = absurd answer
+      → (Rose old.write_faults new.write_faults → ⊥) → (r : Ended RunStop) → IsPlanned o old new r → IsOrMemory (ended_as run_as r) Done
+  whole_input modes told whole quiet still (Ok done) plan = inl refl
+  whole_input modes told whole quiet still (Err (stop.Script g)) plan =
+      absurd (whole_or_bad (input_of o.tables script) modes g.line g.kind whole (given (λ bytes. input_of o.tables bytes ≡ Bad g.line g.kind) told plan.0))
+  whole_input modes told whole quiet still (Err stop.Read) plan = absurd (quiet plan.0)
+  whole_input modes told whole quiet still (Err stop.Write) plan = absurd (still plan.0)
+  whole_input modes told whole quiet still (Err stop.Memory) plan = inr refl

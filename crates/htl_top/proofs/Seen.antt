@@ -1,11 +1,11 @@
 -- What a command answered, as its proofs see it: by what was done, and by the answer.
 use Rattle.std.proofs.Common.{◌≡◌, List, ℕ, Option, None, Some}
-use Rattle.htl_top.proofs.Vocabulary.{check_text, show_text, Shown, Files, Streams, IsAudit, IsBulked, IsCall, IsCompiling, IsCompilingOn, IsGoing, IsOnObject, IsPatching, IsPlanned, IsRun, IsSlacked, Object, Work, Command, Go, Compile, CompileWith, Run, Check, Plan, Show, Bulk, Slack, Audit, Patch, Outcome, Usage}
+use Rattle.htl_top.proofs.Vocabulary.{check_text, show_text, Files, Streams, IsAudit, IsBulked, IsCall, IsCompiling, IsCompilingOn, IsGoing, IsOnObject, IsPatching, IsSlacked, Object, Work, Command, Go, Compile, CompileWith, Run, Check, Plan, Show, Bulk, Slack, Audit, Patch, Outcome, Usage}
 use Rattle.htl_top.proofs.Telling.{TextOf, seen_text}
+use Rattle.htl_top.proofs.Planning.{PlanOf, plan_answered}
+use Rattle.htl_top.proofs.Running.{RunOf, run_answered}
 use Rattle.htl_top.specs.Answers.{IsUntouched}
-
-abbrev pub RunOf : Shown → Work
-RunOf show o = IsRun show o.tables o
+use Rattle.htl_top.specs.Stops.{Came, go_as}
 
 abbrev pub IsChecked : Work
 IsChecked = TextOf (λ (o : Object). check_text o.tables)
@@ -15,12 +15,12 @@ IsShown = TextOf show_text
 
 abbrev pub IsSeen : Option Command → Files → Streams → Streams → Outcome → Type 0
 IsSeen None shelf old new outcome = (outcome ≡ Usage) × IsUntouched old new
-IsSeen (Some (Go name)) shelf old new outcome = IsGoing (Some name) shelf old new outcome
+IsSeen (Some (Go name)) shelf old new outcome = Came go_as (IsGoing (Some name) shelf old new) outcome
 IsSeen (Some Compile) shelf old new outcome = IsCompiling old new outcome
 IsSeen (Some (CompileWith platform)) shelf old new outcome = IsCompilingOn (Some platform) shelf old new outcome
 IsSeen (Some (Run show name)) shelf old new outcome = IsOnObject (RunOf show) (Some name) shelf old new outcome
 IsSeen (Some (Check name)) shelf old new outcome = IsOnObject IsChecked (Some name) shelf old new outcome
-IsSeen (Some (Plan name)) shelf old new outcome = IsOnObject IsPlanned (Some name) shelf old new outcome
+IsSeen (Some (Plan name)) shelf old new outcome = IsOnObject PlanOf (Some name) shelf old new outcome
 IsSeen (Some (Show name)) shelf old new outcome = IsOnObject IsShown (Some name) shelf old new outcome
 IsSeen (Some (Bulk n)) shelf old new outcome = IsBulked n old new outcome
 IsSeen (Some (Slack name owner task)) shelf old new outcome = IsOnObject (IsSlacked owner task) (Some name) shelf old new outcome
@@ -32,9 +32,9 @@ seen None shelf old new outcome call = call
 seen (Some (Go name)) shelf old new outcome call = call
 seen (Some Compile) shelf old new outcome call = call
 seen (Some (CompileWith platform)) shelf old new outcome call = call
-seen (Some (Run show name)) shelf old new outcome call = call
+seen (Some (Run show name)) shelf old new outcome call = run_answered show (Some name) shelf old new outcome call
 seen (Some (Check name)) shelf old new outcome call = seen_text (λ o. check_text o.tables) (Some name) shelf old new outcome call
-seen (Some (Plan name)) shelf old new outcome call = call
+seen (Some (Plan name)) shelf old new outcome call = plan_answered (Some name) shelf old new outcome call
 seen (Some (Show name)) shelf old new outcome call = seen_text show_text (Some name) shelf old new outcome call
 seen (Some (Bulk n)) shelf old new outcome call = call
 seen (Some (Slack name owner task)) shelf old new outcome call = call

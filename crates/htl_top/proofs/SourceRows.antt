@@ -1,49 +1,36 @@
 -- From the answer of a command that compiles to its rows.
 use Rattle.std.proofs.Common.{◌≡◌, ◌⊎◌, ℕ, List, Some, subst, inl, inr}
-use Rattle.htl_top.proofs.Vocabulary.{built, Jobs, Tables, Files, Streams, IsBulked, IsCompiling, IsCompilingOn, IsGoing, IsReadySource, IsRun, IsWholeRun, IsCutRun, IsProgram, Outcome, Done, Script, Read, Write, Memory}
+use Rattle.htl_top.proofs.Vocabulary.{built, Jobs, Tables, Files, Streams, IsBulked, IsCompiling, IsCompilingOn, IsGoing, IsWholeRun, IsProgram, Outcome, Done, Script, Read, Write, Memory}
 use Rattle.htl_top.proofs.Bulking as bulking
-use Rattle.htl_top.proofs.Calling.{done_memory, write_memory, read_memory, script_memory}
 use Rattle.htl_top.proofs.Compiling as compiling
 use Rattle.htl_top.proofs.CompilingOn as platforms
 use Rattle.htl_top.proofs.Going as going
-use Rattle.htl_top.proofs.ObjectAnswering as objects
 use Rattle.htl_top.proofs.Running.{bad_run, whole_run}
+use Rattle.htl_top.specs.Stops.{Came, go_as}
 use Rattle.htl_top.specs.SourceRows.{GoRows, CompileRows, CompileWithRows, BulkRows}
 
 module _ (shelf : Files) (old new : Streams) (outcome : Outcome) where
   -- ---- `go`
 
-  module _ (name : List ℕ) (call : IsGoing (Some name) shelf old new outcome) where
-    -- what was run, where the answer isn't Memory
-    went : (other : Outcome) → outcome ≡ other → objects.IsOfWork other → (other ≡ Memory → ⊥) → IsProgram (Some name) shelf.holds (λ t. IsRun Jobs t (built t) old new other)
-    went other same work apart = going.ran (Some name) shelf old new other (subst (λ (o : Outcome). IsGoing (Some name) shelf old new o) same call) work apart
-
-    -- the run of tables that are given
-    run_of : (t : Tables) → IsReadySource (Some name) shelf.holds shelf.before shelf.after t → IsRun Jobs t (built t) old new outcome ⊎ (outcome ≡ Memory)
-    run_of t ready = going.of_ready (Some name) shelf old new t ready outcome call
+  module _ (name : List ℕ) (call : Came go_as (IsGoing (Some name) shelf old new) outcome) where
+    -- what this answer tells
+    told_go : (other : Outcome) → outcome ≡ other → going.Told (Some name) shelf old new other
+    told_go other same = subst (going.Told (Some name) shelf old new) same (going.tells (Some name) shelf old new outcome call)
 
     pub go_done : outcome ≡ Done → IsProgram (Some name) shelf.holds (λ t. IsWholeRun Jobs t (built t) old.rest new.rest old.written new.written)
-    go_done same = went Done same tt done_memory
+    go_done same = told_go Done same
 
     pub go_rows : GoRows name shelf old new outcome
     go_rows = record {
-      script = λ f same. went (Script f) same tt (script_memory f);
-      read = λ same.
-          let p = went Read same tt read_memory in
-          (p.has.fact.0, going.IsProgram-map (Some name) shelf.holds (λ t. IsRun Jobs t (built t) old new Read) (λ t. IsCutRun Jobs t (built t) old.rest old.written new.written) (λ t r. r.1) p);
-      write = λ same.
-          let p = went Write same tt write_memory in
-          (p.has.fact.0, going.IsProgram-map (Some name) shelf.holds (λ t. IsRun Jobs t (built t) old new Write) (λ t. IsCutRun Jobs t (built t) old.rest old.written new.written) (λ t r. r.1) p);
+      script = λ f same. told_go (Script f) same;
+      read = λ same. told_go Read same;
+      write = λ same. told_go Write same;
       long_file = λ bytes given long. going.long_file (Some name) shelf old new bytes given outcome call long;
-      faulty_source = λ bytes given f told few is. going.faulty_source (Some name) shelf old new bytes given f told is few outcome call;
-      bad_script = λ t ready s f events told bad quiet still. elim (run_of t ready) [
-        | inl r ↦ bad_run Jobs t (built t) old new s told f events bad quiet still outcome r
-        | inr m ↦ inr m
-      ];
-      complete = λ t ready s events end told whole quiet still. elim (run_of t ready) [
-        | inl r ↦ whole_run Jobs t (built t) old new s told events end whole quiet still outcome r
-        | inr m ↦ inr m
-      ];
+      faulty_source = λ bytes given f known few is. going.faulty_source (Some name) shelf old new bytes given f known is few outcome call;
+      bad_script = λ t ready s f events told bad quiet still.
+          going.of_ready (Some name) shelf old new t ready (Script f) (bad_run Jobs t (built t) old new s told f events bad quiet still) outcome call;
+      complete = λ t ready s events end told whole quiet still.
+          going.of_ready (Some name) shelf old new t ready Done (whole_run Jobs t (built t) old new s told events end whole quiet still) outcome call;
     }
 
   -- ---- `compile`

@@ -1,6 +1,6 @@
 -- From what a command came to, to its answer.
 use Rattle.std.proofs.Common.{◌≡◌, ◌∙◌, List, ℕ, Option, Ok, Err, sym, ap, subst, inl, inr}
-use Rattle.htl_top.proofs.Vocabulary.{Tables, Object, Files, Streams, IsAcceptedFile, IsObjectTables, IsOnObject, IsStopped, SpeaksOf, Work, Outcome}
+use Rattle.htl_top.proofs.Vocabulary.{Tables, Object, Files, Streams, IsAcceptedFile, IsObjectTables, IsOnObject, IsOrMemory, IsStopped, SpeaksOf, Work, Outcome}
 use Rattle.htl_open.specs.Stops.{IsUnopened}
 use Rattle.htl_open.specs.declared.stop.OpenStop.{OpenStop}
 use Rattle.htl_open.specs.declared.stop.OpenStop.TheVariants as open_stop
@@ -17,6 +17,12 @@ use Rattle.htl_top.specs.declared.stop.OnObject.TheVariants as on
 pub unless : {A P : Type 0} (of : A → Outcome) (r one : Ended A) (outcome told : Outcome) → outcome ≡ ended_as of r → ended_as of one ≡ told
     → ((r ≡ one → ⊥) → P) → (outcome ≡ told → ⊥) → P
 unless of r one outcome told is same kept apart = kept (λ e. apart (is ∙ ap (ended_as of) e ∙ same))
+
+-- ---- what must come
+
+pub must : {A : Type 0} (of : A → Outcome) (Is : Ended A → Type 0) (outcome wanted : Outcome) → Came of Is outcome
+    → ((r : Ended A) → Is r → IsOrMemory (ended_as of r) wanted) → IsOrMemory outcome wanted
+must of Is outcome wanted call is = subst (λ (o : Outcome). IsOrMemory o wanted) (sym call.is) (is call.result call.came)
 
 -- ---- no accepted object
 

@@ -113,7 +113,7 @@ pub use Rattle.htl_top.specs.CompilingOn.{IsBytesCompiledOn, IsCompileCause, IsC
 pub use Rattle.htl_top.specs.ErrorLines.{IsFaultTold, IsLineTold, IsPatchFaultTold, SpeaksOf}
 pub use Rattle.htl_top.specs.Fetching.{IsOfFetch, IsUnfetched, IsUnhad}
 pub use Rattle.htl_top.specs.Files.{IsFileOf, IsHad, IsReadyFile}
-pub use Rattle.htl_top.specs.Going.{IsBytesGoing, IsGoing, IsReadySource, IsUncompiled}
+pub use Rattle.htl_top.specs.Going.{IsGoing, IsReadySource, IsUncompiled}
 pub use Rattle.htl_top.specs.JobLaws.{GoJobLinesAreFound, GoShowsJobLines, GoTellsJobsInTime}
 pub use Rattle.htl_top.specs.Laws.{EarlierReadingsDecideTexts, EarlierReadingsDecideValues, GoKeepsDeadlines, GoShowsTheMeaning, read_where}
 pub use Rattle.htl_top.specs.Objects.{IsOnObject, IsStopped, Work}

@@ -12,12 +12,13 @@ use Rattle.htl_top.specs.Going.{IsGoing}
 use Rattle.htl_open.specs.Objects.{IsObjectTables}
 use Rattle.htl_top.specs.Objects.{IsOnObject, IsTextCall}
 use Rattle.htl_top.specs.PatchedFiles.{IsPatching, IsPatchedTables}
-use Rattle.htl_top.specs.Planned.{IsPlanned}
-use Rattle.htl_top.specs.Runs.{IsRun}
+use Rattle.htl_top.specs.Planned.{IsPlannedOnFile}
+use Rattle.htl_top.specs.Runs.{IsRunOnFile}
 use Rattle.htl_top.specs.Shown.{show_text}
 use Rattle.htl_top.specs.Slacked.{IsSlacked}
 use Rattle.htl_top.specs.Sources.{IsTypedProgram, IsTypedInput}
 use Rattle.htl_top.specs.SourcesOn.{IsTypedOn}
+use Rattle.htl_top.specs.Stops.{Came, go_as, object_as, run_as}
 use Rattle.htl_top.specs.Words.{Command, Go, Compile, CompileWith, Run, Check, Plan, Show, Bulk, Slack, Audit, Patch}
 use Rattle.htl_top.specs.declared.outcome.Outcome.{Outcome}
 use Rattle.htl_top.specs.declared.outcome.Outcome.TheVariants.{Usage}
@@ -25,12 +26,12 @@ use Rattle.htl_top.specs.declared.outcome.Outcome.TheVariants.{Usage}
 -- no command: nothing was read and nothing written
 abbrev pub IsCall : Option Command → Files → Streams → Streams → Outcome → Type 0
 IsCall None shelf old new outcome = (outcome ≡ Usage) × IsUntouched old new
-IsCall (Some (Go name)) shelf old new outcome = IsGoing (Some name) shelf old new outcome
+IsCall (Some (Go name)) shelf old new outcome = Came go_as (IsGoing (Some name) shelf old new) outcome
 IsCall (Some Compile) shelf old new outcome = IsCompiling old new outcome
 IsCall (Some (CompileWith platform)) shelf old new outcome = IsCompilingOn (Some platform) shelf old new outcome
-IsCall (Some (Run show name)) shelf old new outcome = IsOnObject (λ o. IsRun show o.tables o) (Some name) shelf old new outcome
+IsCall (Some (Run show name)) shelf old new outcome = Came (object_as run_as) (IsRunOnFile show (Some name) shelf old new) outcome
 IsCall (Some (Check name)) shelf old new outcome = IsTextCall (λ o. check_text o.tables) (Some name) shelf old new outcome
-IsCall (Some (Plan name)) shelf old new outcome = IsOnObject IsPlanned (Some name) shelf old new outcome
+IsCall (Some (Plan name)) shelf old new outcome = Came (object_as run_as) (IsPlannedOnFile (Some name) shelf old new) outcome
 IsCall (Some (Show name)) shelf old new outcome = IsTextCall show_text (Some name) shelf old new outcome
 IsCall (Some (Bulk n)) shelf old new outcome = IsBulked n old new outcome
 IsCall (Some (Slack name owner task)) shelf old new outcome = IsOnObject (IsSlacked owner task) (Some name) shelf old new outcome

@@ -1,12 +1,16 @@
 -- What `plan` answers of an accepted object.
-use Rattle.std.specs.Prelude.{ℕ, ◌≡◌, List, Option}
+use Rattle.std.specs.Prelude.{ℕ, ◌≡◌, List, Option, Ok, Err}
 use Rattle.htl_top.specs.Common.{append_known, Rose, AppendsPrefix, none_left, Tables, Object, OfScript, ScriptFault}
 use Rattle.htl_model.specs.Selected.{IsSelection}
-use Rattle.htl_top.specs.Answers.{IsUntouched}
-use Rattle.htl_top.specs.Objects.{Work}
+use Rattle.htl_open.specs.Files.{Files}
+use Rattle.htl_top.specs.Answers.{Streams, IsUntouched}
+use Rattle.htl_top.specs.Objects.{IsOnFile}
+use Rattle.htl_top.specs.Stops.{Ended}
+use Rattle.htl_top.specs.declared.stop.OnObject.{OnObject}
+use Rattle.htl_top.specs.declared.stop.RunStop.{RunStop}
 use Rattle.htl_plan.specs.Plans.{plan_text}
 use Rattle.htl_plan.specs.SelectionInput.{Whole, Bad, input_of}
-use Rattle.htl_top.specs.declared.outcome.Outcome.TheVariants.{Done, Script, Read, Write, Memory}
+use Rattle.htl_top.specs.declared.stop.RunStop.TheVariants.{Script, Read, Write, Memory}
 
 -- The input says this selection of running modes: it is some bytes that do, and where it tells what it has left, it is that.
 pub record IsSelected (t : Tables) (rest : Option (List ℕ)) (modes : List (Option ℕ)) : Type 0 where
@@ -31,10 +35,13 @@ abbrev pub IsBadSelection : Object → Option (List ℕ) → ScriptFault → Typ
 IsBadSelection o rest f = OfScript rest (λ bytes. input_of o.tables bytes ≡ Bad f.line f.kind)
 
 -- the selection is read, and its plan is written
-abbrev pub IsPlanned : Work
-IsPlanned o old new Done = IsWholePlan o old.rest new.rest old.written new.written
-IsPlanned o old new (Script f) = IsBadSelection o old.rest f × (new.written ≡ old.written)
-IsPlanned o old new Read = Rose old.read_faults new.read_faults × (new.written ≡ old.written)
-IsPlanned o old new Write = Rose old.write_faults new.write_faults × IsCutPlan o old.rest old.written new.written
-IsPlanned o old new Memory = IsUntouched old new
-IsPlanned o old new _ = ⊥
+abbrev pub IsPlanned : Object → Streams → Streams → Ended RunStop → Type 0
+IsPlanned o old new (Ok done) = IsWholePlan o old.rest new.rest old.written new.written
+IsPlanned o old new (Err (Script f)) = IsBadSelection o old.rest f × (new.written ≡ old.written)
+IsPlanned o old new (Err Read) = Rose old.read_faults new.read_faults × (new.written ≡ old.written)
+IsPlanned o old new (Err Write) = Rose old.write_faults new.write_faults × IsCutPlan o old.rest old.written new.written
+IsPlanned o old new (Err Memory) = IsUntouched old new
+
+-- An accepted object was had, and planned; or none was had, nothing was read and nothing written.
+abbrev pub IsPlannedOnFile : Option (List ℕ) → Files → Streams → Streams → Ended (OnObject RunStop) → Type 0
+IsPlannedOnFile name shelf old new r = IsOnFile (λ o. IsPlanned o old new) (IsUntouched old new) name shelf r

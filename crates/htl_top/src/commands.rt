@@ -9,7 +9,7 @@ ghost use Rattle.htl_top.specs.Words.{asked_for, command_in, most_taken, with_fi
 ghost use Rattle.htl_open.specs.declared.stop.ShelfCause.TheVariants as cause;
 
 use crate::Outcome;
-use crate::answer::{Answer, of_text};
+use crate::answer::{Answer, of_go, of_run, of_text};
 use crate::audit::audit_file;
 use crate::bulk::bulk;
 use crate::check::check_file;
@@ -107,12 +107,12 @@ fn about_file<S: Shelf, R: Source, W: Sink>(
     ensures write_count { (result.outcome ≡ Outcome.Write → ⊥) → W.faults out.new ≡ W.faults out.old }
 {
     match verb {
-        Verb::Go => go_file(alloc, name, shelf, input, out),
-        Verb::Run => run_file(alloc, name, Shown::Values, shelf, input, out),
-        Verb::Jobs => run_file(alloc, name, Shown::Jobs, shelf, input, out),
-        Verb::Code => run_file(alloc, name, Shown::Code, shelf, input, out),
+        Verb::Go => of_go(go_file(alloc, name, shelf, input, out)),
+        Verb::Run => of_run(run_file(alloc, name, Shown::Values, shelf, input, out)),
+        Verb::Jobs => of_run(run_file(alloc, name, Shown::Jobs, shelf, input, out)),
+        Verb::Code => of_run(run_file(alloc, name, Shown::Code, shelf, input, out)),
         Verb::Check => of_text(check_file(alloc, name, shelf, out)),
-        Verb::Plan => plan_file(alloc, name, shelf, input, out),
+        Verb::Plan => of_run(plan_file(alloc, name, shelf, input, out)),
         Verb::Show => of_text(show_file(alloc, name, shelf, out)),
     }
 }

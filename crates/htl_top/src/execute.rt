@@ -1,12 +1,12 @@
 // An accepted object, run with the input as script.
-ghost use Rattle.std.specs.Prelude.{◌≡◌, ◌+◌};
+ghost use Rattle.std.specs.Prelude.{◌≡◌, ◌+◌, Err};
 ghost use Rattle.htl_base.specs.declared.limits.TheConstants as limit;
 ghost use Rattle.htl_script.specs.Reading.{LosesFront};
 ghost use Rattle.htl_top.specs.Answers.{streams};
 ghost use Rattle.htl_top.specs.Runs.{IsRun};
 
-use crate::Outcome;
 use crate::play::play;
+use crate::stop::RunStop;
 use htl_console::Shown;
 use htl_edge::{Sink, Source};
 use htl_load::Loaded;
@@ -20,16 +20,16 @@ pub fn execute<R: Source, W: Sink>(
     show: Shown,
     input: &mut R,
     out: &mut W,
-) -> Outcome
+) -> Result<(), RunStop>
     ensures answer { IsRun show l.now.tables l.now
         (streams R.rest R.faults W.written W.faults input.old out.old) (streams R.rest R.faults W.written W.faults input.new out.new)
         result }
     ensures taken { LosesFront (limit.MAX_SCRIPT + 256) (R.rest input.old) (R.rest input.new) }
-    ensures read_count { (result ≡ Outcome.Read → ⊥) → R.faults input.new ≡ R.faults input.old }
-    ensures write_count { (result ≡ Outcome.Write → ⊥) → W.faults out.new ≡ W.faults out.old }
+    ensures read_count { (result ≡ Err RunStop.Read → ⊥) → R.faults input.new ≡ R.faults input.old }
+    ensures write_count { (result ≡ Err RunStop.Write → ⊥) → W.faults out.new ≡ W.faults out.old }
 {
     let Ok(mut machine) = Machine::new(alloc, l, show) else {
-        return Outcome::Memory;
+        return Err(RunStop::Memory);
     };
     play(&mut machine, l.tables(), input, out)
 }

@@ -1,27 +1,24 @@
 // The command `go`: a source, compiled, loaded and run.
-ghost use Rattle.std.specs.Prelude.{◌≡◌, ◌≤◌, ◌+◌, List, ℕ, Some, length};
+ghost use Rattle.std.specs.Prelude.{◌≡◌, ◌≤◌, ◌+◌, Err, List, Option, ℕ, Some, length};
 ghost use Rattle.htl_base.specs.declared.limits.TheConstants as limit;
 ghost use Rattle.htl_compile.specs.Building.{IsCompiledTo};
 ghost use Rattle.htl_compile.specs.Built.{built};
 ghost use Rattle.htl_console.specs.declared.shown.Shown.TheVariants as shown;
 ghost use Rattle.htl_script.specs.Reading.{LosesFront};
-ghost use Rattle.htl_open.specs.Files.{files};
-ghost use Rattle.htl_top.specs.Answers.{streams};
-ghost use Rattle.htl_top.specs.Going.{IsGoing, IsBytesGoing};
-ghost use Rattle.htl_top.specs.Runs.{IsRun};
-ghost use Rattle.htl_compile.specs.Stops.{HasTypedTables};
-ghost use Rattle.htl_top.specs.Sources.{IsTypedProgram};
-ghost use Rattle.htl_top.specs.ErrorLines.{SpeaksOf};
+ghost use Rattle.htl_open.specs.Files.{Files, files};
+ghost use Rattle.htl_open.specs.declared.stop.FetchStop.TheVariants as fetch;
 ghost use Rattle.htl_open.specs.declared.stop.ShelfCause.TheVariants as cause;
+ghost use Rattle.htl_top.specs.Answers.{streams};
+ghost use Rattle.htl_top.specs.Causes.{IsSource};
+ghost use Rattle.htl_top.specs.Going.{IsGoing};
+ghost use Rattle.htl_top.specs.Runs.{IsRun};
 
-use crate::answer::Answer;
 use crate::execute::execute;
-use crate::source::source_answer;
-use crate::{Outcome, ShelfCause};
-use htl_base::limits::MAX_SOURCE;
+use crate::source::fetch_source;
+use crate::stop::{GoStop, RunStop};
 use htl_compile::compile_source;
 use htl_console::Shown;
-use htl_edge::{Shelf, ShelfFault, Sink, Source};
+use htl_edge::{Shelf, Sink, Source};
 use htl_load::{LoadFault, load};
 use std::alloc::Global;
 
@@ -32,42 +29,44 @@ pub fn go_file<S: Shelf, R: Source, W: Sink>(
     shelf: &mut S,
     input: &mut R,
     out: &mut W,
-) -> Answer
+) -> Result<(), GoStop>
     ensures answer { IsGoing (Some name.now)
         (files S.holds S.faults shelf.old shelf.new)
         (streams R.rest R.faults W.written W.faults input.old out.old) (streams R.rest R.faults W.written W.faults input.new out.new)
-        result.outcome }
-    ensures tables { SpeaksOf (IsTypedProgram (Some name.now) (S.holds shelf.old)) (λ fact. ⊥) result.outcome result.tables }
+        result }
     ensures taken { LosesFront (limit.MAX_SCRIPT + 256) (R.rest input.old) (R.rest input.new) }
     ensures shelf { S.holds shelf.new ≡ S.holds shelf.old }
-    ensures shelf_count { (result.outcome ≡ Outcome.Shelf cause.Failed → ⊥) → (file : List ℕ) → S.faults shelf.new file ≡ S.faults shelf.old file }
-    ensures read_count { (result.outcome ≡ Outcome.Read → ⊥) → R.faults input.new ≡ R.faults input.old }
-    ensures write_count { (result.outcome ≡ Outcome.Write → ⊥) → W.faults out.new ≡ W.faults out.old }
+    ensures shelf_count { (result ≡ Err (GoStop.File (fetch.Shelf cause.Failed)) → ⊥) → (file : List ℕ) → S.faults shelf.new file ≡ S.faults shelf.old file }
+    ensures read_count { (result ≡ Err (GoStop.Run RunStop.Read) → ⊥) → R.faults input.new ≡ R.faults input.old }
+    ensures write_count { (result ≡ Err (GoStop.Run RunStop.Write) → ⊥) → W.faults out.new ≡ W.faults out.old }
 {
-    match shelf.fetch(alloc, name, MAX_SOURCE) {
+    match fetch_source(alloc, name, shelf) {
         Ok(bytes) => go(alloc, bytes.as_slice(), input, out),
-        Err(ShelfFault::Failed) => Answer::plain(Outcome::Shelf(ShelfCause::Failed)),
-        Err(ShelfFault::TooLong { seen }) => {
-            Answer::plain(Outcome::Shelf(ShelfCause::TooLong { seen }))
-        }
-        Err(ShelfFault::Memory) => Answer::plain(Outcome::Memory),
+        Err(stop) => Err(GoStop::File(stop)),
     }
 }
 
 // Compiles a source and runs its object.
-fn go<R: Source, W: Sink>(alloc: Global, bytes: &[u8], input: &mut R, out: &mut W) -> Answer
+fn go<R: Source, W: Sink>(
+    alloc: Global,
+    bytes: &[u8],
+    input: &mut R,
+    out: &mut W,
+) -> Result<(), GoStop>
     requires { length bytes.now ≤ limit.MAX_SOURCE }
-    ensures answer { IsBytesGoing bytes.now
+    ensures answer { (name : Option (List ℕ)) (shelf : Files) → IsSource name shelf.holds bytes.now → IsGoing name shelf
         (streams R.rest R.faults W.written W.faults input.old out.old) (streams R.rest R.faults W.written W.faults input.new out.new)
-        result.outcome }
-    ensures tables { SpeaksOf (HasTypedTables bytes.now) (λ fact. ⊥) result.outcome result.tables }
+        result }
     ensures taken { LosesFront (limit.MAX_SCRIPT + 256) (R.rest input.old) (R.rest input.new) }
-    ensures read_count { (result.outcome ≡ Outcome.Read → ⊥) → R.faults input.new ≡ R.faults input.old }
-    ensures write_count { (result.outcome ≡ Outcome.Write → ⊥) → W.faults out.new ≡ W.faults out.old }
+    ensures read_count { (result ≡ Err (GoStop.Run RunStop.Read) → ⊥) → R.faults input.new ≡ R.faults input.old }
+    ensures write_count { (result ≡ Err (GoStop.Run RunStop.Write) → ⊥) → W.faults out.new ≡ W.faults out.old }
 {
     match compile_source(alloc, bytes) {
-        Ok(object) => Answer::plain(run_compiled(alloc, object.as_slice(), input, out)),
-        Err(stop) => source_answer(stop),
+        Ok(object) => match run_compiled(alloc, object.as_slice(), input, out) {
+            Ok(()) => Ok(()),
+            Err(stop) => Err(GoStop::Run(stop)),
+        },
+        Err(stop) => Err(GoStop::Source(stop)),
     }
 }
 
@@ -77,18 +76,18 @@ fn run_compiled<R: Source, W: Sink>(
     object: &[u8],
     input: &mut R,
     out: &mut W,
-) -> Outcome
+) -> Result<(), RunStop>
     requires { (source : List ℕ) × IsCompiledTo source object.now }
     ensures answer { (source : List ℕ) (compiled : IsCompiledTo source object.now) → IsRun shown.Jobs compiled.tables (built compiled.tables)
         (streams R.rest R.faults W.written W.faults input.old out.old) (streams R.rest R.faults W.written W.faults input.new out.new)
         result }
     ensures taken { LosesFront (limit.MAX_SCRIPT + 256) (R.rest input.old) (R.rest input.new) }
-    ensures read_count { (result ≡ Outcome.Read → ⊥) → R.faults input.new ≡ R.faults input.old }
-    ensures write_count { (result ≡ Outcome.Write → ⊥) → W.faults out.new ≡ W.faults out.old }
+    ensures read_count { (result ≡ Err RunStop.Read → ⊥) → R.faults input.new ≡ R.faults input.old }
+    ensures write_count { (result ≡ Err RunStop.Write → ⊥) → W.faults out.new ≡ W.faults out.old }
 {
     match load(alloc, object) {
         Ok(loaded) => execute(alloc, &loaded, Shown::Jobs, input, out),
         Err(LoadFault::Refused(_)) => unreachable!(),
-        Err(LoadFault::Memory) => Outcome::Memory,
+        Err(LoadFault::Memory) => Err(RunStop::Memory),
     }
 }

@@ -1,43 +1,45 @@
 // The command `plan`: one frame at a selection of running modes.
-ghost use Rattle.std.specs.Prelude.{◌≡◌, ◌+◌, ℕ, List, Some};
+ghost use Rattle.std.specs.Prelude.{◌≡◌, ◌+◌, ℕ, Err, List, Some};
 ghost use Rattle.htl_base.specs.declared.limits.TheConstants as limit;
 ghost use Rattle.htl_script.specs.Reading.{LosesFront};
 ghost use Rattle.htl_open.specs.Files.{files};
-ghost use Rattle.htl_top.specs.Answers.{streams};
-ghost use Rattle.htl_open.specs.Objects.{IsObjectTables};
-ghost use Rattle.htl_top.specs.Objects.{IsOnObject};
-ghost use Rattle.htl_top.specs.Planned.{IsPlanned};
-ghost use Rattle.htl_top.specs.ErrorLines.{SpeaksOf};
+ghost use Rattle.htl_open.specs.declared.stop.OpenStop.TheVariants as open_stop;
 ghost use Rattle.htl_open.specs.declared.stop.ShelfCause.TheVariants as cause;
+ghost use Rattle.htl_top.specs.Answers.{streams};
+ghost use Rattle.htl_top.specs.Planned.{IsPlanned, IsPlannedOnFile};
 
-use crate::Outcome;
-use crate::answer::Answer;
-use crate::object::open;
+use crate::stop::{OnObject, RunStop};
 use htl_edge::{Shelf, Sink, Source};
 use htl_load::Loaded;
+use htl_open::object::open;
 use htl_plan::{no_modes, read_selection, write_plan};
 use htl_script::ScriptStop;
 use std::alloc::Global;
 
 // Reads a selection of running modes, and writes its plan.
-fn plan<R: Source, W: Sink>(alloc: Global, l: &Loaded, input: &mut R, out: &mut W) -> Outcome
+fn plan<R: Source, W: Sink>(
+    alloc: Global,
+    l: &Loaded,
+    input: &mut R,
+    out: &mut W,
+) -> Result<(), RunStop>
     ensures answer { IsPlanned l.now
         (streams R.rest R.faults W.written W.faults input.old out.old) (streams R.rest R.faults W.written W.faults input.new out.new)
         result }
     ensures taken { LosesFront (limit.MAX_SCRIPT + 256) (R.rest input.old) (R.rest input.new) }
-    ensures read_count { (result ≡ Outcome.Read → ⊥) → R.faults input.new ≡ R.faults input.old }
-    ensures write_count { (result ≡ Outcome.Write → ⊥) → W.faults out.new ≡ W.faults out.old }
+    ensures read_count { (result ≡ Err RunStop.Read → ⊥) → R.faults input.new ≡ R.faults input.old }
+    ensures write_count { (result ≡ Err RunStop.Write → ⊥) → W.faults out.new ≡ W.faults out.old }
 {
     let Ok(mut selection) = no_modes(alloc, l.tables()) else {
-        return Outcome::Memory;
+        return Err(RunStop::Memory);
     };
     match read_selection(input, l.tables(), &mut selection) {
         Ok(()) => match write_plan(out, l, &selection) {
-            Ok(()) => Outcome::Done,
-            Err(_) => Outcome::Write,
+            Ok(()) => Ok(()),
+            Err(_) => Err(RunStop::Write),
         },
-        Err(ScriptStop::Script(fault)) => Outcome::Script(fault),
-        Err(ScriptStop::Read) => Outcome::Read,
+        Err(ScriptStop::Script(fault)) => Err(RunStop::Script(fault)),
+        Err(ScriptStop::Read) => Err(RunStop::Read),
     }
 }
 
@@ -49,19 +51,19 @@ pub fn plan_file<S: Shelf, R: Source, W: Sink>(
     shelf: &mut S,
     input: &mut R,
     out: &mut W,
-) -> Answer
-    ensures answer { IsOnObject IsPlanned (Some name.now) (files S.holds S.faults shelf.old shelf.new)
+) -> Result<(), OnObject<RunStop>>
+    ensures answer { IsPlannedOnFile (Some name.now) (files S.holds S.faults shelf.old shelf.new)
         (streams R.rest R.faults W.written W.faults input.old out.old) (streams R.rest R.faults W.written W.faults input.new out.new)
-        result.outcome }
-    ensures tables { SpeaksOf (λ fact. ⊥) (IsObjectTables (Some name.now) (S.holds shelf.old)) result.outcome result.tables }
+        result }
     ensures taken { LosesFront (limit.MAX_SCRIPT + 256) (R.rest input.old) (R.rest input.new) }
     ensures shelf { S.holds shelf.new ≡ S.holds shelf.old }
-    ensures shelf_count { (result.outcome ≡ Outcome.Shelf cause.Failed → ⊥) → (file : List ℕ) → S.faults shelf.new file ≡ S.faults shelf.old file }
-    ensures read_count { (result.outcome ≡ Outcome.Read → ⊥) → R.faults input.new ≡ R.faults input.old }
-    ensures write_count { (result.outcome ≡ Outcome.Write → ⊥) → W.faults out.new ≡ W.faults out.old }
+    ensures shelf_count { (result ≡ Err (OnObject.Open (open_stop.Shelf cause.Failed)) → ⊥) → (file : List ℕ) → S.faults shelf.new file ≡ S.faults shelf.old file }
+    ensures read_count { (result ≡ Err (OnObject.Work RunStop.Read) → ⊥) → R.faults input.new ≡ R.faults input.old }
+    ensures write_count { (result ≡ Err (OnObject.Work RunStop.Write) → ⊥) → W.faults out.new ≡ W.faults out.old }
 {
-    match open(alloc, name, shelf) {
-        Ok(loaded) => Answer::plain(plan(alloc, &loaded, input, out)),
-        Err(answer) => answer,
+    let loaded = open(alloc, name, shelf)?;
+    match plan(alloc, &loaded, input, out) {
+        Ok(()) => Ok(()),
+        Err(stop) => Err(OnObject::Work(stop)),
     }
 }

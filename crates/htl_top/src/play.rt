@@ -1,5 +1,5 @@
 // The events of a script, told to a machine as they are read.
-ghost use Rattle.std.specs.Prelude.{◌≡◌, ◌+◌, [], List, OnOk};
+ghost use Rattle.std.specs.Prelude.{◌≡◌, ◌+◌, [], Err, List, OnOk};
 ghost use Rattle.htl_base.specs.declared.limits.TheConstants as limit;
 ghost use Rattle.htl_edge.specs.Content.{Puts};
 ghost use Rattle.htl_machine.specs.Calls.{Follows, IsSameRun};
@@ -12,7 +12,7 @@ ghost use Rattle.htl_top.specs.Answers.{streams};
 ghost use Rattle.htl_top.specs.Playing.{IsNext, IsBehind, text_more};
 ghost use Rattle.htl_top.specs.Runs.{IsRun};
 
-use crate::Outcome;
+use crate::stop::RunStop;
 use htl_console::line_end;
 use htl_edge::{Failed, Sink, Source};
 use htl_machine::Machine;
@@ -26,7 +26,7 @@ pub fn play<R: Source, W: Sink>(
     t: &Tables,
     input: &mut R,
     out: &mut W,
-) -> Outcome
+) -> Result<(), RunStop>
     requires follows { Follows machine.old [] }
     requires accepted { IsAccepted machine.old.object }
     requires tables { t.now ≡ machine.old.object.tables }
@@ -34,25 +34,25 @@ pub fn play<R: Source, W: Sink>(
         (streams R.rest R.faults W.written W.faults input.old out.old) (streams R.rest R.faults W.written W.faults input.new out.new)
         result }
     ensures taken { LosesFront (limit.MAX_SCRIPT + 256) (R.rest input.old) (R.rest input.new) }
-    ensures read_count { (result ≡ Outcome.Read → ⊥) → R.faults input.new ≡ R.faults input.old }
-    ensures write_count { (result ≡ Outcome.Write → ⊥) → W.faults out.new ≡ W.faults out.old }
+    ensures read_count { (result ≡ Err RunStop.Read → ⊥) → R.faults input.new ≡ R.faults input.old }
+    ensures write_count { (result ≡ Err RunStop.Write → ⊥) → W.faults out.new ≡ W.faults out.old }
 {
     let mut script = Script::new();
     'events: loop {
         match script.next(input, t) {
             Ok(Some(event)) => {
                 if let Err(_) = tell(machine, event, out) {
-                    return Outcome::Write;
+                    return Err(RunStop::Write);
                 }
             }
             Ok(None) => {
                 return match write_totals(machine, out) {
-                    Ok(()) => Outcome::Done,
-                    Err(_) => Outcome::Write,
+                    Ok(()) => Ok(()),
+                    Err(_) => Err(RunStop::Write),
                 };
             }
-            Err(ScriptStop::Script(fault)) => return Outcome::Script(fault),
-            Err(ScriptStop::Read) => return Outcome::Read,
+            Err(ScriptStop::Script(fault)) => return Err(RunStop::Script(fault)),
+            Err(ScriptStop::Read) => return Err(RunStop::Read),
         }
     }
 }

@@ -107,36 +107,3 @@ pub enum GoStop {
     /// The run of its object stops.
     Run(RunStop),
 }
-
-impl From<FetchStop> for GoStop {
-    ghost use Rattle.std.specs.Prelude.{◌≡◌};
-    ghost use Rattle.htl_top.specs.declared.stop.GoStop.TheVariants as go;
-
-    ghost from_gives = { λ file stop. stop ≡ go.File file };
-
-    fn from(file: FetchStop) -> GoStop {
-        GoStop::File(file)
-    }
-}
-
-impl From<SourceStop> for GoStop {
-    ghost use Rattle.std.specs.Prelude.{◌≡◌};
-    ghost use Rattle.htl_top.specs.declared.stop.GoStop.TheVariants as go;
-
-    ghost from_gives = { λ source stop. stop ≡ go.Source source };
-
-    fn from(source: SourceStop) -> GoStop {
-        GoStop::Source(source)
-    }
-}
-
-impl From<RunStop> for GoStop {
-    ghost use Rattle.std.specs.Prelude.{◌≡◌};
-    ghost use Rattle.htl_top.specs.declared.stop.GoStop.TheVariants as go;
-
-    ghost from_gives = { λ run stop. stop ≡ go.Run run };
-
-    fn from(run: RunStop) -> GoStop {
-        GoStop::Run(run)
-    }
-}
