@@ -3,11 +3,13 @@ use Rattle.std.proofs.Common.{◌≡◌, ◌<◌, ◌⊎◌, ℕ, List, length, 
 use Rattle.htl_top.proofs.Vocabulary.{check_text, show_text, IsFirstFault, IsLegal, ReadLog, RefusedLog, log_of, LogFault, Slice, Values, Rose, Tables, Event, Object, ScriptFault, Files, Streams, IsUnhad, IsFileOf, IsReadyFile, HasLog, HasSlices, IsAudit, IsAuditOf, IsAuditRun, IsCutAudit, IsLogCause, IsLogRefused, IsWholeAudit, IsGiven, IsOrMemory, IsAcceptedFile, IsReadyObject, IsFaultyRun, IsWhole, IsBad, Command, Go, Compile, CompileWith, Run, Check, Plan, Show, Bulk, Slack, Audit, Patch, Outcome, Done, Usage, Log, Faulty, Shelf, Read, Write, Memory, TooLong}
 use Rattle.htl_top.proofs.Auditing as auditing
 use Rattle.htl_top.proofs.AuditScripts as scripts
+use Rattle.htl_top.proofs.Bulking as bulking
 use Rattle.htl_top.proofs.Going as going
 use Rattle.htl_top.proofs.ObjectAnswering as objects
 use Rattle.htl_top.proofs.Planning.{PlanOf, planning}
 use Rattle.htl_top.proofs.Running.{RunOf, running}
 use Rattle.htl_top.proofs.Seen.{IsSeen}
+use Rattle.htl_top.proofs.Slacking.{slacking}
 use Rattle.htl_top.proofs.Telling.{no_put}
 use Rattle.htl_top.specs.ObjectRows.{AuditRows}
 
@@ -75,8 +77,8 @@ module _ (shelf : Files) (old new : Streams) where
   log_cause (Some (Go name)) f call = going.tells (Some name) shelf old new (Log f) call
   log_cause (Some Compile) f call = call
   log_cause (Some (CompileWith file)) f call = call
-  log_cause (Some (Bulk n)) f call = call
-  log_cause (Some (Slack name owner task)) f call = elim call [ inl a ↦ a.fact.1 | inr s ↦ s.0 ]
+  log_cause (Some (Bulk n)) f call = bulking.only n old new (Log f) call
+  log_cause (Some (Slack name owner task)) f call = elim call [ inl a ↦ (slacking owner task).only a.object old new (Log f) a.fact | inr s ↦ s.0 ]
   log_cause (Some (Patch name unit mode donor)) f call = elim call.1 [ inl a ↦ a.fact.fact | inr s ↦ s.0 ]
   log_cause (Some (Audit name log)) f call = elim call [ inl a ↦ a | inr s ↦ absurd s.0 ]
   log_cause (Some (Run show name)) f call = objects.stopped (RunOf show) (running show) (Some name) shelf old new (Log f) call (λ w. w)

@@ -1,13 +1,17 @@
 -- What `bulk` writes and answers.
-use Rattle.std.proofs.Common.{◌≡◌, ◌≤◌, ℕ, zero, suc, ◌*◌, List, [], ◌∷◌, ◌++◌, length, get_or, Option, None, Result, Ok, ℤ, refl, sym, ap, ap₂, ◌∙◌, subst, inl, inr}
-use Rattle.htl_top.proofs.Vocabulary.{AreSchedulable, AreTyped, Formed, IsCompileFault, IsNotCompiled, IsTablesOf, SourceStop, bulk_events, bulk_has_tables, bulk_sensor, comm_item, compile_only_memory, readings_of, sensor_comm, pos, slice_get, built_accepted, coded_runs, IsCompiledTo, bulk_bytes, built, CanBuild, coded, CompileFault, Rose, Puts, one_line, HasBytes, IsLoadedAs, sense_end, Seen, IsFinished, IsSensorValue, length-list_to, lines_text, line_text, up_to, History, first_value, history, newest, next_value, past, sense, state, Tables, Event, Line, ValueLine, State, IsAccepted, ObjectOf, flat_map, Streams, IsBeforeRun, IsWritten, IsOrMemory, HasTables, answer_of, Outcome, Done, Write, Memory}
+use Rattle.std.proofs.Common.{◌≡◌, ◌≤◌, ℕ, zero, suc, ◌*◌, List, [], ◌∷◌, ◌++◌, length, get_or, Option, None, Result, Ok, Err, ℤ, refl, sym, ap, ap₂, ◌∙◌, subst, inl, inr}
+use Rattle.htl_top.proofs.Vocabulary.{AreSchedulable, AreTyped, Formed, IsCompileFault, IsNotCompiled, IsTablesOf, SourceStop, bulk_events, bulk_has_tables, bulk_sensor, comm_item, compile_only_memory, readings_of, sensor_comm, pos, slice_get, built_accepted, coded_runs, IsCompiledTo, bulk_bytes, built, CanBuild, coded, CompileFault, Rose, Puts, one_line, HasBytes, IsLoadedAs, sense_end, Seen, IsFinished, IsSensorValue, length-list_to, lines_text, line_text, up_to, History, first_value, history, newest, next_value, past, sense, state, Tables, Event, Line, ValueLine, State, IsAccepted, ObjectOf, flat_map, Streams, append_known, AppendsPrefix, IsBeforeRun, IsOrMemory, HasTables, answer_of, Outcome, Done, Write, Memory}
 use mathlib.Core.Path.{fun_ext}
 use Rattle.htl_compile.specs.declared.compiling.CompileFault.TheVariants as compile
 use Rattle.htl_compile.specs.declared.stop.SourceStop.TheVariants as stop
 use Rattle.htl_model.specs.declared.event.Event.TheVariants as event
 use Rattle.htl_top.proofs.Executing.{finished_totals}
 use Rattle.htl_top.proofs.Meaning.{line_same}
+use Rattle.htl_top.proofs.Telling.{IsOfPut}
 use Rattle.htl_top.specs.Bulk.{value_at, values_text, totals_text, object_text, rounds_text, bulk_text, value_seen, seen_text, IsOutOfMemory, IsPut, IsBulkPut, IsBulked}
+use Rattle.htl_top.specs.Stops.{Ended, ended_as, put_as}
+use Rattle.htl_top.specs.declared.stop.PutStop.{PutStop}
+use Rattle.htl_top.specs.declared.stop.PutStop.TheVariants as put
 
 -- ---- what a finished machine has
 
@@ -101,58 +105,73 @@ loaded_sensor n bytes l compiled some few only x =
     subst (λ (o : ObjectOf). IsSensorValue o.tables 0 x) (sym (loaded_is (bulk_bytes n) bytes l compiled only)) (sensor_first n compiled.tables some few compiled.of x)
 
 -- and its text is theirs
-pub put_built : (bytes : List ℕ) (l : ObjectOf) (old new : Option (List ℕ)) (before now : ℕ) (outcome : Outcome) → ((o : ObjectOf) → HasBytes bytes o → IsAccepted o → IsLoadedAs o (Ok l))
-    → IsPut (object_text 100 l) old new before now outcome → (source : List ℕ) (compiled : IsCompiledTo source bytes) → IsPut (bulk_text compiled.tables) old new before now outcome
-put_built bytes l old new before now outcome only put source compiled =
+pub put_built : (bytes : List ℕ) (l : ObjectOf) (old new : Option (List ℕ)) (before now : ℕ) (r : Ended PutStop) → ((o : ObjectOf) → HasBytes bytes o → IsAccepted o → IsLoadedAs o (Ok l))
+    → IsPut (object_text 100 l) old new before now r → (source : List ℕ) (compiled : IsCompiledTo source bytes) → IsPut (bulk_text compiled.tables) old new before now r
+put_built bytes l old new before now r only put source compiled =
     let same = loaded_is source bytes l compiled only in
-    subst (λ (bs : List ℕ). IsPut bs old new before now outcome) (ap (object_text 100) same ∙ built_text 100 compiled.tables compiled.can) put
+    subst (λ (bs : List ℕ). IsPut bs old new before now r) (ap (object_text 100) same ∙ built_text 100 compiled.tables compiled.can) put
 
-pub bulk_put : (n : ℕ) (object slice : List ℕ) (old new : Option (List ℕ)) (before now : ℕ) (outcome : Outcome) → slice ≡ object → IsCompiledTo (bulk_bytes n) object
-    → ((k : ℕ) (compiled : IsCompiledTo (bulk_bytes k) slice) → IsPut (bulk_text compiled.tables) old new before now outcome) → IsBulkPut n old new before now outcome
-bulk_put n object slice old new before now outcome same compiled put =
+of_compiled : (n : ℕ) (slice : List ℕ) (here : IsCompiledTo (bulk_bytes n) slice) (old new : Option (List ℕ)) (before now : ℕ) (r : Ended PutStop)
+    → IsPut (bulk_text here.tables) old new before now r → IsBulkPut n old new before now r
+of_compiled n slice here old new before now (Ok done) is = record { tables = here.tables; of = here.of; can = here.can; fact = is }
+of_compiled n slice here old new before now (Err put.Write) is = (is.0, record { tables = here.tables; of = here.of; can = here.can; fact = is.1 })
+of_compiled n slice here old new before now (Err put.Memory) is = is
+
+pub bulk_put : (n : ℕ) (object slice : List ℕ) (old new : Option (List ℕ)) (before now : ℕ) (r : Ended PutStop) → slice ≡ object → IsCompiledTo (bulk_bytes n) object
+    → ((k : ℕ) (compiled : IsCompiledTo (bulk_bytes k) slice) → IsPut (bulk_text compiled.tables) old new before now r) → IsBulkPut n old new before now r
+bulk_put n object slice old new before now r same compiled told =
     let here : IsCompiledTo (bulk_bytes n) slice = subst (IsCompiledTo (bulk_bytes n)) (sym same) compiled in
-    elim (put n here) [
-      | inl written ↦ inl (record { tables = here.tables; of = here.of; can = here.can; fact = written })
-      | inr none ↦ inr none
-    ]
+    of_compiled n slice here old new before now r (told n here)
 
 -- ---- the answers
 
 module _ (n : ℕ) (old new : Streams) where
-  abbrev Text : Outcome → Tables → Type 0
-  Text outcome t = IsWritten (bulk_text t) Done old.written new.written old.write_faults new.write_faults outcome
+  abbrev Told : Ended PutStop → Type 0
+  Told r = IsBulkPut n old.written new.written old.write_faults new.write_faults r
 
-  by_text : (outcome : Outcome) → new.rest ≡ old.rest → (has : HasTables (bulk_bytes n) (Text outcome)) → IsBulked n old new outcome
-  by_text outcome rest has = elim has.fact [
-    | inl whole ↦ subst (IsBulked n old new) (sym whole.0) (rest, record { tables = has.tables; of = has.of; can = has.can; fact = whole.1 })
-    | inr part ↦ subst (IsBulked n old new) (sym part.0) (rest, part.1, record { tables = has.tables; of = has.of; can = has.can; fact = part.2 })
-  ]
+  of_put : (r : Ended PutStop) → IsOfPut (ended_as put_as r)
+  of_put (Ok done) = tt
+  of_put (Err put.Write) = tt
+  of_put (Err put.Memory) = tt
 
-  pub bulked_of : (outcome : Outcome) → new.rest ≡ old.rest → IsBulkPut n old.written new.written old.write_faults new.write_faults outcome → IsBulked n old new outcome
-  bulked_of outcome rest put = elim put [
-    | inl has ↦ by_text outcome rest has
-    | inr none ↦ subst (IsBulked n old new) (sym none.0) (record { rest = rest; written = none.1 })
-  ]
+  unwritten_by : (r : Ended PutStop) (outcome : Outcome) → outcome ≡ ended_as put_as r → Told r → IsBeforeRun outcome → new.written ≡ old.written
+  unwritten_by (Ok done) outcome is told early = absurd (subst IsBeforeRun is early)
+  unwritten_by (Err put.Write) outcome is told early = absurd (subst IsBeforeRun is early)
+  unwritten_by (Err put.Memory) outcome is told early = told
 
-  pub unread : (outcome : Outcome) → IsBulked n old new outcome → new.rest ≡ old.rest
-  unread Done b = b.0
-  unread Write b = b.0
-  unread Memory b = b.rest
-  unread _ b = absurd b
+  whole_by : (r : Ended PutStop) → Done ≡ ended_as put_as r → Told r → HasTables (bulk_bytes n) (λ t. new.written ≡ append_known old.written (bulk_text t))
+  whole_by (Ok done) is told = told
+  whole_by _ is told = absurd (let p = is in cc)
+
+  part_by : (r : Ended PutStop) → Write ≡ ended_as put_as r → Told r
+      → Rose old.write_faults new.write_faults × HasTables (bulk_bytes n) (λ t. AppendsPrefix old.written new.written (bulk_text t))
+  part_by (Err put.Write) is told = told
+  part_by _ is told = absurd (let p = is in cc)
+
+  complete_by : (r : Ended PutStop) (outcome : Outcome) → outcome ≡ ended_as put_as r → (Rose old.write_faults new.write_faults → ⊥) → Told r → IsOrMemory outcome Done
+  complete_by (Ok done) outcome is still told = inl is
+  complete_by (Err put.Write) outcome is still told = absurd (still told.0)
+  complete_by (Err put.Memory) outcome is still told = inr is
+
+  -- it has no answers but these
+  pub only : (outcome : Outcome) → IsBulked n old new outcome → IsOfPut outcome
+  only outcome b = subst IsOfPut (sym b.1.is) (of_put b.1.result)
 
   pub unwritten : (outcome : Outcome) → IsBulked n old new outcome → IsBeforeRun outcome → new.written ≡ old.written
-  unwritten Done b early = absurd early
-  unwritten Write b early = absurd early
-  unwritten Memory b early = b.written
-  unwritten _ b early = absurd b
+  unwritten outcome b early = unwritten_by b.1.result outcome b.1.is b.1.came early
+
+  pub whole : IsBulked n old new Done → HasTables (bulk_bytes n) (λ t. new.written ≡ append_known old.written (bulk_text t))
+  whole b = whole_by b.1.result b.1.is b.1.came
+
+  pub part : IsBulked n old new Write → Rose old.write_faults new.write_faults × HasTables (bulk_bytes n) (λ t. AppendsPrefix old.written new.written (bulk_text t))
+  part b = part_by b.1.result b.1.is b.1.came
 
   pub complete : (outcome : Outcome) → (Rose old.write_faults new.write_faults → ⊥) → IsBulked n old new outcome → IsOrMemory outcome Done
-  complete Done still b = inl refl
-  complete Write still b = absurd (still b.1)
-  complete Memory still b = inr refl
-  complete _ still b = absurd b
+  complete outcome still b = complete_by b.1.result outcome b.1.is still b.1.came
 
-  -- it has no answer of a source
+  -- so none of a source
   pub no_cause : (f : CompileFault) → (f ≡ compile.Memory → ⊥) → IsBulked n old new (answer_of f) → ⊥
+  no_cause (compile.Source f) told b = only (answer_of (compile.Source f)) b
+  no_cause (compile.IllFormed f) told b = only (answer_of (compile.IllFormed f)) b
+  no_cause (compile.Unschedulable sel from to demand) told b = only (answer_of (compile.Unschedulable sel from to demand)) b
   no_cause compile.Memory told b = told refl
-  no_cause _ told b = b

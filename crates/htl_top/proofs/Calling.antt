@@ -1,7 +1,7 @@
 -- From the answer of a command to the clauses of the top call that all commands share.
 use Rattle.std.proofs.Common.{◌≡◌, ◌⊎◌, ℕ, List, Option, None, Some, refl, sym, subst, inl, inr}
 use Rattle.std.specs.Prelude.{◌↔◌}
-use Rattle.htl_top.proofs.Vocabulary.{MAX_SOURCE, MAX_OBJECT, CompileFault, Shown, ObjectFault, PlatformFault, ScriptFault, Files, Streams, IsBeforeScript, IsBeforeRun, IsAudit, IsBulked, IsFaultOf, IsLongFile, check_text, IsCompiling, IsCompileCause, IsPlatformCause, IsCompilingOn, IsRefusedFile, IsOnObject, IsStopped, Work, IsPatching, show_text, IsSlacked, answer_of, Command, Go, Compile, CompileWith, Run, Check, Plan, Show, Bulk, Slack, Audit, Patch, RunsObject, source_of, platform_file, command_object, second_file, Outcome, Done, Usage, Platform, Refused, Script, Shelf, Read, Write, Memory, ShelfCause, Failed, TooLong}
+use Rattle.htl_top.proofs.Vocabulary.{MAX_SOURCE, MAX_OBJECT, CompileFault, Shown, ObjectFault, PlatformFault, ScriptFault, Files, Streams, IsBeforeScript, IsBeforeRun, IsAudit, IsBulked, IsFaultOf, IsLongFile, check_text, IsCompiling, IsCompileCause, IsPlatformCause, IsCompilingOn, IsRefusedFile, IsOnObject, IsStopped, Work, IsPatching, show_text, answer_of, Command, Go, Compile, CompileWith, Run, Check, Plan, Show, Bulk, Slack, Audit, Patch, RunsObject, source_of, platform_file, command_object, second_file, Outcome, Done, Usage, Platform, Refused, Script, Shelf, Read, Write, Memory, ShelfCause, Failed, TooLong}
 use Rattle.htl_compile.specs.declared.compiling.CompileFault.TheVariants as compile
 use Rattle.htl_top.proofs.Auditing as auditing
 use Rattle.htl_top.proofs.Bulking as bulking
@@ -14,7 +14,7 @@ use Rattle.htl_top.proofs.Patching as patching
 use Rattle.htl_top.proofs.Planning.{PlanOf, planning}
 use Rattle.htl_top.proofs.Running.{RunOf, memory_run, running}
 use Rattle.htl_top.proofs.Seen.{IsChecked, IsSeen, IsShown}
-use Rattle.htl_top.proofs.Slacking.{slacking}
+use Rattle.htl_top.proofs.Slacking.{IsSlacked, slacking}
 use Rattle.htl_top.proofs.Telling.{telling}
 
 pub checking : IsWork IsChecked
@@ -81,7 +81,7 @@ module _ (shelf : Files) (old new : Streams) where
       not_asked (Audit name log) (outcome ≡ Usage) (λ e. auditing.no_usage name log shelf old new (subst (λ o. IsAudit name log shelf old new o) e call))
   usage (Some (Patch name unit mode donor)) outcome call =
       not_asked (Patch name unit mode donor) (outcome ≡ Usage) (λ e. patching.no_usage unit mode (Some name) (Some donor) shelf old new (subst (λ o. IsPatching unit mode (Some name) (Some donor) shelf old new o) e call))
-  usage (Some (Bulk n)) outcome call = not_asked (Bulk n) (outcome ≡ Usage) (λ e. subst (λ o. IsBulked n old new o) e call)
+  usage (Some (Bulk n)) outcome call = not_asked (Bulk n) (outcome ≡ Usage) (λ e. bulking.only n old new Usage (subst (λ o. IsBulked n old new o) e call))
 
   -- ---- of an answer
 
@@ -99,7 +99,7 @@ module _ (shelf : Files) (old new : Streams) where
   shelf_failed (Some (Audit name log)) call = elim (auditing.unfetched name log shelf old new Failed call) [ inl s ↦ inr (inl s) | inr s ↦ inr (inr (inr s.1)) ]
   shelf_failed (Some (Patch name unit mode donor)) call = elim (patching.shelf_failed unit mode (Some name) (Some donor) shelf old new call) [ inl h ↦ inr (inl h) | inr d ↦ inr (inr (inr d)) ]
   shelf_failed (Some Compile) call = absurd call
-  shelf_failed (Some (Bulk n)) call = absurd call
+  shelf_failed (Some (Bulk n)) call = absurd (bulking.only n old new (Shelf Failed) call)
 
   pub shelf_long : (command : Option Command) (seen : ℕ) → IsSeen command shelf old new (Shelf (TooLong seen))
       → IsLongFile MAX_SOURCE (source_of command) shelf.holds seen ⊎ IsLongFile MAX_OBJECT (command_object command) shelf.holds seen ⊎ IsLongFile MAX_SOURCE (platform_file command) shelf.holds seen
@@ -115,7 +115,7 @@ module _ (shelf : Files) (old new : Streams) where
   shelf_long (Some (Audit name log)) seen call = elim (auditing.unfetched name log shelf old new (TooLong seen) call) [ inl s ↦ inr (inl s) | inr s ↦ inr (inr (inr s.1)) ]
   shelf_long (Some (Patch name unit mode donor)) seen call = elim (patching.shelf_long unit mode (Some name) (Some donor) shelf old new seen call) [ inl h ↦ inr (inl h) | inr d ↦ inr (inr (inr d)) ]
   shelf_long (Some Compile) seen call = absurd call
-  shelf_long (Some (Bulk n)) seen call = absurd call
+  shelf_long (Some (Bulk n)) seen call = absurd (bulking.only n old new (Shelf (TooLong seen)) call)
 
   -- no object has an answer of a source
   of_no_work : (f : CompileFault) → (f ≡ compile.Memory → ⊥) → objects.IsOfWork (answer_of f) → ⊥
@@ -159,7 +159,7 @@ module _ (shelf : Files) (old new : Streams) where
   platform (Some (Audit name log)) f call = absurd (auditing.no_platform name log shelf old new f call)
   platform (Some (Patch name unit mode donor)) f call = absurd (patching.no_platform unit mode (Some name) (Some donor) shelf old new f call)
   platform (Some Compile) f call = absurd call
-  platform (Some (Bulk n)) f call = absurd call
+  platform (Some (Bulk n)) f call = absurd (bulking.only n old new (Platform f) call)
 
   pub object : (command : Option Command) (f : ObjectFault) → IsSeen command shelf old new (Refused f) → IsRefusedFile (command_object command) shelf.holds f
   object None f call = absurd (refused_usage f call.0)
@@ -173,7 +173,7 @@ module _ (shelf : Files) (old new : Streams) where
   object (Some (Patch name unit mode donor)) f call = patching.object unit mode (Some name) (Some donor) shelf old new f call
   object (Some Compile) f call = absurd call
   object (Some (CompileWith file)) f call = absurd call
-  object (Some (Bulk n)) f call = absurd call
+  object (Some (Bulk n)) f call = absurd (bulking.only n old new (Refused f) call)
 
   -- ---- what stays as it was
 
@@ -190,7 +190,7 @@ module _ (shelf : Files) (old new : Streams) where
   unread (Some (Slack name owner task)) outcome call other apart early = objects.unread (IsSlacked owner task) (slacking owner task) (Some name) shelf old new outcome call early
   unread (Some (Audit name log)) outcome call other apart early = auditing.unread name log shelf old new outcome call early
   unread (Some (Patch name unit mode donor)) outcome call other apart early = call.0
-  unread (Some (Bulk n)) outcome call other apart early = bulking.unread n old new outcome call
+  unread (Some (Bulk n)) outcome call other apart early = call.0
 
   pub unfetched : (command : Option Command) (outcome : Outcome) → IsSeen command shelf old new outcome → (why : ShelfCause) → outcome ≡ Shelf why → new.rest ≡ old.rest
   unfetched command outcome call why is = by command why (subst (λ (o : Outcome). IsSeen command shelf old new o) is call)
@@ -208,7 +208,7 @@ module _ (shelf : Files) (old new : Streams) where
       by (Some (Slack name owner task)) why call = objects.unread (IsSlacked owner task) (slacking owner task) (Some name) shelf old new (Shelf why) call tt
       by (Some (Audit name log)) why call = auditing.unread name log shelf old new (Shelf why) call tt
       by (Some (Patch name unit mode donor)) why call = call.0
-      by (Some (Bulk n)) why call = absurd call
+      by (Some (Bulk n)) why call = call.0
 
   pub unwritten : (command : Option Command) (outcome : Outcome) → IsSeen command shelf old new outcome → IsBeforeRun outcome → new.written ≡ old.written
   unwritten None outcome call early = call.1.written

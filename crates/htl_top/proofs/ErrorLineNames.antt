@@ -1,6 +1,7 @@
 -- The line that tells of an answer has names of the tables that it speaks of.
 use Rattle.std.proofs.Common.{◌≡◌, List, ℕ, Option, Some, Err, refl, sym, ap, ◌∙◌, subst}
-use Rattle.htl_top.proofs.Vocabulary.{coded, Shown, Holdings, ObjectFault, Tables, FormFault, ObjectOf, patched, PatchFault, with_worst, Files, Streams, IsBulked, HasSource, HasObject, IsSource, IsObjectTables, SpeaksOfObject, HasPatchedTables, IsDonorTold, IsPatchedTables, SpeaksOfPatch, IsGoing, HasTypedTables, IsInput, IsNotCompiled, IsTypedInput, IsTypedProgram, outcome_of, tables_of_stop, HasTypedOn, IsTypedOn, IsNotCompiledOn, fault_line, SpeaksOf, IsFaultTold, IsPatchFaultTold, IsLineTold, Command, Go, Compile, CompileWith, Run, Check, Plan, Show, Slack, Audit, Patch, Outcome, SourceStop}
+use Rattle.htl_top.proofs.Vocabulary.{coded, Shown, Holdings, ObjectFault, Tables, FormFault, ObjectOf, patched, PatchFault, with_worst, Files, Streams, HasSource, HasObject, IsSource, IsObjectTables, SpeaksOfObject, HasPatchedTables, IsDonorTold, IsPatchedTables, SpeaksOfPatch, IsGoing, HasTypedTables, IsInput, IsNotCompiled, IsTypedInput, IsTypedProgram, outcome_of, tables_of_stop, HasTypedOn, IsTypedOn, IsNotCompiledOn, fault_line, SpeaksOf, IsFaultTold, IsPatchFaultTold, IsLineTold, Command, Go, Compile, CompileWith, Run, Check, Plan, Show, Slack, Audit, Patch, Outcome, SourceStop}
+use Rattle.htl_top.proofs.Telling.{IsOfPut}
 use Rattle.htl_load.specs.declared.fault.ObjectFault.TheVariants as fault
 use Rattle.htl_patch.specs.declared.fault.PatchFault.TheVariants as patch
 use Rattle.htl_top.specs.declared.outcome.Outcome.TheVariants.{IllFormed, Patch as Unpatched, Object}
@@ -18,12 +19,11 @@ SpeaksOf-run Sources Objects run_stop.Memory told = tt
 SpeaksOf-run Sources Objects _ told = tt
 
 -- nor does a generated program
-pub SpeaksOf-bulk : (Sources Objects : (Tables → Type 0) → Type 0) (n : ℕ) (old new : Streams) (outcome : Outcome) (told : Option Tables)
-    → IsBulked n old new outcome → SpeaksOf Sources Objects outcome told
-SpeaksOf-bulk Sources Objects n old new (Unpatched f) told b = absurd b
-SpeaksOf-bulk Sources Objects n old new (IllFormed f) told b = absurd b
-SpeaksOf-bulk Sources Objects n old new (Object f) told b = absurd b
-SpeaksOf-bulk Sources Objects n old new _ told b = tt
+pub SpeaksOf-put : (Sources Objects : (Tables → Type 0) → Type 0) (outcome : Outcome) (told : Option Tables) → IsOfPut outcome → SpeaksOf Sources Objects outcome told
+SpeaksOf-put Sources Objects (Unpatched f) told put = absurd put
+SpeaksOf-put Sources Objects (IllFormed f) told put = absurd put
+SpeaksOf-put Sources Objects (Object f) told put = absurd put
+SpeaksOf-put Sources Objects _ told put = tt
 
 -- what stops a source speaks of its tables
 pub SpeaksOf-stop : (Objects : (Tables → Type 0) → Type 0) (bytes : List ℕ) (s : SourceStop) → IsNotCompiled bytes s → SpeaksOf (HasTypedTables bytes) Objects (outcome_of s) (tables_of_stop s)

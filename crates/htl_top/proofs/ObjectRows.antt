@@ -1,7 +1,8 @@
 -- From the answer of a command on an object to its rows, and to those on the object itself.
 use Rattle.std.proofs.Common.{◌≡◌, ◌≤◌, ◌<◌, ◌⊎◌, ℕ, List, length, Option, None, Some, refl, sym, subst, inl, inr}
-use Rattle.htl_top.proofs.Vocabulary.{append_known, Shown, Rose, AppendsPrefix, RefusesBytes, ObjectFault, PatchFault, Object, Files, Streams, IsGiven, IsOrMemory, check_text, IsReadyFile, IsAcceptedFile, IsOnObject, IsReadyObject, Work, IsPlanned, IsCutPlan, IsBadSelection, IsRun, IsWholeRun, IsFaultyRun, IsCutRun, show_text, HasSlack, NamesNoTask, IsSlacked, IsTaskCause, object_bytes, HasPatch, IsDonorFault, IsDonorTold, IsPatchCause, IsPatching, Command, Go, Compile, CompileWith, Run, Check, Plan, Show, Bulk, Slack, Audit, Patch, command_object, second_file, Outcome, Done, Usage, Refused, Script, Shelf, Task, Unpatched, Read, Write, Memory, TooLong}
+use Rattle.htl_top.proofs.Vocabulary.{append_known, Shown, Rose, AppendsPrefix, RefusesBytes, ObjectFault, PatchFault, Object, Files, Streams, IsGiven, IsOrMemory, check_text, IsReadyFile, IsAcceptedFile, IsOnObject, IsReadyObject, Work, IsPlanned, IsCutPlan, IsBadSelection, IsRun, IsWholeRun, IsFaultyRun, IsCutRun, show_text, HasSlack, NamesNoTask, IsTaskCause, object_bytes, HasPatch, IsDonorFault, IsDonorTold, IsPatchCause, IsPatching, Command, Go, Compile, CompileWith, Run, Check, Plan, Show, Bulk, Slack, Audit, Patch, command_object, second_file, Outcome, Done, Usage, Refused, Script, Shelf, Task, Unpatched, Read, Write, Memory, TooLong}
 use Rattle.htl_top.proofs.Auditing as auditing
+use Rattle.htl_top.proofs.Bulking as bulking
 use Rattle.htl_top.proofs.Calling.{checking, showing, some_not_none, done_memory, write_memory, read_memory, script_memory}
 use Rattle.htl_top.proofs.ObjectAnswering as objects
 use Rattle.htl_top.proofs.ObjectAnswering.{IsWork}
@@ -11,7 +12,7 @@ use Rattle.htl_top.proofs.Planning.{PlanOf, bad_input, done_plan, faulty_plan, p
 use Rattle.htl_top.proofs.Running.{RunOf, bad_run, done_run, faulty_run, not_task, read_run, running, whole_run, write_run}
 use Rattle.htl_top.proofs.Seen.{IsChecked, IsSeen, IsShown}
 use Rattle.htl_top.proofs.Slacking as slacking
-use Rattle.htl_top.proofs.Slacking.{slacking as slack_work}
+use Rattle.htl_top.proofs.Slacking.{IsSlacked, slacking as slack_work}
 use Rattle.htl_top.proofs.Stops.{must}
 use Rattle.htl_top.specs.Planned.{IsWholePlan}
 use Rattle.htl_top.specs.Stops.{run_as}
@@ -145,11 +146,11 @@ module _ (shelf : Files) (old new : Streams) (outcome : Outcome) (name : List �
   pub slack_rows : (owner task : List ℕ) → IsOnObject (IsSlacked owner task) (Some name) shelf old new outcome → SlackRows name owner task shelf old new outcome
   slack_rows owner task call = record {
     done = λ same. did_map (IsSlacked owner task) (slack_work owner task) call Done same tt done_memory
-        (λ o. HasSlack o.tables owner task (λ text. new.written ≡ append_known old.written text)) (λ o a. a.1);
+        (λ o. HasSlack o.tables owner task (λ text. new.written ≡ append_known old.written text)) (λ o d. slacking.whole owner task o old new d);
     write = λ same. (
-      (did (IsSlacked owner task) (slack_work owner task) call Write same tt write_memory).fact.1.0,
+      let a = did (IsSlacked owner task) (slack_work owner task) call Write same tt write_memory in (slacking.part owner task a.object old new a.fact).0,
       did_map (IsSlacked owner task) (slack_work owner task) call Write same tt write_memory
-          (λ o. HasSlack o.tables owner task (λ text. AppendsPrefix old.written new.written text)) (λ o a. a.1.1),
+          (λ o. HasSlack o.tables owner task (λ text. AppendsPrefix old.written new.written text)) (λ o d. (slacking.part owner task o old new d).1),
     );
     unread = elim call [ inl a ↦ a.fact.0 | inr s ↦ s.1.rest ];
     unknown_task = λ o is none. ready (IsSlacked owner task) (slack_work owner task) call o is (λ d. slacking.no_task owner task o old new outcome none d);
@@ -192,12 +193,12 @@ module _ (shelf : Files) (old new : Streams) where
   task_cause (Some (Go name)) call = going.tells (Some name) shelf old new Task call
   task_cause (Some Compile) call = call
   task_cause (Some (CompileWith file)) call = call
-  task_cause (Some (Bulk n)) call = call
+  task_cause (Some (Bulk n)) call = bulking.only n old new Task call
   task_cause (Some (Audit name log)) call = auditing.no_task name log shelf old new call
   task_cause (Some (Patch name unit mode donor)) call = patching.no_task unit mode (Some name) (Some donor) shelf old new call
   task_cause (Some (Slack name owner task)) call = elim call [
     | inl a ↦
-        objects.IsAcceptedFile-map (Some name) shelf.holds (λ o. IsSlacked owner task o old new Task) (λ o. NamesNoTask o.tables owner task) (λ o d. d.1.0) a
+        objects.IsAcceptedFile-map (Some name) shelf.holds (λ o. IsSlacked owner task o old new Task) (λ o. NamesNoTask o.tables owner task) (λ o d. slacking.unknown owner task o old new d) a
     | inr s ↦ absurd s.0
   ]
   task_cause (Some (Run show name)) call = elim call [ inl a ↦ not_task a.fact.result (sym a.fact.is) | inr s ↦ s.0 ]
@@ -210,8 +211,8 @@ module _ (shelf : Files) (old new : Streams) where
   patch_cause (Some (Go name)) f call = going.tells (Some name) shelf old new (Unpatched f) call
   patch_cause (Some Compile) f call = call
   patch_cause (Some (CompileWith file)) f call = call
-  patch_cause (Some (Bulk n)) f call = call
-  patch_cause (Some (Slack name owner task)) f call = elim call [ inl a ↦ a.fact.1 | inr s ↦ s.0 ]
+  patch_cause (Some (Bulk n)) f call = bulking.only n old new (Unpatched f) call
+  patch_cause (Some (Slack name owner task)) f call = elim call [ inl a ↦ (slack_work owner task).only a.object old new (Unpatched f) a.fact | inr s ↦ s.0 ]
   patch_cause (Some (Audit name log)) f call = elim call [ inl a ↦ elim a.fact.fact [ inl h ↦ h.fact | inr r ↦ r.0 ] | inr s ↦ s.0 ]
   patch_cause (Some (Patch name unit mode donor)) f call = elim call.1 [
     | inl a ↦

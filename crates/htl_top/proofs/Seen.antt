@@ -1,6 +1,7 @@
 -- What a command answered, as its proofs see it: by what was done, and by the answer.
 use Rattle.std.proofs.Common.{◌≡◌, List, ℕ, Option, None, Some}
-use Rattle.htl_top.proofs.Vocabulary.{check_text, show_text, Files, Streams, IsAudit, IsBulked, IsCall, IsCompiling, IsCompilingOn, IsGoing, IsOnObject, IsPatching, IsSlacked, Object, Work, Command, Go, Compile, CompileWith, Run, Check, Plan, Show, Bulk, Slack, Audit, Patch, Outcome, Usage}
+use Rattle.htl_top.proofs.Vocabulary.{check_text, show_text, Files, Streams, IsAudit, IsBulked, IsCall, IsCompiling, IsCompilingOn, IsGoing, IsOnObject, IsPatching, Object, Work, Command, Go, Compile, CompileWith, Run, Check, Plan, Show, Bulk, Slack, Audit, Patch, Outcome, Usage}
+use Rattle.htl_top.proofs.Slacking.{IsSlacked, seen_slack}
 use Rattle.htl_top.proofs.Telling.{TextOf, seen_text}
 use Rattle.htl_top.proofs.Planning.{PlanOf, plan_answered}
 use Rattle.htl_top.proofs.Running.{RunOf, run_answered}
@@ -37,6 +38,6 @@ seen (Some (Check name)) shelf old new outcome call = seen_text (λ o. check_tex
 seen (Some (Plan name)) shelf old new outcome call = plan_answered (Some name) shelf old new outcome call
 seen (Some (Show name)) shelf old new outcome call = seen_text show_text (Some name) shelf old new outcome call
 seen (Some (Bulk n)) shelf old new outcome call = call
-seen (Some (Slack name owner task)) shelf old new outcome call = call
+seen (Some (Slack name owner task)) shelf old new outcome call = seen_slack owner task (Some name) shelf old new outcome call
 seen (Some (Audit name log)) shelf old new outcome call = call
 seen (Some (Patch name unit mode donor)) shelf old new outcome call = call

@@ -1,7 +1,12 @@
 -- The task of two names, and what `slack` answers.
-use Rattle.std.proofs.Common.{◌≡◌, ◌≤◌, ◌<◌, ℕ, Bool, true, false, ◌&&◌, List, length, slice_get, Option, Some, None, refl, sym, ap, ◌∙◌, subst, arith, inl, inr}
-use Rattle.htl_top.proofs.Vocabulary.{bytes_eq, and_parts, slice_get_within, bytes_eq-Decides, Rose, Module, TaskOf, Tables, Object, Files, Streams, IsBeforeRun, IsOrMemory, IsOnObject, IsAcceptedFile, IsNamed, IsRootNamed, NamesNoTask, has_names, IsSlackTold, IsSlacked, IsSlackOnObject, Outcome, Done, Task, Write, Memory}
-use Rattle.htl_top.proofs.ObjectAnswering.{IsWork, IsOfWork, IsAcceptedFile-map}
+use Rattle.std.proofs.Common.{◌≡◌, ◌≤◌, ◌<◌, ℕ, Bool, true, false, ◌&&◌, List, length, slice_get, Option, Some, None, Ok, Err, refl, sym, ap, ◌∙◌, subst, arith, inl, inr}
+use Rattle.htl_top.proofs.Vocabulary.{append_known, AppendsPrefix, HasSlack, bytes_eq, and_parts, slice_get_within, bytes_eq-Decides, Rose, Module, TaskOf, Tables, Object, Files, Streams, IsBeforeRun, IsOrMemory, IsOnObject, IsNamed, IsRootNamed, NamesNoTask, has_names, IsSlackTold, Work, Outcome, Done, Task, Write, Memory}
+use Rattle.htl_top.proofs.ObjectAnswering.{IsWork, IsOfWork}
+use Rattle.htl_top.proofs.Stops.{answered}
+use Rattle.htl_top.specs.Slacked.{IsSlackCall}
+use Rattle.htl_top.specs.Stops.{Came, Ended, ended_as, slack_as}
+use Rattle.htl_top.specs.declared.stop.SlackStop.{SlackStop}
+use Rattle.htl_top.specs.declared.stop.SlackStop.TheVariants as slack
 
 -- ---- the names
 
@@ -37,59 +42,80 @@ NoneBelow-all t owner name k all below task is = below task (omega (arith, all, 
 
 -- ---- the answers
 
-module _ (owner name : List ℕ) where
-  slack_only : (o : Object) (old new : Streams) (outcome : Outcome) → IsSlacked owner name o old new outcome → IsOfWork outcome
-  slack_only o old new Done answer = tt
-  slack_only o old new Write answer = tt
-  slack_only o old new Task answer = tt
-  slack_only o old new Memory answer = tt
-  slack_only o old new _ answer = absurd answer.1
+-- the slack of a task is told, and nothing is read
+abbrev pub IsSlacked : List ℕ → List ℕ → Work
+IsSlacked owner name o old new outcome =
+    (new.rest ≡ old.rest) × Came slack_as (IsSlackTold owner name o.tables old.written new.written old.write_faults new.write_faults) outcome
 
-  slack_unwritten : (o : Object) (old new : Streams) (outcome : Outcome) → IsSlacked owner name o old new outcome → IsBeforeRun outcome → new.written ≡ old.written
-  slack_unwritten o old new Done answer early = absurd early
-  slack_unwritten o old new Write answer early = absurd early
-  slack_unwritten o old new Task answer early = answer.1.1
-  slack_unwritten o old new Memory answer early = answer.1
-  slack_unwritten o old new _ answer early = absurd answer.1
+module _ (owner name : List ℕ) (o : Object) (old new : Streams) where
+  abbrev Told : Ended SlackStop → Type 0
+  Told r = IsSlackTold owner name o.tables old.written new.written old.write_faults new.write_faults r
 
-  pub slacking : IsWork (IsSlacked owner name)
-  slacking = record { only = slack_only; unwritten = slack_unwritten; unread = λ o old new answer. answer.0 }
+  work_by : (r : Ended SlackStop) → IsOfWork (ended_as slack_as r)
+  work_by (Ok done) = tt
+  work_by (Err slack.Task) = tt
+  work_by (Err slack.Memory) = tt
+  work_by (Err slack.Write) = tt
+
+  unwritten_by : (r : Ended SlackStop) (outcome : Outcome) → outcome ≡ ended_as slack_as r → Told r → IsBeforeRun outcome → new.written ≡ old.written
+  unwritten_by (Ok done) outcome is told early = absurd (subst IsBeforeRun is early)
+  unwritten_by (Err slack.Task) outcome is told early = told.1
+  unwritten_by (Err slack.Memory) outcome is told early = told
+  unwritten_by (Err slack.Write) outcome is told early = absurd (subst IsBeforeRun is early)
+
+  done_by : (r : Ended SlackStop) → Done ≡ ended_as slack_as r → Told r → HasSlack o.tables owner name (λ text. new.written ≡ append_known old.written text)
+  done_by (Ok done) is told = told
+  done_by _ is told = absurd (let p = is in cc)
+
+  write_by : (r : Ended SlackStop) → Write ≡ ended_as slack_as r → Told r
+      → Rose old.write_faults new.write_faults × HasSlack o.tables owner name (λ text. AppendsPrefix old.written new.written text)
+  write_by (Err slack.Write) is told = told
+  write_by _ is told = absurd (let p = is in cc)
+
+  task_by : (r : Ended SlackStop) → Task ≡ ended_as slack_as r → Told r → NamesNoTask o.tables owner name
+  task_by (Err slack.Task) is told = told.0
+  task_by _ is told = absurd (let p = is in cc)
+
+  complete_by : (r : Ended SlackStop) (outcome : Outcome) → outcome ≡ ended_as slack_as r → (task : ℕ) → IsRootNamed o.tables owner name task
+      → (Rose old.write_faults new.write_faults → ⊥) → Told r → IsOrMemory outcome Done
+  complete_by (Ok done) outcome is task named still told = inl is
+  complete_by (Err slack.Task) outcome is task named still told = absurd (told.0 task named)
+  complete_by (Err slack.Memory) outcome is task named still told = inr is
+  complete_by (Err slack.Write) outcome is task named still told = absurd (still told.0)
+
+  no_task_by : (r : Ended SlackStop) (outcome : Outcome) → outcome ≡ ended_as slack_as r → NamesNoTask o.tables owner name → Told r → IsOrMemory outcome Task
+  no_task_by (Ok done) outcome is none told = absurd (none told.task told.named)
+  no_task_by (Err slack.Task) outcome is none told = inl is
+  no_task_by (Err slack.Memory) outcome is none told = inr is
+  no_task_by (Err slack.Write) outcome is none told = absurd (none told.1.task told.1.named)
+
+  pub whole : IsSlacked owner name o old new Done → HasSlack o.tables owner name (λ text. new.written ≡ append_known old.written text)
+  whole d = done_by d.1.result d.1.is d.1.came
+
+  pub part : IsSlacked owner name o old new Write → Rose old.write_faults new.write_faults × HasSlack o.tables owner name (λ text. AppendsPrefix old.written new.written text)
+  part d = write_by d.1.result d.1.is d.1.came
+
+  pub unknown : IsSlacked owner name o old new Task → NamesNoTask o.tables owner name
+  unknown d = task_by d.1.result d.1.is d.1.came
 
   -- where a task has the names, its slack is written
-  pub slack_done : (o : Object) (old new : Streams) (task : ℕ) (outcome : Outcome) → IsRootNamed o.tables owner name task → (Rose old.write_faults new.write_faults → ⊥)
+  pub slack_done : (task : ℕ) (outcome : Outcome) → IsRootNamed o.tables owner name task → (Rose old.write_faults new.write_faults → ⊥)
       → IsSlacked owner name o old new outcome → IsOrMemory outcome Done
-  slack_done o old new task Done is still answer = inl refl
-  slack_done o old new task Write is still answer = absurd (still answer.1.0)
-  slack_done o old new task Task is still answer = absurd (answer.1.0 task is)
-  slack_done o old new task Memory is still answer = inr refl
-  slack_done o old new task _ is still answer = absurd answer.1
+  slack_done task outcome named still d = complete_by d.1.result outcome d.1.is task named still d.1.came
 
   -- where none has, that is the answer
-  pub no_task : (o : Object) (old new : Streams) (outcome : Outcome) → NamesNoTask o.tables owner name → IsSlacked owner name o old new outcome → IsOrMemory outcome Task
-  no_task o old new Done none answer = absurd (none answer.1.task answer.1.named)
-  no_task o old new Write none answer = absurd (none answer.1.1.task answer.1.1.named)
-  no_task o old new Task none answer = inl refl
-  no_task o old new Memory none answer = inr refl
-  no_task o old new _ none answer = absurd answer.1
+  pub no_task : (outcome : Outcome) → NamesNoTask o.tables owner name → IsSlacked owner name o old new outcome → IsOrMemory outcome Task
+  no_task outcome none d = no_task_by d.1.result outcome d.1.is none d.1.came
 
-  -- an accepted object was had, and its answer told
-  pub IsSlackOnObject-opened : (file : Option (List ℕ)) (shelf : Files) (old new : Option (List ℕ)) (before now : ℕ) (loaded : Object) (given outcome : Outcome) → outcome ≡ given
-      → IsAcceptedFile file shelf.holds (λ o. o ≡ loaded) → IsSlackTold owner name loaded.tables old new before now given → IsSlackOnObject owner name file shelf old new before now outcome
-  IsSlackOnObject-opened file shelf old new before now loaded given outcome is opened told =
-      let told_here : IsSlackTold owner name loaded.tables old new before now outcome = subst (λ (o : Outcome). IsSlackTold owner name loaded.tables old new before now o) (sym is) told in
-      inl (
-      IsAcceptedFile-map file shelf.holds (λ o. o ≡ loaded) (λ o. IsSlackTold owner name o.tables old new before now outcome)
-      (λ o e. subst (λ (p : Object). IsSlackTold owner name p.tables old new before now outcome) (sym e) told_here) opened
-      )
+pub slacking : (owner name : List ℕ) → IsWork (IsSlacked owner name)
+slacking owner name = record {
+  only = λ o old new outcome d. subst IsOfWork (sym d.1.is) (work_by owner name o old new d.1.result);
+  unwritten = λ o old new outcome d early. unwritten_by owner name o old new d.1.result outcome d.1.is d.1.came early;
+  unread = λ o old new d. d.0;
+}
 
-  -- nothing was read
-  pub IsOnObject-slack : (file : Option (List ℕ)) (shelf : Files) (old new : Streams) (outcome : Outcome) → new.rest ≡ old.rest
-      → IsSlackOnObject owner name file shelf old.written new.written old.write_faults new.write_faults outcome → IsOnObject (IsSlacked owner name) file shelf old new outcome
-  IsOnObject-slack file shelf old new outcome same on = elim on [
-    | inl a ↦
-        inl (
-        IsAcceptedFile-map file shelf.holds (λ o. IsSlackTold owner name o.tables old.written new.written old.write_faults new.write_faults outcome) (λ o. IsSlacked owner name o old new outcome)
-        (λ o told. (same, told)) a
-        )
-    | inr s ↦ inr (s.0, record { rest = same; written = s.1 })
-  ]
+pub seen_slack : (owner name : List ℕ) (file : Option (List ℕ)) (shelf : Files) (old new : Streams) (outcome : Outcome) → IsSlackCall owner name file shelf old new outcome
+    → IsOnObject (IsSlacked owner name) file shelf old new outcome
+seen_slack owner name file shelf old new outcome call =
+    answered SlackStop slack_as (λ o r. IsSlackTold owner name o.tables old.written new.written old.write_faults new.write_faults r) (new.written ≡ old.written) file shelf (IsSlacked owner name)
+    old new outcome (λ kept. record { rest = call.0; written = kept }) (λ o came. (call.0, came)) call.1

@@ -69,9 +69,9 @@ module _ (shelf : Files) (old new : Streams) (outcome : Outcome) where
 
   pub bulk_rows : (n : ℕ) → IsBulked n old new outcome → BulkRows n shelf old new outcome
   bulk_rows n call = record {
-    done = λ same. (told Done same).1;
-    write = λ same. let b = told Write same in (b.1, b.2);
-    unread = bulking.unread n old new outcome call;
+    done = λ same. bulking.whole n old new (told Done same);
+    write = λ same. bulking.part n old new (told Write same);
+    unread = call.0;
     complete = λ still. bulking.complete n old new outcome still call;
   }
     where

@@ -15,7 +15,7 @@ use Rattle.htl_top.specs.PatchedFiles.{IsPatching, IsPatchedTables}
 use Rattle.htl_top.specs.Planned.{IsPlannedOnFile}
 use Rattle.htl_top.specs.Runs.{IsRunOnFile}
 use Rattle.htl_top.specs.Shown.{show_text}
-use Rattle.htl_top.specs.Slacked.{IsSlacked}
+use Rattle.htl_top.specs.Slacked.{IsSlackCall}
 use Rattle.htl_top.specs.Sources.{IsTypedProgram, IsTypedInput}
 use Rattle.htl_top.specs.SourcesOn.{IsTypedOn}
 use Rattle.htl_top.specs.Stops.{Came, go_as, object_as, run_as}
@@ -34,7 +34,7 @@ IsCall (Some (Check name)) shelf old new outcome = IsTextCall (λ o. check_text 
 IsCall (Some (Plan name)) shelf old new outcome = Came (object_as run_as) (IsPlannedOnFile (Some name) shelf old new) outcome
 IsCall (Some (Show name)) shelf old new outcome = IsTextCall show_text (Some name) shelf old new outcome
 IsCall (Some (Bulk n)) shelf old new outcome = IsBulked n old new outcome
-IsCall (Some (Slack name owner task)) shelf old new outcome = IsOnObject (IsSlacked owner task) (Some name) shelf old new outcome
+IsCall (Some (Slack name owner task)) shelf old new outcome = IsSlackCall owner task (Some name) shelf old new outcome
 IsCall (Some (Audit name log)) shelf old new outcome = IsAudit name log shelf old new outcome
 IsCall (Some (Patch name unit mode donor)) shelf old new outcome = IsPatching unit mode (Some name) (Some donor) shelf old new outcome
 

@@ -1,5 +1,5 @@
 -- What `slack` answers of an accepted object.
-use Rattle.std.specs.Prelude.{◌≡◌, ℕ, Bool, false, ◌&&◌, List, ◌++◌, ◌⊎◌, length, slice_get, Option, Some, None, codes, decimal}
+use Rattle.std.specs.Prelude.{◌≡◌, ℕ, Bool, false, ◌&&◌, List, ◌++◌, ◌⊎◌, length, slice_get, Option, Some, None, Ok, Err, codes, decimal}
 use Rattle.htl_top.specs.Common.{append_known, bytes_eq, Rose, AppendsPrefix, Holdings, Module, instrs_of, Schedule}
 use Rattle.htl_console.specs.Listing.{all_lines, schedule_lines}
 use Rattle.htl_edf.specs.Greatest.{with_worst, IsGreatest}
@@ -13,10 +13,13 @@ use Rattle.htl_slack.specs.declared.report.Above.{Above}
 use Rattle.htl_walk.specs.Feasible.{AreFeasible}
 use Rattle.htl_open.specs.Files.{Files}
 use Rattle.htl_open.specs.Objects.{IsAcceptedFile}
-use Rattle.htl_top.specs.Objects.{Work, IsStopped}
+use Rattle.htl_top.specs.Objects.{IsOnFile}
+use Rattle.htl_top.specs.Stops.{Came, Ended, object_as, slack_as}
 use Rattle.htl_top.specs.Words.{Command, Slack}
 use Rattle.htl_top.specs.declared.outcome.Outcome.{Outcome}
-use Rattle.htl_top.specs.declared.outcome.Outcome.TheVariants.{Done, Task, Write, Memory}
+use Rattle.htl_top.specs.declared.stop.OnObject.{OnObject}
+use Rattle.htl_top.specs.declared.stop.SlackStop.{SlackStop}
+use Rattle.htl_top.specs.declared.stop.SlackStop.TheVariants as slack
 
 -- ---- the task
 
@@ -85,22 +88,20 @@ pub record HasSlack (t : Tables) (owner name : List ℕ) (Fact : List ℕ → Ty
 -- ---- the answers
 
 -- the text is written, or a prefix of it; or nothing, since no such task has the names or no memory was left
-abbrev pub IsSlackTold : List ℕ → List ℕ → Tables → Option (List ℕ) → Option (List ℕ) → ℕ → ℕ → Outcome → Type 0
-IsSlackTold owner name t old new before now Done = HasSlack t owner name (λ text. new ≡ append_known old text)
-IsSlackTold owner name t old new before now Write = Rose before now × HasSlack t owner name (λ text. AppendsPrefix old new text)
-IsSlackTold owner name t old new before now Task = NamesNoTask t owner name × (new ≡ old)
-IsSlackTold owner name t old new before now Memory = new ≡ old
-IsSlackTold owner name t old new before now _ = ⊥
-
--- and nothing is read
-abbrev pub IsSlacked : List ℕ → List ℕ → Work
-IsSlacked owner name o old new outcome =
-    (new.rest ≡ old.rest) × IsSlackTold owner name o.tables old.written new.written old.write_faults new.write_faults outcome
+abbrev pub IsSlackTold : List ℕ → List ℕ → Tables → Option (List ℕ) → Option (List ℕ) → ℕ → ℕ → Ended SlackStop → Type 0
+IsSlackTold owner name t old new before now (Ok done) = HasSlack t owner name (λ text. new ≡ append_known old text)
+IsSlackTold owner name t old new before now (Err slack.Write) = Rose before now × HasSlack t owner name (λ text. AppendsPrefix old new text)
+IsSlackTold owner name t old new before now (Err slack.Task) = NamesNoTask t owner name × (new ≡ old)
+IsSlackTold owner name t old new before now (Err slack.Memory) = new ≡ old
 
 -- The slack of a task of an accepted object was told; or none was had, and nothing was written.
-abbrev pub IsSlackOnObject : List ℕ → List ℕ → Option (List ℕ) → Files → Option (List ℕ) → Option (List ℕ) → ℕ → ℕ → Outcome → Type 0
-IsSlackOnObject owner name file shelf old new before now outcome =
-    IsAcceptedFile file shelf.holds (λ o. IsSlackTold owner name o.tables old new before now outcome) ⊎ (IsStopped file shelf outcome × (new ≡ old))
+abbrev pub IsSlackOnObject : List ℕ → List ℕ → Option (List ℕ) → Files → Option (List ℕ) → Option (List ℕ) → ℕ → ℕ → Ended (OnObject SlackStop) → Type 0
+IsSlackOnObject owner name file shelf old new before now r = IsOnFile (λ o s. IsSlackTold owner name o.tables old new before now s) (new ≡ old) file shelf r
+
+-- and nothing is read
+abbrev pub IsSlackCall : List ℕ → List ℕ → Option (List ℕ) → Files → Streams → Streams → Outcome → Type 0
+IsSlackCall owner name file shelf old new outcome =
+    (new.rest ≡ old.rest) × Came (object_as slack_as) (IsSlackOnObject owner name file shelf old.written new.written old.write_faults new.write_faults) outcome
 
 -- The command asks for the slack of a task of an accepted object, and no task that is invoked in a root module has the names.
 abbrev pub IsTaskCause : Option Command → Option Holdings → Type 0

@@ -1,5 +1,5 @@
 // The command `bulk`: a generated program, run on generated readings.
-ghost use Rattle.std.specs.Prelude.{◌≡◌, ◌≤◌, ◌<◌, ◌*◌, ◌++◌, ◌∷◌, ℕ, ℤ, List, [], get_or, length, pos, IfOk, OnOk};
+ghost use Rattle.std.specs.Prelude.{◌≡◌, ◌≤◌, ◌<◌, ◌*◌, ◌++◌, ◌∷◌, ℕ, ℤ, List, [], get_or, length, pos, Err, IfOk, OnOk};
 ghost use Rattle.htl_base.specs.declared.limits.TheConstants as limit;
 ghost use Rattle.htl_bulk.specs.BulkEvents.{readings_of};
 ghost use Rattle.htl_bulk.specs.BulkTree.{bulk_bytes};
@@ -14,8 +14,8 @@ ghost use Rattle.htl_model.specs.declared.event.Event.TheVariants as event;
 ghost use Rattle.htl_model.specs.declared.line.Line.TheVariants.{ValueLine};
 ghost use Rattle.htl_top.specs.Bulk.{object_text, bulk_text, seen_text, value_seen, IsOutOfMemory, IsPut, IsBulkPut};
 
-use crate::Outcome;
 use crate::play::write_totals;
+use crate::stop::PutStop;
 use htl_base::{Memory, Time, Value};
 use htl_bulk::bulk_source;
 use htl_compile::{SourceStop, compile_source};
@@ -37,15 +37,15 @@ const SENSOR: u16 = 0;
 /// Runs the generated program of so many modules, 1 to 64, for 100 rounds of 1,000 ticks, and writes the values of its communicators at
 /// the end and the totals line. In round `r` the sensor shows `r` from the round's start on. All memory is taken before the first byte
 /// is written; the events are told one by one, and no list of them is kept.
-pub fn bulk<W: Sink>(alloc: Global, modules: u32, out: &mut W) -> Outcome
+pub fn bulk<W: Sink>(alloc: Global, modules: u32, out: &mut W) -> Result<(), PutStop>
     requires some { 1 ≤ modules }
     requires few { modules ≤ limit.MAX_MODULES }
     ensures answer { IsBulkPut modules (W.written out.old) (W.written out.new) (W.faults out.old) (W.faults out.new) result }
-    ensures write_count { (result ≡ Outcome.Write → ⊥) → W.faults out.new ≡ W.faults out.old }
+    ensures write_count { (result ≡ Err PutStop.Write → ⊥) → W.faults out.new ≡ W.faults out.old }
 {
     match generated_object(alloc, modules) {
         Ok(object) => run_generated(alloc, object.as_slice(), out),
-        Err(Memory) => Outcome::Memory,
+        Err(Memory) => Err(PutStop::Memory),
     }
 }
 
@@ -79,32 +79,32 @@ fn memory_of(refusal: SourceStop) -> Memory
 }
 
 // Loads the bytes of the generated program's object, which are accepted, and runs it.
-fn run_generated<W: Sink>(alloc: Global, object: &[u8], out: &mut W) -> Outcome
+fn run_generated<W: Sink>(alloc: Global, object: &[u8], out: &mut W) -> Result<(), PutStop>
     requires { (n : ℕ) × (1 ≤ n) × (n ≤ limit.MAX_MODULES) × IsCompiledTo (bulk_bytes n) object.now }
     ensures answer { (n : ℕ) (compiled : IsCompiledTo (bulk_bytes n) object.now) →
         IsPut (bulk_text compiled.tables) (W.written out.old) (W.written out.new) (W.faults out.old) (W.faults out.new) result }
-    ensures write_count { (result ≡ Outcome.Write → ⊥) → W.faults out.new ≡ W.faults out.old }
+    ensures write_count { (result ≡ Err PutStop.Write → ⊥) → W.faults out.new ≡ W.faults out.old }
 {
     match load(alloc, object) {
         Ok(loaded) => measure(alloc, &loaded, ROUNDS, out),
         Err(LoadFault::Refused(_)) => unreachable!(),
-        Err(LoadFault::Memory) => Outcome::Memory,
+        Err(LoadFault::Memory) => Err(PutStop::Memory),
     }
 }
 
 // Runs an object whose first communicator is a sensor of type int for so many rounds, and writes the values and the totals at their end.
-fn measure<W: Sink>(alloc: Global, l: &Loaded, rounds: Time, out: &mut W) -> Outcome
+fn measure<W: Sink>(alloc: Global, l: &Loaded, rounds: Time, out: &mut W) -> Result<(), PutStop>
     requires sensor { (x : ℤ) → IsSensorValue l.now.tables 0 x }
     requires rounds { rounds ≤ 1000000 }
     ensures answer { IsPut (object_text rounds l.now) (W.written out.old) (W.written out.new) (W.faults out.old) (W.faults out.new) result }
-    ensures write_count { (result ≡ Outcome.Write → ⊥) → W.faults out.new ≡ W.faults out.old }
+    ensures write_count { (result ≡ Err PutStop.Write → ⊥) → W.faults out.new ≡ W.faults out.old }
 {
     let Ok(mut machine) = Machine::new(alloc, l, Shown::Nothing) else {
-        return Outcome::Memory;
+        return Err(PutStop::Memory);
     };
     match write_measured(&mut machine, l.tables(), rounds, out) {
-        Ok(()) => Outcome::Done,
-        Err(_) => Outcome::Write,
+        Ok(()) => Ok(()),
+        Err(_) => Err(PutStop::Write),
     }
 }
 

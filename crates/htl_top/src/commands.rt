@@ -9,7 +9,7 @@ ghost use Rattle.htl_top.specs.Words.{asked_for, command_in, most_taken, with_fi
 ghost use Rattle.htl_open.specs.declared.stop.ShelfCause.TheVariants as cause;
 
 use crate::Outcome;
-use crate::answer::{Answer, of_go, of_run, of_text};
+use crate::answer::{Answer, of_go, of_put, of_run, of_slack, of_text};
 use crate::audit::audit_file;
 use crate::bulk::bulk;
 use crate::check::check_file;
@@ -74,8 +74,10 @@ fn answered<S: Shelf, R: Source, W: Sink>(
         Asked::Compile => compile_input(alloc, input, out),
         Asked::CompileWith { platform } => compile_for_file(alloc, platform, shelf, input, out),
         Asked::File { verb, name } => about_file(alloc, verb, name, shelf, input, out),
-        Asked::Bulk { modules } => Answer::plain(bulk(alloc, modules, out)),
-        Asked::Slack { name, owner, task } => slack_file(alloc, name, &owner, &task, shelf, out),
+        Asked::Bulk { modules } => of_put(bulk(alloc, modules, out)),
+        Asked::Slack { name, owner, task } => of_slack(slack_file(
+            alloc, name, &owner, &task, shelf, out,
+        )),
         Asked::Audit { name, log } => audit_file(alloc, name, log, shelf, input, out),
         Asked::Patch {
             name,

@@ -1,16 +1,13 @@
 // The command `slack`: how far the worst case of a task can be raised.
-ghost use Rattle.std.specs.Prelude.{◌≡◌, ◌↔◌, ◌<◌, ℕ, List, Some, None, IfOk, MatchOption, true, length};
+ghost use Rattle.std.specs.Prelude.{◌≡◌, ◌↔◌, ◌<◌, ℕ, List, Some, None, Err, IfOk, MatchOption, true, length};
 ghost use Rattle.htl_edge.specs.Content.{Puts};
 ghost use Rattle.htl_slack.specs.RootTasks.{IsRootTask, limit_of};
 ghost use Rattle.htl_open.specs.Files.{files};
-ghost use Rattle.htl_open.specs.Objects.{IsObjectTables};
 ghost use Rattle.htl_top.specs.Slacked.{has_names as has_names_of, IsRootNamed, NamesNoTask, slack_line as slack_line_of, above_line as above_line_of, overload_line as overload_line_of, slack_text, IsSlack, IsSlackTold, IsSlackOnObject};
-ghost use Rattle.htl_top.specs.ErrorLines.{SpeaksOf};
+ghost use Rattle.htl_open.specs.declared.stop.OpenStop.TheVariants as open_stop;
 ghost use Rattle.htl_open.specs.declared.stop.ShelfCause.TheVariants as cause;
 
-use crate::Outcome;
-use crate::answer::Answer;
-use crate::object::open;
+use crate::stop::{OnObject, SlackStop};
 use htl_base::{Memory, Name};
 use htl_console::show_schedules;
 use htl_edge::{Failed, LineBuffer, Shelf, Sink, put_all};
@@ -18,6 +15,7 @@ use htl_load::Loaded;
 use htl_model::lookup::task_worst;
 use htl_model::rounds::unit_period;
 use htl_model::{Tables, Task};
+use htl_open::object::open;
 use htl_slack::{Above, SlackReport, is_root_task, slack};
 use std::alloc::Global;
 
@@ -145,19 +143,25 @@ fn write_slack<W: Sink>(
 }
 
 // Tells the slack of a task of an accepted object.
-fn tell_slack<W: Sink>(alloc: Global, l: &Loaded, owner: &Name, name: &Name, out: &mut W) -> Outcome
+fn tell_slack<W: Sink>(
+    alloc: Global,
+    l: &Loaded,
+    owner: &Name,
+    name: &Name,
+    out: &mut W,
+) -> Result<(), SlackStop>
     ensures answer { IsSlackTold owner.now name.now l.now.tables (W.written out.old) (W.written out.new) (W.faults out.old) (W.faults out.new) result }
-    ensures write_count { (result ≡ Outcome.Write → ⊥) → W.faults out.new ≡ W.faults out.old }
+    ensures write_count { (result ≡ Err SlackStop.Write → ⊥) → W.faults out.new ≡ W.faults out.old }
 {
     let Some(task) = find_task(l.tables(), owner, name) else {
-        return Outcome::Task;
+        return Err(SlackStop::Task);
     };
     let Ok(report) = slack_in(alloc, l, task) else {
-        return Outcome::Memory;
+        return Err(SlackStop::Memory);
     };
     match write_slack(out, l.tables(), owner, name, task, &report) {
-        Ok(()) => Outcome::Done,
-        Err(_) => Outcome::Write,
+        Ok(()) => Ok(()),
+        Err(_) => Err(SlackStop::Write),
     }
 }
 
@@ -169,16 +173,16 @@ pub fn slack_file<S: Shelf, W: Sink>(
     name: &Name,
     shelf: &mut S,
     out: &mut W,
-) -> Answer
+) -> Result<(), OnObject<SlackStop>>
     ensures answer { IsSlackOnObject owner.now name.now (Some file.now) (files S.holds S.faults shelf.old shelf.new)
-        (W.written out.old) (W.written out.new) (W.faults out.old) (W.faults out.new) result.outcome }
-    ensures tables { SpeaksOf (λ fact. ⊥) (IsObjectTables (Some file.now) (S.holds shelf.old)) result.outcome result.tables }
+        (W.written out.old) (W.written out.new) (W.faults out.old) (W.faults out.new) result }
     ensures shelf { S.holds shelf.new ≡ S.holds shelf.old }
-    ensures shelf_count { (result.outcome ≡ Outcome.Shelf cause.Failed → ⊥) → (file : List ℕ) → S.faults shelf.new file ≡ S.faults shelf.old file }
-    ensures write_count { (result.outcome ≡ Outcome.Write → ⊥) → W.faults out.new ≡ W.faults out.old }
+    ensures shelf_count { (result ≡ Err (OnObject.Open (open_stop.Shelf cause.Failed)) → ⊥) → (file : List ℕ) → S.faults shelf.new file ≡ S.faults shelf.old file }
+    ensures write_count { (result ≡ Err (OnObject.Work SlackStop.Write) → ⊥) → W.faults out.new ≡ W.faults out.old }
 {
-    match open(alloc, file, shelf) {
-        Ok(loaded) => Answer::plain(tell_slack(alloc, &loaded, owner, name, out)),
-        Err(answer) => answer,
+    let loaded = open(alloc, file, shelf)?;
+    match tell_slack(alloc, &loaded, owner, name, out) {
+        Ok(()) => Ok(()),
+        Err(stop) => Err(OnObject::Work(stop)),
     }
 }
