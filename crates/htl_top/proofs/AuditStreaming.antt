@@ -1,6 +1,6 @@
 -- From event to event of a script that an auditor is told, and the end of its audit.
 use Rattle.std.proofs.Common.{◌≡◌, Bool, true, false, ℕ, suc, List, [], ◌∷◌, ◌++◌, Option, Some, None, Result, Ok, Err, is_some, refl, sym, ap, ◌∙◌, subst, length}
-use Rattle.htl_top.proofs.Vocabulary.{StopsAtLine, append_known, append-nil, first_fault_found, legal_without_fault, rounds_same, BeginningJobs, all_rounds, LogFault, Slice, Shown, Values, append_known-more, AppendsPrefix-more, AppendsPrefix, Puts, sense_end, took_end, text_between, before_of, Tables, Event, IsAccepted, Object, EndWith, at_first, past_after, past_of, behind, Ahead, Gives, still, at_start, IsAnswer, Goes, ScriptFault, Past, Streams, IsAuditBehind, IsAuditPlaying, IsAuditTold, IsConcluded, IsAuditRun, IsCutAudit, audit_text, audited_line, audited_text, verdict_text, HaveNoEnd, IsBehind, IsPlaying, text_more, IsFaultyRun, text_before_fault, Outcome, Done, Log, Write}
+use Rattle.htl_top.proofs.Vocabulary.{StopsAtLine, append_known, append-nil, first_fault_found, legal_without_fault, rounds_same, BeginningJobs, all_rounds, LogFault, Slice, Shown, Values, append_known-more, AppendsPrefix-more, AppendsPrefix, Puts, sense_end, took_end, text_between, before_of, Tables, Event, IsAccepted, Object, EndWith, at_first, past_after, past_of, behind, Ahead, Gives, still, at_start, IsAnswer, Goes, ScriptFault, Past, Streams, IsAuditBehind, IsAuditPlaying, IsAuditTold, IsConcluded, IsAuditRun, IsCutAudit, audit_text, audited_line, audited_text, verdict_text, HaveNoEnd, IsBehind, IsPlaying, text_more, IsFaultyRun, text_before_fault}
 use Rattle.htl_audit.specs.Auditing.{Audit, AuditFollows, IsAudited, IsSameAudit}
 use Rattle.htl_audit.specs.Legal.{first_fault, first_fault_in, jobs_done}
 use Rattle.htl_model.specs.declared.event.Event.TheVariants as event
@@ -10,6 +10,10 @@ use Rattle.htl_top.proofs.Playing.{past_more}
 use Rattle.htl_top.proofs.Streaming as streaming
 use Rattle.htl_top.proofs.StreamEnd as ending
 use Rattle.htl_top.proofs.StreamEnd.{IsOver, one_end}
+use Rattle.htl_top.specs.Stops.{Ended}
+use Rattle.htl_top.specs.declared.stop.AuditStop.{AuditStop}
+use Rattle.htl_top.specs.declared.stop.AuditStop.TheVariants as audit
+use Rattle.htl_top.specs.declared.stop.RunStop.{RunStop}
 use Rattle.htl_top.proofs.Streaming.{IsHeard, none_ended, rose_since, whole_text}
 
 -- ---- the end among the events changes nothing of an audit
@@ -213,8 +217,8 @@ module _ (a0 a : Audit) (accepted : IsAccepted a0.machine.object) (shown : a0.ma
       ap (λ (bs : List ℕ). first ++ bs) (append-nil second ∙ sym (verdict_is o.tables h.over.told h.over.end a0.log none)) in
       subst (AppendsPrefix old.written new.written) whole (AppendsPrefix-more old.written w new.written first second [] lines (subst (AppendsPrefix w new.written) text_there part))
 
-  pub concluded : (outcome : Outcome) → IsConcluded a.machine.object.tables h.front a.machine.run_state.reading a.log w new.written f new.write_faults outcome → IsAuditRun a0.log a0.machine.object old new outcome
-  concluded Done c = record {
+  pub concluded : (r : Ended AuditStop) → IsConcluded a.machine.object.tables h.front a.machine.run_state.reading a.log w new.written f new.write_faults r → IsAuditRun a0.log a0.machine.object old new r
+  concluded (Ok done) c = record {
     events = h.over.told;
     end = h.over.end;
     script = h.over.script;
@@ -224,7 +228,7 @@ module _ (a0 a : Audit) (accepted : IsAccepted a0.machine.object) (shown : a0.ma
         append_known-more old.written w new.written (before_of a0.machine.object h.over.told Values (suc h.over.end)) (audited_text a0.machine.object.tables h.over.told h.over.end a0.log) lines
         (c.1 ∙ ap (append_known w) text_there);
   }
-  concluded (Log g) c = record {
+  concluded (Err (audit.Log g)) c = record {
     events = h.over.told;
     end = h.over.end;
     script = h.over.script;
@@ -232,6 +236,6 @@ module _ (a0 a : Audit) (accepted : IsAccepted a0.machine.object) (shown : a0.ma
     fault = (first_fault_found a0.machine.object.tables h.over.told h.over.end a0.log g).0 (sym fault_there ∙ c.0);
     written = c.1 ∙ lines;
   }
-  concluded Write c =
-      (rose_since old.write_faults f new.write_faults still c.0, record { given = Whole h.over.told h.over.end; script = h.over.script; written = cut_line (sym fault_there ∙ c.1) c.2 })
-  concluded _ c = absurd c
+  concluded (Err (audit.Run s)) c =
+      subst (λ (x : RunStop). IsAuditRun a0.log a0.machine.object old new (Err (audit.Run x))) (sym c.0)
+      (rose_since old.write_faults f new.write_faults still c.1, record { given = Whole h.over.told h.over.end; script = h.over.script; written = cut_line (sym fault_there ∙ c.2) c.3 })

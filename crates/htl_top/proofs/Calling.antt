@@ -1,16 +1,20 @@
 -- From the answer of a command to the clauses of the top call that all commands share.
 use Rattle.std.proofs.Common.{◌≡◌, ◌⊎◌, ℕ, List, Option, None, Some, refl, sym, subst, inl, inr}
 use Rattle.std.specs.Prelude.{◌↔◌}
-use Rattle.htl_top.proofs.Vocabulary.{MAX_SOURCE, MAX_OBJECT, CompileFault, Shown, ObjectFault, PlatformFault, ScriptFault, Files, Streams, IsBeforeScript, IsBeforeRun, IsAudit, IsBulked, IsFaultOf, IsLongFile, check_text, IsCompiling, IsCompileCause, IsPlatformCause, IsCompilingOn, IsRefusedFile, IsOnObject, IsStopped, Work, IsPatching, show_text, answer_of, Command, Go, Compile, CompileWith, Run, Check, Plan, Show, Bulk, Slack, Audit, Patch, RunsObject, source_of, platform_file, command_object, second_file, Outcome, Done, Usage, Platform, Refused, Script, Shelf, Read, Write, Memory, ShelfCause, Failed, TooLong}
+use Rattle.htl_top.proofs.Vocabulary.{MAX_SOURCE, MAX_OBJECT, CompileFault, Shown, ObjectFault, PlatformFault, ScriptFault, Files, Streams, IsBeforeScript, IsBeforeRun, IsBulked, IsFaultOf, IsLongFile, check_text, IsCompileCause, IsPlatformCause, IsRefusedFile, IsOnObject, IsStopped, Work, show_text, answer_of, Command, Go, Compile, CompileWith, Run, Check, Plan, Show, Bulk, Slack, Audit, Patch, RunsObject, source_of, platform_file, command_object, second_file, Outcome, Done, Usage, Platform, Refused, Script, Shelf, Read, Write, Memory, ShelfCause, Failed, TooLong}
 use Rattle.htl_compile.specs.declared.compiling.CompileFault.TheVariants as compile
 use Rattle.htl_top.proofs.Auditing as auditing
+use Rattle.htl_top.proofs.Auditing.{AuditAs}
 use Rattle.htl_top.proofs.Bulking as bulking
 use Rattle.htl_top.proofs.Compiling as compiling
+use Rattle.htl_top.proofs.Compiling.{CompilingAs}
 use Rattle.htl_top.proofs.CompilingOn as platforms
+use Rattle.htl_top.proofs.CompilingOn.{CompilingOnAs}
 use Rattle.htl_top.proofs.Going as going
 use Rattle.htl_top.proofs.ObjectAnswering as objects
 use Rattle.htl_top.proofs.ObjectAnswering.{IsWork}
 use Rattle.htl_top.proofs.Patching as patching
+use Rattle.htl_top.proofs.Patching.{PatchingAs}
 use Rattle.htl_top.proofs.Planning.{PlanOf, planning}
 use Rattle.htl_top.proofs.Running.{RunOf, memory_run, running}
 use Rattle.htl_top.proofs.Seen.{IsChecked, IsSeen, IsShown}
@@ -64,8 +68,8 @@ module _ (shelf : Files) (old new : Streams) where
   usage None outcome call = (λ e. refl, λ e. call.0)
   usage (Some (Go name)) outcome call =
       not_asked (Go name) (outcome ≡ Usage) (λ e. going.tells (Some name) shelf old new Usage (subst (going.Gone (Some name) shelf old new) e call))
-  usage (Some Compile) outcome call = not_asked Compile (outcome ≡ Usage) (λ e. subst (λ o. IsCompiling old new o) e call)
-  usage (Some (CompileWith file)) outcome call = not_asked (CompileWith file) (outcome ≡ Usage) (λ e. subst (λ o. IsCompilingOn (Some file) shelf old new o) e call)
+  usage (Some Compile) outcome call = not_asked Compile (outcome ≡ Usage) (λ e. subst (λ o. CompilingAs old new o) e call)
+  usage (Some (CompileWith file)) outcome call = not_asked (CompileWith file) (outcome ≡ Usage) (λ e. subst (λ o. CompilingOnAs (Some file) shelf old new o) e call)
   usage (Some (Run show name)) outcome call =
       not_asked (Run show name) (outcome ≡ Usage)
       (λ e. objects.no_usage (RunOf show) (running show) (Some name) shelf old new (subst (λ o. IsOnObject (RunOf show) (Some name) shelf old new o) e call))
@@ -78,9 +82,9 @@ module _ (shelf : Files) (old new : Streams) where
   usage (Some (Slack name owner task)) outcome call =
       not_asked (Slack name owner task) (outcome ≡ Usage) (λ e. objects.no_usage (IsSlacked owner task) (slacking owner task) (Some name) shelf old new (subst (λ o. IsOnObject (IsSlacked owner task) (Some name) shelf old new o) e call))
   usage (Some (Audit name log)) outcome call =
-      not_asked (Audit name log) (outcome ≡ Usage) (λ e. auditing.no_usage name log shelf old new (subst (λ o. IsAudit name log shelf old new o) e call))
+      not_asked (Audit name log) (outcome ≡ Usage) (λ e. auditing.no_usage name log shelf old new (subst (λ o. AuditAs name log shelf old new o) e call))
   usage (Some (Patch name unit mode donor)) outcome call =
-      not_asked (Patch name unit mode donor) (outcome ≡ Usage) (λ e. patching.no_usage unit mode (Some name) (Some donor) shelf old new (subst (λ o. IsPatching unit mode (Some name) (Some donor) shelf old new o) e call))
+      not_asked (Patch name unit mode donor) (outcome ≡ Usage) (λ e. patching.no_usage unit mode (Some name) (Some donor) shelf old new (subst (λ o. PatchingAs unit mode (Some name) (Some donor) shelf old new o) e call))
   usage (Some (Bulk n)) outcome call = not_asked (Bulk n) (outcome ≡ Usage) (λ e. bulking.only n old new Usage (subst (λ o. IsBulked n old new o) e call))
 
   -- ---- of an answer

@@ -1,9 +1,14 @@
--- What `compile` answers, by its input.
-use Rattle.std.proofs.Common.{arith, ◌≡◌, ◌≤◌, ◌<◌, ℕ, List, length, Option, Some, refl, sym, ap, subst, inl, inr}
-use Rattle.htl_top.proofs.Vocabulary.{IfSome, append_known, compile_only_memory, one_compile_fault, IsCompiledTo, IsCompileFault, AreSchedulable, AreTyped, IsTablesOf, CompileFault, Rose, AppendsPrefix, none_left, Formed, Tables, Streams, IsBeforeRun, IsOrMemory, IsCompiling, IsBytesCompiled, compiled_bytes, IsInput, IsInputProgram, IsFaultyInput, IsLongInput, IsInputFault, IsNotCompiled, answer_of, outcome_of, Outcome, Done, Source, IllFormed, Unschedulable, Read, Write, Memory, SourceStop}
+-- What `compile` came to, by its outcome and its input.
+use Rattle.std.proofs.Common.{arith, ◌≡◌, ◌≤◌, ◌<◌, ℕ, List, length, Option, Some, Ok, Err, refl, sym, ap, subst, inl, inr}
+use Rattle.htl_top.proofs.Vocabulary.{IfSome, append_known, compile_only_memory, one_compile_fault, IsCompiledTo, IsCompileFault, AreSchedulable, AreTyped, IsTablesOf, CompileFault, Rose, AppendsPrefix, none_left, Formed, Tables, Streams, IsBeforeRun, IsOrMemory, HasBuilt, IsCompiling, IsInputCompiled, compiled_bytes, IsInput, IsInputOf, IsInputProgram, IsFaultyInput, IsLongInput, IsInputFault, answer_of, Outcome, Done, Source, IllFormed, Unschedulable, Read, Write, Memory, SourceStop}
 use Rattle.htl_compile.specs.declared.compiling.CompileFault.TheVariants as compile
 use Rattle.htl_compile.specs.declared.source_fault.SourceFault.TheVariants as source
 use Rattle.htl_compile.specs.declared.stop.SourceStop.TheVariants as stop
+use Rattle.htl_top.specs.Stops.{Came, Ended, compile_as, ended_as}
+use Rattle.htl_top.specs.declared.input.InputStop.{InputStop}
+use Rattle.htl_top.specs.declared.input.InputStop.TheVariants as unread
+use Rattle.htl_top.specs.declared.stop.CompileStop.{CompileStop}
+use Rattle.htl_top.specs.declared.stop.CompileStop.TheVariants as stopped
 
 -- ---- from the source to the input
 
@@ -12,34 +17,63 @@ program : (rest : Option (List ℕ)) (bytes object : List ℕ) (Fact : List ℕ 
 program rest bytes object Fact input c fact =
     record { bytes = bytes; input = input; has = record { tables = c.tables; of = c.of; can = c.can; fact = subst Fact c.is fact } }
 
-uncompiled : (old new : Streams) (bytes : List ℕ) (s : SourceStop) → IsInput old.rest bytes → new.written ≡ old.written → IsNotCompiled bytes s → IsCompiling old new (outcome_of s)
-uncompiled old new bytes (stop.IllFormed f u) input same is = (inr (record { bytes = bytes; input = input; fault = is.0 }), same)
-uncompiled old new bytes (stop.Platform f) input same is = absurd is
-uncompiled old new bytes stop.Memory input same is = same
-uncompiled old new bytes _ input same is = (inr (record { bytes = bytes; input = input; fault = is }), same)
+-- ---- by outcomes
 
-pub IsCompiling-bytes : (old new : Streams) (bytes : List ℕ) (outcome : Outcome) → IsInput old.rest bytes → new.rest ≡ none_left old.rest
-    → IsBytesCompiled bytes old.written new.written old.write_faults new.write_faults outcome → IsCompiling old new outcome
-IsCompiling-bytes old new bytes outcome input left compiled = elim compiled [
-  | inl c ↦ elim c.2 [
-    | inl w ↦
-        subst (λ (o : Outcome). IsCompiling old new o) (sym w.0)
-        (left, program old.rest bytes c.0 (λ (object : List ℕ). new.written ≡ append_known old.written object) input c.1 w.1)
-    | inr w ↦
-        subst (λ (o : Outcome). IsCompiling old new o) (sym w.0)
-        (w.1, program old.rest bytes c.0 (λ (object : List ℕ). AppendsPrefix old.written new.written object) input c.1 w.2)
-  ]
-  | inr s ↦ subst (λ (o : Outcome). IsCompiling old new o) (sym s.2) (uncompiled old new bytes s.0 input s.3 s.1)
-]
+abbrev pub CompilingAs : Streams → Streams → Outcome → Type 0
+CompilingAs old new Done = (new.rest ≡ none_left old.rest) × IsInputProgram old.rest (λ t. new.written ≡ append_known old.written (compiled_bytes t))
+CompilingAs old new Write = Rose old.write_faults new.write_faults × IsInputProgram old.rest (λ t. AppendsPrefix old.written new.written (compiled_bytes t))
+CompilingAs old new Read = Rose old.read_faults new.read_faults × (new.written ≡ old.written)
+CompilingAs old new (Source f) = IsInputFault old.rest (compile.Source f) × (new.written ≡ old.written)
+CompilingAs old new (IllFormed f) = IsInputFault old.rest (compile.IllFormed f) × (new.written ≡ old.written)
+CompilingAs old new (Unschedulable sel a b demand) = IsInputFault old.rest (compile.Unschedulable sel a b demand) × (new.written ≡ old.written)
+CompilingAs old new Memory = new.written ≡ old.written
+CompilingAs old new _ = ⊥
+
+module _ (old new : Streams) where
+  compiling_by : (r : Ended CompileStop) → IsCompiling old new r → CompilingAs old new (ended_as compile_as r)
+  compiling_by (Ok done) is = let p = is.1 in (is.0, program old.rest p.bytes p.fact.0 (λ object. new.written ≡ append_known old.written object) p.input p.fact.1 p.fact.2)
+  compiling_by (Err stopped.Write) is = let p = is.1 in (is.0, program old.rest p.bytes p.fact.0 (λ object. AppendsPrefix old.written new.written object) p.input p.fact.1 p.fact.2)
+  compiling_by (Err (stopped.Input unread.Read)) is = is
+  compiling_by (Err (stopped.Input unread.TooLong)) is = (inl (record { is = refl; long = is.0 }), is.1)
+  compiling_by (Err (stopped.Input unread.Memory)) is = is
+  compiling_by (Err (stopped.Source stop.Memory)) is = is.1
+  compiling_by (Err (stopped.Source (stop.Platform f))) is = absurd is.0.fact
+  compiling_by (Err (stopped.Source (stop.IllFormed f u))) is = (inr (record { bytes = is.0.bytes; input = is.0.input; fault = is.0.fact.0 }), is.1)
+  compiling_by (Err (stopped.Source (stop.Fault f))) is = (inr (record { bytes = is.0.bytes; input = is.0.input; fault = is.0.fact }), is.1)
+  compiling_by (Err (stopped.Source (stop.Unschedulable sel a b demand))) is = (inr (record { bytes = is.0.bytes; input = is.0.input; fault = is.0.fact }), is.1)
+
+  pub seen_compile : (outcome : Outcome) → Came compile_as (IsCompiling old new) outcome → CompilingAs old new outcome
+  seen_compile outcome call = subst (λ (o : Outcome). CompilingAs old new o) (sym call.is) (compiling_by call.result call.came)
+
+-- ---- what is done
+
+-- the input was had, and an object was built of it and put
+pub input_built : (IsBuilt : List ℕ → List ℕ → Type 0) (rest : Option (List ℕ)) (bytes slice object put : List ℕ) → slice ≡ bytes → put ≡ object → IsInput rest bytes → IsBuilt slice object
+    → (Fact : List ℕ → Type 0) → Fact put → IsInputOf rest (HasBuilt IsBuilt Fact)
+input_built IsBuilt rest bytes slice object put is same input built Fact fact =
+    record { bytes = bytes; input = input; fact = (object, subst (λ (bs : List ℕ). IsBuilt bs object) is built, subst Fact same fact) }
+
+-- it was had, and none was built
+pub input_unbuilt : (IsUnbuilt : List ℕ → SourceStop → Type 0) (rest : Option (List ℕ)) (bytes slice : List ℕ) (s : SourceStop) → slice ≡ bytes → IsInput rest bytes → IsUnbuilt slice s
+    → IsInputOf rest (λ source. IsUnbuilt source s)
+input_unbuilt IsUnbuilt rest bytes slice s is input unbuilt = record { bytes = bytes; input = input; fact = subst (λ (bs : List ℕ). IsUnbuilt bs s) is unbuilt }
+
+-- it wasn't had whole
+pub unread_stop : (IsBuilt : List ℕ → List ℕ → Type 0) (IsUnbuilt : List ℕ → SourceStop → Type 0) (old new : Streams) (s : InputStop) → new.written ≡ old.written
+    → (s ≡ unread.TooLong → IfSome old.rest (λ given. 1048576 < length given)) → (s ≡ unread.Read → Rose old.read_faults new.read_faults)
+    → IsInputCompiled IsBuilt IsUnbuilt old new (Err (stopped.Input s))
+unread_stop IsBuilt IsUnbuilt old new unread.TooLong same long failed = (long refl, same)
+unread_stop IsBuilt IsUnbuilt old new unread.Read same long failed = (failed refl, same)
+unread_stop IsBuilt IsUnbuilt old new unread.Memory same long failed = same
 
 -- ---- the clauses
 
 module _ (old new : Streams) where
-  pub cause : (f : CompileFault) → (f ≡ compile.Memory → ⊥) → IsCompiling old new (answer_of f) → IsInputFault old.rest f
+  pub cause : (f : CompileFault) → (f ≡ compile.Memory → ⊥) → CompilingAs old new (answer_of f) → IsInputFault old.rest f
   cause compile.Memory told compiling = absurd (told refl)
   cause _ told compiling = compiling.0
 
-  pub unwritten : (outcome : Outcome) → IsCompiling old new outcome → IsBeforeRun outcome → new.written ≡ old.written
+  pub unwritten : (outcome : Outcome) → CompilingAs old new outcome → IsBeforeRun outcome → new.written ≡ old.written
   unwritten Done compiling early = absurd early
   unwritten Write compiling early = absurd early
   unwritten Read compiling early = compiling.1
@@ -72,7 +106,7 @@ module _ (old new : Streams) where
     long_fault f long (inl l) = ap answer_of l.is
     long_fault f long (inr p) = absurd (omega (arith, long, short p.bytes p.input))
 
-    pub long_input : (outcome : Outcome) → IsCompiling old new outcome → 1048576 < length bytes → (Rose old.read_faults new.read_faults → ⊥)
+    pub long_input : (outcome : Outcome) → CompilingAs old new outcome → 1048576 < length bytes → (Rose old.read_faults new.read_faults → ⊥)
         → IsOrMemory outcome (Source (source.TooLong 1048577))
     long_input Done compiling long quiet = absurd (omega (arith, long, short compiling.1.bytes compiling.1.input))
     long_input Write compiling long quiet = absurd (omega (arith, long, short compiling.1.bytes compiling.1.input))
@@ -94,7 +128,7 @@ module _ (old new : Streams) where
           known
           (compile_only_memory p.bytes p.has.tables f p.has.of p.has.can.can.typed p.has.can.formed p.has.can.schedulable (subst (λ (bs : List ℕ). IsCompileFault bs f) (sym (same_bytes p.bytes p.input)) is))
 
-      pub faulty_input : (outcome : Outcome) → IsCompiling old new outcome → (Rose old.read_faults new.read_faults → ⊥) → IsOrMemory outcome (answer_of f)
+      pub faulty_input : (outcome : Outcome) → CompilingAs old new outcome → (Rose old.read_faults new.read_faults → ⊥) → IsOrMemory outcome (answer_of f)
       faulty_input Done compiling quiet = absurd (no_program (λ t. new.written ≡ append_known old.written (compiled_bytes t)) compiling.1)
       faulty_input Write compiling quiet = absurd (no_program (λ t. AppendsPrefix old.written new.written (compiled_bytes t)) compiling.1)
       faulty_input Read compiling quiet = absurd (quiet compiling.0)
@@ -110,7 +144,7 @@ module _ (old new : Streams) where
       no_fault g other (inl l) = omega (arith, few, is_long g l)
       no_fault g other (inr p) = other (compile_only_memory bytes t g of typed formed free (fault_of g p))
 
-      pub complete : (outcome : Outcome) → IsCompiling old new outcome → (Rose old.read_faults new.read_faults → ⊥) → (Rose old.write_faults new.write_faults → ⊥) → IsOrMemory outcome Done
+      pub complete : (outcome : Outcome) → CompilingAs old new outcome → (Rose old.read_faults new.read_faults → ⊥) → (Rose old.write_faults new.write_faults → ⊥) → IsOrMemory outcome Done
       complete Done compiling quiet still = inl refl
       complete Write compiling quiet still = absurd (still compiling.0)
       complete Read compiling quiet still = absurd (quiet compiling.0)

@@ -1,62 +1,90 @@
--- What `compile with` answers, by its platform file and its input.
-use Rattle.std.proofs.Common.{arith, ◌≡◌, ◌≤◌, ◌<◌, ℕ, List, length, Option, Some, Ok, refl, sym, ◌∙◌, ap, subst, inl, inr}
-use Rattle.htl_top.proofs.Vocabulary.{get, IfSome, append_known, MAX_SOURCE, only_memory, one_with_fault, AreSchedulable, AreTyped, IsCompiledOn, IsWithFault, IsTablesOf, CompileFault, WithFault, Rose, AppendsPrefix, none_left, Holdings, HoldsUnder, Formed, Tables, with_worst, platform_of, PlatformOf, Files, Streams, IsBeforeRun, IsFaultOf, IsLongFile, IsSource, IsGiven, IsOrMemory, IsCompilingOn, IsBytesCompiledOn, compiled_on, IsInput, answer_of, outcome_of, IsProgramOn, IsFaultyOn, IsInputFaultOn, IsNotCompiledOn, answer_on, Outcome, Done, Source, IllFormed, Unschedulable, Platform, Shelf, Read, Write, Memory, Failed, TooLong, SourceStop}
+-- What `compile with` came to, by its outcome, its platform file and its input.
+use Rattle.std.proofs.Common.{arith, ◌≡◌, ◌≤◌, ◌<◌, ℕ, List, length, Option, Some, Ok, Err, refl, sym, ◌∙◌, ap, subst, inl, inr}
+use Rattle.htl_top.proofs.Vocabulary.{get, IfSome, append_known, MAX_SOURCE, only_memory, one_with_fault, AreSchedulable, AreTyped, IsWithFault, IsTablesOf, CompileFault, WithFault, Rose, AppendsPrefix, none_left, Holdings, HoldsUnder, Formed, Tables, with_worst, platform_of, PlatformOf, Files, Streams, IsBeforeRun, IsFaultOf, IsLongFile, IsSource, IsGiven, IsOrMemory, HasBuilt, IsBuiltOn, IsUnbuiltOn, IsUntouched, IsCompilingOn, IsInputCompiled, compiled_on, IsInput, IsInputOf, answer_of, IsProgramOn, IsFaultyOn, IsInputFaultOn, answer_on, Outcome, Done, Source, IllFormed, Unschedulable, Platform, Shelf, Read, Write, Memory, Failed, TooLong}
 use Rattle.htl_compile.specs.declared.compiling.CompileFault.TheVariants as compile
 use Rattle.htl_compile.specs.declared.compiling_on.WithFault.TheVariants as on
 use Rattle.htl_compile.specs.declared.source_fault.SourceFault.TheVariants as source
 use Rattle.htl_compile.specs.declared.stop.SourceStop.TheVariants as stop
+use Rattle.htl_open.specs.declared.stop.FetchStop.TheVariants as fetch
+use Rattle.htl_top.specs.Stops.{Came, Ended, compile_as, compile_with_as, ended_as}
+use Rattle.htl_top.specs.declared.input.InputStop.TheVariants as unread
+use Rattle.htl_top.specs.declared.stop.CompileStop.{CompileStop}
+use Rattle.htl_top.specs.declared.stop.CompileStop.TheVariants as stopped
+use Rattle.htl_top.specs.declared.stop.CompileWithStop.{CompileWithStop}
+use Rattle.htl_top.specs.declared.stop.CompileWithStop.TheVariants as for_file
 
--- ---- from source and platform file to the words and the input
+-- ---- by outcomes
 
-module _ (name : Option (List ℕ)) (shelf : Files) (old new : Streams) (file bytes : List ℕ) (held : IsSource name shelf.holds file) (input : IsInput old.rest bytes) where
-  program : (object : List ℕ) (Fact : List ℕ → Type 0) → IsCompiledOn bytes file object → Fact object → IsProgramOn name shelf.holds old.rest (λ p t. Fact (compiled_on p t))
-  program object Fact c fact =
-      record {
-        file = file;
-        held = held;
-        bytes = bytes;
-        input = input;
-        tables = c.tables;
-        of = c.of;
-        typed = c.typed;
-        platform = c.platform;
-        says = c.says;
-        can = c.can;
-        fact = subst Fact c.is fact;
-      }
+abbrev pub CompilingOnAs : Option (List ℕ) → Files → Streams → Streams → Outcome → Type 0
+CompilingOnAs name shelf old new Done =
+    (new.rest ≡ none_left old.rest) × IsProgramOn name shelf.holds old.rest (λ p t. new.written ≡ append_known old.written (compiled_on p t))
+CompilingOnAs name shelf old new Write =
+    Rose old.write_faults new.write_faults × IsProgramOn name shelf.holds old.rest (λ p t. AppendsPrefix old.written new.written (compiled_on p t))
+CompilingOnAs name shelf old new (Shelf Failed) = IsFaultOf name shelf.before shelf.after × IsUntouched old new
+CompilingOnAs name shelf old new (Shelf (TooLong seen)) = IsLongFile MAX_SOURCE name shelf.holds seen × IsUntouched old new
+CompilingOnAs name shelf old new Read = ((file : List ℕ) × IsSource name shelf.holds file) × Rose old.read_faults new.read_faults × (new.written ≡ old.written)
+CompilingOnAs name shelf old new (Source f) = IsInputFaultOn name shelf.holds old.rest (on.Compile (compile.Source f)) × (new.written ≡ old.written)
+CompilingOnAs name shelf old new (Platform f) = IsFaultyOn name shelf.holds old.rest (on.Platform f) × (new.written ≡ old.written)
+CompilingOnAs name shelf old new (IllFormed f) = IsInputFaultOn name shelf.holds old.rest (on.Compile (compile.IllFormed f)) × (new.written ≡ old.written)
+CompilingOnAs name shelf old new (Unschedulable sel a b demand) =
+    IsInputFaultOn name shelf.holds old.rest (on.Compile (compile.Unschedulable sel a b demand)) × (new.written ≡ old.written)
+CompilingOnAs name shelf old new Memory = new.written ≡ old.written
+CompilingOnAs name shelf old new _ = ⊥
 
-  faulty : (f : WithFault) → IsWithFault bytes file f → IsFaultyOn name shelf.holds old.rest f
-  faulty f is = record { file = file; held = held; bytes = bytes; input = input; fault = is }
+module _ (name : Option (List ℕ)) (shelf : Files) (old new : Streams) where
+  module _ (file : List ℕ) (held : IsSource name shelf.holds file) where
+    program : (Fact : List ℕ → Type 0) → IsInputOf old.rest (HasBuilt (IsBuiltOn file) Fact) → IsProgramOn name shelf.holds old.rest (λ p t. Fact (compiled_on p t))
+    program Fact p =
+        let c = p.fact.1 in
+        record {
+          file = file;
+          held = held;
+          bytes = p.bytes;
+          input = p.input;
+          tables = c.tables;
+          of = c.of;
+          typed = c.typed;
+          platform = c.platform;
+          says = c.says;
+          can = c.can;
+          fact = subst Fact c.is p.fact.2;
+        }
 
-  uncompiled : (s : SourceStop) → new.written ≡ old.written → IsNotCompiledOn bytes file s → IsCompilingOn name shelf old new (outcome_of s)
-  uncompiled (stop.Fault f) same is = (inr (faulty (on.Compile (compile.Source f)) is), same)
-  uncompiled (stop.Platform f) same is = (faulty (on.Platform f) is, same)
-  uncompiled (stop.IllFormed f u) same is = (inr (faulty (on.Compile (compile.IllFormed f)) is.0), same)
-  uncompiled (stop.Unschedulable sel a b demand) same is = (inr (faulty (on.Compile (compile.Unschedulable sel a b demand)) is), same)
-  uncompiled stop.Memory same is = same
+    faulty : (f : WithFault) → IsInputOf old.rest (λ source. IsWithFault source file f) → IsFaultyOn name shelf.holds old.rest f
+    faulty f p = record { file = file; held = held; bytes = p.bytes; input = p.input; fault = p.fact }
 
-  pub IsCompilingOn-bytes : (outcome : Outcome) → new.rest ≡ none_left old.rest
-      → IsBytesCompiledOn bytes file old.written new.written old.write_faults new.write_faults outcome → IsCompilingOn name shelf old new outcome
-  IsCompilingOn-bytes outcome left compiled = elim compiled [
-    | inl c ↦ elim c.2 [
-      | inl w ↦
-          subst (λ (o : Outcome). IsCompilingOn name shelf old new o) (sym w.0)
-          (left, program c.0 (λ (object : List ℕ). new.written ≡ append_known old.written object) c.1 w.1)
-      | inr w ↦
-          subst (λ (o : Outcome). IsCompilingOn name shelf old new o) (sym w.0)
-          (w.1, program c.0 (λ (object : List ℕ). AppendsPrefix old.written new.written object) c.1 w.2)
-    ]
-    | inr s ↦ subst (λ (o : Outcome). IsCompilingOn name shelf old new o) (sym s.2) (uncompiled s.0 s.3 s.1)
-  ]
+    compiling_for : (r : Ended CompileStop) → IsInputCompiled (IsBuiltOn file) (IsUnbuiltOn file) old new r → CompilingOnAs name shelf old new (ended_as compile_as r)
+    compiling_for (Ok done) is = (is.0, program (λ (object : List ℕ). new.written ≡ append_known old.written object) is.1)
+    compiling_for (Err stopped.Write) is = (is.0, program (λ (object : List ℕ). AppendsPrefix old.written new.written object) is.1)
+    compiling_for (Err (stopped.Input unread.Read)) is = ((file, held), is.0, is.1)
+    compiling_for (Err (stopped.Input unread.TooLong)) is =
+        (inl (record { file = file; held = held; fault = compile.Source (source.TooLong 1048577); is = refl; long = record { is = refl; long = is.0 } }), is.1)
+    compiling_for (Err (stopped.Input unread.Memory)) is = is
+    compiling_for (Err (stopped.Source (stop.Fault f))) is = (inr (faulty (on.Compile (compile.Source f)) is.0), is.1)
+    compiling_for (Err (stopped.Source (stop.Platform f))) is = (faulty (on.Platform f) is.0, is.1)
+    compiling_for (Err (stopped.Source (stop.IllFormed f u))) is =
+        let p = is.0 in (inr (faulty (on.Compile (compile.IllFormed f)) (record { bytes = p.bytes; input = p.input; fact = p.fact.0 })), is.1)
+    compiling_for (Err (stopped.Source (stop.Unschedulable sel a b demand))) is = (inr (faulty (on.Compile (compile.Unschedulable sel a b demand)) is.0), is.1)
+    compiling_for (Err (stopped.Source stop.Memory)) is = is.1
+
+  compiling_by : (r : Ended CompileWithStop) → IsCompilingOn name shelf old new r → CompilingOnAs name shelf old new (ended_as compile_with_as r)
+  compiling_by (Ok done) is = compiling_for is.bytes is.source (Ok done) is.fact
+  compiling_by (Err (for_file.Compile s)) is = compiling_for is.bytes is.source (Err s) is.fact
+  compiling_by (Err (for_file.File (fetch.Shelf Failed))) is = is
+  compiling_by (Err (for_file.File (fetch.Shelf (TooLong seen)))) is = is
+  compiling_by (Err (for_file.File fetch.Memory)) is = is.1.written
+
+  pub seen_compile_with : (outcome : Outcome) → Came compile_with_as (IsCompilingOn name shelf old new) outcome → CompilingOnAs name shelf old new outcome
+  seen_compile_with outcome call = subst (λ (o : Outcome). CompilingOnAs name shelf old new o) (sym call.is) (compiling_by call.result call.came)
 
 -- ---- the clauses
 
 module _ (name : Option (List ℕ)) (shelf : Files) (old new : Streams) where
-  pub cause : (f : CompileFault) → (f ≡ compile.Memory → ⊥) → IsCompilingOn name shelf old new (answer_of f) → IsInputFaultOn name shelf.holds old.rest (on.Compile f)
+  pub cause : (f : CompileFault) → (f ≡ compile.Memory → ⊥) → CompilingOnAs name shelf old new (answer_of f) → IsInputFaultOn name shelf.holds old.rest (on.Compile f)
   cause compile.Memory told compiling = absurd (told refl)
   cause _ told compiling = compiling.0
 
-  pub unwritten : (outcome : Outcome) → IsCompilingOn name shelf old new outcome → IsBeforeRun outcome → new.written ≡ old.written
+  pub unwritten : (outcome : Outcome) → CompilingOnAs name shelf old new outcome → IsBeforeRun outcome → new.written ≡ old.written
   unwritten Done compiling early = absurd early
   unwritten Write compiling early = absurd early
   unwritten Read compiling early = compiling.2
@@ -102,7 +130,7 @@ module _ (name : Option (List ℕ)) (shelf : Files) (old new : Streams) where
       no_input_fault f (inl l) = no_file l.file l.held
       no_input_fault f (inr p) = no_file p.file p.held
 
-      pub long_platform : (outcome : Outcome) → IsCompilingOn name shelf old new outcome → IsOrMemory outcome (Shelf (TooLong (length file)))
+      pub long_platform : (outcome : Outcome) → CompilingOnAs name shelf old new outcome → IsOrMemory outcome (Shelf (TooLong (length file)))
       long_platform Done compiling = absurd (no_file compiling.1.file compiling.1.held)
       long_platform Write compiling = absurd (no_file compiling.1.file compiling.1.held)
       long_platform Read compiling = absurd (no_file compiling.0.0 compiling.0.1)
@@ -139,7 +167,7 @@ module _ (name : Option (List ℕ)) (shelf : Files) (old new : Streams) where
         long_fault f (inl l) = let same : f ≡ l.fault = (let e = l.is in cc) in ap answer_of same ∙ ap answer_of l.long.is
         long_fault f (inr p) = absurd (no_input p.bytes p.input)
 
-        pub long_input : (outcome : Outcome) → IsCompilingOn name shelf old new outcome → (Rose old.read_faults new.read_faults → ⊥) → IsOrMemory outcome (Source (source.TooLong 1048577))
+        pub long_input : (outcome : Outcome) → CompilingOnAs name shelf old new outcome → (Rose old.read_faults new.read_faults → ⊥) → IsOrMemory outcome (Source (source.TooLong 1048577))
         long_input Done compiling quiet = absurd (no_input compiling.1.bytes compiling.1.input)
         long_input Write compiling quiet = absurd (no_input compiling.1.bytes compiling.1.input)
         long_input Read compiling quiet = absurd (quiet compiling.1)
@@ -171,7 +199,7 @@ module _ (name : Option (List ℕ)) (shelf : Files) (old new : Streams) where
               let says : platform_of p.tables file ≡ Ok p.platform = subst (λ (other : List ℕ). platform_of p.tables other ≡ Ok p.platform) file_is p.says in
               known (only_memory bytes file p.tables p.platform of says p.typed p.can.formed p.can.schedulable f is)
 
-          pub faulty_on : (outcome : Outcome) → IsCompilingOn name shelf old new outcome → (Rose old.read_faults new.read_faults → ⊥) → IsOrMemory outcome (answer_on f)
+          pub faulty_on : (outcome : Outcome) → CompilingOnAs name shelf old new outcome → (Rose old.read_faults new.read_faults → ⊥) → IsOrMemory outcome (answer_on f)
           faulty_on Done compiling quiet = absurd (no_program (λ p t. new.written ≡ append_known old.written (compiled_on p t)) compiling.1)
           faulty_on Write compiling quiet = absurd (no_program (λ p t. AppendsPrefix old.written new.written (compiled_on p t)) compiling.1)
           faulty_on Read compiling quiet = absurd (quiet compiling.1)
@@ -191,7 +219,7 @@ module _ (name : Option (List ℕ)) (shelf : Files) (old new : Streams) where
           none_of : (g : WithFault) → (g ≡ on.Compile compile.Memory → ⊥) → IsWithFault bytes file g → ⊥
           none_of g other h = other (only_memory bytes file t p of says typed formed free g h)
 
-          pub complete : (outcome : Outcome) → IsCompilingOn name shelf old new outcome → (Rose old.read_faults new.read_faults → ⊥) → (Rose old.write_faults new.write_faults → ⊥)
+          pub complete : (outcome : Outcome) → CompilingOnAs name shelf old new outcome → (Rose old.read_faults new.read_faults → ⊥) → (Rose old.write_faults new.write_faults → ⊥)
               → IsOrMemory outcome Done
           complete Done compiling quiet still = inl refl
           complete Write compiling quiet still = absurd (still compiling.0)

@@ -1,13 +1,28 @@
 -- The line that tells of an answer has names of the tables that it speaks of.
 use Rattle.std.proofs.Common.{◌≡◌, List, ℕ, Option, Some, Err, refl, sym, ap, ◌∙◌, subst}
-use Rattle.htl_top.proofs.Vocabulary.{coded, Shown, Holdings, ObjectFault, Tables, FormFault, ObjectOf, patched, PatchFault, with_worst, Files, Streams, HasSource, HasObject, IsSource, IsObjectTables, SpeaksOfObject, HasPatchedTables, IsDonorTold, IsPatchedTables, SpeaksOfPatch, IsGoing, HasTypedTables, IsInput, IsNotCompiled, IsTypedInput, IsTypedProgram, outcome_of, tables_of_stop, HasTypedOn, IsTypedOn, IsNotCompiledOn, fault_line, SpeaksOf, IsFaultTold, IsPatchFaultTold, IsLineTold, Command, Go, Compile, CompileWith, Run, Check, Plan, Show, Slack, Audit, Patch, Outcome, SourceStop}
+use Rattle.htl_top.proofs.Vocabulary.{coded, Shown, Holdings, ObjectFault, Tables, FormFault, patched, PatchFault, with_worst, Files, Streams, HasSource, HasObject, IsAudit, IsCompiling, IsCompilingOn, IsObjectTables, IsPatchOfFiles, SpeaksOfObject, HasPatchedTables, IsPatchedTables, SpeaksOfPatch, IsGoing, HasTypedTables, IsNotCompiled, IsTypedInput, IsTypedProgram, outcome_of, tables_of_stop, IsTypedOn, fault_line, SpeaksOf, IsFaultTold, IsPatchFaultTold, IsLineTold, Command, Go, Compile, CompileWith, Run, Check, Plan, Show, Slack, Audit, Patch, Outcome, SourceStop}
 use Rattle.htl_top.proofs.Telling.{IsOfPut}
 use Rattle.htl_load.specs.declared.fault.ObjectFault.TheVariants as fault
 use Rattle.htl_patch.specs.declared.fault.PatchFault.TheVariants as patch
 use Rattle.htl_top.specs.declared.outcome.Outcome.TheVariants.{IllFormed, Patch as Unpatched, Object}
 use Rattle.htl_compile.specs.declared.stop.SourceStop.TheVariants as stop
 use Rattle.htl_open.specs.declared.stop.FetchStop.TheVariants as fetch
-use Rattle.htl_top.specs.Stops.{Ended, ended_as, ended_tables, go_as, go_tables, run_as}
+use Rattle.htl_patch.specs.declared.fault.PatchStop.TheVariants as patching
+use Rattle.htl_top.proofs.BothFiles.{unhad_speaks}
+use Rattle.htl_top.proofs.PatchedObjects.{in_both_files}
+use Rattle.htl_top.specs.Stops.{Ended, audit_as, compile_as, compile_tables, compile_with_as, compile_with_tables, donor_as, donor_tables, ended_as, ended_tables, go_as, go_tables, no_tables, object_as, object_tables, run_as}
+use Rattle.htl_top.specs.declared.input.InputStop.TheVariants as input
+use Rattle.htl_top.specs.declared.stop.AuditStop.{AuditStop}
+use Rattle.htl_top.specs.declared.stop.AuditStop.TheVariants as audit
+use Rattle.htl_top.specs.declared.stop.CompileStop.{CompileStop}
+use Rattle.htl_top.specs.declared.stop.CompileStop.TheVariants as compile
+use Rattle.htl_top.specs.declared.stop.CompileWithStop.{CompileWithStop}
+use Rattle.htl_top.specs.declared.stop.CompileWithStop.TheVariants as for_file
+use Rattle.htl_top.specs.declared.stop.DonorStop.{DonorStop}
+use Rattle.htl_top.specs.declared.stop.DonorStop.TheVariants as donor_stop
+use Rattle.htl_top.specs.declared.stop.OnObject.{OnObject}
+use Rattle.htl_top.specs.declared.stop.OnObject.TheVariants as on
+use Rattle.htl_top.specs.declared.stop.PutStop.TheVariants as put
 use Rattle.htl_top.specs.declared.stop.GoStop.{GoStop}
 use Rattle.htl_top.specs.declared.stop.GoStop.TheVariants as go
 use Rattle.htl_top.specs.declared.stop.RunStop.{RunStop}
@@ -31,11 +46,6 @@ SpeaksOf-stop Objects bytes (stop.IllFormed f u) is =
     let t = is.1 in record { tables = t.tables; of = t.of; can = t.can; fact = ap Some t.fact }
 SpeaksOf-stop Objects bytes _ is = tt
 
-pub SpeaksOf-stop-on : (Objects : (Tables → Type 0) → Type 0) (bytes file : List ℕ) (s : SourceStop) → IsNotCompiledOn bytes file s → SpeaksOf (HasTypedOn bytes file) Objects (outcome_of s) (tables_of_stop s)
-SpeaksOf-stop-on Objects bytes file (stop.IllFormed f u) is =
-    let t = is.1 in record { tables = t.tables; of = t.of; platform = t.platform; says = t.says; can = t.can; fact = ap Some t.fact }
-SpeaksOf-stop-on Objects bytes file _ is = tt
-
 -- and what stops `go` of those of its file
 speaks_go : (Objects : (Tables → Type 0) → Type 0) (name : Option (List ℕ)) (shelf : Files) (old new : Streams) (r : Ended GoStop) → IsGoing name shelf old new r
     → SpeaksOf (IsTypedProgram name shelf.holds) Objects (ended_as go_as r) (ended_tables go_tables r)
@@ -57,26 +67,80 @@ SpeaksOfPatch-source : (Sources Others : (Tables → Type 0) → Type 0) (f : Pa
 SpeaksOfPatch-source Sources Others (patch.IllFormed f) told map speaks = map (λ t. told ≡ Some t) speaks
 SpeaksOfPatch-source Sources Others _ told map speaks = tt
 
--- the source is another way to say the same
-pub SpeaksOf-source : (Sources Others Objects : (Tables → Type 0) → Type 0) (outcome : Outcome) (told : Option Tables) → ((Fact : Tables → Type 0) → Sources Fact → Others Fact)
-    → SpeaksOf Sources Objects outcome told → SpeaksOf Others Objects outcome told
-SpeaksOf-source Sources Others Objects (Unpatched f) told map speaks = SpeaksOfPatch-source Sources Others f told map speaks
-SpeaksOf-source Sources Others Objects (IllFormed f) told map speaks = map (λ t. told ≡ Some (coded t)) speaks
-SpeaksOf-source Sources Others Objects (Object f) told map speaks = speaks
-SpeaksOf-source Sources Others Objects _ told map speaks = tt
+-- what a command came to speaks of is what its answer does
+spoken : (Sources Objects : (Tables → Type 0) → Type 0) (outcome other : Outcome) (told tables : Option Tables) → outcome ≡ other → told ≡ tables → SpeaksOf Sources Objects other tables
+    → SpeaksOf Sources Objects outcome told
+spoken Sources Objects outcome other told tables is same speaks =
+    subst (λ (o : Outcome). SpeaksOf Sources Objects o told) (sym is) (subst (λ (t : Option Tables). SpeaksOf Sources Objects other t) (sym same) speaks)
 
-pub in_files : (name : Option (List ℕ)) (holds : Option Holdings) (rest : Option (List ℕ)) (file bytes : List ℕ) → IsSource name holds file → IsInput rest bytes
-    → (Fact : Tables → Type 0) → HasTypedOn bytes file Fact → IsTypedOn name holds rest Fact
-in_files name holds rest file bytes held input Fact has = record { file = file; held = held; bytes = bytes; input = input; has = has }
+-- what stops `compile` speaks of the tables of its input
+speaks_compile : (Objects : (Tables → Type 0) → Type 0) (old new : Streams) (r : Ended CompileStop) → IsCompiling old new r
+    → SpeaksOf (IsTypedInput old.rest) Objects (ended_as compile_as r) (ended_tables compile_tables r)
+speaks_compile Objects old new (Err (compile.Source (stop.IllFormed f u))) is =
+    let t = is.0.fact.1 in record { bytes = is.0.bytes; input = is.0.input; has = record { tables = t.tables; of = t.of; can = t.can; fact = ap Some t.fact } }
+speaks_compile Objects old new (Err (compile.Input input.Memory)) is = tt
+speaks_compile Objects old new _ is = tt
 
--- what a donor's bytes told is told of the files
-pub SpeaksOf-donor : (Sources Others Objects : (Tables → Type 0) → Type 0) (o : ObjectOf) (unit mode bytes : List ℕ) (old new : Option (List ℕ)) (before now : ℕ) (outcome : Outcome)
-    (told : Option Tables) → IsDonorTold o unit mode bytes old new before now outcome → ((Fact : Tables → Type 0) → Sources Fact → Others Fact)
-    → SpeaksOf Sources (λ fact. ⊥) outcome told → SpeaksOf Others Objects outcome told
-SpeaksOf-donor Sources Others Objects o unit mode bytes old new before now (Unpatched f) told donor map speaks = SpeaksOfPatch-source Sources Others f told map speaks
-SpeaksOf-donor Sources Others Objects o unit mode bytes old new before now (IllFormed f) told donor map speaks = absurd donor
-SpeaksOf-donor Sources Others Objects o unit mode bytes old new before now (Object f) told donor map speaks = absurd donor
-SpeaksOf-donor Sources Others Objects o unit mode bytes old new before now _ told donor map speaks = tt
+pub SpeaksOf-compile : (Objects : (Tables → Type 0) → Type 0) (old new : Streams) (r : Ended CompileStop) (outcome : Outcome) (told : Option Tables) → outcome ≡ ended_as compile_as r
+    → told ≡ ended_tables compile_tables r → IsCompiling old new r → SpeaksOf (IsTypedInput old.rest) Objects outcome told
+SpeaksOf-compile Objects old new r outcome told is same came =
+    spoken (IsTypedInput old.rest) Objects outcome (ended_as compile_as r) told (ended_tables compile_tables r) is same (speaks_compile Objects old new r came)
+
+-- and what stops `compile with`, of those with the platform's worst cases
+speaks_compile_with : (Objects : (Tables → Type 0) → Type 0) (name : Option (List ℕ)) (shelf : Files) (old new : Streams) (r : Ended CompileWithStop) → IsCompilingOn name shelf old new r
+    → SpeaksOf (IsTypedOn name shelf.holds old.rest) Objects (ended_as compile_with_as r) (ended_tables compile_with_tables r)
+speaks_compile_with Objects name shelf old new (Err (for_file.Compile (compile.Source (stop.IllFormed f u)))) is =
+    let p = is.fact.0 in
+    let t = p.fact.1 in
+    record {
+      file = is.bytes;
+      held = is.source;
+      bytes = p.bytes;
+      input = p.input;
+      has = record { tables = t.tables; of = t.of; platform = t.platform; says = t.says; can = t.can; fact = ap Some t.fact };
+    }
+speaks_compile_with Objects name shelf old new (Err (for_file.Compile (compile.Input input.Memory))) is = tt
+speaks_compile_with Objects name shelf old new (Err (for_file.File fetch.Memory)) is = tt
+speaks_compile_with Objects name shelf old new _ is = tt
+
+pub SpeaksOf-compile-with : (Objects : (Tables → Type 0) → Type 0) (name : Option (List ℕ)) (shelf : Files) (old new : Streams) (r : Ended CompileWithStop) (outcome : Outcome)
+    (told : Option Tables) → outcome ≡ ended_as compile_with_as r → told ≡ ended_tables compile_with_tables r → IsCompilingOn name shelf old new r
+    → SpeaksOf (IsTypedOn name shelf.holds old.rest) Objects outcome told
+SpeaksOf-compile-with Objects name shelf old new r outcome told is same came =
+    spoken (IsTypedOn name shelf.holds old.rest) Objects outcome (ended_as compile_with_as r) told (ended_tables compile_with_tables r) is same
+    (speaks_compile_with Objects name shelf old new r came)
+
+-- what stops `audit` speaks of the object's
+speaks_audit : (Sources : (Tables → Type 0) → Type 0) (name log : List ℕ) (shelf : Files) (old new : Streams) (r : Ended (OnObject AuditStop)) → IsAudit name log shelf old new r
+    → SpeaksOf Sources (IsObjectTables (Some name) shelf.holds) (ended_as (object_as audit_as) r) (ended_tables (object_tables no_tables) r)
+speaks_audit Sources name log shelf old new (Err (on.Open s)) is = unhad_speaks Sources (Some name) (Some log) shelf s is.0
+speaks_audit Sources name log shelf old new (Err (on.Work (audit.Run run_stop.Memory))) is = tt
+speaks_audit Sources name log shelf old new _ is = tt
+
+pub SpeaksOf-audit : (Sources : (Tables → Type 0) → Type 0) (name log : List ℕ) (shelf : Files) (old new : Streams) (r : Ended (OnObject AuditStop)) (outcome : Outcome)
+    (told : Option Tables) → outcome ≡ ended_as (object_as audit_as) r → told ≡ ended_tables (object_tables no_tables) r → IsAudit name log shelf old new r
+    → SpeaksOf Sources (IsObjectTables (Some name) shelf.holds) outcome told
+SpeaksOf-audit Sources name log shelf old new r outcome told is same came =
+    spoken Sources (IsObjectTables (Some name) shelf.holds) outcome (ended_as (object_as audit_as) r) told (ended_tables (object_tables no_tables) r) is same
+    (speaks_audit Sources name log shelf old new r came)
+
+-- and what stops `patch`, or of those with the donor's refinement
+module _ (name unit mode donor : List ℕ) (shelf : Files) (old new : Option (List ℕ)) (before now : ℕ) where
+  speaks_patch : (r : Ended (OnObject DonorStop)) → IsPatchOfFiles unit mode (Some name) (Some donor) shelf old new before now r
+      → SpeaksOf (IsPatchedTables name unit mode donor shelf.holds) (IsObjectTables (Some name) shelf.holds) (ended_as (object_as donor_as) r) (ended_tables (object_tables donor_tables) r)
+  speaks_patch (Err (on.Open s)) is = unhad_speaks (IsPatchedTables name unit mode donor shelf.holds) (Some name) (Some donor) shelf s is.0
+  speaks_patch (Err (on.Work (donor_stop.Patch (patching.Refused f t)))) is =
+      SpeaksOfPatch-source (HasPatchedTables is.object unit mode is.fact.bytes) (IsPatchedTables name unit mode donor shelf.holds) f t
+      (in_both_files name unit mode donor shelf.holds is.bytes is.fact.bytes is.object is.file is.fact.file is.has is.accepted) is.fact.fact.1
+  speaks_patch (Err (on.Work (donor_stop.Put put.Memory))) is = tt
+  speaks_patch _ is = tt
+
+  pub SpeaksOf-patch : (r : Ended (OnObject DonorStop)) (outcome : Outcome) (tables : Option Tables) → outcome ≡ ended_as (object_as donor_as) r
+      → tables ≡ ended_tables (object_tables donor_tables) r → IsPatchOfFiles unit mode (Some name) (Some donor) shelf old new before now r
+      → SpeaksOf (IsPatchedTables name unit mode donor shelf.holds) (IsObjectTables (Some name) shelf.holds) outcome tables
+  SpeaksOf-patch r outcome tables is same came =
+      spoken (IsPatchedTables name unit mode donor shelf.holds) (IsObjectTables (Some name) shelf.holds) outcome (ended_as (object_as donor_as) r) tables
+      (ended_tables (object_tables donor_tables) r) is same (speaks_patch r came)
 
 -- ---- the line
 

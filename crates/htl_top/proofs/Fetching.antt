@@ -1,15 +1,10 @@
--- Answers while files are fetched speak of no tables, and why no object was had is an answer.
-use Rattle.htl_top.proofs.Vocabulary.{Option, List, ℕ, Tables, Files, IsObjectTables, IsOfFetch, IsStopped, SpeaksOf, Outcome, Shelf, Memory, Failed}
+-- Why no object was had is an answer.
+use Rattle.htl_top.proofs.Vocabulary.{Option, List, ℕ, Tables, Files, IsObjectTables, IsStopped, SpeaksOf, Shelf, Failed}
 use Rattle.std.proofs.Common.{◌≡◌, ap}
 use Rattle.htl_open.specs.Stops.{IsUnopened}
 use Rattle.htl_open.specs.declared.stop.OpenStop.{OpenStop}
 use Rattle.htl_open.specs.declared.stop.OpenStop.TheVariants as stop
 use Rattle.htl_top.specs.Fetching.{unopened_as, tables_unopened}
-
-pub fetching_speaks : (Sources Objects : (Tables → Type 0) → Type 0) (outcome : Outcome) (tables : Option Tables) → IsOfFetch outcome → SpeaksOf Sources Objects outcome tables
-fetching_speaks Sources Objects (Shelf cause) tables is = tt
-fetching_speaks Sources Objects Memory tables is = tt
-fetching_speaks Sources Objects _ tables is = absurd is
 
 pub unopened_stops : (name : Option (List ℕ)) (shelf : Files) (s : OpenStop) → IsUnopened name shelf s → IsStopped name shelf (unopened_as s)
 unopened_stops name shelf (stop.Shelf why) is = is

@@ -3,6 +3,7 @@ pub mod AuditRows
 pub mod AuditScripts
 pub mod AuditStreaming
 pub mod Auditing
+pub mod BothFiles
 pub mod Bulking
 pub mod Calling
 pub mod Compiling

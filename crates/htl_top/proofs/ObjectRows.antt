@@ -1,12 +1,15 @@
 -- From the answer of a command on an object to its rows, and to those on the object itself.
 use Rattle.std.proofs.Common.{◌≡◌, ◌≤◌, ◌<◌, ◌⊎◌, ℕ, List, length, Option, None, Some, refl, sym, subst, inl, inr}
-use Rattle.htl_top.proofs.Vocabulary.{append_known, Shown, Rose, AppendsPrefix, RefusesBytes, ObjectFault, PatchFault, Object, Files, Streams, IsGiven, IsOrMemory, check_text, IsReadyFile, IsAcceptedFile, IsOnObject, IsReadyObject, Work, IsPlanned, IsCutPlan, IsBadSelection, IsRun, IsWholeRun, IsFaultyRun, IsCutRun, show_text, HasSlack, NamesNoTask, IsTaskCause, object_bytes, HasPatch, IsDonorFault, IsDonorTold, IsPatchCause, IsPatching, Command, Go, Compile, CompileWith, Run, Check, Plan, Show, Bulk, Slack, Audit, Patch, command_object, second_file, Outcome, Done, Usage, Refused, Script, Shelf, Task, Unpatched, Read, Write, Memory, TooLong}
+use Rattle.htl_top.proofs.Vocabulary.{append_known, Shown, Rose, AppendsPrefix, RefusesBytes, ObjectFault, PatchFault, Object, Files, Streams, IsGiven, IsOrMemory, check_text, IsReadyFile, IsAcceptedFile, IsOnObject, IsReadyObject, Work, IsPlanned, IsCutPlan, IsBadSelection, IsRun, IsWholeRun, IsFaultyRun, IsCutRun, show_text, HasSlack, NamesNoTask, IsTaskCause, object_bytes, HasPatch, IsDonorFault, IsPatchCause, IsUntouched, Command, Go, Compile, CompileWith, Run, Check, Plan, Show, Bulk, Slack, Audit, Patch, command_object, second_file, Outcome, Done, Usage, Refused, Script, Shelf, Task, Unpatched, Read, Write, Memory, TooLong}
 use Rattle.htl_top.proofs.Auditing as auditing
+use Rattle.htl_top.proofs.Auditing.{AuditOfAs}
+use Rattle.htl_top.proofs.BothFiles as both
 use Rattle.htl_top.proofs.Bulking as bulking
 use Rattle.htl_top.proofs.Calling.{checking, showing, some_not_none, done_memory, write_memory, read_memory, script_memory}
 use Rattle.htl_top.proofs.ObjectAnswering as objects
 use Rattle.htl_top.proofs.ObjectAnswering.{IsWork}
 use Rattle.htl_top.proofs.Patching as patching
+use Rattle.htl_top.proofs.Patching.{DonorOf, PatchingAs}
 use Rattle.htl_top.proofs.Going as going
 use Rattle.htl_top.proofs.Planning.{PlanOf, bad_input, done_plan, faulty_plan, planning, read_plan, whole_input, write_plan}
 use Rattle.htl_top.proofs.Running.{RunOf, bad_run, done_run, faulty_run, not_task, read_run, running, whole_run, write_run}
@@ -30,8 +33,8 @@ module _ (shelf : Files) (old new : Streams) where
   long_object (Some (Plan name)) bytes outcome given call long = objects.long_object PlanOf planning (Some name) shelf old new bytes given outcome call long
   long_object (Some (Show name)) bytes outcome given call long = objects.long_object IsShown showing (Some name) shelf old new bytes given outcome call long
   long_object (Some (Slack name owner task)) bytes outcome given call long = objects.long_object (IsSlacked owner task) (slack_work owner task) (Some name) shelf old new bytes given outcome call long
-  long_object (Some (Audit name log)) bytes outcome given call long = auditing.long_object name log shelf old new bytes given outcome call long
-  long_object (Some (Patch name unit mode donor)) bytes outcome given call long = patching.long_object unit mode (Some name) (Some donor) shelf old new bytes given outcome call long
+  long_object (Some (Audit name log)) bytes outcome given call long = both.long_object (AuditOfAs old new) (IsUntouched old new) (Some name) (Some log) shelf bytes given outcome call long
+  long_object (Some (Patch name unit mode donor)) bytes outcome given call long = both.long_object (DonorOf unit mode old new) (new.written ≡ old.written) (Some name) (Some donor) shelf bytes given outcome call.1 long
   long_object _ bytes outcome given call long = absurd (some_not_none (List ℕ) None given.word given.named refl)
 
   pub faulty_object : (command : Option Command) (bytes : List ℕ) (outcome : Outcome) → IsGiven (command_object command) shelf.holds shelf.before shelf.after bytes
@@ -48,9 +51,11 @@ module _ (shelf : Files) (old new : Streams) where
   faulty_object (Some (Slack name owner task)) bytes outcome given call second f short refused =
       objects.faulty_object (IsSlacked owner task) (slack_work owner task) (Some name) shelf old new bytes given outcome call f short refused
   faulty_object (Some (Audit name log)) bytes outcome given call second f short refused =
-      auditing.faulty_object name log shelf old new bytes given outcome call (second log refl) f short refused
+      let other = second log refl in
+      both.faulty_object (AuditOfAs old new) (IsUntouched old new) (Some name) (Some log) shelf bytes given other.0 other.1.given other.1.short outcome call f short refused
   faulty_object (Some (Patch name unit mode donor)) bytes outcome given call second f short refused =
-      let other = second donor refl in patching.faulty_object unit mode (Some name) (Some donor) shelf old new bytes given other.0 other.1.given other.1.short outcome call f short refused
+      let other = second donor refl in
+      both.faulty_object (DonorOf unit mode old new) (new.written ≡ old.written) (Some name) (Some donor) shelf bytes given other.0 other.1.given other.1.short outcome call.1 f short refused
   faulty_object _ bytes outcome given call second f short refused = absurd (some_not_none (List ℕ) None given.word given.named refl)
 
 module _ (shelf : Files) (old new : Streams) (outcome : Outcome) (name : List ℕ) where
@@ -159,25 +164,26 @@ module _ (shelf : Files) (old new : Streams) (outcome : Outcome) (name : List �
 
   -- ---- `patch`
 
-  pub patch_rows : (unit mode donor : List ℕ) → IsPatching unit mode (Some name) (Some donor) shelf old new outcome → PatchRows name unit mode donor shelf old new outcome
+  pub patch_rows : (unit mode donor : List ℕ) → PatchingAs unit mode (Some name) (Some donor) shelf old new outcome → PatchRows name unit mode donor shelf old new outcome
   patch_rows unit mode donor call = record {
     done = λ same. elim (told Done same).1 [ inl a ↦ a | inr s ↦ absurd s.0 ];
     write = λ same. elim (told Write same).1 [
       | inl a ↦ (
         a.fact.fact.0,
-        patching.AreFilesOf-map (Some name) (Some donor) shelf (λ o bytes. IsDonorTold o unit mode bytes old.written new.written old.write_faults new.write_faults Write)
+        both.AreFilesOf-map (Some name) (Some donor) shelf (λ o bytes. DonorOf unit mode old new o bytes Write)
             (λ o bytes. HasPatch o unit mode bytes (λ p. AppendsPrefix old.written new.written (object_bytes p))) (λ o bytes t. t.1) a,
       )
       | inr s ↦ absurd s.0
     ];
     unread = call.0;
-    long_donor = λ host bytes had gift long. patching.long_donor unit mode (Some name) (Some donor) shelf old new host had.given bytes gift outcome call had.short long;
+    long_donor = λ host bytes had gift long.
+        both.long_second (DonorOf unit mode old new) (new.written ≡ old.written) (Some name) (Some donor) shelf host had.given bytes gift outcome call.1 had.short long;
     faulty_donor = λ bytes o is gift small f faulty. patching.faulty_donor unit mode (Some name) (Some donor) shelf old new o is bytes gift small f faulty outcome call;
     complete = λ bytes o d g is gift small has can still. patching.complete unit mode (Some name) (Some donor) shelf old new o d g is bytes gift small has can still outcome call;
   }
     where
-      told : (other : Outcome) → outcome ≡ other → IsPatching unit mode (Some name) (Some donor) shelf old new other
-      told other same = subst (λ (o : Outcome). IsPatching unit mode (Some name) (Some donor) shelf old new o) same call
+      told : (other : Outcome) → outcome ≡ other → PatchingAs unit mode (Some name) (Some donor) shelf old new other
+      told other same = subst (λ (o : Outcome). PatchingAs unit mode (Some name) (Some donor) shelf old new o) same call
 
 -- ---- answers of one command alone
 
@@ -216,7 +222,7 @@ module _ (shelf : Files) (old new : Streams) where
   patch_cause (Some (Audit name log)) f call = elim call [ inl a ↦ elim a.fact.fact [ inl h ↦ h.fact | inr r ↦ r.0 ] | inr s ↦ s.0 ]
   patch_cause (Some (Patch name unit mode donor)) f call = elim call.1 [
     | inl a ↦
-        patching.AreFilesOf-map (Some name) (Some donor) shelf (λ o bytes. IsDonorTold o unit mode bytes old.written new.written old.write_faults new.write_faults (Unpatched f))
+        both.AreFilesOf-map (Some name) (Some donor) shelf (λ o bytes. DonorOf unit mode old new o bytes (Unpatched f))
         (λ o bytes. IsDonorFault o unit mode bytes f) (λ o bytes t. t.0) a
     | inr s ↦ absurd s.0
   ]

@@ -1,24 +1,52 @@
 -- What a donor's bytes come to: the new object, or the first fault.
-use Rattle.std.proofs.Common.{◌≡◌, ◌⊎◌, ℕ, List, Option, Some, None, refl, sym, ap, ◌∙◌, subst, inl, inr}
-use Rattle.htl_top.proofs.Vocabulary.{Rose, Holdings, HasBytes, Tables, IsAccepted, first_bad, IsObject, object_bytes, Malformed, Object, one_patch_fault, patch_not_refused, IsHandedBackBy, IsPatchStop, replacement_of, patched_object, CanPatch, IsFaultBy, IsPatchFault, Replacement, PatchFault, PatchStop, IsBeforeRun, IsWritten, IsOrMemory, IsObjectFile, HasPatchedTables, IsBadDonor, IsDonorFault, IsDonorTold, IsObjectPut, IsPatchedTables, RefusesDonor, SpeaksOfPatch, new_tables, unpatched_as, SpeaksOf, Outcome, one_bad_field}
+use Rattle.std.proofs.Common.{◌≡◌, ◌⊎◌, ℕ, List, Option, Some, None, Ok, Err, refl, sym, ap, ◌∙◌, subst, inl, inr}
+use Rattle.htl_top.proofs.Vocabulary.{append_known, Rose, AppendsPrefix, Holdings, HasBytes, Tables, IsAccepted, first_bad, IsObject, object_bytes, Malformed, Object, one_patch_fault, patch_not_refused, IsHandedBackBy, IsPatchStop, replacement_of, patched_object, CanPatch, IsFaultBy, IsPatchFault, Replacement, PatchFault, PatchStop, IsBeforeRun, IsOrMemory, IsObjectFile, HasPatch, HasPatchedTables, IsBadDonor, IsDonorFault, IsDonorTold, IsObjectPut, IsPatchedTables, RefusesDonor, SpeaksOfPatch, Outcome, one_bad_field}
 use Rattle.htl_patch.specs.declared.fault.PatchFault.TheVariants as fault
 use Rattle.htl_patch.specs.declared.fault.PatchStop.TheVariants as stop
 use Rattle.htl_top.proofs.ObjectAnswering.{one_of_bytes, object_or_bad}
 use Rattle.htl_top.specs.declared.outcome.Outcome.TheVariants.{Done, Patch, Write, Memory}
+use Rattle.htl_top.specs.Stops.{Ended, donor_as, ended_as}
+use Rattle.htl_top.specs.declared.stop.DonorStop.{DonorStop}
+use Rattle.htl_top.specs.declared.stop.DonorStop.TheVariants as unpatched
+use Rattle.htl_top.specs.declared.stop.PutStop.{PutStop}
+use Rattle.htl_top.specs.declared.stop.PutStop.TheVariants as put
 
--- the bytes of an accepted object were written
-pub IsObjectPut-written : (o same : Object) (bytes slice : List ℕ) (old new : Option (List ℕ)) (before now : ℕ) (outcome : Outcome) → same ≡ o → IsAccepted same → IsObject same
-    → bytes ≡ object_bytes same → slice ≡ bytes → IsWritten slice Done old new before now outcome → IsObjectPut o old new before now outcome
-IsObjectPut-written o same bytes slice old new before now outcome is accepted object spelled held written =
-    let told : IsWritten (object_bytes same) Done old new before now outcome =
-    subst (λ (bs : List ℕ). IsWritten bs Done old new before now outcome) (held ∙ spelled) written in
-    subst (λ (p : Object). IsObjectPut p old new before now outcome) is (inl (object, accepted, told))
+-- the bytes of an accepted object were written, or a prefix
+pub IsObjectPut-written : (o same : Object) (bytes slice : List ℕ) → same ≡ o → IsAccepted same → IsObject same
+    → bytes ≡ object_bytes same → slice ≡ bytes → (Fact : List ℕ → Type 0) → Fact slice → IsObject o × IsAccepted o × Fact (object_bytes o)
+IsObjectPut-written o same bytes slice is accepted object spelled held Fact written =
+    subst (λ (p : Object). IsObject p × IsAccepted p × Fact (object_bytes p)) is (object, accepted, subst Fact (held ∙ spelled) written)
 
 -- what holds of a donor's bytes holds of the files
 pub in_both_files : (name unit mode given : List ℕ) (holds : Option Holdings) (host donor : List ℕ) (o : Object) → IsObjectFile (Some name) holds host → IsObjectFile (Some given) holds donor
     → HasBytes host o → IsAccepted o → (Fact : Tables → Type 0) → HasPatchedTables o unit mode donor Fact → IsPatchedTables name unit mode given holds Fact
 in_both_files name unit mode given holds host donor o file other has accepted Fact made =
     record { bytes = host; file = file; object = o; has = has; accepted = accepted; fact = record { bytes = donor; file = other; fact = made } }
+
+-- ---- by outcomes
+
+-- the new object is written, or a prefix of its bytes; or nothing, since the donor has a fault or no memory was left
+abbrev pub DonorToldAs : List ℕ → List ℕ → Option (List ℕ) → Option (List ℕ) → ℕ → ℕ → Object → List ℕ → Outcome → Type 0
+DonorToldAs unit mode old new before now o bytes Done = HasPatch o unit mode bytes (λ p. new ≡ append_known old (object_bytes p))
+DonorToldAs unit mode old new before now o bytes Write = Rose before now × HasPatch o unit mode bytes (λ p. AppendsPrefix old new (object_bytes p))
+DonorToldAs unit mode old new before now o bytes (Patch f) = IsDonorFault o unit mode bytes f × (new ≡ old)
+DonorToldAs unit mode old new before now o bytes Memory = new ≡ old
+DonorToldAs unit mode old new before now o bytes _ = ⊥
+
+pub donor_told_as : (unit mode : List ℕ) (old new : Option (List ℕ)) (before now : ℕ) (o : Object) (bytes : List ℕ) (r : Ended DonorStop) → IsDonorTold o unit mode bytes old new before now r
+    → DonorToldAs unit mode old new before now o bytes (ended_as donor_as r)
+donor_told_as unit mode old new before now o bytes (Ok done) is = is
+donor_told_as unit mode old new before now o bytes (Err (unpatched.Put put.Write)) is = is
+donor_told_as unit mode old new before now o bytes (Err (unpatched.Put put.Memory)) is = is
+donor_told_as unit mode old new before now o bytes (Err (unpatched.Patch (stop.Refused f t))) is = (is.0, is.2)
+donor_told_as unit mode old new before now o bytes (Err (unpatched.Patch stop.Memory)) is = is
+
+-- ---- what is done
+
+-- what was written of the new object, or not
+abbrev pub put_ended : Ended PutStop → Ended DonorStop
+put_ended (Ok done) = Ok done
+put_ended (Err s) = Err (unpatched.Put s)
 
 module _ (o : Object) (unit mode bytes : List ℕ) where
   -- ---- the faults
@@ -45,20 +73,13 @@ module _ (o : Object) (unit mode bytes : List ℕ) where
   -- ---- the new object is written
 
   pub IsDonorTold-put : (d p : Object) (g : Replacement) → HasBytes bytes d → CanPatch o d unit mode g → p ≡ patched_object o g → (old new : Option (List ℕ)) (before now : ℕ)
-      (given outcome : Outcome) → outcome ≡ given → IsObjectPut p old new before now given → IsDonorTold o unit mode bytes old new before now outcome
-  IsDonorTold-put d p g has can same old new before now given outcome is put =
-      subst (λ (x : Outcome). IsDonorTold o unit mode bytes old new before now x) (sym is) (by (subst (λ (x : Object). IsObjectPut x old new before now given) same put))
+      (r : Ended PutStop) → IsObjectPut p old new before now r → IsDonorTold o unit mode bytes old new before now (put_ended r)
+  IsDonorTold-put d p g has can same old new before now r told = by r (subst (λ (x : Object). IsObjectPut x old new before now r) same told)
     where
-      by : IsObjectPut (patched_object o g) old new before now given → IsDonorTold o unit mode bytes old new before now given
-      by (inl w) = elim w.2 [
-        | inl d1 ↦
-            subst (λ (x : Outcome). IsDonorTold o unit mode bytes old new before now x) (sym d1.0)
-            (record { donor = d; has = has; replacement = g; can = can; object = w.0; accepted = w.1; fact = d1.1 })
-        | inr d2 ↦
-            subst (λ (x : Outcome). IsDonorTold o unit mode bytes old new before now x) (sym d2.0)
-            (d2.1, record { donor = d; has = has; replacement = g; can = can; object = w.0; accepted = w.1; fact = d2.2 })
-      ]
-      by (inr m) = subst (λ (x : Outcome). IsDonorTold o unit mode bytes old new before now x) (sym m.0) m.1
+      by : (r : Ended PutStop) → IsObjectPut (patched_object o g) old new before now r → IsDonorTold o unit mode bytes old new before now (put_ended r)
+      by (Ok done) w = record { donor = d; has = has; replacement = g; can = can; object = w.0; accepted = w.1; fact = w.2 }
+      by (Err put.Write) w = (w.2, record { donor = d; has = has; replacement = g; can = can; object = w.0; accepted = w.1; fact = w.3 })
+      by (Err put.Memory) w = w
 
   -- the line of a fault has names of the new tables
   pub SpeaksOfPatch-back : (d : Object) → HasBytes bytes d → (f : PatchFault) (told : Option Tables) → IsPatchFault o d unit mode f
@@ -72,28 +93,15 @@ module _ (o : Object) (unit mode bytes : List ℕ) where
   SpeaksOfPatch-back d has _ told is back = tt
 
   -- the donor's refinement isn't taken over
-  pub IsDonorTold-stop : (d : Object) → HasBytes bytes d → (written : Option (List ℕ)) (faults : ℕ) (s : PatchStop) (outcome : Outcome) → outcome ≡ unpatched_as s → IsPatchStop o d unit mode s
-      → IsDonorTold o unit mode bytes written written faults faults outcome
-  IsDonorTold-stop d has written faults s outcome is stopped = subst (λ (x : Outcome). IsDonorTold o unit mode bytes written written faults faults x) (sym is) (by s stopped)
-    where
-      by : (s : PatchStop) → IsPatchStop o d unit mode s → IsDonorTold o unit mode bytes written written faults faults (unpatched_as s)
-      by (stop.Refused f t) p = (inr (record { donor = d; has = has; refused = p.0 }), refl)
-      by stop.Memory p = refl
-
-  pub SpeaksOf-unpatched : (d : Object) → HasBytes bytes d → (s : PatchStop) (outcome : Outcome) (told : Option Tables) → outcome ≡ unpatched_as s → told ≡ new_tables s → IsPatchStop o d unit mode s
-      → SpeaksOf (HasPatchedTables o unit mode bytes) (λ fact. ⊥) outcome told
-  SpeaksOf-unpatched d has s outcome told is same stopped =
-      subst (λ (x : Outcome). SpeaksOf (HasPatchedTables o unit mode bytes) (λ fact. ⊥) x told) (sym is)
-      (subst (λ (t : Option Tables). SpeaksOf (HasPatchedTables o unit mode bytes) (λ fact. ⊥) (unpatched_as s) t) (sym same) (by s stopped))
-    where
-      by : (s : PatchStop) → IsPatchStop o d unit mode s → SpeaksOf (HasPatchedTables o unit mode bytes) (λ fact. ⊥) (unpatched_as s) (new_tables s)
-      by (stop.Refused f t) p = SpeaksOfPatch-back d has f t p.0 p.1
-      by stop.Memory p = tt
+  pub IsDonorTold-stop : (d : Object) → HasBytes bytes d → (written : Option (List ℕ)) (faults : ℕ) (s : PatchStop) → IsPatchStop o d unit mode s
+      → IsDonorTold o unit mode bytes written written faults faults (Err (unpatched.Patch s))
+  IsDonorTold-stop d has written faults (stop.Refused f t) p = (inr (record { donor = d; has = has; refused = p.0 }), SpeaksOfPatch-back d has f t p.0 p.1, refl)
+  IsDonorTold-stop d has written faults stop.Memory p = refl
 
   -- ---- what is told of it
 
   module _ (old new : Option (List ℕ)) (before now : ℕ) where
-    pub told_unwritten : (outcome : Outcome) → IsDonorTold o unit mode bytes old new before now outcome → IsBeforeRun outcome → new ≡ old
+    pub told_unwritten : (outcome : Outcome) → DonorToldAs unit mode old new before now o bytes outcome → IsBeforeRun outcome → new ≡ old
     told_unwritten Done told early = absurd early
     told_unwritten Write told early = absurd early
     told_unwritten (Patch f) told early = told.1
@@ -101,7 +109,7 @@ module _ (o : Object) (unit mode bytes : List ℕ) where
     told_unwritten _ told early = absurd told
 
     -- the fault is told
-    pub told_faulty : IsAccepted o → (f : PatchFault) → IsDonorFault o unit mode bytes f → (outcome : Outcome) → IsDonorTold o unit mode bytes old new before now outcome
+    pub told_faulty : IsAccepted o → (f : PatchFault) → IsDonorFault o unit mode bytes f → (outcome : Outcome) → DonorToldAs unit mode old new before now o bytes outcome
         → IsOrMemory outcome (Patch f)
     told_faulty accepted f is Done told = absurd (not_faulty told.donor told.replacement told.has told.can f is)
     told_faulty accepted f is Write told = absurd (not_faulty told.1.donor told.1.replacement told.1.has told.1.can f is)
@@ -111,21 +119,9 @@ module _ (o : Object) (unit mode bytes : List ℕ) where
 
     -- the new object is written whole, where the output doesn't fail
     pub told_done : (d : Object) (g : Replacement) → HasBytes bytes d → CanPatch o d unit mode g → (Rose before now → ⊥) → (outcome : Outcome)
-        → IsDonorTold o unit mode bytes old new before now outcome → IsOrMemory outcome Done
+        → DonorToldAs unit mode old new before now o bytes outcome → IsOrMemory outcome Done
     told_done d g has can still Done told = inl refl
     told_done d g has can still Write told = absurd (still told.0)
     told_done d g has can still (Patch f) told = absurd (not_faulty d g has can f told.0)
     told_done d g has can still Memory told = inr refl
     told_done d g has can still _ told = absurd told
-
--- an answer of writing speaks of no tables
-pub SpeaksOf-put : (Sources Objects : (Tables → Type 0) → Type 0) (p : Object) (old new : Option (List ℕ)) (before now : ℕ) (given outcome : Outcome) (told : Option Tables) → outcome ≡ given
-    → IsObjectPut p old new before now given → SpeaksOf Sources Objects outcome told
-SpeaksOf-put Sources Objects p old new before now given outcome told is put = subst (λ (x : Outcome). SpeaksOf Sources Objects x told) (sym is) (by put)
-  where
-    by : IsObjectPut p old new before now given → SpeaksOf Sources Objects given told
-    by (inl w) = elim w.2 [
-      | inl d ↦ subst (λ (x : Outcome). SpeaksOf Sources Objects x told) (sym d.0) tt
-      | inr d ↦ subst (λ (x : Outcome). SpeaksOf Sources Objects x told) (sym d.0) tt
-    ]
-    by (inr m) = subst (λ (x : Outcome). SpeaksOf Sources Objects x told) (sym m.0) tt

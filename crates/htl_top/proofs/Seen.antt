@@ -1,7 +1,11 @@
 -- What a command answered, as its proofs see it: by what was done, and by the answer.
 use Rattle.std.proofs.Common.{◌≡◌, List, ℕ, Option, None, Some}
-use Rattle.htl_top.proofs.Vocabulary.{check_text, show_text, Files, Streams, IsAudit, IsBulked, IsCall, IsCompiling, IsCompilingOn, IsGoing, IsOnObject, IsPatching, Object, Work, Command, Go, Compile, CompileWith, Run, Check, Plan, Show, Bulk, Slack, Audit, Patch, Outcome, Usage}
+use Rattle.htl_top.proofs.Vocabulary.{check_text, show_text, Files, Streams, IsBulked, IsCall, IsGoing, IsOnObject, Object, Work, Command, Go, Compile, CompileWith, Run, Check, Plan, Show, Bulk, Slack, Audit, Patch, Outcome, Usage}
 use Rattle.htl_top.proofs.Slacking.{IsSlacked, seen_slack}
+use Rattle.htl_top.proofs.Auditing.{AuditAs, seen_audit}
+use Rattle.htl_top.proofs.Compiling.{CompilingAs, seen_compile}
+use Rattle.htl_top.proofs.CompilingOn.{CompilingOnAs, seen_compile_with}
+use Rattle.htl_top.proofs.Patching.{PatchingAs, seen_patch}
 use Rattle.htl_top.proofs.Telling.{TextOf, seen_text}
 use Rattle.htl_top.proofs.Planning.{PlanOf, plan_answered}
 use Rattle.htl_top.proofs.Running.{RunOf, run_answered}
@@ -17,27 +21,27 @@ IsShown = TextOf show_text
 abbrev pub IsSeen : Option Command → Files → Streams → Streams → Outcome → Type 0
 IsSeen None shelf old new outcome = (outcome ≡ Usage) × IsUntouched old new
 IsSeen (Some (Go name)) shelf old new outcome = Came go_as (IsGoing (Some name) shelf old new) outcome
-IsSeen (Some Compile) shelf old new outcome = IsCompiling old new outcome
-IsSeen (Some (CompileWith platform)) shelf old new outcome = IsCompilingOn (Some platform) shelf old new outcome
+IsSeen (Some Compile) shelf old new outcome = CompilingAs old new outcome
+IsSeen (Some (CompileWith platform)) shelf old new outcome = CompilingOnAs (Some platform) shelf old new outcome
 IsSeen (Some (Run show name)) shelf old new outcome = IsOnObject (RunOf show) (Some name) shelf old new outcome
 IsSeen (Some (Check name)) shelf old new outcome = IsOnObject IsChecked (Some name) shelf old new outcome
 IsSeen (Some (Plan name)) shelf old new outcome = IsOnObject PlanOf (Some name) shelf old new outcome
 IsSeen (Some (Show name)) shelf old new outcome = IsOnObject IsShown (Some name) shelf old new outcome
 IsSeen (Some (Bulk n)) shelf old new outcome = IsBulked n old new outcome
 IsSeen (Some (Slack name owner task)) shelf old new outcome = IsOnObject (IsSlacked owner task) (Some name) shelf old new outcome
-IsSeen (Some (Audit name log)) shelf old new outcome = IsAudit name log shelf old new outcome
-IsSeen (Some (Patch name unit mode donor)) shelf old new outcome = IsPatching unit mode (Some name) (Some donor) shelf old new outcome
+IsSeen (Some (Audit name log)) shelf old new outcome = AuditAs name log shelf old new outcome
+IsSeen (Some (Patch name unit mode donor)) shelf old new outcome = PatchingAs unit mode (Some name) (Some donor) shelf old new outcome
 
 pub seen : (command : Option Command) (shelf : Files) (old new : Streams) (outcome : Outcome) → IsCall command shelf old new outcome → IsSeen command shelf old new outcome
 seen None shelf old new outcome call = call
 seen (Some (Go name)) shelf old new outcome call = call
-seen (Some Compile) shelf old new outcome call = call
-seen (Some (CompileWith platform)) shelf old new outcome call = call
+seen (Some Compile) shelf old new outcome call = seen_compile old new outcome call
+seen (Some (CompileWith platform)) shelf old new outcome call = seen_compile_with (Some platform) shelf old new outcome call
 seen (Some (Run show name)) shelf old new outcome call = run_answered show (Some name) shelf old new outcome call
 seen (Some (Check name)) shelf old new outcome call = seen_text (λ o. check_text o.tables) (Some name) shelf old new outcome call
 seen (Some (Plan name)) shelf old new outcome call = plan_answered (Some name) shelf old new outcome call
 seen (Some (Show name)) shelf old new outcome call = seen_text show_text (Some name) shelf old new outcome call
 seen (Some (Bulk n)) shelf old new outcome call = call
 seen (Some (Slack name owner task)) shelf old new outcome call = seen_slack owner task (Some name) shelf old new outcome call
-seen (Some (Audit name log)) shelf old new outcome call = call
-seen (Some (Patch name unit mode donor)) shelf old new outcome call = call
+seen (Some (Audit name log)) shelf old new outcome call = seen_audit name log shelf old new outcome call
+seen (Some (Patch name unit mode donor)) shelf old new outcome call = seen_patch unit mode (Some name) (Some donor) shelf old new outcome call

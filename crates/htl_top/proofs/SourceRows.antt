@@ -1,9 +1,11 @@
 -- From the answer of a command that compiles to its rows.
 use Rattle.std.proofs.Common.{◌≡◌, ◌⊎◌, ℕ, List, Some, subst, inl, inr}
-use Rattle.htl_top.proofs.Vocabulary.{built, Jobs, Tables, Files, Streams, IsBulked, IsCompiling, IsCompilingOn, IsGoing, IsWholeRun, IsProgram, Outcome, Done, Script, Read, Write, Memory}
+use Rattle.htl_top.proofs.Vocabulary.{built, Jobs, Tables, Files, Streams, IsBulked, IsGoing, IsWholeRun, IsProgram, Outcome, Done, Script, Read, Write, Memory}
 use Rattle.htl_top.proofs.Bulking as bulking
 use Rattle.htl_top.proofs.Compiling as compiling
+use Rattle.htl_top.proofs.Compiling.{CompilingAs}
 use Rattle.htl_top.proofs.CompilingOn as platforms
+use Rattle.htl_top.proofs.CompilingOn.{CompilingOnAs}
 use Rattle.htl_top.proofs.Going as going
 use Rattle.htl_top.proofs.Running.{bad_run, whole_run}
 use Rattle.htl_top.specs.Stops.{Came, go_as}
@@ -35,7 +37,7 @@ module _ (shelf : Files) (old new : Streams) (outcome : Outcome) where
 
   -- ---- `compile`
 
-  pub compile_rows : IsCompiling old new outcome → CompileRows shelf old new outcome
+  pub compile_rows : CompilingAs old new outcome → CompileRows shelf old new outcome
   compile_rows call = record {
     done = λ same. told Done same;
     write = λ same. told Write same;
@@ -45,12 +47,12 @@ module _ (shelf : Files) (old new : Streams) (outcome : Outcome) where
     complete = λ bytes told few t of typed formed free quiet still. compiling.complete old new bytes told few t of typed formed free outcome call quiet still;
   }
     where
-      told : (other : Outcome) → outcome ≡ other → IsCompiling old new other
-      told other same = subst (λ (o : Outcome). IsCompiling old new o) same call
+      told : (other : Outcome) → outcome ≡ other → CompilingAs old new other
+      told other same = subst (λ (o : Outcome). CompilingAs old new o) same call
 
   -- ---- `compile with`
 
-  pub compile_with_rows : (file : List ℕ) → IsCompilingOn (Some file) shelf old new outcome → CompileWithRows file shelf old new outcome
+  pub compile_with_rows : (file : List ℕ) → CompilingOnAs (Some file) shelf old new outcome → CompileWithRows file shelf old new outcome
   compile_with_rows file call = record {
     done = λ same. told Done same;
     write = λ same. told Write same;
@@ -62,8 +64,8 @@ module _ (shelf : Files) (old new : Streams) (outcome : Outcome) where
         platforms.complete (Some file) shelf old new f given small bytes told few t p of typed says formed free outcome call quiet still;
   }
     where
-      told : (other : Outcome) → outcome ≡ other → IsCompilingOn (Some file) shelf old new other
-      told other same = subst (λ (o : Outcome). IsCompilingOn (Some file) shelf old new o) same call
+      told : (other : Outcome) → outcome ≡ other → CompilingOnAs (Some file) shelf old new other
+      told other same = subst (λ (o : Outcome). CompilingOnAs (Some file) shelf old new o) same call
 
   -- ---- `bulk`
 

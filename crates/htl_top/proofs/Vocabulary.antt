@@ -101,31 +101,30 @@ pub use Rattle.htl_text.specs.declared.tree.EndNode.{EndNode}
 pub use Rattle.htl_text.specs.declared.tree.Id.{Id}
 pub use Rattle.htl_text.specs.declared.tree.InvokeNode.{InvokeNode}
 pub use Rattle.htl_text.specs.declared.tree.ParamNode.{ParamNode}
-pub use Rattle.htl_top.specs.Answers.{AreCountsKept, IsBeforeRun, IsBeforeScript, IsOfReading, IsWritten, KeepsCounts, Streams, streams}
+pub use Rattle.htl_top.specs.Answers.{AreCountsKept, IsBeforeRun, IsBeforeScript, IsOfReading, IsUntouched, IsWritten, KeepsCounts, Streams, streams}
 pub use Rattle.htl_top.specs.AuditPlaying.{IsAuditBehind, IsAuditPlaying, IsAuditTold, IsConcluded}
-pub use Rattle.htl_top.specs.Audited.{HasLog, HasSlices, IsAudit, IsAuditOf, IsAuditRun, IsCutAudit, IsLogCause, IsLogRefused, IsWholeAudit, audit_text, audited_line, audited_text, verdict_text}
+pub use Rattle.htl_top.specs.Audited.{HasLog, HasSlices, IsAudit, IsAuditOf, IsAuditRun, IsCutAudit, IsIllegalAudit, IsLogCause, IsLogFault, IsWholeAudit, audit_text, audited_line, audited_text, verdict_text}
 pub use Rattle.htl_top.specs.Bulk.{IsBulked, object_text, totals_text, value_seen}
 pub use Rattle.htl_top.specs.Calls.{HasObject, HasSource, IsCall}
 pub use Rattle.htl_top.specs.Causes.{IsOrMemory, IsSource}
 pub use Rattle.htl_top.specs.Checked.{check_text, most_positions_below}
-pub use Rattle.htl_top.specs.Compiling.{IsBytesCompiled, IsCompiling, compiled_bytes}
-pub use Rattle.htl_top.specs.CompilingOn.{IsBytesCompiledOn, IsCompileCause, IsCompilingOn, IsPlatformCause, compiled_on}
+pub use Rattle.htl_top.specs.Compiling.{HasBuilt, IsCompiling, IsInputCompiled, compiled_bytes}
+pub use Rattle.htl_top.specs.CompilingOn.{IsBuiltOn, IsCompileCause, IsCompilingOn, IsPlatformCause, IsUnbuiltOn, compiled_on}
 pub use Rattle.htl_top.specs.ErrorLines.{IsFaultTold, IsLineTold, IsPatchFaultTold, SpeaksOf}
-pub use Rattle.htl_top.specs.Fetching.{IsOfFetch, IsUnfetched, IsUnhad}
-pub use Rattle.htl_top.specs.Files.{IsFileOf, IsHad, IsReadyFile}
+pub use Rattle.htl_top.specs.Fetching.{IsOnBoth, IsUnhad}
+pub use Rattle.htl_top.specs.Files.{AreFilesOf, IsFileOf, IsHad, IsReadyFile}
 pub use Rattle.htl_top.specs.Going.{IsGoing, IsReadySource, IsUncompiled}
 pub use Rattle.htl_top.specs.JobLaws.{GoJobLinesAreFound, GoShowsJobLines, GoTellsJobsInTime}
 pub use Rattle.htl_top.specs.Laws.{EarlierReadingsDecideTexts, EarlierReadingsDecideValues, GoKeepsDeadlines, GoShowsTheMeaning, read_where}
 pub use Rattle.htl_top.specs.Objects.{IsOnObject, IsStopped, Work}
-pub use Rattle.htl_top.specs.PatchStops.{new_tables, object_tables, unloaded_as, unpatched_as}
-pub use Rattle.htl_top.specs.PatchedFiles.{AreFilesOf, HasPatch, HasPatchedTables, IsBadDonor, IsDonorFault, IsDonorTold, IsObjectPut, IsPatchCause, IsPatchOfFiles, IsPatchedTables, IsPatching, RefusesDonor, SpeaksOfPatch}
+pub use Rattle.htl_top.specs.PatchedFiles.{HasPatch, HasPatchedTables, IsBadDonor, IsDonorFault, IsDonorTold, IsObjectPut, IsPatchCause, IsPatchOfFiles, IsPatchedTables, IsPatching, RefusesDonor, SpeaksOfPatch}
 pub use Rattle.htl_top.specs.Planned.{IsBadSelection, IsCutPlan, IsPlanned}
 pub use Rattle.htl_top.specs.Playing.{HaveNoEnd, IsBehind, IsNext, IsPlaying, IsTold, text_more}
 pub use Rattle.htl_top.specs.Runs.{IsCutRun, IsFaultyRun, IsRun, IsWholeRun}
 pub use Rattle.htl_top.specs.Scripts.{EndsAt, IsBad, IsWhole}
 pub use Rattle.htl_top.specs.Shown.{show_text}
 pub use Rattle.htl_top.specs.Slacked.{HasSlack, IsNamed, IsRootNamed, IsSlackTold, IsTaskCause, NamesNoTask, has_names}
-pub use Rattle.htl_top.specs.Sources.{HasTables, IsFaultyInput, IsFaultyProgram, IsInput, IsInputFault, IsInputProgram, IsLongInput, IsProgram, IsTypedInput, IsTypedProgram, answer_of, outcome_of, tables_of_stop}
+pub use Rattle.htl_top.specs.Sources.{HasTables, IsFaultyInput, IsFaultyProgram, IsInput, IsInputFault, IsInputOf, IsInputProgram, IsLongInput, IsProgram, IsTypedInput, IsTypedProgram, answer_of, outcome_of, tables_of_stop}
 pub use Rattle.htl_top.specs.SourcesOn.{IsFaultyOn, IsInputFaultOn, IsProgramOn, IsTypedOn, answer_on}
 pub use Rattle.htl_top.specs.Status.{fault_line}
 pub use Rattle.htl_top.specs.Texts.{text_before_fault, text_of_script, text_to}

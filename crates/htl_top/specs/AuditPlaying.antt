@@ -1,12 +1,14 @@
 -- The events of a script, as an auditor is told them one by one, and the end of an audit.
-use Rattle.std.specs.Prelude.{◌≡◌, ℕ, List, [], ◌∷◌, ◌++◌, Option, None, Some}
+use Rattle.std.specs.Prelude.{◌≡◌, ℕ, List, [], ◌∷◌, ◌++◌, Option, None, Some, Ok, Err}
 use Rattle.htl_top.specs.Common.{append_known, first_fault, Slice, Rose, AppendsPrefix, Tables, Event, past_of, Ahead}
 use Rattle.htl_audit.specs.Auditing.{Audit, AuditFollows, IsAudited}
 use Rattle.htl_model.specs.declared.event.Event.TheVariants as event
 use Rattle.htl_top.specs.Audited.{audited_text}
 use Rattle.htl_top.specs.Playing.{IsPlaying}
-use Rattle.htl_top.specs.declared.outcome.Outcome.{Outcome}
-use Rattle.htl_top.specs.declared.outcome.Outcome.TheVariants.{Done, Log, Write}
+use Rattle.htl_top.specs.Stops.{Ended}
+use Rattle.htl_top.specs.declared.stop.AuditStop.{AuditStop}
+use Rattle.htl_top.specs.declared.stop.AuditStop.TheVariants as audit
+use Rattle.htl_top.specs.declared.stop.RunStop.TheVariants as run
 
 -- the auditor behind an event: it follows one more, or its run has ended
 abbrev pub IsAuditBehind : Audit → List Event → Event → Type 0
@@ -27,8 +29,8 @@ pub record IsAuditPlaying (t : Tables) (first now : Audit) (a : Ahead) (known re
   pub log : now.log ≡ first.log
 
 -- behind the lines of a run that has ended: what was audited is written where the log has no fault, or a prefix of it; else nothing
-abbrev pub IsConcluded : Tables → List Event → ℕ → List Slice → Option (List ℕ) → Option (List ℕ) → ℕ → ℕ → Outcome → Type 0
-IsConcluded t es end log old new before now Done = (first_fault t es end log ≡ None) × (new ≡ append_known old (audited_text t es end log))
-IsConcluded t es end log old new before now Write = Rose before now × (first_fault t es end log ≡ None) × AppendsPrefix old new (audited_text t es end log)
-IsConcluded t es end log old new before now (Log f) = (first_fault t es end log ≡ Some f) × (new ≡ old)
-IsConcluded t es end log old new before now _ = ⊥
+abbrev pub IsConcluded : Tables → List Event → ℕ → List Slice → Option (List ℕ) → Option (List ℕ) → ℕ → ℕ → Ended AuditStop → Type 0
+IsConcluded t es end log old new before now (Ok done) = (first_fault t es end log ≡ None) × (new ≡ append_known old (audited_text t es end log))
+IsConcluded t es end log old new before now (Err (audit.Log f)) = (first_fault t es end log ≡ Some f) × (new ≡ old)
+IsConcluded t es end log old new before now (Err (audit.Run s)) =
+    (s ≡ run.Write) × Rose before now × (first_fault t es end log ≡ None) × AppendsPrefix old new (audited_text t es end log)

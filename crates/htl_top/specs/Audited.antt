@@ -1,5 +1,5 @@
--- What `audit` answers: of the files, of the log, and of the run that it is audited for.
-use Rattle.std.specs.Prelude.{◌≡◌, ◌⊎◌, ℕ, suc, List, [], ◌++◌, length, Option, Some, None, codes, decimal}
+-- What `audit` comes to: of the files, of the log, and of the run that it is audited for.
+use Rattle.std.specs.Prelude.{◌≡◌, ◌⊎◌, ℕ, suc, List, [], ◌++◌, length, Option, Some, None, Ok, Err, codes, decimal}
 use Rattle.htl_top.specs.Common.{append_known, LogFault, Slice, Values, Rose, AppendsPrefix, none_left, Holdings, before_of, Tables, Event, Object, OfScript, Script, Whole, Bad, script_of}
 use Rattle.htl_audit.specs.Faults.{IsFirstFault}
 use Rattle.htl_audit.specs.Jobs.{all_rounds}
@@ -7,15 +7,18 @@ use Rattle.htl_audit.specs.Legal.{IsLegal, first_fault, jobs_done}
 use Rattle.htl_audit.specs.Logs.{log_of, Read as ReadLog, Refused as RefusedLog}
 use Rattle.htl_open.specs.Files.{Files}
 use Rattle.htl_top.specs.Answers.{Streams, IsUntouched}
-use Rattle.htl_top.specs.Fetching.{IsUnhad}
+use Rattle.htl_top.specs.Fetching.{IsOnBoth}
 use Rattle.htl_top.specs.Files.{IsFileOf}
 use Rattle.htl_open.specs.Objects.{IsAcceptedFile}
 use Rattle.htl_top.specs.Runs.{IsFaultyRun}
 use Rattle.htl_top.specs.Scripts.{IsWhole}
 use Rattle.htl_top.specs.Texts.{text_before_fault}
 use Rattle.htl_top.specs.Words.{Command, Audit}
-use Rattle.htl_top.specs.declared.outcome.Outcome.{Outcome}
-use Rattle.htl_top.specs.declared.outcome.Outcome.TheVariants.{Done, Log, Script as Faulty, Read, Write, Memory}
+use Rattle.htl_top.specs.Stops.{Ended}
+use Rattle.htl_top.specs.declared.stop.AuditStop.{AuditStop}
+use Rattle.htl_top.specs.declared.stop.AuditStop.TheVariants as audit
+use Rattle.htl_top.specs.declared.stop.OnObject.{OnObject}
+use Rattle.htl_top.specs.declared.stop.RunStop.TheVariants as run
 
 -- ---- the files
 
@@ -76,38 +79,16 @@ pub record IsCutAudit (o : Object) (log : List Slice) (rest old new : Option (Li
   pub script : OfScript rest (λ script. script_of o.tables script ≡ given)
   pub written : AppendsPrefix old new (audit_text o log given)
 
--- The log is audited for the run of the input as script, answer by answer. For want of memory nothing is read.
-abbrev pub IsAuditRun : List Slice → Object → Streams → Streams → Outcome → Type 0
-IsAuditRun log o old new Done = IsWholeAudit o log old.rest new.rest old.written new.written
-IsAuditRun log o old new (Log f) = IsIllegalAudit o log old.rest new.rest old.written new.written f
-IsAuditRun log o old new (Faulty f) = IsFaultyRun Values o.tables o old.rest new.rest old.written new.written f
-IsAuditRun log o old new Read = Rose old.read_faults new.read_faults × IsCutAudit o log old.rest old.written new.written
-IsAuditRun log o old new Write = Rose old.write_faults new.write_faults × IsCutAudit o log old.rest old.written new.written
-IsAuditRun log o old new Memory = IsUntouched old new
-IsAuditRun log o old new _ = ⊥
+-- The log is audited for the run of the input as script. For want of memory nothing is read.
+abbrev pub IsAuditRun : List Slice → Object → Streams → Streams → Ended AuditStop → Type 0
+IsAuditRun log o old new (Ok done) = IsWholeAudit o log old.rest new.rest old.written new.written
+IsAuditRun log o old new (Err (audit.Log f)) = IsIllegalAudit o log old.rest new.rest old.written new.written f
+IsAuditRun log o old new (Err (audit.Run (run.Script f))) = IsFaultyRun Values o.tables o old.rest new.rest old.written new.written f
+IsAuditRun log o old new (Err (audit.Run run.Read)) = Rose old.read_faults new.read_faults × IsCutAudit o log old.rest old.written new.written
+IsAuditRun log o old new (Err (audit.Run run.Write)) = Rose old.write_faults new.write_faults × IsCutAudit o log old.rest old.written new.written
+IsAuditRun log o old new (Err (audit.Run run.Memory)) = IsUntouched old new
 
 -- ---- the bytes of a log
-
--- why bytes aren't audited: a line has another form or names no concrete invocation, or no memory was left
-abbrev pub IsLogRefused : Tables → List ℕ → Outcome → Type 0
-IsLogRefused t bytes (Log f) = log_of t bytes ≡ RefusedLog f.line f.kind
-IsLogRefused t bytes Memory = Unit {0}
-IsLogRefused t bytes _ = ⊥
-
--- They are a log, which is audited; or they are refused, nothing was read and nothing written.
-abbrev pub IsAuditOf : List ℕ → Object → Streams → Streams → Outcome → Type 0
-IsAuditOf bytes o old new outcome =
-    HasSlices o.tables bytes (λ log. IsAuditRun log o old new outcome) ⊎ (IsLogRefused o.tables bytes outcome × IsUntouched old new)
-
--- ---- the command
-
--- Both files were had, the object is accepted, and the bytes of the log were audited; or not, and nothing was read and nothing written.
-abbrev pub IsAudit : List ℕ → List ℕ → Files → Streams → Streams → Outcome → Type 0
-IsAudit name log shelf old new outcome =
-    IsAcceptedFile (Some name) shelf.holds (λ o. IsFileOf (Some log) shelf.holds (λ bytes. IsAuditOf bytes o old new outcome))
-    ⊎ (IsUnhad (Some name) (Some log) shelf outcome × IsUntouched old new)
-
--- ---- of a command
 
 -- The log has this fault: it is the first of its lines with a form or a name that is refused, and nothing was read and nothing written; or
 -- its audit ended with it.
@@ -115,6 +96,21 @@ abbrev pub IsLogFault : List ℕ → Object → Streams → Streams → LogFault
 IsLogFault bytes o old new f =
     HasSlices o.tables bytes (λ log. IsIllegalAudit o log old.rest new.rest old.written new.written f)
     ⊎ ((log_of o.tables bytes ≡ RefusedLog f.line f.kind) × IsUntouched old new)
+
+-- They are a log, which is audited for the run; or they have a fault; or no memory was left, and nothing was read and nothing written.
+abbrev pub IsAuditOf : List ℕ → Object → Streams → Streams → Ended AuditStop → Type 0
+IsAuditOf bytes o old new (Ok done) = HasSlices o.tables bytes (λ log. IsAuditRun log o old new (Ok done))
+IsAuditOf bytes o old new (Err (audit.Log f)) = IsLogFault bytes o old new f
+IsAuditOf bytes o old new (Err (audit.Run run.Memory)) = IsUntouched old new
+IsAuditOf bytes o old new (Err (audit.Run s)) = HasSlices o.tables bytes (λ log. IsAuditRun log o old new (Err (audit.Run s)))
+
+-- ---- the command
+
+-- Both files were had, the object is accepted, and the bytes of the log were audited; or not, and nothing was read and nothing written.
+abbrev pub IsAudit : List ℕ → List ℕ → Files → Streams → Streams → Ended (OnObject AuditStop) → Type 0
+IsAudit name log shelf old new result = IsOnBoth (λ o bytes. IsAuditOf bytes o old new) (IsUntouched old new) (Some name) (Some log) shelf result
+
+-- ---- of a command
 
 -- The command audits a log for an accepted object, and the log has this fault.
 abbrev pub IsLogCause : Option Command → Option Holdings → Streams → Streams → LogFault → Type 0

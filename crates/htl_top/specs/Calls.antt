@@ -18,7 +18,7 @@ use Rattle.htl_top.specs.Shown.{show_text}
 use Rattle.htl_top.specs.Slacked.{IsSlackCall}
 use Rattle.htl_top.specs.Sources.{IsTypedProgram, IsTypedInput}
 use Rattle.htl_top.specs.SourcesOn.{IsTypedOn}
-use Rattle.htl_top.specs.Stops.{Came, go_as, object_as, run_as}
+use Rattle.htl_top.specs.Stops.{Came, audit_as, compile_as, compile_with_as, donor_as, go_as, object_as, run_as}
 use Rattle.htl_top.specs.Words.{Command, Go, Compile, CompileWith, Run, Check, Plan, Show, Bulk, Slack, Audit, Patch}
 use Rattle.htl_top.specs.declared.outcome.Outcome.{Outcome}
 use Rattle.htl_top.specs.declared.outcome.Outcome.TheVariants.{Usage}
@@ -27,16 +27,16 @@ use Rattle.htl_top.specs.declared.outcome.Outcome.TheVariants.{Usage}
 abbrev pub IsCall : Option Command → Files → Streams → Streams → Outcome → Type 0
 IsCall None shelf old new outcome = (outcome ≡ Usage) × IsUntouched old new
 IsCall (Some (Go name)) shelf old new outcome = Came go_as (IsGoing (Some name) shelf old new) outcome
-IsCall (Some Compile) shelf old new outcome = IsCompiling old new outcome
-IsCall (Some (CompileWith platform)) shelf old new outcome = IsCompilingOn (Some platform) shelf old new outcome
+IsCall (Some Compile) shelf old new outcome = Came compile_as (IsCompiling old new) outcome
+IsCall (Some (CompileWith platform)) shelf old new outcome = Came compile_with_as (IsCompilingOn (Some platform) shelf old new) outcome
 IsCall (Some (Run show name)) shelf old new outcome = Came (object_as run_as) (IsRunOnFile show (Some name) shelf old new) outcome
 IsCall (Some (Check name)) shelf old new outcome = IsTextCall (λ o. check_text o.tables) (Some name) shelf old new outcome
 IsCall (Some (Plan name)) shelf old new outcome = Came (object_as run_as) (IsPlannedOnFile (Some name) shelf old new) outcome
 IsCall (Some (Show name)) shelf old new outcome = IsTextCall show_text (Some name) shelf old new outcome
 IsCall (Some (Bulk n)) shelf old new outcome = IsBulked n old new outcome
 IsCall (Some (Slack name owner task)) shelf old new outcome = IsSlackCall owner task (Some name) shelf old new outcome
-IsCall (Some (Audit name log)) shelf old new outcome = IsAudit name log shelf old new outcome
-IsCall (Some (Patch name unit mode donor)) shelf old new outcome = IsPatching unit mode (Some name) (Some donor) shelf old new outcome
+IsCall (Some (Audit name log)) shelf old new outcome = Came (object_as audit_as) (IsAudit name log shelf old new) outcome
+IsCall (Some (Patch name unit mode donor)) shelf old new outcome = Came (object_as donor_as) (IsPatching unit mode (Some name) (Some donor) shelf old new) outcome
 
 -- The source that a command compiles has tables whose functions are typed, and the fact holds of them, with the worst cases of the
 -- platform where one is named; or the fact holds of the tables with a donor's refinement.

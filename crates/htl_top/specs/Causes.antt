@@ -22,6 +22,12 @@ IsFileStop name shelf (fetch.Shelf Failed) = IsFaultOf name shelf.before shelf.a
 IsFileStop name shelf (fetch.Shelf (TooLong seen)) = IsLongFile MAX_SOURCE name shelf.holds seen
 IsFileStop name shelf fetch.Memory = Unit {0}
 
+-- the words name a file of at most 1,048,576 bytes, of which the fact holds
+pub record IsSourceOf (name : Option (List ℕ)) (holds : Option Holdings) (Fact : List ℕ → Type 0) : Type 0 where
+  pub bytes : List ℕ
+  pub source : IsSource name holds bytes
+  pub fact : Fact bytes
+
 -- ---- what must be answered
 
 -- this answer, or Memory

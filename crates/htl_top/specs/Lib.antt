@@ -15,7 +15,6 @@ pub mod JobLaws
 pub mod Laws
 pub mod ObjectRows
 pub mod Objects
-pub mod PatchStops
 pub mod PatchedFiles
 pub mod Planned
 pub mod Playing

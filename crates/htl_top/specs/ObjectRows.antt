@@ -14,9 +14,9 @@ use Rattle.htl_top.specs.Audited.{HasLog, IsWholeAudit, IsCutAudit}
 use Rattle.htl_top.specs.Causes.{IsOrMemory}
 use Rattle.htl_open.specs.Files.{IsGiven}
 use Rattle.htl_top.specs.Checked.{check_text}
-use Rattle.htl_top.specs.Files.{IsReadyFile}
+use Rattle.htl_top.specs.Files.{AreFilesOf, IsReadyFile}
 use Rattle.htl_open.specs.Objects.{IsAcceptedFile, IsReadyObject}
-use Rattle.htl_top.specs.PatchedFiles.{AreFilesOf, HasPatch, IsDonorFault}
+use Rattle.htl_top.specs.PatchedFiles.{HasPatch, IsDonorFault}
 use Rattle.htl_top.specs.Planned.{IsWholePlan, IsCutPlan, IsBadSelection}
 use Rattle.htl_top.specs.Runs.{IsWholeRun, IsFaultyRun, IsCutRun}
 use Rattle.htl_top.specs.Scripts.{IsWhole, IsBad}

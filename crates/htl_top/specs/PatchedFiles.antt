@@ -1,5 +1,5 @@
 -- What `patch` answers of two files: an object of which a mode gets another refinement, and the donor that has it.
-use Rattle.std.specs.Prelude.{◌≡◌, ◌⊎◌, ℕ, List, Option, Some}
+use Rattle.std.specs.Prelude.{◌≡◌, ◌⊎◌, ℕ, List, Option, Some, Ok, Err}
 use Rattle.htl_top.specs.Common.{append_known, Rose, AppendsPrefix, Holdings, HasBytes, Tables, IsAccepted, Object, PatchFault}
 use Rattle.htl_object.specs.Files.{first_bad}
 use Rattle.htl_object.specs.Objects.{IsObject, object_bytes}
@@ -10,14 +10,18 @@ use Rattle.htl_patch.specs.Patched.{patched}
 use Rattle.htl_patch.specs.Stops.{IsPatchFault}
 use Rattle.htl_patch.specs.Combined.{Replacement}
 use Rattle.htl_patch.specs.declared.fault.PatchFault.TheVariants as fault
+use Rattle.htl_patch.specs.declared.fault.PatchStop.TheVariants as patching
 use Rattle.htl_open.specs.Files.{Files}
-use Rattle.htl_top.specs.Answers.{Streams, IsWritten}
-use Rattle.htl_top.specs.Fetching.{IsUnhad}
-use Rattle.htl_top.specs.Files.{IsFileOf}
-use Rattle.htl_open.specs.Objects.{IsAcceptedFile}
+use Rattle.htl_top.specs.Answers.{Streams}
+use Rattle.htl_top.specs.Fetching.{IsOnBoth}
+use Rattle.htl_top.specs.Files.{AreFilesOf}
+use Rattle.htl_top.specs.Stops.{Ended}
 use Rattle.htl_top.specs.Words.{Command, Patch}
-use Rattle.htl_top.specs.declared.outcome.Outcome.{Outcome}
-use Rattle.htl_top.specs.declared.outcome.Outcome.TheVariants.{Done, Patch as Unpatched, Write, Memory}
+use Rattle.htl_top.specs.declared.stop.DonorStop.{DonorStop}
+use Rattle.htl_top.specs.declared.stop.DonorStop.TheVariants as told
+use Rattle.htl_top.specs.declared.stop.OnObject.{OnObject}
+use Rattle.htl_top.specs.declared.stop.PutStop.{PutStop}
+use Rattle.htl_top.specs.declared.stop.PutStop.TheVariants as put
 
 -- ---- the donor
 
@@ -58,10 +62,6 @@ IsDonorFault o unit mode bytes f = IsBadDonor bytes f ⊎ RefusesDonor o unit mo
 
 -- ---- both files
 
--- The words name a file that an accepted object is, and a donor, of both of which the fact holds.
-abbrev pub AreFilesOf : Option (List ℕ) → Option (List ℕ) → Option Holdings → (Object → List ℕ → Type 0) → Type 0
-AreFilesOf name donor holds Fact = IsAcceptedFile name holds (λ o. IsFileOf donor holds (λ bytes. Fact o bytes))
-
 -- The fact holds of the tables of an accepted object with a donor's refinement.
 abbrev pub IsPatchedTables : List ℕ → List ℕ → List ℕ → List ℕ → Option Holdings → (Tables → Type 0) → Type 0
 IsPatchedTables name unit mode donor holds Fact = AreFilesOf (Some name) (Some donor) holds (λ o bytes. HasPatchedTables o unit mode bytes Fact)
@@ -71,30 +71,33 @@ abbrev pub SpeaksOfPatch : ((Tables → Type 0) → Type 0) → PatchFault → O
 SpeaksOfPatch HasNew (fault.IllFormed f) tables = HasNew (λ t. tables ≡ Some t)
 SpeaksOfPatch HasNew _ tables = Unit {0}
 
--- ---- the answers
+-- ---- what it comes to
 
 -- an accepted object was written, or a prefix of its bytes; or nothing, since no memory was left
-abbrev pub IsObjectPut : Object → Option (List ℕ) → Option (List ℕ) → ℕ → ℕ → Outcome → Type 0
-IsObjectPut o old new before now outcome =
-    (IsObject o × IsAccepted o × IsWritten (object_bytes o) Done old new before now outcome) ⊎ ((outcome ≡ Memory) × (new ≡ old))
+abbrev pub IsObjectPut : Object → Option (List ℕ) → Option (List ℕ) → ℕ → ℕ → Ended PutStop → Type 0
+IsObjectPut o old new before now (Ok done) = IsObject o × IsAccepted o × (new ≡ append_known old (object_bytes o))
+IsObjectPut o old new before now (Err put.Write) = IsObject o × IsAccepted o × Rose before now × AppendsPrefix old new (object_bytes o)
+IsObjectPut o old new before now (Err put.Memory) = new ≡ old
 
--- the new object is written, or a prefix of its bytes; or nothing, since the donor has a fault or no memory was left
-abbrev pub IsDonorTold : Object → List ℕ → List ℕ → List ℕ → Option (List ℕ) → Option (List ℕ) → ℕ → ℕ → Outcome → Type 0
-IsDonorTold o unit mode bytes old new before now Done = HasPatch o unit mode bytes (λ p. new ≡ append_known old (object_bytes p))
-IsDonorTold o unit mode bytes old new before now Write = Rose before now × HasPatch o unit mode bytes (λ p. AppendsPrefix old new (object_bytes p))
-IsDonorTold o unit mode bytes old new before now (Unpatched f) = IsDonorFault o unit mode bytes f × (new ≡ old)
-IsDonorTold o unit mode bytes old new before now Memory = new ≡ old
-IsDonorTold o unit mode bytes old new before now _ = ⊥
+-- The new object is written, or a prefix of its bytes; or nothing, since the donor has a fault, whose line speaks of these tables, or no
+-- memory was left.
+abbrev pub IsDonorTold : Object → List ℕ → List ℕ → List ℕ → Option (List ℕ) → Option (List ℕ) → ℕ → ℕ → Ended DonorStop → Type 0
+IsDonorTold o unit mode bytes old new before now (Ok done) = HasPatch o unit mode bytes (λ p. new ≡ append_known old (object_bytes p))
+IsDonorTold o unit mode bytes old new before now (Err (told.Put put.Write)) = Rose before now × HasPatch o unit mode bytes (λ p. AppendsPrefix old new (object_bytes p))
+IsDonorTold o unit mode bytes old new before now (Err (told.Put put.Memory)) = new ≡ old
+IsDonorTold o unit mode bytes old new before now (Err (told.Patch (patching.Refused f tables))) =
+    IsDonorFault o unit mode bytes f × SpeaksOfPatch (HasPatchedTables o unit mode bytes) f tables × (new ≡ old)
+IsDonorTold o unit mode bytes old new before now (Err (told.Patch patching.Memory)) = new ≡ old
 
 -- Both files were had, and the donor's refinement was taken over or not; or they weren't, and nothing was written.
-abbrev pub IsPatchOfFiles : List ℕ → List ℕ → Option (List ℕ) → Option (List ℕ) → Files → Option (List ℕ) → Option (List ℕ) → ℕ → ℕ → Outcome → Type 0
-IsPatchOfFiles unit mode name donor shelf old new before now outcome =
-    AreFilesOf name donor shelf.holds (λ o bytes. IsDonorTold o unit mode bytes old new before now outcome) ⊎ (IsUnhad name donor shelf outcome × (new ≡ old))
+abbrev pub IsPatchOfFiles : List ℕ → List ℕ → Option (List ℕ) → Option (List ℕ) → Files → Option (List ℕ) → Option (List ℕ) → ℕ → ℕ → Ended (OnObject DonorStop) → Type 0
+IsPatchOfFiles unit mode name donor shelf old new before now result =
+    IsOnBoth (λ o bytes. IsDonorTold o unit mode bytes old new before now) (new ≡ old) name donor shelf result
 
 -- and nothing is read
-abbrev pub IsPatching : List ℕ → List ℕ → Option (List ℕ) → Option (List ℕ) → Files → Streams → Streams → Outcome → Type 0
-IsPatching unit mode name donor shelf old new outcome =
-    (new.rest ≡ old.rest) × IsPatchOfFiles unit mode name donor shelf old.written new.written old.write_faults new.write_faults outcome
+abbrev pub IsPatching : List ℕ → List ℕ → Option (List ℕ) → Option (List ℕ) → Files → Streams → Streams → Ended (OnObject DonorStop) → Type 0
+IsPatching unit mode name donor shelf old new result =
+    (new.rest ≡ old.rest) × IsPatchOfFiles unit mode name donor shelf old.written new.written old.write_faults new.write_faults result
 
 -- The command replaces a refinement of an accepted object by that of a donor's file, which isn't taken over for this fault.
 abbrev pub IsPatchCause : Option Command → Option Holdings → PatchFault → Type 0

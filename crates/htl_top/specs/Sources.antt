@@ -67,6 +67,12 @@ pub record IsInput (rest : Option (List ℕ)) (bytes : List ℕ) : Type 0 where
   pub told : IfSome rest (λ given. given ≡ bytes)
   pub short : length bytes ≤ MAX_SOURCE
 
+-- the input is this source, where it is told, of which the fact holds
+pub record IsInputOf (rest : Option (List ℕ)) (Fact : List ℕ → Type 0) : Type 0 where
+  pub bytes : List ℕ
+  pub input : IsInput rest bytes
+  pub fact : Fact bytes
+
 -- The input is a source with tables of which an accepted object is built, and the fact holds of the tables.
 pub record IsInputProgram (rest : Option (List ℕ)) (Fact : Tables → Type 0) : Type 0 where
   pub bytes : List ℕ

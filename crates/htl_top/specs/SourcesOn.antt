@@ -19,10 +19,6 @@ answer_on (on.Platform f) = Platform f
 
 -- ---- of a platform file and the input
 
--- the words name a platform file
-abbrev pub HasFile : Option (List ℕ) → Option Holdings → Type 0
-HasFile name holds = (file : List ℕ) × IsSource name holds file
-
 -- The words name a platform file, the input is a source with tables of which an accepted object is built on the platform, and the
 -- fact holds of the platform and the tables.
 pub record IsProgramOn (name : Option (List ℕ)) (holds : Option Holdings) (rest : Option (List ℕ)) (Fact : PlatformOf → Tables → Type 0) : Type 0 where

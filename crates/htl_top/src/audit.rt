@@ -1,22 +1,21 @@
 // The command `audit`: a job log of any scheduler, judged for an object and a script.
-ghost use Rattle.std.specs.Prelude.{◌≡◌, ◌+◌, ◌<◌, List, ℕ, Some, All, length};
+ghost use Rattle.std.specs.Prelude.{◌≡◌, ◌+◌, ◌<◌, List, ℕ, Some, Err, All, length};
 ghost use Rattle.htl_base.specs.declared.limits.TheConstants as limit;
 ghost use Rattle.htl_script.specs.Reading.{LosesFront};
 ghost use Rattle.htl_open.specs.Files.{files};
+ghost use Rattle.htl_open.specs.declared.stop.OpenStop.TheVariants as open_stop;
+ghost use Rattle.htl_open.specs.declared.stop.ShelfCause.TheVariants as cause;
 ghost use Rattle.htl_top.specs.Answers.{streams};
 ghost use Rattle.htl_top.specs.Audited.{IsAuditRun, IsAuditOf, IsAudit};
-ghost use Rattle.htl_open.specs.Objects.{IsObjectTables};
-ghost use Rattle.htl_top.specs.ErrorLines.{SpeaksOf};
-ghost use Rattle.htl_open.specs.declared.stop.ShelfCause.TheVariants as cause;
+ghost use Rattle.htl_top.specs.declared.stop.AuditStop.TheVariants as audit;
+ghost use Rattle.htl_top.specs.declared.stop.RunStop.TheVariants as run;
 
-use crate::Outcome;
-use crate::answer::Answer;
 use crate::audit_play::play_audit;
-use crate::fetch::fetch_both;
+use crate::fetch::open_both;
+use crate::stop::{AuditStop, OnObject, RunStop};
 use htl_audit::{Auditor, LogStop, Slice, read_log};
 use htl_edge::{Shelf, Sink, Source};
 use htl_load::Loaded;
-use htl_open::object::{ObjectStop, read_object};
 use std::alloc::Global;
 
 // Audits the slices of a log for an accepted object, with the input as script. All memory is taken before anything is read.
@@ -26,17 +25,17 @@ fn audit_slices<R: Source, W: Sink>(
     log: &[Slice],
     input: &mut R,
     out: &mut W,
-) -> Outcome
+) -> Result<(), AuditStop>
     requires { All (λ x. x.inv < length l.now.tables.invs) log.now }
     ensures answer { IsAuditRun log.now l.now
         (streams R.rest R.faults W.written W.faults input.old out.old) (streams R.rest R.faults W.written W.faults input.new out.new)
         result }
     ensures taken { LosesFront (limit.MAX_SCRIPT + 256) (R.rest input.old) (R.rest input.new) }
-    ensures read_count { (result ≡ Outcome.Read → ⊥) → R.faults input.new ≡ R.faults input.old }
-    ensures write_count { (result ≡ Outcome.Write → ⊥) → W.faults out.new ≡ W.faults out.old }
+    ensures read_count { (result ≡ Err (AuditStop.Run run.Read) → ⊥) → R.faults input.new ≡ R.faults input.old }
+    ensures write_count { (result ≡ Err (AuditStop.Run run.Write) → ⊥) → W.faults out.new ≡ W.faults out.old }
 {
     let Ok(mut auditor) = Auditor::new(alloc, l, log) else {
-        return Outcome::Memory;
+        return Err(AuditStop::Run(RunStop::Memory));
     };
     play_audit(&mut auditor, l.tables(), input, out)
 }
@@ -48,18 +47,18 @@ fn audit_bytes<R: Source, W: Sink>(
     log: &[u8],
     input: &mut R,
     out: &mut W,
-) -> Outcome
+) -> Result<(), AuditStop>
     ensures answer { IsAuditOf log.now l.now
         (streams R.rest R.faults W.written W.faults input.old out.old) (streams R.rest R.faults W.written W.faults input.new out.new)
         result }
     ensures taken { LosesFront (limit.MAX_SCRIPT + 256) (R.rest input.old) (R.rest input.new) }
-    ensures read_count { (result ≡ Outcome.Read → ⊥) → R.faults input.new ≡ R.faults input.old }
-    ensures write_count { (result ≡ Outcome.Write → ⊥) → W.faults out.new ≡ W.faults out.old }
+    ensures read_count { (result ≡ Err (AuditStop.Run run.Read) → ⊥) → R.faults input.new ≡ R.faults input.old }
+    ensures write_count { (result ≡ Err (AuditStop.Run run.Write) → ⊥) → W.faults out.new ≡ W.faults out.old }
 {
     match read_log(alloc, log, l.tables()) {
         Ok(slices) => audit_slices(alloc, l, slices.as_slice(), input, out),
-        Err(LogStop::Refused(fault)) => Outcome::Log(fault),
-        Err(LogStop::Memory) => Outcome::Memory,
+        Err(LogStop::Refused(fault)) => Err(AuditStop::Log(fault)),
+        Err(LogStop::Memory) => Err(AuditStop::Run(RunStop::Memory)),
     }
 }
 
@@ -71,34 +70,23 @@ pub fn audit_file<S: Shelf, R: Source, W: Sink>(
     shelf: &mut S,
     input: &mut R,
     out: &mut W,
-) -> Answer
+) -> Result<(), OnObject<AuditStop>>
     ensures answer { IsAudit name.now log.now
         (files S.holds S.faults shelf.old shelf.new)
         (streams R.rest R.faults W.written W.faults input.old out.old) (streams R.rest R.faults W.written W.faults input.new out.new)
-        result.outcome }
-    ensures tables { SpeaksOf (λ fact. ⊥) (IsObjectTables (Some name.now) (S.holds shelf.old)) result.outcome result.tables }
+        result }
     ensures taken { LosesFront (limit.MAX_SCRIPT + 256) (R.rest input.old) (R.rest input.new) }
     ensures shelf { S.holds shelf.new ≡ S.holds shelf.old }
-    ensures shelf_count { (result.outcome ≡ Outcome.Shelf cause.Failed → ⊥) → (file : List ℕ) → S.faults shelf.new file ≡ S.faults shelf.old file }
-    ensures read_count { (result.outcome ≡ Outcome.Read → ⊥) → R.faults input.new ≡ R.faults input.old }
-    ensures write_count { (result.outcome ≡ Outcome.Write → ⊥) → W.faults out.new ≡ W.faults out.old }
+    ensures shelf_count { (result ≡ Err (OnObject.Open (open_stop.Shelf cause.Failed)) → ⊥) → (file : List ℕ) → S.faults shelf.new file ≡ S.faults shelf.old file }
+    ensures read_count { (result ≡ Err (OnObject.Work (audit.Run run.Read)) → ⊥) → R.faults input.new ≡ R.faults input.old }
+    ensures write_count { (result ≡ Err (OnObject.Work (audit.Run run.Write)) → ⊥) → W.faults out.new ≡ W.faults out.old }
 {
-    let given = match fetch_both(alloc, name, log, shelf) {
+    let given = match open_both(alloc, name, log, shelf) {
         Ok(given) => given,
-        Err(outcome) => return Answer::plain(outcome),
+        Err(stop) => return Err(OnObject::Open(stop)),
     };
-    match read_object(alloc, given.object.as_slice()) {
-        Ok(loaded) => Answer::plain(audit_bytes(
-            alloc,
-            &loaded,
-            given.second.as_slice(),
-            input,
-            out,
-        )),
-        Err(ObjectStop::Refused { fault, tables }) => Answer {
-            outcome: Outcome::Object(fault),
-            tables,
-        },
-        Err(ObjectStop::Memory) => Answer::plain(Outcome::Memory),
+    match audit_bytes(alloc, &given.object, given.second.as_slice(), input, out) {
+        Ok(()) => Ok(()),
+        Err(stop) => Err(OnObject::Work(stop)),
     }
 }

@@ -1,5 +1,5 @@
 // The events of a script, told to an auditor as they are read, and the end of its audit.
-ghost use Rattle.std.specs.Prelude.{◌≡◌, ◌+◌, [], List, OnOk};
+ghost use Rattle.std.specs.Prelude.{◌≡◌, ◌+◌, [], List, OnOk, Err};
 ghost use Rattle.htl_audit.specs.Auditing.{AuditFollows, IsAudited, IsSameAudit};
 ghost use Rattle.htl_base.specs.declared.limits.TheConstants as limit;
 ghost use Rattle.htl_edge.specs.Content.{Puts};
@@ -11,8 +11,9 @@ ghost use Rattle.htl_top.specs.Answers.{streams};
 ghost use Rattle.htl_top.specs.Audited.{IsAuditRun, audited_line as audited_line_of};
 ghost use Rattle.htl_top.specs.AuditPlaying.{IsAuditBehind, IsConcluded};
 ghost use Rattle.htl_top.specs.Playing.{IsNext, text_more};
+ghost use Rattle.htl_top.specs.declared.stop.RunStop.TheVariants as run;
 
-use crate::Outcome;
+use crate::stop::{AuditStop, RunStop};
 use htl_audit::{AuditTotals, Auditor};
 use htl_edge::{Failed, LineBuffer, Sink, Source, put_all};
 use htl_model::{Event, Tables};
@@ -25,7 +26,7 @@ pub fn play_audit<R: Source, W: Sink>(
     t: &Tables,
     input: &mut R,
     out: &mut W,
-) -> Outcome
+) -> Result<(), AuditStop>
     requires follows { AuditFollows auditor.old [] }
     requires accepted { IsAccepted auditor.old.machine.object }
     requires tables { t.now ≡ auditor.old.machine.object.tables }
@@ -33,20 +34,20 @@ pub fn play_audit<R: Source, W: Sink>(
         (streams R.rest R.faults W.written W.faults input.old out.old) (streams R.rest R.faults W.written W.faults input.new out.new)
         result }
     ensures taken { LosesFront (limit.MAX_SCRIPT + 256) (R.rest input.old) (R.rest input.new) }
-    ensures read_count { (result ≡ Outcome.Read → ⊥) → R.faults input.new ≡ R.faults input.old }
-    ensures write_count { (result ≡ Outcome.Write → ⊥) → W.faults out.new ≡ W.faults out.old }
+    ensures read_count { (result ≡ Err (AuditStop.Run run.Read) → ⊥) → R.faults input.new ≡ R.faults input.old }
+    ensures write_count { (result ≡ Err (AuditStop.Run run.Write) → ⊥) → W.faults out.new ≡ W.faults out.old }
 {
     let mut script = Script::new();
     'events: loop {
         match script.next(input, t) {
             Ok(Some(event)) => {
                 if let Err(_) = tell(auditor, event, out) {
-                    return Outcome::Write;
+                    return Err(AuditStop::Run(RunStop::Write));
                 }
             }
             Ok(None) => return conclude(auditor, out),
-            Err(ScriptStop::Script(fault)) => return Outcome::Script(fault),
-            Err(ScriptStop::Read) => return Outcome::Read,
+            Err(ScriptStop::Script(fault)) => return Err(AuditStop::Run(RunStop::Script(fault))),
+            Err(ScriptStop::Read) => return Err(AuditStop::Run(RunStop::Read)),
         }
     }
 }
@@ -72,21 +73,21 @@ fn tell<W: Sink>(auditor: &mut Auditor<'_>, event: Event, out: &mut W) -> Result
     }
 }
 
-// Writes the numbers of a legal log, or answers the first fault, once the run has ended.
-fn conclude<W: Sink>(auditor: &Auditor<'_>, out: &mut W) -> Outcome
+// Writes the numbers of a legal log, or gives the first fault, once the run has ended.
+fn conclude<W: Sink>(auditor: &Auditor<'_>, out: &mut W) -> Result<(), AuditStop>
     requires { (es : List Told) × IsAudited auditor.now es auditor.now.machine.run_state.reading }
     ensures answer { (es : List Told) → IsAudited auditor.now es auditor.now.machine.run_state.reading → IsConcluded auditor.now.machine.object.tables es auditor.now.machine.run_state.reading auditor.now.log (W.written out.old) (W.written out.new) (W.faults out.old) (W.faults out.new) result }
-    ensures write_count { (result ≡ Outcome.Write → ⊥) → W.faults out.new ≡ W.faults out.old }
+    ensures write_count { (result ≡ Err (AuditStop.Run run.Write) → ⊥) → W.faults out.new ≡ W.faults out.old }
 {
     match auditor.verdict() {
         Ok(totals) => {
             let line = audited_line(&totals);
             match put_all(out, line.as_bytes()) {
-                Ok(()) => Outcome::Done,
-                Err(_) => Outcome::Write,
+                Ok(()) => Ok(()),
+                Err(_) => Err(AuditStop::Run(RunStop::Write)),
             }
         }
-        Err(fault) => Outcome::Log(fault),
+        Err(fault) => Err(AuditStop::Log(fault)),
     }
 }
 

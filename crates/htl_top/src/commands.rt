@@ -9,7 +9,10 @@ ghost use Rattle.htl_top.specs.Words.{asked_for, command_in, most_taken, with_fi
 ghost use Rattle.htl_open.specs.declared.stop.ShelfCause.TheVariants as cause;
 
 use crate::Outcome;
-use crate::answer::{Answer, of_go, of_put, of_run, of_slack, of_text};
+use crate::answer::{
+    Answer, of_audit, of_compile, of_compile_with, of_go, of_patch, of_put, of_run, of_slack,
+    of_text,
+};
 use crate::audit::audit_file;
 use crate::bulk::bulk;
 use crate::check::check_file;
@@ -71,20 +74,22 @@ fn answered<S: Shelf, R: Source, W: Sink>(
     ensures write_count { (result.outcome ≡ Outcome.Write → ⊥) → W.faults out.new ≡ W.faults out.old }
 {
     match asked {
-        Asked::Compile => compile_input(alloc, input, out),
-        Asked::CompileWith { platform } => compile_for_file(alloc, platform, shelf, input, out),
+        Asked::Compile => of_compile(compile_input(alloc, input, out)),
+        Asked::CompileWith { platform } => {
+            of_compile_with(compile_for_file(alloc, platform, shelf, input, out))
+        }
         Asked::File { verb, name } => about_file(alloc, verb, name, shelf, input, out),
         Asked::Bulk { modules } => of_put(bulk(alloc, modules, out)),
         Asked::Slack { name, owner, task } => of_slack(slack_file(
             alloc, name, &owner, &task, shelf, out,
         )),
-        Asked::Audit { name, log } => audit_file(alloc, name, log, shelf, input, out),
+        Asked::Audit { name, log } => of_audit(audit_file(alloc, name, log, shelf, input, out)),
         Asked::Patch {
             name,
             unit,
             mode,
             donor,
-        } => patch_file(alloc, name, &ModeNames { unit, mode }, donor, shelf, out),
+        } => of_patch(patch_file(alloc, name, &ModeNames { unit, mode }, donor, shelf, out)),
     }
 }
 

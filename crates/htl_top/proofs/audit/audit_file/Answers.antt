@@ -1,21 +1,22 @@
-use Rattle.htl_top.proofs.Vocabulary.{List, Some, ℕ, sym, subst, HasBytes, files, streams, IsAuditOf, IsObjectTables, SpeaksOf, Outcome}
-use Rattle.htl_top.proofs.AuditFiles.{audit_done}
-use Rattle.htl_top.proofs.Fetching.{fetching_speaks}
+use Rattle.std.proofs.Common.{Ok, Err}
+use Rattle.htl_top.proofs.Vocabulary.{Some, files, streams, IsAuditOf}
+use Rattle.htl_top.proofs.BothFiles.{done_with_both}
+use Rattle.htl_top.proofs.Inputs.{taken_none}
 use Rattle.htl_top.proofs.audit.audit_file.Goals as goal
 
-pub returns-in-Err-clause-tables : goal.returns-in-Err-clause-tables
-returns-in-Err-clause-tables g c =
-    let HasObject = IsObjectTables (Some c.args.name.now) (g.S.Shelf.holds c.args.shelf.now) in
-    subst (λ (o : Outcome). SpeaksOf (λ fact. ⊥) HasObject o c.plain.result.tables) (sym c.plain.ensures.outcome)
-    (fetching_speaks (λ fact. ⊥) HasObject c.in-Err.outcome c.plain.result.tables c.in-Err.ensures.fetching)
+pub returns-in-Err-clause-taken : goal.returns-in-Err-clause-taken
+returns-in-Err-clause-taken g c = taken_none 1073742080 (g.R.Source.rest c.args.input.now)
 
-pub returns-in-Ok-read_object-clause-answer : goal.returns-in-Ok-read_object-clause-answer
-returns-in-Ok-read_object-clause-answer g c =
+pub returns-in-Ok-2-clause-answer : goal.returns-in-Ok-2-clause-answer
+returns-in-Ok-2-clause-answer g c =
     let side = streams g.R.Source.rest g.R.Source.faults g.W.Sink.written g.W.Sink.faults in
-    let old = side c.args.input.now c.args.out.now in
-    let new = side c.audit_bytes.new.input c.audit_bytes.new.out in
-    let loaded = c.in-Ok-read_object.loaded in
-    audit_done c.args.name.now c.args.log.now (files g.S.Shelf.holds g.S.Shelf.faults c.args.shelf.now c.fetch_both.new.shelf) old new c.in-Ok.given.object.items c.in-Ok.given.second.items c.in-Ok.ensures.object
-    c.in-Ok.ensures.second loaded (subst (λ (bs : List ℕ). HasBytes bs loaded) c.as_slice.ensures.value c.in-Ok-read_object.ensures.0) c.in-Ok-read_object.ensures.1 c.audit_bytes.result
-    c.plain-in-Ok-read_object.result.outcome c.plain-in-Ok-read_object.ensures.outcome
-    (subst (λ (bs : List ℕ). IsAuditOf bs loaded old new c.audit_bytes.result) c.as_slice-in-Ok-read_object.ensures.value c.audit_bytes.ensures.answer)
+    done_with_both (λ o bytes. IsAuditOf bytes o (side c.args.input.now c.args.out.now) (side c.audit_bytes.new.input c.audit_bytes.new.out)) (Some c.args.name.now) (Some c.args.log.now)
+    (files g.S.Shelf.holds g.S.Shelf.faults c.args.shelf.now c.open_both.new.shelf) c.in-Ok.given.object c.in-Ok.given.second.items c.as_slice.result.now c.as_slice.ensures.value
+    c.in-Ok.ensures.opened (Ok tt) c.in-Ok-2.ensures.answer
+
+pub returns-in-Err-2-clause-answer : goal.returns-in-Err-2-clause-answer
+returns-in-Err-2-clause-answer g c =
+    let side = streams g.R.Source.rest g.R.Source.faults g.W.Sink.written g.W.Sink.faults in
+    done_with_both (λ o bytes. IsAuditOf bytes o (side c.args.input.now c.args.out.now) (side c.audit_bytes.new.input c.audit_bytes.new.out)) (Some c.args.name.now) (Some c.args.log.now)
+    (files g.S.Shelf.holds g.S.Shelf.faults c.args.shelf.now c.open_both.new.shelf) c.in-Ok.given.object c.in-Ok.given.second.items c.as_slice.result.now c.as_slice.ensures.value
+    c.in-Ok.ensures.opened (Err c.in-Err-2.stop) c.in-Err-2.ensures.answer

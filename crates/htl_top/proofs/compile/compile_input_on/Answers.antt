@@ -1,23 +1,29 @@
-use Rattle.htl_top.proofs.Vocabulary.{List, ℕ, subst, streams, IsBytesCompiledOn, HasTypedOn, IsTypedOn, SpeaksOf}
-use Rattle.htl_top.proofs.CompilingOn.{IsCompilingOn-bytes}
-use Rattle.htl_top.proofs.ErrorLineNames.{SpeaksOf-source, in_files}
+use Rattle.std.proofs.Common.{◌≡◌, List, ℕ, ap, refl, Err}
+use Rattle.htl_top.proofs.Vocabulary.{append_known, streams, AppendsPrefix, IsBuiltOn, IsUnbuiltOn}
+use Rattle.htl_top.proofs.Compiling.{input_built, input_unbuilt, unread_stop}
+use Rattle.htl_top.specs.declared.input.InputStop.{InputStop}
 use Rattle.htl_top.proofs.compile.compile_input_on.Goals as goal
 
-pub returns-in-Ok-clause-answer : goal.returns-in-Ok-clause-answer
-returns-in-Ok-clause-answer g c = λ name shelf held.
+pub returns-in-Err-clause-answer : goal.returns-in-Err-clause-answer
+returns-in-Err-clause-answer g c =
     let side = streams g.R.Source.rest g.R.Source.faults g.W.Sink.written g.W.Sink.faults in
-    IsCompilingOn-bytes name shelf (side c.args.input.now c.args.out.now) (side c.read_input.new.input c.compile_on.new.out) c.args.platform.now c.in-Ok.bytes.items held c.in-Ok.ensures.read
-    c.compile_on.result.outcome c.in-Ok.ensures.left
-    (subst
-    (λ (bs : List ℕ).
-    IsBytesCompiledOn bs c.args.platform.now (g.W.Sink.written c.args.out.now) (g.W.Sink.written c.compile_on.new.out) (g.W.Sink.faults c.args.out.now) (g.W.Sink.faults c.compile_on.new.out) c.compile_on.result.outcome)
-    c.as_slice.ensures.value c.compile_on.ensures.answer)
+    unread_stop (IsBuiltOn c.args.platform.now) (IsUnbuiltOn c.args.platform.now) (side c.args.input.now c.args.out.now) (side c.read_input.new.input c.args.out.now) c.in-Err.stop refl
+    (λ e. c.in-Err.ensures.long (ap (λ (s : InputStop). Err s) e)) (λ e. c.in-Err.ensures.failed (ap (λ (s : InputStop). Err s) e))
 
-pub returns-in-Ok-clause-tables : goal.returns-in-Ok-clause-tables
-returns-in-Ok-clause-tables g c = λ name holds held.
-    let rest = g.R.Source.rest c.args.input.now in
-    SpeaksOf-source (HasTypedOn c.in-Ok.bytes.items c.args.platform.now) (IsTypedOn name holds rest) (λ fact. ⊥) c.compile_on.result.outcome c.compile_on.result.tables
-    (in_files name holds rest c.args.platform.now c.in-Ok.bytes.items held c.in-Ok.ensures.read)
-    (subst
-    (λ (bs : List ℕ). SpeaksOf (HasTypedOn bs c.args.platform.now) (λ fact. ⊥) c.compile_on.result.outcome c.compile_on.result.tables)
-    c.as_slice.ensures.value c.compile_on.ensures.tables)
+pub returns-in-Err-2-clause-answer : goal.returns-in-Err-2-clause-answer
+returns-in-Err-2-clause-answer g c =
+    (input_unbuilt (IsUnbuiltOn c.args.platform.now) (g.R.Source.rest c.args.input.now) c.in-Ok.bytes.items c.as_slice.result.now c.in-Err-2.stop c.as_slice.ensures.value c.in-Ok.ensures.read c.in-Err-2.ensures.fault, refl)
+
+pub returns-in-Ok-3-clause-answer : goal.returns-in-Ok-3-clause-answer
+returns-in-Ok-3-clause-answer g c = (
+  c.in-Ok.ensures.left,
+  input_built (IsBuiltOn c.args.platform.now) (g.R.Source.rest c.args.input.now) c.in-Ok.bytes.items c.as_slice.result.now c.in-Ok-2.object.items c.as_slice-2.result.now c.as_slice.ensures.value c.as_slice-2.ensures.value
+      c.in-Ok.ensures.read c.in-Ok-2.ensures.compiled (λ (object : List ℕ). g.W.Sink.written c.put_all.new.sink ≡ append_known (g.W.Sink.written c.args.out.now) object) c.in-Ok-3.ensures.whole,
+)
+
+pub returns-in-Err-3-clause-answer : goal.returns-in-Err-3-clause-answer
+returns-in-Err-3-clause-answer g c = (
+  c.in-Err-3.ensures.cause.refused,
+  input_built (IsBuiltOn c.args.platform.now) (g.R.Source.rest c.args.input.now) c.in-Ok.bytes.items c.as_slice.result.now c.in-Ok-2.object.items c.as_slice-2.result.now c.as_slice.ensures.value c.as_slice-2.ensures.value
+      c.in-Ok.ensures.read c.in-Ok-2.ensures.compiled (λ (object : List ℕ). AppendsPrefix (g.W.Sink.written c.args.out.now) (g.W.Sink.written c.put_all.new.sink) object) c.in-Err-3.ensures.part,
+)

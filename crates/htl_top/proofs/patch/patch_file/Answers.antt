@@ -1,18 +1,18 @@
-use Rattle.htl_top.proofs.Vocabulary.{List, ℕ, Some, sym, subst, files, IsObjectFile, IsObjectTables, IsPatchedTables, SpeaksOf, Outcome}
-use Rattle.htl_top.proofs.Fetching.{fetching_speaks}
+use Rattle.std.proofs.Common.{Ok, Err}
+use Rattle.htl_top.proofs.Vocabulary.{Some, files, IsDonorTold}
+use Rattle.htl_top.proofs.BothFiles.{done_with_both}
 use Rattle.htl_top.proofs.patch.patch_file.Goals as goal
 
-pub returns-in-Err-clause-tables : goal.returns-in-Err-clause-tables
-returns-in-Err-clause-tables g c =
-    let holds = g.S.Shelf.holds c.args.shelf.now in
-    let HasSource = IsPatchedTables c.args.name.now c.args.names.now.unit c.args.names.now.mode c.args.donor.now holds in
-    let HasObject = IsObjectTables (Some c.args.name.now) holds in
-    subst (λ (o : Outcome). SpeaksOf HasSource HasObject o c.plain.result.tables) (sym c.plain.ensures.outcome)
-    (fetching_speaks HasSource HasObject c.in-Err.outcome c.plain.result.tables c.in-Err.ensures.fetching)
+pub returns-in-Ok-2-clause-answer : goal.returns-in-Ok-2-clause-answer
+returns-in-Ok-2-clause-answer g c =
+    done_with_both (λ o bytes. IsDonorTold o c.args.names.now.unit c.args.names.now.mode bytes (g.W.Sink.written c.args.out.now) (g.W.Sink.written c.patch_with.new.out)
+    (g.W.Sink.faults c.args.out.now) (g.W.Sink.faults c.patch_with.new.out)) (Some c.args.name.now) (Some c.args.donor.now)
+    (files g.S.Shelf.holds g.S.Shelf.faults c.args.shelf.now c.open_both.new.shelf) c.in-Ok.given.object c.in-Ok.given.second.items c.as_slice.result.now c.as_slice.ensures.value
+    c.in-Ok.ensures.opened (Ok tt) c.in-Ok-2.ensures.answer
 
-pub returns-clause-answer : goal.returns-clause-answer
-returns-clause-answer g c =
-    let shelf = files g.S.Shelf.holds g.S.Shelf.faults c.args.shelf.now c.fetch_both.new.shelf in
-    c.patch_bytes.ensures.answer (Some c.args.name.now) (Some c.args.donor.now) shelf
-    (subst (λ (bs : List ℕ). IsObjectFile (Some c.args.name.now) shelf.holds bs) (sym c.as_slice.ensures.value) c.in-Ok.ensures.object)
-    (subst (λ (bs : List ℕ). IsObjectFile (Some c.args.donor.now) shelf.holds bs) (sym c.as_slice-2.ensures.value) c.in-Ok.ensures.second)
+pub returns-in-Err-2-clause-answer : goal.returns-in-Err-2-clause-answer
+returns-in-Err-2-clause-answer g c =
+    done_with_both (λ o bytes. IsDonorTold o c.args.names.now.unit c.args.names.now.mode bytes (g.W.Sink.written c.args.out.now) (g.W.Sink.written c.patch_with.new.out)
+    (g.W.Sink.faults c.args.out.now) (g.W.Sink.faults c.patch_with.new.out)) (Some c.args.name.now) (Some c.args.donor.now)
+    (files g.S.Shelf.holds g.S.Shelf.faults c.args.shelf.now c.open_both.new.shelf) c.in-Ok.given.object c.in-Ok.given.second.items c.as_slice.result.now c.as_slice.ensures.value
+    c.in-Ok.ensures.opened (Err c.in-Err-2.stop) c.in-Err-2.ensures.answer
