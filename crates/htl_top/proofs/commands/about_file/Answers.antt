@@ -1,5 +1,5 @@
-use Rattle.std.proofs.Common.{Err}
-use Rattle.htl_top.proofs.Vocabulary.{Some, refl, sym, subst, files, streams, IsCall, HasSource, HasObject, IsRun, IsPlanned, SpeaksOf, Outcome, Read, Write, Shelf, Failed, most_taken, with_file}
+use Rattle.std.proofs.Common.{None, Err}
+use Rattle.htl_top.proofs.Vocabulary.{Some, refl, sym, subst, files, streams, IsCall, HasSource, HasObject, IsObjectTables, IsRun, IsPlanned, SpeaksOf, Outcome, Read, Write, Shelf, Failed, most_taken, with_file}
 use Rattle.htl_console.specs.declared.shown.Shown.TheVariants as shown
 use Rattle.htl_open.specs.declared.stop.FetchStop.TheVariants as fetch
 use Rattle.htl_open.specs.declared.stop.OpenStop.TheVariants as open_stop
@@ -54,7 +54,7 @@ returns-in-Run-clause-tables g c =
     subst (λ (v : Verb). SpeaksOf (HasSource (Some (with_file v c.args.name.now)) shelf.holds (g.R.Source.rest c.args.input.now)) (HasObject (Some (with_file v c.args.name.now)) shelf.holds)
     c.of_run.result.outcome c.of_run.result.tables) (sym c.in-Run.is)
     (SpeaksOf-object RunStop run_as (λ o. IsRun shown.Values o.tables o (side c.args.input.now c.args.out.now) (side c.run_file.new.input c.run_file.new.out))
-    (IsUntouched (side c.args.input.now c.args.out.now) (side c.run_file.new.input c.run_file.new.out)) (Some c.args.name.now) shelf no_tables (λ fact. ⊥) (λ o s d. SpeaksOf-run (λ fact. ⊥) _ s _)
+    (IsUntouched (side c.args.input.now c.args.out.now) (side c.run_file.new.input c.run_file.new.out)) (Some c.args.name.now) shelf no_tables (λ fact. ⊥) (λ o s d. SpeaksOf-run (λ fact. ⊥) (IsObjectTables (Some c.args.name.now) shelf.holds) s None)
     c.run_file.result c.of_run.result.outcome c.of_run.result.tables c.of_run.ensures.outcome c.of_run.ensures.tables c.run_file.ensures.answer)
 
 pub returns-in-Run-clause-shelf_count : goal.returns-in-Run-clause-shelf_count
@@ -80,7 +80,7 @@ returns-in-Jobs-clause-tables g c =
     subst (λ (v : Verb). SpeaksOf (HasSource (Some (with_file v c.args.name.now)) shelf.holds (g.R.Source.rest c.args.input.now)) (HasObject (Some (with_file v c.args.name.now)) shelf.holds)
     c.of_run.result.outcome c.of_run.result.tables) (sym c.in-Jobs.is)
     (SpeaksOf-object RunStop run_as (λ o. IsRun shown.Jobs o.tables o (side c.args.input.now c.args.out.now) (side c.run_file.new.input c.run_file.new.out))
-    (IsUntouched (side c.args.input.now c.args.out.now) (side c.run_file.new.input c.run_file.new.out)) (Some c.args.name.now) shelf no_tables (λ fact. ⊥) (λ o s d. SpeaksOf-run (λ fact. ⊥) _ s _)
+    (IsUntouched (side c.args.input.now c.args.out.now) (side c.run_file.new.input c.run_file.new.out)) (Some c.args.name.now) shelf no_tables (λ fact. ⊥) (λ o s d. SpeaksOf-run (λ fact. ⊥) (IsObjectTables (Some c.args.name.now) shelf.holds) s None)
     c.run_file.result c.of_run.result.outcome c.of_run.result.tables c.of_run.ensures.outcome c.of_run.ensures.tables c.run_file.ensures.answer)
 
 pub returns-in-Jobs-clause-shelf_count : goal.returns-in-Jobs-clause-shelf_count
@@ -106,7 +106,7 @@ returns-in-Code-clause-tables g c =
     subst (λ (v : Verb). SpeaksOf (HasSource (Some (with_file v c.args.name.now)) shelf.holds (g.R.Source.rest c.args.input.now)) (HasObject (Some (with_file v c.args.name.now)) shelf.holds)
     c.of_run.result.outcome c.of_run.result.tables) (sym c.in-Code.is)
     (SpeaksOf-object RunStop run_as (λ o. IsRun shown.Code o.tables o (side c.args.input.now c.args.out.now) (side c.run_file.new.input c.run_file.new.out))
-    (IsUntouched (side c.args.input.now c.args.out.now) (side c.run_file.new.input c.run_file.new.out)) (Some c.args.name.now) shelf no_tables (λ fact. ⊥) (λ o s d. SpeaksOf-run (λ fact. ⊥) _ s _)
+    (IsUntouched (side c.args.input.now c.args.out.now) (side c.run_file.new.input c.run_file.new.out)) (Some c.args.name.now) shelf no_tables (λ fact. ⊥) (λ o s d. SpeaksOf-run (λ fact. ⊥) (IsObjectTables (Some c.args.name.now) shelf.holds) s None)
     c.run_file.result c.of_run.result.outcome c.of_run.result.tables c.of_run.ensures.outcome c.of_run.ensures.tables c.run_file.ensures.answer)
 
 pub returns-in-Code-clause-shelf_count : goal.returns-in-Code-clause-shelf_count
@@ -132,7 +132,7 @@ returns-in-Plan-clause-tables g c =
     subst (λ (v : Verb). SpeaksOf (HasSource (Some (with_file v c.args.name.now)) shelf.holds (g.R.Source.rest c.args.input.now)) (HasObject (Some (with_file v c.args.name.now)) shelf.holds)
     c.of_run.result.outcome c.of_run.result.tables) (sym c.in-Plan.is)
     (SpeaksOf-object RunStop run_as (λ o. IsPlanned o (side c.args.input.now c.args.out.now) (side c.plan_file.new.input c.plan_file.new.out))
-    (IsUntouched (side c.args.input.now c.args.out.now) (side c.plan_file.new.input c.plan_file.new.out)) (Some c.args.name.now) shelf no_tables (λ fact. ⊥) (λ o s d. SpeaksOf-run (λ fact. ⊥) _ s _)
+    (IsUntouched (side c.args.input.now c.args.out.now) (side c.plan_file.new.input c.plan_file.new.out)) (Some c.args.name.now) shelf no_tables (λ fact. ⊥) (λ o s d. SpeaksOf-run (λ fact. ⊥) (IsObjectTables (Some c.args.name.now) shelf.holds) s None)
     c.plan_file.result c.of_run.result.outcome c.of_run.result.tables c.of_run.ensures.outcome c.of_run.ensures.tables c.plan_file.ensures.answer)
 
 pub returns-in-Plan-clause-shelf_count : goal.returns-in-Plan-clause-shelf_count

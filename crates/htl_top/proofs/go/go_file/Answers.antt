@@ -1,28 +1,16 @@
-use Rattle.htl_top.proofs.Vocabulary.{List, ℕ, Some, refl, subst, files, streams, IsBytesGoing}
-use Rattle.htl_top.proofs.Going.{IsGoing-bytes}
+use Rattle.std.proofs.Common.{Err, ap}
+use Rattle.htl_top.proofs.Vocabulary.{List, ℕ, Some, sym, subst, files, IsSource}
 use Rattle.htl_top.proofs.Inputs.{taken_none}
+use Rattle.htl_top.specs.declared.stop.GoStop.TheVariants as go
 use Rattle.htl_top.proofs.go.go_file.Goals as goal
 
 pub returns-in-Ok-clause-answer : goal.returns-in-Ok-clause-answer
 returns-in-Ok-clause-answer g c =
-    let side = streams g.R.Source.rest g.R.Source.faults g.W.Sink.written g.W.Sink.faults in
-    let old = side c.args.input.now c.args.out.now in
-    let new = side c.go.new.input c.go.new.out in
-    IsGoing-bytes (Some c.args.name.now) (files g.S.Shelf.holds g.S.Shelf.faults c.args.shelf.now c.fetch.new.self) old new c.in-Ok.bytes.items c.go.result.outcome
-    (record { word = c.args.name.now; named = refl; held = c.in-Ok.ensures.bytes; short = c.in-Ok.ensures.short })
-    (subst (λ (bs : List ℕ). IsBytesGoing bs old new c.go.result.outcome) c.as_slice.ensures.value c.go.ensures.answer)
+    let shelf = files g.S.Shelf.holds g.S.Shelf.faults c.args.shelf.now c.fetch_source.new.shelf in
+    c.go.ensures.answer (Some c.args.name.now) shelf (subst (λ (bs : List ℕ). IsSource (Some c.args.name.now) shelf.holds bs) (sym c.as_slice.ensures.value) c.in-Ok.ensures.fetched)
 
-pub returns-in-Err-Failed-clause-taken : goal.returns-in-Err-Failed-clause-taken
-returns-in-Err-Failed-clause-taken g c = taken_none 1073742080 (g.R.Source.rest c.args.input.now)
+pub returns-in-Err-clause-taken : goal.returns-in-Err-clause-taken
+returns-in-Err-clause-taken g c = taken_none 1073742080 (g.R.Source.rest c.args.input.now)
 
-pub returns-in-Err-TooLong-clause-taken : goal.returns-in-Err-TooLong-clause-taken
-returns-in-Err-TooLong-clause-taken g c = taken_none 1073742080 (g.R.Source.rest c.args.input.now)
-
-pub returns-in-Err-Memory-clause-taken : goal.returns-in-Err-Memory-clause-taken
-returns-in-Err-Memory-clause-taken g c = taken_none 1073742080 (g.R.Source.rest c.args.input.now)
-
-pub returns-in-Err-TooLong-clause-shelf_count : goal.returns-in-Err-TooLong-clause-shelf_count
-returns-in-Err-TooLong-clause-shelf_count g c = λ long. rw c.in-Err-TooLong.field-0-is at c.in-Err-TooLong.ensures.kept
-
-pub returns-in-Err-Memory-clause-shelf_count : goal.returns-in-Err-Memory-clause-shelf_count
-returns-in-Err-Memory-clause-shelf_count g c = λ none. rw c.in-Err-Memory.field-0-is at c.in-Err-Memory.ensures.kept
+pub returns-in-Err-clause-shelf_count : goal.returns-in-Err-clause-shelf_count
+returns-in-Err-clause-shelf_count g c = λ apart. c.in-Err.ensures.stopped_count (λ e. apart (ap (λ s. Err (go.File s)) e))
