@@ -11,7 +11,6 @@ pub mod CompilingOn
 pub mod Counts
 pub mod EarlierReadings
 pub mod Executing
-pub mod Fetching
 pub mod Going
 pub mod Inputs
 pub mod JobMeaning
@@ -31,7 +30,6 @@ pub mod Running
 pub mod Seen
 pub mod SourceNames
 pub mod SourceRows
-pub mod Stopping
 pub mod Stops
 pub mod StreamEnd
 pub mod Streaming

@@ -124,7 +124,7 @@ pub use Rattle.htl_top.specs.Runs.{IsCutRun, IsFaultyRun, IsRun, IsWholeRun}
 pub use Rattle.htl_top.specs.Scripts.{EndsAt, IsBad, IsWhole}
 pub use Rattle.htl_top.specs.Shown.{show_text}
 pub use Rattle.htl_top.specs.Slacked.{HasSlack, IsNamed, IsRootNamed, IsSlackTold, IsTaskCause, NamesNoTask, has_names}
-pub use Rattle.htl_top.specs.Sources.{HasTables, IsFaultyInput, IsFaultyProgram, IsInput, IsInputFault, IsInputOf, IsInputProgram, IsLongInput, IsProgram, IsTypedInput, IsTypedProgram, answer_of, outcome_of, tables_of_stop}
+pub use Rattle.htl_top.specs.Sources.{HasTables, IsFaultyInput, IsFaultyProgram, IsInput, IsInputFault, IsInputOf, IsInputProgram, IsLongInput, IsProgram, IsTypedInput, IsTypedProgram, answer_of}
 pub use Rattle.htl_top.specs.SourcesOn.{IsFaultyOn, IsInputFaultOn, IsProgramOn, IsTypedOn, answer_on}
 pub use Rattle.htl_top.specs.Status.{fault_line}
 pub use Rattle.htl_top.specs.Texts.{text_before_fault, text_of_script, text_to}

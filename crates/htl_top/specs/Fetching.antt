@@ -3,7 +3,7 @@ use Rattle.std.specs.Prelude.{ℕ, ◌⊎◌, Option, List, Ok, Err}
 use Rattle.htl_open.specs.Files.{Files}
 use Rattle.htl_open.specs.Stops.{IsShelfCause, IsUnopened}
 use Rattle.htl_top.specs.Files.{IsHad, AreFilesOf}
-use Rattle.htl_top.specs.Common.{None, Object, Tables}
+use Rattle.htl_top.specs.Common.{Object}
 use Rattle.htl_top.specs.Stops.{Ended}
 use Rattle.htl_open.specs.declared.stop.FetchStop.{FetchStop}
 use Rattle.htl_open.specs.declared.stop.FetchStop.TheVariants as fetch
@@ -11,8 +11,6 @@ use Rattle.htl_open.specs.declared.stop.OpenStop.{OpenStop}
 use Rattle.htl_open.specs.declared.stop.OpenStop.TheVariants as stop
 use Rattle.htl_top.specs.declared.stop.OnObject.{OnObject}
 use Rattle.htl_top.specs.declared.stop.OnObject.TheVariants as on
-use Rattle.htl_top.specs.declared.outcome.Outcome.{Outcome}
-use Rattle.htl_top.specs.declared.outcome.Outcome.TheVariants.{Object as Refused, Shelf, Memory}
 
 -- why two files weren't had: the shelf tells first of the first
 abbrev pub AreUnhad : Option (List ℕ) → Option (List ℕ) → Files → FetchStop → Type 0
@@ -32,14 +30,3 @@ abbrev pub IsOnBoth : {A : Type 0} → (Object → List ℕ → Ended A → Type
 IsOnBoth Does Stays name second shelf (Ok done) = AreFilesOf name second shelf.holds (λ o bytes. Does o bytes (Ok done))
 IsOnBoth Does Stays name second shelf (Err (on.Work s)) = AreFilesOf name second shelf.holds (λ o bytes. Does o bytes (Err s))
 IsOnBoth Does Stays name second shelf (Err (on.Open s)) = IsUnhad name second shelf s × Stays
-
--- why no accepted object is had, as an answer
-abbrev pub unopened_as : OpenStop → Outcome
-unopened_as (stop.Shelf why) = Shelf why
-unopened_as (stop.Object f t) = Refused f
-unopened_as stop.Memory = Memory
-
--- and the tables that its line speaks of
-abbrev pub tables_unopened : OpenStop → Option Tables
-tables_unopened (stop.Object f t) = t
-tables_unopened _ = None

@@ -8,9 +8,7 @@ use Rattle.htl_compile.specs.declared.compiling.CompileFault.TheVariants as comp
 use Rattle.htl_compile.specs.declared.source_fault.SourceFault.TheVariants as source
 use Rattle.htl_top.specs.Causes.{IsSource}
 use Rattle.htl_top.specs.declared.outcome.Outcome.{Outcome}
-use Rattle.htl_top.specs.declared.outcome.Outcome.TheVariants.{Source, IllFormed, Unschedulable, Platform, Memory}
-use Rattle.htl_compile.specs.declared.stop.SourceStop.{SourceStop}
-use Rattle.htl_compile.specs.declared.stop.SourceStop.TheVariants as stop
+use Rattle.htl_top.specs.declared.outcome.Outcome.TheVariants.{Source, IllFormed, Unschedulable, Memory}
 
 -- a fault of compiling, as an answer
 abbrev pub answer_of : CompileFault → Outcome
@@ -27,18 +25,6 @@ pub record HasTables (bytes : List ℕ) (Fact : Tables → Type 0) : Type 0 wher
   pub of : IsTablesOf bytes tables
   pub can : CanBuild tables
   pub fact : Fact tables
-
--- what stops a source, as an answer, and the tables that its line speaks of
-abbrev pub outcome_of : SourceStop → Outcome
-outcome_of (stop.Fault f) = Source f
-outcome_of (stop.IllFormed f u) = IllFormed f
-outcome_of (stop.Unschedulable sel a b demand) = Unschedulable sel a b demand
-outcome_of (stop.Platform f) = Platform f
-outcome_of stop.Memory = Memory
-
-abbrev pub tables_of_stop : SourceStop → Option Tables
-tables_of_stop (stop.IllFormed f u) = Some u
-tables_of_stop _ = None
 
 -- ---- of a file
 

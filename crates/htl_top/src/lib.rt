@@ -14,7 +14,6 @@ mod fetch;
 mod go;
 mod input;
 mod laws;
-mod object;
 mod outcome;
 mod patch;
 mod patch_line;

@@ -1,15 +1,12 @@
-// Files of at most 1,048,576 bytes, and what stops a source, as an answer.
+// Files of at most 1,048,576 bytes.
 ghost use Rattle.std.specs.Prelude.{◌≡◌, ℕ, List, IfOk, IfErr, Some};
 ghost use Rattle.htl_open.specs.Files.{files};
 ghost use Rattle.htl_open.specs.declared.stop.FetchStop.TheVariants as fetch;
 ghost use Rattle.htl_open.specs.declared.stop.ShelfCause.TheVariants as cause;
 ghost use Rattle.htl_top.specs.Causes.{IsSource, IsFileStop};
-ghost use Rattle.htl_top.specs.Sources.{outcome_of, tables_of_stop};
 
-use crate::answer::Answer;
-use crate::{Outcome, ShelfCause};
+use crate::ShelfCause;
 use htl_base::limits::MAX_SOURCE;
-use htl_compile::SourceStop;
 use htl_edge::{Shelf, ShelfFault};
 use htl_open::FetchStop;
 use std::alloc::Global;
@@ -31,32 +28,5 @@ pub fn fetch_source<S: Shelf>(
         Err(ShelfFault::Failed) => Err(FetchStop::Shelf(ShelfCause::Failed)),
         Err(ShelfFault::TooLong { seen }) => Err(FetchStop::Shelf(ShelfCause::TooLong { seen })),
         Err(ShelfFault::Memory) => Err(FetchStop::Memory),
-    }
-}
-
-/// The answer that tells why no object is built of a source, with the tables that its line speaks of.
-pub fn source_answer(stop: SourceStop) -> Answer
-    ensures outcome { result.outcome ≡ outcome_of stop }
-    ensures tables { result.tables ≡ tables_of_stop stop }
-{
-    match stop {
-        SourceStop::Fault(fault) => Answer::plain(Outcome::Source(fault)),
-        SourceStop::Platform(fault) => Answer::plain(Outcome::Platform(fault)),
-        SourceStop::IllFormed { fault, tables } => Answer {
-            outcome: Outcome::IllFormed(fault),
-            tables: Some(tables),
-        },
-        SourceStop::Unschedulable {
-            selection,
-            from,
-            to,
-            demand,
-        } => Answer::plain(Outcome::Unschedulable {
-            selection,
-            from,
-            to,
-            demand,
-        }),
-        SourceStop::Memory => Answer::plain(Outcome::Memory),
     }
 }
