@@ -125,14 +125,14 @@ bulk_put n object slice old new before now r same compiled told =
 
 -- ---- the answers
 
+pub ended_put : (r : Ended PutStop) → IsOfPut (ended_as put_as r)
+ended_put (Ok done) = tt
+ended_put (Err put.Write) = tt
+ended_put (Err put.Memory) = tt
+
 module _ (n : ℕ) (old new : Streams) where
   abbrev Told : Ended PutStop → Type 0
   Told r = IsBulkPut n old.written new.written old.write_faults new.write_faults r
-
-  of_put : (r : Ended PutStop) → IsOfPut (ended_as put_as r)
-  of_put (Ok done) = tt
-  of_put (Err put.Write) = tt
-  of_put (Err put.Memory) = tt
 
   unwritten_by : (r : Ended PutStop) (outcome : Outcome) → outcome ≡ ended_as put_as r → Told r → IsBeforeRun outcome → new.written ≡ old.written
   unwritten_by (Ok done) outcome is told early = absurd (subst IsBeforeRun is early)
@@ -155,7 +155,7 @@ module _ (n : ℕ) (old new : Streams) where
 
   -- it has no answers but these
   pub only : (outcome : Outcome) → IsBulked n old new outcome → IsOfPut outcome
-  only outcome b = subst IsOfPut (sym b.1.is) (of_put b.1.result)
+  only outcome b = subst IsOfPut (sym b.1.is) (ended_put b.1.result)
 
   pub unwritten : (outcome : Outcome) → IsBulked n old new outcome → IsBeforeRun outcome → new.written ≡ old.written
   unwritten outcome b early = unwritten_by b.1.result outcome b.1.is b.1.came early

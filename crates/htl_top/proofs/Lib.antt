@@ -1,3 +1,4 @@
+pub mod Answering
 pub mod AuditFiles
 pub mod AuditRows
 pub mod AuditScripts

@@ -1,10 +1,11 @@
 -- The task of two names, and what `slack` answers.
 use Rattle.std.proofs.Common.{◌≡◌, ◌≤◌, ◌<◌, ℕ, Bool, true, false, ◌&&◌, List, length, slice_get, Option, Some, None, Ok, Err, refl, sym, ap, ◌∙◌, subst, arith, inl, inr}
-use Rattle.htl_top.proofs.Vocabulary.{append_known, AppendsPrefix, HasSlack, bytes_eq, and_parts, slice_get_within, bytes_eq-Decides, Rose, Module, TaskOf, Tables, Object, Files, Streams, IsBeforeRun, IsOrMemory, IsOnObject, IsNamed, IsRootNamed, NamesNoTask, has_names, IsSlackTold, Work, Outcome, Done, Task, Write, Memory}
+use Rattle.htl_top.proofs.Vocabulary.{append_known, AppendsPrefix, HasSlack, bytes_eq, and_parts, slice_get_within, bytes_eq-Decides, Rose, Module, TaskOf, Tables, Object, Files, Streams, IsBeforeRun, IsOrMemory, IsOnObject, IsObjectTables, SpeaksOf, IsNamed, IsRootNamed, NamesNoTask, has_names, IsSlackTold, Work, Outcome, Done, Task, Write, Memory}
 use Rattle.htl_top.proofs.ObjectAnswering.{IsWork, IsOfWork}
-use Rattle.htl_top.proofs.Stops.{answered}
-use Rattle.htl_top.specs.Slacked.{IsSlackCall}
-use Rattle.htl_top.specs.Stops.{Came, Ended, ended_as, slack_as}
+use Rattle.htl_top.proofs.Stops.{SpeaksOf-object, answered}
+use Rattle.htl_top.specs.Slacked.{IsSlackCall, IsSlackOnObject}
+use Rattle.htl_top.specs.Stops.{Came, Ended, ended_as, ended_tables, no_tables, object_as, object_tables, slack_as}
+use Rattle.htl_top.specs.declared.stop.OnObject.{OnObject}
 use Rattle.htl_top.specs.declared.stop.SlackStop.{SlackStop}
 use Rattle.htl_top.specs.declared.stop.SlackStop.TheVariants as slack
 
@@ -119,3 +120,16 @@ pub seen_slack : (owner name : List ℕ) (file : Option (List ℕ)) (shelf : Fil
 seen_slack owner name file shelf old new outcome call =
     answered SlackStop slack_as (λ o r. IsSlackTold owner name o.tables old.written new.written old.write_faults new.write_faults r) (new.written ≡ old.written) file shelf (IsSlacked owner name)
     old new outcome (λ kept. record { rest = call.0; written = kept }) (λ o came. (call.0, came)) call.1
+
+slack_speaks : (Sources Objects : (Tables → Type 0) → Type 0) (stop : SlackStop) → SpeaksOf Sources Objects (slack_as stop) None
+slack_speaks Sources Objects slack.Task = tt
+slack_speaks Sources Objects slack.Memory = tt
+slack_speaks Sources Objects slack.Write = tt
+
+-- the line of an object that is refused has names of its tables
+pub SpeaksOf-slack : (owner name : List ℕ) (Sources : (Tables → Type 0) → Type 0) (file : Option (List ℕ)) (shelf : Files) (old new : Streams) (r : Ended (OnObject SlackStop))
+    (outcome : Outcome) (tables : Option Tables) → outcome ≡ ended_as (object_as slack_as) r → tables ≡ ended_tables (object_tables no_tables) r
+    → IsSlackOnObject owner name file shelf old.written new.written old.write_faults new.write_faults r → SpeaksOf Sources (IsObjectTables file shelf.holds) outcome tables
+SpeaksOf-slack owner name Sources file shelf old new =
+    SpeaksOf-object SlackStop slack_as (λ o r. IsSlackTold owner name o.tables old.written new.written old.write_faults new.write_faults r) (new.written ≡ old.written) file shelf no_tables Sources
+    (λ o stop d. slack_speaks Sources (IsObjectTables file shelf.holds) stop)

@@ -1,12 +1,13 @@
 -- A text that is told: of an accepted object by `check` and `show`, of a generated program by `bulk`.
 use Rattle.std.proofs.Common.{◌≡◌, List, ℕ, Option, Ok, Err, sym, subst, inl}
-use Rattle.htl_top.proofs.Vocabulary.{append_known, Rose, AppendsPrefix, Object, Files, Streams, IsBeforeRun, IsOrMemory, IsOnObject, Work, Outcome, Done, Write, Memory}
+use Rattle.htl_top.proofs.Vocabulary.{append_known, Rose, AppendsPrefix, Object, Tables, IsObjectTables, SpeaksOf, Files, Streams, IsBeforeRun, IsOrMemory, IsOnObject, Work, Outcome, Done, Write, Memory}
 use Rattle.htl_edge.specs.Content.{Puts}
 use Rattle.htl_edge.specs.declared.Failed.{Failed}
 use Rattle.htl_top.proofs.ObjectAnswering.{IsOfWork, IsWork}
-use Rattle.htl_top.proofs.Stops.{answered}
-use Rattle.htl_top.specs.Objects.{IsTextCall}
-use Rattle.htl_top.specs.Stops.{Came, Ended, ended_as, write_as}
+use Rattle.htl_top.proofs.Stops.{SpeaksOf-object, answered}
+use Rattle.htl_top.specs.Objects.{IsTextCall, IsTextOnObject}
+use Rattle.htl_top.specs.Stops.{Came, Ended, ended_as, ended_tables, no_tables, object_as, object_tables, write_as}
+use Rattle.htl_top.specs.declared.stop.OnObject.{OnObject}
 
 -- answers to what writes alone
 abbrev pub IsOfPut : Outcome → Type 0
@@ -76,3 +77,10 @@ pub seen_text : (text : Object → List ℕ) (name : Option (List ℕ)) (shelf :
 seen_text text name shelf old new outcome call =
     answered Failed write_as (λ o r. Puts old.written new.written old.write_faults new.write_faults (text o) r) (new.written ≡ old.written) name shelf (TextOf text) old new outcome
     (λ kept. record { rest = call.0; written = kept }) (λ o came. (call.0, came)) call.1
+
+-- the line of an object that is refused has names of its tables
+pub SpeaksOf-text : (text : Object → List ℕ) (Sources : (Tables → Type 0) → Type 0) (name : Option (List ℕ)) (shelf : Files) (old new : Streams) (r : Ended (OnObject Failed))
+    (outcome : Outcome) (tables : Option Tables) → outcome ≡ ended_as (object_as write_as) r → tables ≡ ended_tables (object_tables no_tables) r
+    → IsTextOnObject text name shelf old.written new.written old.write_faults new.write_faults r → SpeaksOf Sources (IsObjectTables name shelf.holds) outcome tables
+SpeaksOf-text text Sources name shelf old new =
+    SpeaksOf-object Failed write_as (λ o r. Puts old.written new.written old.write_faults new.write_faults (text o) r) (new.written ≡ old.written) name shelf no_tables Sources (λ o stop d. tt)

@@ -128,7 +128,7 @@ pub use Rattle.htl_top.specs.Sources.{HasTables, IsFaultyInput, IsFaultyProgram,
 pub use Rattle.htl_top.specs.SourcesOn.{IsFaultyOn, IsInputFaultOn, IsProgramOn, IsTypedOn, answer_on}
 pub use Rattle.htl_top.specs.Status.{fault_line}
 pub use Rattle.htl_top.specs.Texts.{text_before_fault, text_of_script, text_to}
-pub use Rattle.htl_top.specs.Words.{Audit, Bulk, Check, Command, Compile, CompileWith, Go, Patch, Plan, Run, RunsObject, Show, Slack, asked_for, command_in, command_object, command_of, most_taken, of_four, of_three, of_two, platform_file, second_file, source_of, with_file}
+pub use Rattle.htl_top.specs.Words.{Audit, Bulk, Check, Command, Compile, CompileWith, Go, Patch, Plan, Run, RunsObject, Show, Slack, asked_for, command_in, command_object, command_of, most_taken, of_four, of_three, of_two, platform_file, second_file, source_of}
 pub use Rattle.htl_top.specs.declared.outcome.Outcome.{Outcome}
 pub use Rattle.htl_top.specs.declared.outcome.Outcome.TheVariants.{Done, IllFormed, Log, Memory, Object as Refused, Patch as Unpatched, Platform, Read, Script, Script as Faulty, Shelf, Source, Task, Unschedulable, Usage, Write}
 pub use Rattle.htl_top.specs.declared.words.Asked.{Asked}

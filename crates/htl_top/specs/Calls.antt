@@ -2,7 +2,8 @@
 use Rattle.std.specs.Prelude.{◌≡◌, Option, None, Some, List, ℕ}
 use Rattle.htl_top.specs.Common.{Holdings, Tables}
 use Rattle.htl_open.specs.Files.{Files}
-use Rattle.htl_top.specs.Answers.{Streams, IsUntouched}
+use Rattle.htl_script.specs.Reading.{LosesFront}
+use Rattle.htl_top.specs.Answers.{Streams, IsUntouched, KeepsCounts}
 use Rattle.htl_top.specs.Audited.{IsAudit}
 use Rattle.htl_top.specs.Bulk.{IsBulked}
 use Rattle.htl_top.specs.Checked.{check_text}
@@ -19,7 +20,9 @@ use Rattle.htl_top.specs.Slacked.{IsSlackCall}
 use Rattle.htl_top.specs.Sources.{IsTypedProgram, IsTypedInput}
 use Rattle.htl_top.specs.SourcesOn.{IsTypedOn}
 use Rattle.htl_top.specs.Stops.{Came, audit_as, compile_as, compile_with_as, donor_as, go_as, object_as, run_as}
-use Rattle.htl_top.specs.Words.{Command, Go, Compile, CompileWith, Run, Check, Plan, Show, Bulk, Slack, Audit, Patch}
+use Rattle.htl_top.specs.Words.{Command, Go, Compile, CompileWith, Run, Check, Plan, Show, Bulk, Slack, Audit, Patch, most_taken}
+use Rattle.htl_top.specs.ErrorLines.{SpeaksOf}
+use Rattle.htl_top.specs.declared.answer.Answer.{Answer}
 use Rattle.htl_top.specs.declared.outcome.Outcome.{Outcome}
 use Rattle.htl_top.specs.declared.outcome.Outcome.TheVariants.{Usage}
 
@@ -57,3 +60,11 @@ HasObject (Some (Slack name owner task)) holds Fact = IsObjectTables (Some name)
 HasObject (Some (Audit name log)) holds Fact = IsObjectTables (Some name) holds Fact
 HasObject (Some (Patch name unit mode donor)) holds Fact = IsObjectTables (Some name) holds Fact
 HasObject _ holds Fact = ⊥
+
+-- What a command answers, and the tables that its line speaks of; no more of the input than a front was taken, and the counts of faults
+-- stand where they stood but for the answer.
+pub record IsAnswered (command : Option Command) (shelf : Files) (old new : Streams) (answer : Answer) : Type 0 where
+  pub call : IsCall command shelf old new answer.outcome
+  pub tables : SpeaksOf (HasSource command shelf.holds old.rest) (HasObject command shelf.holds) answer.outcome answer.tables
+  pub taken : LosesFront (most_taken command) old.rest new.rest
+  pub counts : KeepsCounts shelf old new answer.outcome

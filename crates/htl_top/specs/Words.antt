@@ -8,8 +8,6 @@ use Rattle.htl_base.specs.declared.limits.TheConstants.{MAX_MODULES, MAX_SOURCE,
 use Rattle.htl_console.specs.declared.shown.Shown.TheVariants.{Values, Jobs, Code}
 use Rattle.htl_top.specs.declared.words.Asked.{Asked}
 use Rattle.htl_top.specs.declared.words.Asked.TheVariants as ask
-use Rattle.htl_top.specs.declared.words.Verb.{Verb}
-use Rattle.htl_top.specs.declared.words.Verb.TheVariants as verb
 
 -- what the words ask for, with the names of the files that they name; `slack` asks for the task of a module, both by name, and `patch` for
 -- the mode of a module, with the name of a second file
@@ -26,27 +24,17 @@ pub data Command : Type 0 where
   Audit : (name log : List ℕ) → Command
   Patch : (name unit mode donor : List ℕ) → Command
 
--- the verbs that a file's name follows
-abbrev pub verb_of : List ℕ → Option Verb
-verb_of word =
-    if bytes_eq word (codes "go") then Some verb.Go
-    else if bytes_eq word (codes "run") then Some verb.Run
-    else if bytes_eq word (codes "jobs") then Some verb.Jobs
-    else if bytes_eq word (codes "code") then Some verb.Code
-    else if bytes_eq word (codes "check") then Some verb.Check
-    else if bytes_eq word (codes "plan") then Some verb.Plan
-    else if bytes_eq word (codes "show") then Some verb.Show
+-- a verb and the name of a file: `run` shows values and modes, `jobs` the jobs too, `code` the instructions of both machines too
+abbrev pub with_file : List ℕ → List ℕ → Option Command
+with_file word name =
+    if bytes_eq word (codes "go") then Some (Go name)
+    else if bytes_eq word (codes "run") then Some (Run Values name)
+    else if bytes_eq word (codes "jobs") then Some (Run Jobs name)
+    else if bytes_eq word (codes "code") then Some (Run Code name)
+    else if bytes_eq word (codes "check") then Some (Check name)
+    else if bytes_eq word (codes "plan") then Some (Plan name)
+    else if bytes_eq word (codes "show") then Some (Show name)
     else None
-
--- `run` shows values and modes, `jobs` the jobs too, `code` the instructions of both machines too
-abbrev pub with_file : Verb → List ℕ → Command
-with_file verb.Go name = Go name
-with_file verb.Run name = Run Values name
-with_file verb.Jobs name = Run Jobs name
-with_file verb.Code name = Run Code name
-with_file verb.Check name = Check name
-with_file verb.Plan name = Plan name
-with_file verb.Show name = Show name
 
 -- `compile with` and the name of a platform file
 abbrev pub compile_with : List ℕ → List ℕ → List ℕ → Option Command
@@ -66,8 +54,7 @@ modules_in word = decimal_to 64 word
 -- a verb and the name of a file, or `bulk` and a number of modules
 abbrev pub of_two : List ℕ → List ℕ → Option Command
 of_two word other =
-    if bytes_eq word (codes "bulk") then option_map (λ (n : ℕ). Bulk n) (modules_in other)
-    else option_map (λ (v : Verb). with_file v other) (verb_of word)
+    if bytes_eq word (codes "bulk") then option_map (λ (n : ℕ). Bulk n) (modules_in other) else with_file word other
 
 abbrev pub is_dot : ℕ → Bool
 is_dot b = b == 46
@@ -167,9 +154,13 @@ most_taken _ = 0
 
 -- what was asked for
 abbrev pub asked_for : Asked → Command
+asked_for (ask.Go name) = Go name.now
 asked_for ask.Compile = Compile
 asked_for (ask.CompileWith platform) = CompileWith platform.now
-asked_for (ask.File v name) = with_file v name.now
+asked_for (ask.Run shown name) = Run shown name.now
+asked_for (ask.Check name) = Check name.now
+asked_for (ask.Plan name) = Plan name.now
+asked_for (ask.Show name) = Show name.now
 asked_for (ask.Bulk n) = Bulk n
 asked_for (ask.Slack name owner task) = Slack name.now owner task
 asked_for (ask.Audit name log) = Audit name.now log.now

@@ -5,30 +5,12 @@ ghost use Rattle.std.specs.List.{position_from};
 ghost use Rattle.std.specs.Option.{option_map};
 ghost use Rattle.std.specs.Str.{bytes_eq};
 ghost use Rattle.htl_base.specs.declared.limits.TheConstants as limit;
-ghost use Rattle.htl_top.specs.Words.{verb_of as verb_of_of, command_in, modules_in, of_two, of_three, slack_of, is_dot, both_names as both_names_of, joined_names as joined_names_of, patch_of, of_four, asked_for, AreFewModules};
+ghost use Rattle.htl_top.specs.Words.{with_file as with_file_of, command_in, modules_in, of_two, of_three, slack_of, is_dot, both_names as both_names_of, joined_names as joined_names_of, patch_of, of_four, asked_for, AreFewModules};
 
 use htl_base::Name;
 use htl_base::limits::MAX_MODULES;
+use htl_console::Shown;
 use itoa::Buffer;
-
-/// What a command does with the file that it names.
-#[derive(Clone, Copy)]
-pub enum Verb {
-    /// Compiles a source and runs it.
-    Go,
-    /// Runs an object, and shows values and modes.
-    Run,
-    /// Runs an object, and shows the jobs too.
-    Jobs,
-    /// Runs an object, and shows the instructions of both machines too.
-    Code,
-    /// Tests an object.
-    Check,
-    /// Writes a frame of an object at a selection of running modes.
-    Plan,
-    /// Lists an object.
-    Show,
-}
 
 /// A mode, by the name of its module and its own.
 #[derive(Clone, Copy)]
@@ -40,15 +22,31 @@ pub struct ModeNames {
 /// A command.
 #[derive(Clone, Copy)]
 pub enum Asked<'a> {
+    /// Compiles a source and runs it.
+    Go {
+        name: &'a str,
+    },
     /// Compiles the source that the input is.
     Compile,
     /// Compiles it for the platform that a file says.
     CompileWith {
         platform: &'a str,
     },
-    /// A verb and the name of a file.
-    File {
-        verb: Verb,
+    /// Runs an object, and shows this.
+    Run {
+        show: Shown,
+        name: &'a str,
+    },
+    /// Tests an object.
+    Check {
+        name: &'a str,
+    },
+    /// Writes a frame of an object at a selection of running modes.
+    Plan {
+        name: &'a str,
+    },
+    /// Lists an object.
+    Show {
         name: &'a str,
     },
     /// Runs the generated program of so many modules, 1 to 64.
@@ -75,18 +73,28 @@ pub enum Asked<'a> {
     },
 }
 
-// The verb that a word names.
-fn verb_of(word: &str) -> Option<Verb>
-    ensures { result ≡ verb_of_of word.now }
+// What is asked for by a verb and the name of a file.
+fn with_file<'a>(word: &str, name: &'a str) -> Option<Asked<'a>>
+    ensures command { with_file_of word.now name.now ≡ option_map asked_for result }
+    ensures few { IfSome result AreFewModules }
 {
     match word {
-        "go" => Some(Verb::Go),
-        "run" => Some(Verb::Run),
-        "jobs" => Some(Verb::Jobs),
-        "code" => Some(Verb::Code),
-        "check" => Some(Verb::Check),
-        "plan" => Some(Verb::Plan),
-        "show" => Some(Verb::Show),
+        "go" => Some(Asked::Go { name }),
+        "run" => Some(Asked::Run {
+            show: Shown::Values,
+            name,
+        }),
+        "jobs" => Some(Asked::Run {
+            show: Shown::Jobs,
+            name,
+        }),
+        "code" => Some(Asked::Run {
+            show: Shown::Code,
+            name,
+        }),
+        "check" => Some(Asked::Check { name }),
+        "plan" => Some(Asked::Plan { name }),
+        "show" => Some(Asked::Show { name }),
         _ => None,
     }
 }
@@ -204,10 +212,7 @@ fn read_two<'a>(word: &str, other: &'a str) -> Option<Asked<'a>>
             Some(modules) => Some(Asked::Bulk { modules }),
             None => None,
         },
-        _ => match verb_of(word) {
-            Some(verb) => Some(Asked::File { verb, name: other }),
-            None => None,
-        },
+        _ => with_file(word, other),
     }
 }
 

@@ -1,7 +1,7 @@
 use Rattle.std.proofs.Common.{◌≡◌, Option, Some}
 use Rattle.htl_top.proofs.AuditRows as audits
 use Rattle.htl_top.proofs.Calling as calling
-use Rattle.htl_top.proofs.Counts as counts
+use Rattle.htl_top.proofs.Counts.{kept_done}
 use Rattle.htl_top.proofs.ErrorLineNames as line_names
 use Rattle.htl_top.proofs.ObjectRows as objects
 use Rattle.htl_top.proofs.Seen.{IsSeen, seen}
@@ -18,7 +18,7 @@ returns g c =
     let old = side c.args.input.now c.args.out.now in
     let new = side c.answer_to-answer.new.input c.answer_to-answer.new.out in
     let outcome = c.answer_to-answer.result.outcome in
-    let answer = seen command shelf old new outcome c.answer_to-answer.ensures.answer in
+    let answer = seen command shelf old new outcome c.answer_to-answer.ensures.answer.call in
     let Answered : Outcome → Type 0 = λ o. IsSeen command shelf old new o in
     let of : (asked : Command) → command ≡ Some asked → IsSeen (Some asked) shelf old new outcome = λ asked is. subst (λ (c : Option Command). IsSeen c shelf old new outcome) is answer in
     record {
@@ -58,16 +58,16 @@ returns g c =
         unread = calling.unread shelf old new command outcome answer;
         unfetched = calling.unfetched shelf old new command outcome answer;
       };
-      taken = c.answer_to-answer.ensures.taken;
+      taken = c.answer_to-answer.ensures.answer.taken;
       shelf = c.answer_to-answer.ensures.shelf;
-      counts = counts.kept_unless shelf old new outcome c.answer_to-answer.ensures.shelf_count c.answer_to-answer.ensures.read_count c.answer_to-answer.ensures.write_count;
-      kept = λ e. counts.kept_done shelf old new outcome e c.answer_to-answer.ensures.shelf_count c.answer_to-answer.ensures.read_count c.answer_to-answer.ensures.write_count;
+      counts = c.answer_to-answer.ensures.answer.counts;
+      kept = λ e. kept_done shelf old new outcome e c.answer_to-answer.ensures.answer.counts;
       told = record {
         line =
             line_names.IsLineTold-report command shelf.holds old.rest
             (Tells (g.E.Sink.written c.args.err.now) (g.E.Sink.written c.report.new.err) (g.E.Sink.faults c.args.err.now) (g.E.Sink.faults c.report.new.err))
-            c.answer_to-answer.result.tables outcome c.answer_to-answer.ensures.tables (rw c.as_ref.ensures.value at c.report.ensures.told);
+            c.answer_to-answer.result.tables outcome c.answer_to-answer.ensures.answer.tables (rw c.as_ref.ensures.value at c.report.ensures.told);
         quiet = c.report.ensures.quiet;
       };
-      answer = c.answer_to-answer.ensures.answer;
+      answer = c.answer_to-answer.ensures.answer.call;
     }
