@@ -81,11 +81,8 @@ pub fn audit_file<S: Shelf, R: Source, W: Sink>(
     ensures read_count { (result ≡ Err (OnObject.Work (audit.Run run.Read)) → ⊥) → R.faults input.new ≡ R.faults input.old }
     ensures write_count { (result ≡ Err (OnObject.Work (audit.Run run.Write)) → ⊥) → W.faults out.new ≡ W.faults out.old }
 {
-    let given = match open_both(alloc, name, log, shelf) {
-        Ok(given) => given,
-        Err(stop) => return Err(OnObject::Open(stop)),
-    };
-    match audit_bytes(alloc, &given.object, given.second.as_slice(), input, out) {
+    let (object, log) = open_both(alloc, name, log, shelf)?;
+    match audit_bytes(alloc, &object, log.as_slice(), input, out) {
         Ok(()) => Ok(()),
         Err(stop) => Err(OnObject::Work(stop)),
     }

@@ -28,41 +28,19 @@ fn fetch_both<S: Shelf>(
     ensures fetched_count { IfOk result (λ f. (file : List ℕ) → S.faults shelf.new file ≡ S.faults shelf.old file) }
     ensures stopped_count { IfErr result (λ s. (s ≡ fetch_stop.Shelf cause.Failed → ⊥) → (file : List ℕ) → S.faults shelf.new file ≡ S.faults shelf.old file) }
 {
-    let object = match fetch_file(alloc, name, shelf) {
-        Ok(bytes) => bytes,
-        Err(stop) => return Err(stop),
-    };
-    match fetch_file(alloc, second, shelf) {
-        Ok(bytes) => Ok((object, bytes)),
-        Err(stop) => Err(stop),
-    }
+    let object = fetch_file(alloc, name, shelf)?;
+    let second = fetch_file(alloc, second, shelf)?;
+    Ok((object, second))
 }
 
-/// An accepted object, and the bytes of a second file.
-pub struct ObjectAndFile {
-    /// The object.
-    pub object: Loaded,
-    /// The bytes of a job log, or of another object.
-    pub second: Vec<u8>,
-}
-
-impl Drop for ObjectAndFile {
-    fn drop(self) {
-        let Self {
-            object: _,
-            second: _,
-        } = self;
-    }
-}
-
-/// The accepted object in a file, and a second file, or why they aren't had. Both files are had before the object is tested.
+/// The accepted object in a file, and the bytes of a second file, or why they aren't had. Both files are had before the object is tested.
 pub fn open_both<S: Shelf>(
     alloc: Global,
     name: &str,
     second: &str,
     shelf: &mut S,
-) -> Result<ObjectAndFile, OpenStop>
-    ensures opened { IfOk result (λ f. AreFilesOf (Some name.now) (Some second.now) (S.holds shelf.old) (λ o bytes. (o ≡ f.object) × (bytes ≡ f.second.items))) }
+) -> Result<(Loaded, Vec<u8>), OpenStop>
+    ensures opened { IfOk result (λ f. AreFilesOf (Some name.now) (Some second.now) (S.holds shelf.old) (λ o bytes. (o ≡ f.0) × (bytes ≡ f.1.items))) }
     ensures stopped { IfErr result (IsUnhad (Some name.now) (Some second.now) (files S.holds S.faults shelf.old shelf.new)) }
     ensures shelf { S.holds shelf.new ≡ S.holds shelf.old }
     ensures opened_count { IfOk result (λ f. (file : List ℕ) → S.faults shelf.new file ≡ S.faults shelf.old file) }
@@ -74,7 +52,7 @@ pub fn open_both<S: Shelf>(
         Err(FetchStop::Memory) => return Err(OpenStop::Memory),
     };
     match read_object(alloc, object.as_slice()) {
-        Ok(object) => Ok(ObjectAndFile { object, second }),
+        Ok(object) => Ok((object, second)),
         Err(ObjectStop::Refused { fault, tables }) => Err(OpenStop::Object { fault, tables }),
         Err(ObjectStop::Memory) => Err(OpenStop::Memory),
     }

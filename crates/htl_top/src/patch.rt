@@ -92,11 +92,8 @@ pub fn patch_file<S: Shelf, W: Sink>(
     ensures shelf_count { (result ≡ Err (OnObject.Open (open_stop.Shelf cause.Failed)) → ⊥) → (file : List ℕ) → S.faults shelf.new file ≡ S.faults shelf.old file }
     ensures write_count { (result ≡ Err (OnObject.Work (told.Put put.Write)) → ⊥) → W.faults out.new ≡ W.faults out.old }
 {
-    let given = match open_both(alloc, name, donor, shelf) {
-        Ok(given) => given,
-        Err(stop) => return Err(OnObject::Open(stop)),
-    };
-    match patch_with(alloc, &given.object, names, given.second.as_slice(), out) {
+    let (host, donor) = open_both(alloc, name, donor, shelf)?;
+    match patch_with(alloc, &host, names, donor.as_slice(), out) {
         Ok(()) => Ok(()),
         Err(stop) => Err(OnObject::Work(stop)),
     }
