@@ -11,6 +11,7 @@ use Rattle.htl_open.specs.declared.stop.OpenStop.{OpenStop}
 use Rattle.htl_open.specs.declared.stop.OpenStop.TheVariants as open_stop
 use Rattle.htl_patch.specs.declared.fault.PatchStop.{PatchStop}
 use Rattle.htl_patch.specs.declared.fault.PatchStop.TheVariants as patch
+use Rattle.htl_top.specs.declared.answer.Answer.{Answer}
 use Rattle.htl_top.specs.declared.input.InputStop.{InputStop}
 use Rattle.htl_top.specs.declared.input.InputStop.TheVariants as input
 use Rattle.htl_top.specs.declared.outcome.Outcome.{Outcome}
@@ -49,6 +50,11 @@ ended_as of (Err stop) = of stop
 abbrev pub ended_tables : {A : Type 0} → (A → Option Tables) → Ended A → Option Tables
 ended_tables of (Ok done) = None
 ended_tables of (Err stop) = of stop
+
+-- the answer has this outcome, and its line speaks of these tables
+pub record IsAnswerOf {A : Type 0} (of : A → Outcome) (told : A → Option Tables) (a : A) (answer : Answer) : Type 0 where
+  pub outcome : answer.outcome ≡ of a
+  pub tables : answer.tables ≡ told a
 
 -- a command came to something of its own, and this is the outcome
 pub record Came {A : Type 0} (of : A → Outcome) (Is : Ended A → Type 0) (outcome : Outcome) : Type 0 where

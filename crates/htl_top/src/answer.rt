@@ -1,6 +1,6 @@
 // What commands came to, as answers: the outcome, and the tables that its line speaks of.
 ghost use Rattle.std.specs.Prelude.{◌≡◌, None};
-ghost use Rattle.htl_top.specs.Stops.{ended_as, ended_tables, no_tables, write_as, put_as, slack_as, run_as, audit_as, fetch_as, input_as, open_as, open_tables, object_as, object_tables, patch_as, donor_as, donor_tables, source_as, source_tables, compile_as, compile_tables, compile_with_as, compile_with_tables, go_as, go_tables};
+ghost use Rattle.htl_top.specs.Stops.{ended_as, ended_tables, no_tables, write_as, put_as, slack_as, run_as, audit_as, open_as, open_tables, object_as, object_tables, patch_as, donor_as, donor_tables, source_as, source_tables, compile_as, compile_tables, compile_with_as, compile_with_tables, go_as, go_tables, IsAnswerOf};
 
 use crate::Outcome;
 use crate::input::InputStop;
@@ -16,18 +16,10 @@ use htl_open::{FetchStop, OpenStop};
 use htl_patch::PatchStop;
 
 /// An answer, and the tables that its line speaks of: where a form rule is broken, those that break it.
+#[derive(Drop)]
 pub struct Answer {
     pub outcome: Outcome,
     pub tables: Option<Tables>,
-}
-
-impl Drop for Answer {
-    fn drop(self) {
-        let Self {
-            outcome: _,
-            tables: _,
-        } = self;
-    }
 }
 
 impl Answer {
@@ -45,15 +37,6 @@ impl Answer {
 
 // ---- what stops a part of a command
 
-fn put_outcome(stop: PutStop) -> Outcome
-    ensures { result ≡ put_as stop }
-{
-    match stop {
-        PutStop::Write => Outcome::Write,
-        PutStop::Memory => Outcome::Memory,
-    }
-}
-
 fn run_outcome(stop: RunStop) -> Outcome
     ensures { result ≡ run_as stop }
 {
@@ -65,31 +48,9 @@ fn run_outcome(stop: RunStop) -> Outcome
     }
 }
 
-fn fetch_outcome(stop: FetchStop) -> Outcome
-    ensures { result ≡ fetch_as stop }
-{
-    match stop {
-        FetchStop::Shelf(why) => Outcome::Shelf(why),
-        FetchStop::Memory => Outcome::Memory,
-    }
-}
-
-fn input_outcome(stop: InputStop) -> Outcome
-    ensures { result ≡ input_as stop }
-{
-    match stop {
-        InputStop::TooLong => Outcome::Source(SourceFault::TooLong {
-            seen: MAX_SOURCE + 1,
-        }),
-        InputStop::Read => Outcome::Read,
-        InputStop::Memory => Outcome::Memory,
-    }
-}
-
 // Why no accepted object is had.
 fn unopened(stop: OpenStop) -> Answer
-    ensures outcome { result.outcome ≡ open_as stop }
-    ensures tables { result.tables ≡ open_tables stop }
+    ensures { IsAnswerOf open_as open_tables stop result }
 {
     match stop {
         OpenStop::Shelf(why) => Answer::plain(Outcome::Shelf(why)),
@@ -103,8 +64,7 @@ fn unopened(stop: OpenStop) -> Answer
 
 // Why no object is built of a source.
 fn unbuilt(stop: SourceStop) -> Answer
-    ensures outcome { result.outcome ≡ source_as stop }
-    ensures tables { result.tables ≡ source_tables stop }
+    ensures { IsAnswerOf source_as source_tables stop result }
 {
     match stop {
         SourceStop::Fault(fault) => Answer::plain(Outcome::Source(fault)),
@@ -130,11 +90,16 @@ fn unbuilt(stop: SourceStop) -> Answer
 
 // Why the object of the input isn't written.
 fn uncompiled(stop: CompileStop) -> Answer
-    ensures outcome { result.outcome ≡ compile_as stop }
-    ensures tables { result.tables ≡ compile_tables stop }
+    ensures { IsAnswerOf compile_as compile_tables stop result }
 {
     match stop {
-        CompileStop::Input(stop) => Answer::plain(input_outcome(stop)),
+        CompileStop::Input(InputStop::TooLong) => {
+            Answer::plain(Outcome::Source(SourceFault::TooLong {
+                seen: MAX_SOURCE + 1,
+            }))
+        }
+        CompileStop::Input(InputStop::Read) => Answer::plain(Outcome::Read),
+        CompileStop::Input(InputStop::Memory) => Answer::plain(Outcome::Memory),
         CompileStop::Source(stop) => unbuilt(stop),
         CompileStop::Write => Answer::plain(Outcome::Write),
     }
@@ -142,8 +107,7 @@ fn uncompiled(stop: CompileStop) -> Answer
 
 // Why an object isn't written with a donor's refinement.
 fn unpatched(stop: DonorStop) -> Answer
-    ensures outcome { result.outcome ≡ donor_as stop }
-    ensures tables { result.tables ≡ donor_tables stop }
+    ensures { IsAnswerOf donor_as donor_tables stop result }
 {
     match stop {
         DonorStop::Patch(PatchStop::Refused(fault, tables)) => Answer {
@@ -151,7 +115,8 @@ fn unpatched(stop: DonorStop) -> Answer
             tables,
         },
         DonorStop::Patch(PatchStop::Memory) => Answer::plain(Outcome::Memory),
-        DonorStop::Put(stop) => Answer::plain(put_outcome(stop)),
+        DonorStop::Put(PutStop::Write) => Answer::plain(Outcome::Write),
+        DonorStop::Put(PutStop::Memory) => Answer::plain(Outcome::Memory),
     }
 }
 
@@ -159,8 +124,7 @@ fn unpatched(stop: DonorStop) -> Answer
 
 /// That of a command that writes a text of an object.
 pub fn of_text(r: Result<(), OnObject<Failed>>) -> Answer
-    ensures outcome { result.outcome ≡ ended_as (object_as write_as) r }
-    ensures tables { result.tables ≡ ended_tables (object_tables no_tables) r }
+    ensures { IsAnswerOf (ended_as (object_as write_as)) (ended_tables (object_tables no_tables)) r result }
 {
     match r {
         Ok(()) => Answer::plain(Outcome::Done),
@@ -171,19 +135,18 @@ pub fn of_text(r: Result<(), OnObject<Failed>>) -> Answer
 
 /// That of `bulk`.
 pub fn of_put(r: Result<(), PutStop>) -> Answer
-    ensures outcome { result.outcome ≡ ended_as put_as r }
-    ensures tables { result.tables ≡ ended_tables no_tables r }
+    ensures { IsAnswerOf (ended_as put_as) (ended_tables no_tables) r result }
 {
     match r {
         Ok(()) => Answer::plain(Outcome::Done),
-        Err(stop) => Answer::plain(put_outcome(stop)),
+        Err(PutStop::Write) => Answer::plain(Outcome::Write),
+        Err(PutStop::Memory) => Answer::plain(Outcome::Memory),
     }
 }
 
 /// That of `slack`.
 pub fn of_slack(r: Result<(), OnObject<SlackStop>>) -> Answer
-    ensures outcome { result.outcome ≡ ended_as (object_as slack_as) r }
-    ensures tables { result.tables ≡ ended_tables (object_tables no_tables) r }
+    ensures { IsAnswerOf (ended_as (object_as slack_as)) (ended_tables (object_tables no_tables)) r result }
 {
     match r {
         Ok(()) => Answer::plain(Outcome::Done),
@@ -196,8 +159,7 @@ pub fn of_slack(r: Result<(), OnObject<SlackStop>>) -> Answer
 
 /// That of a command that runs an object, or plans a frame of it.
 pub fn of_run(r: Result<(), OnObject<RunStop>>) -> Answer
-    ensures outcome { result.outcome ≡ ended_as (object_as run_as) r }
-    ensures tables { result.tables ≡ ended_tables (object_tables no_tables) r }
+    ensures { IsAnswerOf (ended_as (object_as run_as)) (ended_tables (object_tables no_tables)) r result }
 {
     match r {
         Ok(()) => Answer::plain(Outcome::Done),
@@ -208,8 +170,7 @@ pub fn of_run(r: Result<(), OnObject<RunStop>>) -> Answer
 
 /// That of `audit`.
 pub fn of_audit(r: Result<(), OnObject<AuditStop>>) -> Answer
-    ensures outcome { result.outcome ≡ ended_as (object_as audit_as) r }
-    ensures tables { result.tables ≡ ended_tables (object_tables no_tables) r }
+    ensures { IsAnswerOf (ended_as (object_as audit_as)) (ended_tables (object_tables no_tables)) r result }
 {
     match r {
         Ok(()) => Answer::plain(Outcome::Done),
@@ -221,8 +182,7 @@ pub fn of_audit(r: Result<(), OnObject<AuditStop>>) -> Answer
 
 /// That of `patch`.
 pub fn of_patch(r: Result<(), OnObject<DonorStop>>) -> Answer
-    ensures outcome { result.outcome ≡ ended_as (object_as donor_as) r }
-    ensures tables { result.tables ≡ ended_tables (object_tables donor_tables) r }
+    ensures { IsAnswerOf (ended_as (object_as donor_as)) (ended_tables (object_tables donor_tables)) r result }
 {
     match r {
         Ok(()) => Answer::plain(Outcome::Done),
@@ -233,8 +193,7 @@ pub fn of_patch(r: Result<(), OnObject<DonorStop>>) -> Answer
 
 /// That of `compile`.
 pub fn of_compile(r: Result<(), CompileStop>) -> Answer
-    ensures outcome { result.outcome ≡ ended_as compile_as r }
-    ensures tables { result.tables ≡ ended_tables compile_tables r }
+    ensures { IsAnswerOf (ended_as compile_as) (ended_tables compile_tables) r result }
 {
     match r {
         Ok(()) => Answer::plain(Outcome::Done),
@@ -244,24 +203,24 @@ pub fn of_compile(r: Result<(), CompileStop>) -> Answer
 
 /// That of `compile with`.
 pub fn of_compile_with(r: Result<(), CompileWithStop>) -> Answer
-    ensures outcome { result.outcome ≡ ended_as compile_with_as r }
-    ensures tables { result.tables ≡ ended_tables compile_with_tables r }
+    ensures { IsAnswerOf (ended_as compile_with_as) (ended_tables compile_with_tables) r result }
 {
     match r {
         Ok(()) => Answer::plain(Outcome::Done),
-        Err(CompileWithStop::File(stop)) => Answer::plain(fetch_outcome(stop)),
+        Err(CompileWithStop::File(FetchStop::Shelf(why))) => Answer::plain(Outcome::Shelf(why)),
+        Err(CompileWithStop::File(FetchStop::Memory)) => Answer::plain(Outcome::Memory),
         Err(CompileWithStop::Compile(stop)) => uncompiled(stop),
     }
 }
 
 /// That of `go`.
 pub fn of_go(r: Result<(), GoStop>) -> Answer
-    ensures outcome { result.outcome ≡ ended_as go_as r }
-    ensures tables { result.tables ≡ ended_tables go_tables r }
+    ensures { IsAnswerOf (ended_as go_as) (ended_tables go_tables) r result }
 {
     match r {
         Ok(()) => Answer::plain(Outcome::Done),
-        Err(GoStop::File(stop)) => Answer::plain(fetch_outcome(stop)),
+        Err(GoStop::File(FetchStop::Shelf(why))) => Answer::plain(Outcome::Shelf(why)),
+        Err(GoStop::File(FetchStop::Memory)) => Answer::plain(Outcome::Memory),
         Err(GoStop::Source(stop)) => unbuilt(stop),
         Err(GoStop::Run(stop)) => Answer::plain(run_outcome(stop)),
     }

@@ -36,36 +36,20 @@ pub fn answer_to<S: Shelf, R: Source, W: Sink>(
         (streams R.rest R.faults W.written W.faults input.old out.old) (streams R.rest R.faults W.written W.faults input.new out.new) result }
     ensures shelf { S.holds shelf.new ≡ S.holds shelf.old }
 {
-    match read_words(words) {
-        Some(asked) => answered(alloc, asked, shelf, input, out),
-        None => Answer::plain(Outcome::Usage),
-    }
-}
-
-// The answer of a command.
-fn answered<S: Shelf, R: Source, W: Sink>(
-    alloc: Global,
-    asked: Asked<'_>,
-    shelf: &mut S,
-    input: &mut R,
-    out: &mut W,
-) -> Answer
-    requires { AreFewModules asked }
-    ensures answer { IsAnswered (Some (asked_for asked.entry)) (files S.holds S.faults shelf.old shelf.new)
-        (streams R.rest R.faults W.written W.faults input.old out.old) (streams R.rest R.faults W.written W.faults input.new out.new) result }
-    ensures shelf { S.holds shelf.new ≡ S.holds shelf.old }
-{
+    let Some(asked) = read_words(words) else {
+        return Answer::plain(Outcome::Usage);
+    };
     match asked {
-        Asked::Go { name } => of_go(go_file(alloc, name, shelf, input, out)),
+        Asked::Go(name) => of_go(go_file(alloc, name, shelf, input, out)),
         Asked::Compile => of_compile(compile_input(alloc, input, out)),
-        Asked::CompileWith { platform } => {
+        Asked::CompileWith(platform) => {
             of_compile_with(compile_for_file(alloc, platform, shelf, input, out))
         }
-        Asked::Run { show, name } => of_run(run_file(alloc, name, show, shelf, input, out)),
-        Asked::Check { name } => of_text(check_file(alloc, name, shelf, out)),
-        Asked::Plan { name } => of_run(plan_file(alloc, name, shelf, input, out)),
-        Asked::Show { name } => of_text(show_file(alloc, name, shelf, out)),
-        Asked::Bulk { modules } => of_put(bulk(alloc, modules, out)),
+        Asked::Run(show, name) => of_run(run_file(alloc, name, show, shelf, input, out)),
+        Asked::Check(name) => of_text(check_file(alloc, name, shelf, out)),
+        Asked::Plan(name) => of_run(plan_file(alloc, name, shelf, input, out)),
+        Asked::Show(name) => of_text(show_file(alloc, name, shelf, out)),
+        Asked::Bulk(modules) => of_put(bulk(alloc, modules, out)),
         Asked::Slack { name, owner, task } => {
             of_slack(slack_file(alloc, name, &owner, &task, shelf, out))
         }

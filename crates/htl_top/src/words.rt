@@ -23,36 +23,21 @@ pub struct ModeNames {
 #[derive(Clone, Copy)]
 pub enum Asked<'a> {
     /// Compiles a source and runs it.
-    Go {
-        name: &'a str,
-    },
+    Go(&'a str),
     /// Compiles the source that the input is.
     Compile,
     /// Compiles it for the platform that a file says.
-    CompileWith {
-        platform: &'a str,
-    },
+    CompileWith(&'a str),
     /// Runs an object, and shows this.
-    Run {
-        show: Shown,
-        name: &'a str,
-    },
+    Run(Shown, &'a str),
     /// Tests an object.
-    Check {
-        name: &'a str,
-    },
+    Check(&'a str),
     /// Writes a frame of an object at a selection of running modes.
-    Plan {
-        name: &'a str,
-    },
+    Plan(&'a str),
     /// Lists an object.
-    Show {
-        name: &'a str,
-    },
+    Show(&'a str),
     /// Runs the generated program of so many modules, 1 to 64.
-    Bulk {
-        modules: u32,
-    },
+    Bulk(u32),
     /// Tells how far the worst case of a task of an object can be raised.
     Slack {
         name: &'a str,
@@ -79,22 +64,13 @@ fn with_file<'a>(word: &str, name: &'a str) -> Option<Asked<'a>>
     ensures few { IfSome result AreFewModules }
 {
     match word {
-        "go" => Some(Asked::Go { name }),
-        "run" => Some(Asked::Run {
-            show: Shown::Values,
-            name,
-        }),
-        "jobs" => Some(Asked::Run {
-            show: Shown::Jobs,
-            name,
-        }),
-        "code" => Some(Asked::Run {
-            show: Shown::Code,
-            name,
-        }),
-        "check" => Some(Asked::Check { name }),
-        "plan" => Some(Asked::Plan { name }),
-        "show" => Some(Asked::Show { name }),
+        "go" => Some(Asked::Go(name)),
+        "run" => Some(Asked::Run(Shown::Values, name)),
+        "jobs" => Some(Asked::Run(Shown::Jobs, name)),
+        "code" => Some(Asked::Run(Shown::Code, name)),
+        "check" => Some(Asked::Check(name)),
+        "plan" => Some(Asked::Plan(name)),
+        "show" => Some(Asked::Show(name)),
         _ => None,
     }
 }
@@ -149,7 +125,7 @@ fn read_three<'a>(first: &str, second: &'a str, third: &'a str) -> Option<Asked<
             name: second,
             log: third,
         }),
-        ("compile", "with") => Some(Asked::CompileWith { platform: third }),
+        ("compile", "with") => Some(Asked::CompileWith(third)),
         _ => None,
     }
 }
@@ -209,7 +185,7 @@ fn read_two<'a>(word: &str, other: &'a str) -> Option<Asked<'a>>
 {
     match word {
         "bulk" => match modules_in(other) {
-            Some(modules) => Some(Asked::Bulk { modules }),
+            Some(modules) => Some(Asked::Bulk(modules)),
             None => None,
         },
         _ => with_file(word, other),
