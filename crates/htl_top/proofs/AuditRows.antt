@@ -1,6 +1,6 @@
 -- From the answer of `audit` to its rows.
-use Rattle.std.proofs.Common.{◌≡◌, ◌<◌, ◌⊎◌, ℕ, List, length, Option, None, Some, subst, inl, inr}
-use Rattle.htl_top.proofs.Vocabulary.{check_text, show_text, IsFirstFault, IsLegal, ReadLog, RefusedLog, log_of, LogFault, Slice, Values, Rose, Tables, Event, Object, ScriptFault, Files, Streams, IsFileOf, IsReadyFile, HasLog, HasSlices, IsCutAudit, IsLogCause, IsUntouched, IsWholeAudit, IsGiven, IsOrMemory, IsAcceptedFile, IsReadyObject, IsFaultyRun, IsWhole, IsBad, Command, Go, Compile, CompileWith, Run, Check, Plan, Show, Bulk, Slack, Audit, Patch, Outcome, Done, Usage, Log, Faulty, Shelf, Read, Write, Memory, TooLong}
+use Rattle.std.proofs.Common.{◌≡◌, ◌<◌, ◌⊎◌, ℕ, List, Option, None, Some, subst, inl, inr}
+use Rattle.htl_top.proofs.Vocabulary.{check_text, show_text, ReadLog, log_of, LogFault, Slice, Tables, Object, Files, Streams, IsFileOf, IsReadyFile, HasLog, HasSlices, IsCutAudit, IsLogCause, IsUntouched, IsAcceptedFile, IsReadyObject, Command, Go, Compile, CompileWith, Run, Check, Plan, Show, Bulk, Slack, Audit, Patch, Outcome, Done, Usage, Log, Faulty, Read, Write, Memory}
 use Rattle.htl_top.proofs.Auditing.{AuditAs, AuditOfAs, AuditRunAs, LogRefusedAs}
 use Rattle.htl_top.proofs.AuditScripts as scripts
 use Rattle.htl_top.proofs.Bulking as bulking

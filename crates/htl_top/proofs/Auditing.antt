@@ -1,6 +1,6 @@
 -- What `audit` came to, by its outcome, its files and what it does with an accepted object.
-use Rattle.std.proofs.Common.{◌≡◌, ◌≤◌, ◌<◌, ◌⊎◌, ℕ, suc, Bool, true, false, cond, not, ◌&&◌, List, [], ◌∷◌, ◌++◌, length, take, Some, None, Ok, Err, refl, subst, inl, inr}
-use Rattle.htl_top.proofs.Vocabulary.{IsFirstFault, IsFirstFaultIn, BeginningJobs, RefusedLog, all_rounds, any_job, is_free, log_of, slice_is_out_of_order, is_over, lies_in, line_fault, LogFault, LogKind, Slice, Values, Rose, CompileFault, RefusesBytes, ObjectFault, Tables, Event, Object, PlatformFault, Files, Streams, IsBeforeRun, IsBeforeScript, IsOfReading, IsHad, IsReadyFile, HasSlices, IsAudit, IsAuditOf, IsCutAudit, IsIllegalAudit, IsUntouched, IsWholeAudit, IsFaultyRun, IsGiven, IsOrMemory, IsReadyObject, IsRefusedFile, answer_of, Outcome, Done, Usage, Source, IllFormed, Unschedulable, Platform, Task, Log, Refused, Faulty, Shelf, Read, Write, Memory, ShelfCause, TooLong}
+use Rattle.std.proofs.Common.{◌≡◌, ◌≤◌, ◌<◌, ◌⊎◌, ℕ, suc, Bool, true, false, cond, not, ◌&&◌, List, [], ◌∷◌, ◌++◌, take, Some, None, Ok, Err, refl, subst, inl, inr}
+use Rattle.htl_top.proofs.Vocabulary.{IsFirstFault, IsFirstFaultIn, BeginningJobs, RefusedLog, all_rounds, any_job, is_free, log_of, slice_is_out_of_order, is_over, lies_in, line_fault, LogFault, LogKind, Slice, Values, Rose, CompileFault, ObjectFault, Tables, Event, Object, PlatformFault, Files, Streams, IsBeforeRun, IsBeforeScript, IsOfReading, IsHad, HasSlices, IsAudit, IsAuditOf, IsCutAudit, IsIllegalAudit, IsUntouched, IsWholeAudit, IsFaultyRun, IsRefusedFile, answer_of, Outcome, Done, Usage, Source, IllFormed, Unschedulable, Platform, Task, Log, Refused, Faulty, Shelf, Read, Write, Memory, ShelfCause}
 use Rattle.htl_audit.specs.declared.slice.LogKind.TheVariants as kind
 use Rattle.htl_compile.specs.declared.compiling.CompileFault.TheVariants as compile
 use Rattle.htl_open.specs.Stops.{IsShelfCause}

@@ -1,6 +1,6 @@
 -- The line that tells of an answer has names of the tables that it speaks of.
 use Rattle.std.proofs.Common.{◌≡◌, List, ℕ, Option, Some, Err, refl, sym, ap, ◌∙◌, subst}
-use Rattle.htl_top.proofs.Vocabulary.{coded, Shown, Holdings, ObjectFault, Tables, FormFault, patched, PatchFault, with_worst, Files, Streams, HasSource, HasObject, IsAudit, IsCompiling, IsCompilingOn, IsObjectTables, IsPatchOfFiles, SpeaksOfObject, HasPatchedTables, IsPatchedTables, SpeaksOfPatch, IsGoing, HasTypedTables, IsNotCompiled, IsTypedInput, IsTypedProgram, outcome_of, tables_of_stop, IsTypedOn, fault_line, SpeaksOf, IsFaultTold, IsPatchFaultTold, IsLineTold, Command, Go, Compile, CompileWith, Run, Check, Plan, Show, Slack, Audit, Patch, Outcome, SourceStop}
+use Rattle.htl_top.proofs.Vocabulary.{coded, Shown, Holdings, ObjectFault, Tables, FormFault, patched, PatchFault, with_worst, Files, Streams, HasSource, HasObject, IsAudit, IsCompiling, IsCompilingOn, IsObjectTables, IsPatchOfFiles, SpeaksOfObject, HasPatchedTables, IsPatchedTables, SpeaksOfPatch, IsGoing, IsTypedInput, IsTypedProgram, IsTypedOn, fault_line, SpeaksOf, IsFaultTold, IsPatchFaultTold, IsLineTold, Command, Go, Compile, CompileWith, Run, Check, Plan, Show, Slack, Audit, Patch, Outcome}
 use Rattle.htl_top.proofs.Telling.{IsOfPut}
 use Rattle.htl_load.specs.declared.fault.ObjectFault.TheVariants as fault
 use Rattle.htl_patch.specs.declared.fault.PatchFault.TheVariants as patch
@@ -22,7 +22,7 @@ use Rattle.htl_top.specs.declared.stop.DonorStop.{DonorStop}
 use Rattle.htl_top.specs.declared.stop.DonorStop.TheVariants as donor_stop
 use Rattle.htl_top.specs.declared.stop.OnObject.{OnObject}
 use Rattle.htl_top.specs.declared.stop.OnObject.TheVariants as on
-use Rattle.htl_top.specs.declared.stop.PutStop.TheVariants as put
+use Rattle.htl_top.specs.declared.stop.PutStop.TheVariants as put_stop
 use Rattle.htl_top.specs.declared.stop.GoStop.{GoStop}
 use Rattle.htl_top.specs.declared.stop.GoStop.TheVariants as go
 use Rattle.htl_top.specs.declared.stop.RunStop.{RunStop}
@@ -40,13 +40,7 @@ SpeaksOf-put Sources Objects (IllFormed f) told put = absurd put
 SpeaksOf-put Sources Objects (Object f) told put = absurd put
 SpeaksOf-put Sources Objects _ told put = tt
 
--- what stops a source speaks of its tables
-pub SpeaksOf-stop : (Objects : (Tables → Type 0) → Type 0) (bytes : List ℕ) (s : SourceStop) → IsNotCompiled bytes s → SpeaksOf (HasTypedTables bytes) Objects (outcome_of s) (tables_of_stop s)
-SpeaksOf-stop Objects bytes (stop.IllFormed f u) is =
-    let t = is.1 in record { tables = t.tables; of = t.of; can = t.can; fact = ap Some t.fact }
-SpeaksOf-stop Objects bytes _ is = tt
-
--- and what stops `go` of those of its file
+-- what stops `go` speaks of the tables of its file
 speaks_go : (Objects : (Tables → Type 0) → Type 0) (name : Option (List ℕ)) (shelf : Files) (old new : Streams) (r : Ended GoStop) → IsGoing name shelf old new r
     → SpeaksOf (IsTypedProgram name shelf.holds) Objects (ended_as go_as r) (ended_tables go_tables r)
 speaks_go Objects name shelf old new (Err (go.Source (stop.IllFormed f u))) is =
@@ -132,7 +126,7 @@ module _ (name unit mode donor : List ℕ) (shelf : Files) (old new : Option (Li
   speaks_patch (Err (on.Work (donor_stop.Patch (patching.Refused f t)))) is =
       SpeaksOfPatch-source (HasPatchedTables is.object unit mode is.fact.bytes) (IsPatchedTables name unit mode donor shelf.holds) f t
       (in_both_files name unit mode donor shelf.holds is.bytes is.fact.bytes is.object is.file is.fact.file is.has is.accepted) is.fact.fact.1
-  speaks_patch (Err (on.Work (donor_stop.Put put.Memory))) is = tt
+  speaks_patch (Err (on.Work (donor_stop.Put put_stop.Memory))) is = tt
   speaks_patch _ is = tt
 
   pub SpeaksOf-patch : (r : Ended (OnObject DonorStop)) (outcome : Outcome) (tables : Option Tables) → outcome ≡ ended_as (object_as donor_as) r

@@ -11,7 +11,7 @@ use Rattle.htl_top.specs.Compiling.{IsCompiling}
 use Rattle.htl_top.specs.CompilingOn.{IsCompilingOn}
 use Rattle.htl_top.specs.Going.{IsGoing}
 use Rattle.htl_open.specs.Objects.{IsObjectTables}
-use Rattle.htl_top.specs.Objects.{IsOnObject, IsTextCall}
+use Rattle.htl_top.specs.Objects.{IsTextCall}
 use Rattle.htl_top.specs.PatchedFiles.{IsPatching, IsPatchedTables}
 use Rattle.htl_top.specs.Planned.{IsPlannedOnFile}
 use Rattle.htl_top.specs.Runs.{IsRunOnFile}

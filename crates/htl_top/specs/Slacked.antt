@@ -13,6 +13,7 @@ use Rattle.htl_slack.specs.declared.report.Above.{Above}
 use Rattle.htl_walk.specs.Feasible.{AreFeasible}
 use Rattle.htl_open.specs.Files.{Files}
 use Rattle.htl_open.specs.Objects.{IsAcceptedFile}
+use Rattle.htl_top.specs.Answers.{Streams}
 use Rattle.htl_top.specs.Objects.{IsOnFile}
 use Rattle.htl_top.specs.Stops.{Came, Ended, object_as, slack_as}
 use Rattle.htl_top.specs.Words.{Command, Slack}

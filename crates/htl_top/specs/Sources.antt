@@ -1,5 +1,5 @@
 -- The source that a command compiles: where its tables are had, and why no object is built of it.
-use Rattle.std.specs.Prelude.{ℕ, ◌≡◌, ◌≤◌, ◌<◌, ◌+◌, ◌⊎◌, Option, Some, None, IfSome, List, length}
+use Rattle.std.specs.Prelude.{ℕ, ◌≡◌, ◌≤◌, ◌<◌, ◌+◌, ◌⊎◌, Option, IfSome, List, length}
 use Rattle.htl_top.specs.Common.{MAX_SOURCE, CanBuild, CompileFault, Holdings, Tables}
 use Rattle.htl_compile.specs.Building.{IsCompileFault}
 use Rattle.htl_compile.specs.Sources.{IsTablesOf}

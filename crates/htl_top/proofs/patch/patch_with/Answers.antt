@@ -1,4 +1,3 @@
-use Rattle.std.proofs.Common.{refl, inl}
 use Rattle.htl_top.proofs.patch.patch_with.Goals as goal
 
 pub patch_from-requires : goal.patch_from-requires

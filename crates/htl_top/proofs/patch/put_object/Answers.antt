@@ -1,4 +1,4 @@
-use Rattle.htl_top.proofs.Vocabulary.{List, ℕ, append_known, Rose, AppendsPrefix}
+use Rattle.htl_top.proofs.Vocabulary.{List, ℕ, append_known}
 use Rattle.std.proofs.Common.{◌≡◌}
 use Rattle.htl_top.proofs.PatchedObjects.{IsObjectPut-written}
 use Rattle.htl_top.proofs.patch.put_object.Goals as goal
