@@ -141,6 +141,7 @@ module _ (n : ℕ) (old new : Streams) where
 
   whole_by : (r : Ended PutStop) → Done ≡ ended_as put_as r → Told r → HasTables (bulk_bytes n) (λ t. new.written ≡ append_known old.written (bulk_text t))
   whole_by (Ok done) is told = told
+  whole_by (Err put.Memory) is told = absurd (let p = is in cc)
   whole_by _ is told = absurd (let p = is in cc)
 
   part_by : (r : Ended PutStop) → Write ≡ ended_as put_as r → Told r

@@ -66,6 +66,7 @@ module _ (owner name : List ℕ) (o : Object) (old new : Streams) where
 
   done_by : (r : Ended SlackStop) → Done ≡ ended_as slack_as r → Told r → HasSlack o.tables owner name (λ text. new.written ≡ append_known old.written text)
   done_by (Ok done) is told = told
+  done_by (Err slack.Memory) is told = absurd (let p = is in cc)
   done_by _ is told = absurd (let p = is in cc)
 
   write_by : (r : Ended SlackStop) → Write ≡ ended_as slack_as r → Told r
