@@ -41,4 +41,5 @@ pub mod Slacking
 pub mod CommandWords
 pub mod PatchedObjects
 pub mod Patching
+pub mod Views
 pub mod Vocabulary

@@ -101,7 +101,7 @@ pub use Rattle.htl_text.specs.declared.tree.EndNode.{EndNode}
 pub use Rattle.htl_text.specs.declared.tree.Id.{Id}
 pub use Rattle.htl_text.specs.declared.tree.InvokeNode.{InvokeNode}
 pub use Rattle.htl_text.specs.declared.tree.ParamNode.{ParamNode}
-pub use Rattle.htl_top.specs.Answers.{AreCountsKept, IsBeforeRun, IsBeforeScript, IsOfReading, IsUntouched, IsWritten, KeepsCounts, Streams, streams}
+pub use Rattle.htl_top.specs.Answers.{AreCountsKept, IsBeforeRun, IsBeforeScript, IsOfReading, IsUntouched, KeepsCounts, Streams, streams}
 pub use Rattle.htl_top.specs.AuditPlaying.{IsAuditBehind, IsAuditPlaying, IsAuditTold, IsConcluded}
 pub use Rattle.htl_top.specs.Audited.{HasLog, HasSlices, IsAudit, IsAuditOf, IsAuditRun, IsCutAudit, IsIllegalAudit, IsLogCause, IsLogFault, IsWholeAudit, audit_text, audited_line, audited_text, verdict_text}
 pub use Rattle.htl_top.specs.Bulk.{IsBulked, object_text, totals_text, value_seen}
@@ -116,7 +116,7 @@ pub use Rattle.htl_top.specs.Files.{AreFilesOf, IsFileOf, IsHad, IsReadyFile}
 pub use Rattle.htl_top.specs.Going.{IsGoing, IsReadySource, IsUncompiled}
 pub use Rattle.htl_top.specs.JobLaws.{GoJobLinesAreFound, GoShowsJobLines, GoTellsJobsInTime}
 pub use Rattle.htl_top.specs.Laws.{EarlierReadingsDecideTexts, EarlierReadingsDecideValues, GoKeepsDeadlines, GoShowsTheMeaning, read_where}
-pub use Rattle.htl_top.specs.Objects.{IsOnObject, IsStopped, Work}
+pub use Rattle.htl_top.proofs.Views.{IsOnObject, IsStopped, Work}
 pub use Rattle.htl_top.specs.PatchedFiles.{HasPatch, HasPatchedTables, IsBadDonor, IsDonorFault, IsDonorTold, IsObjectPut, IsPatchCause, IsPatchOfFiles, IsPatchedTables, IsPatching, RefusesDonor, SpeaksOfPatch}
 pub use Rattle.htl_top.specs.Planned.{IsBadSelection, IsCutPlan, IsPlanned}
 pub use Rattle.htl_top.specs.Playing.{HaveNoEnd, IsBehind, IsNext, IsPlaying, IsTold, text_more}

@@ -23,12 +23,6 @@ pub record IsUntouched (old new : Streams) : Type 0 where
   pub rest : new.rest ≡ old.rest
   pub written : new.written ≡ old.written
 
--- Where a text was written whole this is the answer; else it is Write, a prefix of the text was written, and the
--- count of faults rose.
-abbrev pub IsWritten : List ℕ → Outcome → Option (List ℕ) → Option (List ℕ) → ℕ → ℕ → Outcome → Type 0
-IsWritten text whole old new before now result =
-    ((result ≡ whole) × (new ≡ append_known old text)) ⊎ ((result ≡ Write) × Rose before now × AppendsPrefix old new text)
-
 -- ---- what other answers leave as it was
 
 -- the faults of a log that are told before its audit begins

@@ -1,19 +1,16 @@
--- What a command on an object answers.
-use Rattle.std.specs.Prelude.{ℕ, ◌≡◌, ◌⊎◌, Option, List, Ok, Err}
+-- What a command on an object comes to.
+use Rattle.std.specs.Prelude.{ℕ, ◌≡◌, Option, List, Ok, Err}
 use Rattle.htl_open.specs.Files.{Files}
-use Rattle.htl_open.specs.Objects.{IsAcceptedFile, IsRefusedFile}
-use Rattle.htl_open.specs.Stops.{IsShelfCause, IsUnopened}
+use Rattle.htl_open.specs.Objects.{IsAcceptedFile}
+use Rattle.htl_open.specs.Stops.{IsUnopened}
 use Rattle.htl_edge.specs.Content.{Puts}
 use Rattle.htl_edge.specs.declared.Failed.{Failed}
 use Rattle.htl_top.specs.Common.{Object}
-use Rattle.htl_top.specs.Answers.{Streams, IsUntouched}
+use Rattle.htl_top.specs.Answers.{Streams}
 use Rattle.htl_top.specs.Stops.{Came, Ended, object_as, write_as}
 use Rattle.htl_top.specs.declared.stop.OnObject.{OnObject}
 use Rattle.htl_top.specs.declared.stop.OnObject.TheVariants as on
 use Rattle.htl_top.specs.declared.outcome.Outcome.{Outcome}
-use Rattle.htl_top.specs.declared.outcome.Outcome.TheVariants.{Object as Refused, Shelf, Memory}
-
--- ---- by stops
 
 -- What a command on an object came to: an accepted object was had, and this was done with it, to its end or to a stop; or none was had, and
 -- this stays.
@@ -30,21 +27,3 @@ IsTextOnObject text name shelf old new before now r = IsOnFile (λ o s. Puts old
 abbrev pub IsTextCall : (Object → List ℕ) → Option (List ℕ) → Files → Streams → Streams → Outcome → Type 0
 IsTextCall text name shelf old new outcome =
     (new.rest ≡ old.rest) × Came (object_as write_as) (IsTextOnObject text name shelf old.written new.written old.write_faults new.write_faults) outcome
-
--- ---- by outcomes
-
--- why no accepted object was had, answer by answer
-abbrev pub IsStopped : Option (List ℕ) → Files → Outcome → Type 0
-IsStopped name shelf (Refused f) = IsRefusedFile name shelf.holds f
-IsStopped name shelf (Shelf why) = IsShelfCause name shelf why
-IsStopped name shelf Memory = Unit {0}
-IsStopped name shelf _ = ⊥
-
--- what is done with an accepted object, before and after, and the answer
-abbrev pub Work : Type 1
-Work = Object → Streams → Streams → Outcome → Type 0
-
--- An accepted object was had, and the command did its work; or none was had, nothing was read and nothing written.
-abbrev pub IsOnObject : Work → Option (List ℕ) → Files → Streams → Streams → Outcome → Type 0
-IsOnObject Does name shelf old new outcome =
-    IsAcceptedFile name shelf.holds (λ o. Does o old new outcome) ⊎ (IsStopped name shelf outcome × IsUntouched old new)
