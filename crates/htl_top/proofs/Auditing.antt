@@ -1,10 +1,9 @@
 -- What `audit` came to, by its outcome, its files and what it does with an accepted object.
-use Rattle.std.proofs.Common.{◌≡◌, ◌≤◌, ◌<◌, ◌⊎◌, ℕ, suc, Bool, true, false, cond, not, ◌&&◌, List, [], ◌∷◌, ◌++◌, take, Some, None, Ok, Err, refl, subst, inl, inr}
-use Rattle.htl_top.proofs.Vocabulary.{IsFirstFault, IsFirstFaultIn, BeginningJobs, RefusedLog, all_rounds, any_job, is_free, log_of, slice_is_out_of_order, is_over, lies_in, line_fault, LogFault, LogKind, Slice, Values, Rose, CompileFault, ObjectFault, Tables, Event, Object, PlatformFault, Files, Streams, IsBeforeRun, IsBeforeScript, IsOfReading, IsHad, HasSlices, IsAudit, IsAuditOf, IsCutAudit, IsIllegalAudit, IsUntouched, IsWholeAudit, IsFaultyRun, IsRefusedFile, answer_of, Outcome, Done, Usage, Source, IllFormed, Unschedulable, Platform, Task, Log, Refused, Faulty, Shelf, Read, Write, Memory, ShelfCause}
+use Rattle.std.proofs.Common.{◌≡◌, ◌⊎◌, ℕ, suc, Bool, true, false, cond, not, ◌&&◌, List, [], ◌∷◌, ◌++◌, take, Some, None, Ok, Err, refl, sym, subst, inl, inr}
+use Rattle.htl_top.proofs.Vocabulary.{IsFirstFault, IsFirstFaultIn, BeginningJobs, all_rounds, any_job, is_free, slice_is_out_of_order, is_over, lies_in, line_fault, LogFault, LogKind, Slice, Values, Rose, CompileFault, ObjectFault, Tables, Event, Object, PlatformFault, ScriptFault, Files, Streams, IsBeforeRun, IsBeforeScript, IsOfReading, IsHad, HasSlices, IsAudit, IsAuditOf, IsCutAudit, IsLogFault, IsUntouched, IsWholeAudit, IsFaultyRun, IsRefusedFile, answer_of, Outcome, Done, Usage, Source, IllFormed, Unschedulable, Platform, Task, Log, Refused, Faulty, Shelf, Read, Write, Memory, ShelfCause}
 use Rattle.htl_audit.specs.declared.slice.LogKind.TheVariants as kind
 use Rattle.htl_compile.specs.declared.compiling.CompileFault.TheVariants as compile
 use Rattle.htl_open.specs.Stops.{IsShelfCause}
-use Rattle.htl_top.proofs.BothFiles as both
 use Rattle.htl_top.proofs.BothFiles.{BothAs, UnhadAs, both_as}
 use Rattle.htl_top.specs.Stops.{Came, Ended, audit_as, ended_as, object_as}
 use Rattle.htl_top.specs.declared.stop.AuditStop.{AuditStop}
@@ -34,46 +33,21 @@ not_of_reading t es end log f fault is = fault_kind (all_rounds t es (suc end)) 
 
 -- ---- by outcomes
 
--- the log is audited for the run of the input as script
-abbrev pub AuditRunAs : List Slice → Object → Streams → Streams → Outcome → Type 0
-AuditRunAs log o old new Done = IsWholeAudit o log old.rest new.rest old.written new.written
-AuditRunAs log o old new (Log f) = IsIllegalAudit o log old.rest new.rest old.written new.written f
-AuditRunAs log o old new (Faulty f) = IsFaultyRun Values o.tables o old.rest new.rest old.written new.written f
-AuditRunAs log o old new Read = Rose old.read_faults new.read_faults × IsCutAudit o log old.rest old.written new.written
-AuditRunAs log o old new Write = Rose old.write_faults new.write_faults × IsCutAudit o log old.rest old.written new.written
-AuditRunAs log o old new Memory = IsUntouched old new
-AuditRunAs log o old new _ = ⊥
-
--- why bytes aren't audited: a line has another form or names no concrete invocation, or no memory was left
-abbrev pub LogRefusedAs : Tables → List ℕ → Outcome → Type 0
-LogRefusedAs t bytes (Log f) = log_of t bytes ≡ RefusedLog f.line f.kind
-LogRefusedAs t bytes Memory = Unit {0}
-LogRefusedAs t bytes _ = ⊥
-
--- They are a log, which is audited; or they are refused, nothing was read and nothing written.
-abbrev pub AuditOfAs : Streams → Streams → Object → List ℕ → Outcome → Type 0
-AuditOfAs old new o bytes outcome = HasSlices o.tables bytes (λ log. AuditRunAs log o old new outcome) ⊎ (LogRefusedAs o.tables bytes outcome × IsUntouched old new)
-
-audit_of_as : (old new : Streams) (o : Object) (bytes : List ℕ) (r : Ended AuditStop) → IsAuditOf bytes o old new r → AuditOfAs old new o bytes (ended_as audit_as r)
-audit_of_as old new o bytes (Ok done) is = inl is
-audit_of_as old new o bytes (Err (stop.Log f)) is = is
-audit_of_as old new o bytes (Err (stop.Run running.Memory)) is = inr (tt, is)
-audit_of_as old new o bytes (Err (stop.Run (running.Script f))) is = inl is
-audit_of_as old new o bytes (Err (stop.Run running.Read)) is = inl is
-audit_of_as old new o bytes (Err (stop.Run running.Write)) is = inl is
+-- what was done with an accepted object and the bytes of a log, by its outcome
+abbrev pub AuditOf : Streams → Streams → Object → List ℕ → Outcome → Type 0
+AuditOf old new o bytes outcome = Came audit_as (IsAuditOf bytes o old new) outcome
 
 -- the command
 abbrev pub AuditAs : List ℕ → List ℕ → Files → Streams → Streams → Outcome → Type 0
-AuditAs name log shelf old new outcome = BothAs (AuditOfAs old new) (IsUntouched old new) (Some name) (Some log) shelf outcome
+AuditAs name log shelf old new outcome = BothAs (AuditOf old new) (IsUntouched old new) (Some name) (Some log) shelf outcome
 
 pub seen_audit : (name log : List ℕ) (shelf : Files) (old new : Streams) (outcome : Outcome) → Came (object_as audit_as) (IsAudit name log shelf old new) outcome → AuditAs name log shelf old new outcome
 seen_audit name log shelf old new outcome call =
-    both_as AuditStop audit_as (λ o bytes. IsAuditOf bytes o old new) (AuditOfAs old new) (IsUntouched old new) (Some name) (Some log) shelf (audit_of_as old new) outcome call
+    both_as AuditStop audit_as (λ o bytes. IsAuditOf bytes o old new) (AuditOf old new) (IsUntouched old new) (Some name) (Some log) shelf
+    (λ o bytes r d. record { result = r; is = refl; came = d }) outcome call
 
--- ---- the outcomes of an audit
-
--- answers that an accepted object with a log may have
-abbrev IsOfAudit : Outcome → Type 0
+-- outcomes that an accepted object with a log may have
+abbrev pub IsOfAudit : Outcome → Type 0
 IsOfAudit Done = Unit {0}
 IsOfAudit (Log f) = Unit {0}
 IsOfAudit (Faulty f) = Unit {0}
@@ -82,64 +56,74 @@ IsOfAudit Write = Unit {0}
 IsOfAudit Memory = Unit {0}
 IsOfAudit _ = ⊥
 
-module _ (o : Object) (old new : Streams) where
-  run_only : (log : List Slice) (outcome : Outcome) → AuditRunAs log o old new outcome → IsOfAudit outcome
-  run_only log Done run = tt
-  run_only log (Log f) run = tt
-  run_only log (Faulty f) run = tt
-  run_only log Read run = tt
-  run_only log Write run = tt
-  run_only log Memory run = tt
-  run_only log _ run = absurd run
+ended_audit : (r : Ended AuditStop) → IsOfAudit (ended_as audit_as r)
+ended_audit (Ok done) = tt
+ended_audit (Err (stop.Log f)) = tt
+ended_audit (Err (stop.Run (running.Script f))) = tt
+ended_audit (Err (stop.Run running.Read)) = tt
+ended_audit (Err (stop.Run running.Write)) = tt
+ended_audit (Err (stop.Run running.Memory)) = tt
 
-  refused_only : (bytes : List ℕ) (outcome : Outcome) → LogRefusedAs o.tables bytes outcome → IsOfAudit outcome
-  refused_only bytes (Log f) is = tt
-  refused_only bytes Memory is = tt
-  refused_only bytes _ is = absurd is
+module _ (o : Object) (old new : Streams) (bytes : List ℕ) where
+  -- ---- what is told before anything is read leaves the input and the output as they were
 
-  audit_only : (bytes : List ℕ) (outcome : Outcome) → AuditOfAs old new o bytes outcome → IsOfAudit outcome
-  audit_only bytes outcome (inl h) = run_only h.slices outcome h.fact
-  audit_only bytes outcome (inr r) = refused_only bytes outcome r.0
+  unread_by : (r : Ended AuditStop) → IsAuditOf bytes o old new r → IsBeforeScript (ended_as audit_as r) → new.rest ≡ old.rest
+  unread_by (Err (stop.Log f)) is early = elim is [ inl h ↦ absurd (not_of_reading o.tables h.fact.events h.fact.end h.slices f h.fact.fault early) | inr r ↦ r.1.rest ]
+  unread_by (Err (stop.Run running.Memory)) is early = absurd early
+  unread_by _ is early = absurd early
 
-  -- what is told before anything is read leaves the input as it was
-  run_unread : (log : List Slice) (outcome : Outcome) → AuditRunAs log o old new outcome → IsBeforeScript outcome → new.rest ≡ old.rest
-  run_unread log Done run early = absurd early
-  run_unread log (Log f) run early = absurd (not_of_reading o.tables run.events run.end log f run.fault early)
-  run_unread log (Faulty f) run early = absurd early
-  run_unread log Read run early = absurd early
-  run_unread log Write run early = absurd early
-  run_unread log Memory run early = absurd early
-  run_unread log _ run early = absurd run
+  unwritten_by : (r : Ended AuditStop) → IsAuditOf bytes o old new r → IsBeforeRun (ended_as audit_as r) → new.written ≡ old.written
+  unwritten_by (Err (stop.Log f)) is early = elim is [ inl h ↦ absurd (not_of_reading o.tables h.fact.events h.fact.end h.slices f h.fact.fault early) | inr r ↦ r.1.written ]
+  unwritten_by (Err (stop.Run running.Memory)) is early = is.written
+  unwritten_by _ is early = absurd early
 
-  audit_unread : (bytes : List ℕ) (outcome : Outcome) → AuditOfAs old new o bytes outcome → IsBeforeScript outcome → new.rest ≡ old.rest
-  audit_unread bytes outcome (inl h) early = run_unread h.slices outcome h.fact early
-  audit_unread bytes outcome (inr r) early = r.1.rest
+  -- ---- what each outcome tells
 
-  -- and the output
-  run_unwritten : (log : List Slice) (outcome : Outcome) → AuditRunAs log o old new outcome → IsBeforeRun outcome → new.written ≡ old.written
-  run_unwritten log Done run early = absurd early
-  run_unwritten log (Log f) run early = absurd (not_of_reading o.tables run.events run.end log f run.fault early)
-  run_unwritten log (Faulty f) run early = absurd early
-  run_unwritten log Read run early = absurd early
-  run_unwritten log Write run early = absurd early
-  run_unwritten log Memory run early = run.written
-  run_unwritten log _ run early = absurd run
+  memory_by : (r : Ended AuditStop) → Memory ≡ ended_as audit_as r → IsAuditOf bytes o old new r → IsUntouched old new
+  memory_by (Err (stop.Run running.Memory)) e is = is
+  memory_by (Err (stop.Log f)) e is = absurd (let p = e in cc)
+  memory_by _ e is = absurd (let p = e in cc)
 
-  audit_unwritten : (bytes : List ℕ) (outcome : Outcome) → AuditOfAs old new o bytes outcome → IsBeforeRun outcome → new.written ≡ old.written
-  audit_unwritten bytes outcome (inl h) early = run_unwritten h.slices outcome h.fact early
-  audit_unwritten bytes outcome (inr r) early = r.1.written
+  pub whole : (r : Ended AuditStop) → Done ≡ ended_as audit_as r → IsAuditOf bytes o old new r
+      → HasSlices o.tables bytes (λ log. IsWholeAudit o log old.rest new.rest old.written new.written)
+  whole (Ok done) e is = is
+  whole (Err (stop.Run running.Memory)) e is = absurd (let p = e in cc)
+  whole _ e is = absurd (let p = e in cc)
 
-  audit_memory : (bytes : List ℕ) → AuditOfAs old new o bytes Memory → new.rest ≡ old.rest
-  audit_memory bytes (inl h) = h.fact.rest
-  audit_memory bytes (inr r) = r.1.rest
+  pub faulty : (f : ScriptFault) (r : Ended AuditStop) → Faulty f ≡ ended_as audit_as r → IsAuditOf bytes o old new r
+      → HasSlices o.tables bytes (λ log. IsFaultyRun Values o.tables o old.rest new.rest old.written new.written f)
+  faulty f (Err (stop.Run (running.Script g))) e is =
+      let same : g ≡ f = let p = e in cc in
+      subst (λ (h : ScriptFault). HasSlices o.tables bytes (λ log. IsFaultyRun Values o.tables o old.rest new.rest old.written new.written h)) same is
+  faulty f (Err (stop.Log g)) e is = absurd (let p = e in cc)
+  faulty f _ e is = absurd (let p = e in cc)
+
+  pub read_cut : (r : Ended AuditStop) → Read ≡ ended_as audit_as r → IsAuditOf bytes o old new r
+      → HasSlices o.tables bytes (λ log. Rose old.read_faults new.read_faults × IsCutAudit o log old.rest old.written new.written)
+  read_cut (Err (stop.Run running.Read)) e is = is
+  read_cut (Err (stop.Log f)) e is = absurd (let p = e in cc)
+  read_cut _ e is = absurd (let p = e in cc)
+
+  pub write_cut : (r : Ended AuditStop) → Write ≡ ended_as audit_as r → IsAuditOf bytes o old new r
+      → HasSlices o.tables bytes (λ log. Rose old.write_faults new.write_faults × IsCutAudit o log old.rest old.written new.written)
+  write_cut (Err (stop.Run running.Write)) e is = is
+  write_cut (Err (stop.Log f)) e is = absurd (let p = e in cc)
+  write_cut _ e is = absurd (let p = e in cc)
+
+  pub log_fault : (f : LogFault) (r : Ended AuditStop) → Log f ≡ ended_as audit_as r → IsAuditOf bytes o old new r → IsLogFault bytes o old new f
+  log_fault f (Err (stop.Log g)) e is =
+      let same : g ≡ f = let p = e in cc in
+      subst (λ (h : LogFault). IsLogFault bytes o old new h) same is
+  log_fault f (Err (stop.Run running.Memory)) e is = absurd (let p = e in cc)
+  log_fault f _ e is = absurd (let p = e in cc)
 
 -- ---- of files
 
 module _ (name log : List ℕ) (shelf : Files) (old new : Streams) where
-  -- an answer that no audit has
-  stopped : (outcome : Outcome) → AuditAs name log shelf old new outcome → (IsOfAudit outcome → ⊥) → UnhadAs (Some name) (Some log) shelf outcome
+  -- an outcome that no audit has
+  pub stopped : (outcome : Outcome) → AuditAs name log shelf old new outcome → (IsOfAudit outcome → ⊥) → UnhadAs (Some name) (Some log) shelf outcome
   stopped outcome audit none = elim audit [
-    | inl a ↦ absurd (none (audit_only a.object old new a.fact.bytes outcome a.fact.fact))
+    | inl a ↦ absurd (none (subst IsOfAudit (sym a.fact.fact.is) (ended_audit a.fact.fact.result)))
     | inr s ↦ s.0
   ]
 
@@ -165,10 +149,10 @@ module _ (name log : List ℕ) (shelf : Files) (old new : Streams) where
   object f audit = (stopped (Refused f) audit (λ w. w)).0
 
   pub unread : (outcome : Outcome) → AuditAs name log shelf old new outcome → IsBeforeScript outcome → new.rest ≡ old.rest
-  unread outcome audit early = elim audit [ inl a ↦ audit_unread a.object old new a.fact.bytes outcome a.fact.fact early | inr s ↦ s.1.rest ]
+  unread outcome audit early = elim audit [ inl a ↦ unread_by a.object old new a.fact.bytes a.fact.fact.result a.fact.fact.came (subst IsBeforeScript a.fact.fact.is early) | inr s ↦ s.1.rest ]
 
   pub unwritten : (outcome : Outcome) → AuditAs name log shelf old new outcome → IsBeforeRun outcome → new.written ≡ old.written
-  unwritten outcome audit early = elim audit [ inl a ↦ audit_unwritten a.object old new a.fact.bytes outcome a.fact.fact early | inr s ↦ s.1.written ]
+  unwritten outcome audit early = elim audit [ inl a ↦ unwritten_by a.object old new a.fact.bytes a.fact.fact.result a.fact.fact.came (subst IsBeforeRun a.fact.fact.is early) | inr s ↦ s.1.written ]
 
   pub memory_unread : AuditAs name log shelf old new Memory → new.rest ≡ old.rest
-  memory_unread audit = elim audit [ inl a ↦ audit_memory a.object old new a.fact.bytes a.fact.fact | inr s ↦ s.1.rest ]
+  memory_unread audit = elim audit [ inl a ↦ (memory_by a.object old new a.fact.bytes a.fact.fact.result a.fact.fact.is a.fact.fact.came).rest | inr s ↦ s.1.rest ]

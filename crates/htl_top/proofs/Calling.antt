@@ -84,7 +84,7 @@ module _ (shelf : Files) (old new : Streams) where
   usage (Some (Audit name log)) outcome call =
       not_asked (Audit name log) (outcome ≡ Usage) (λ e. auditing.no_usage name log shelf old new (subst (λ o. AuditAs name log shelf old new o) e call))
   usage (Some (Patch name unit mode donor)) outcome call =
-      not_asked (Patch name unit mode donor) (outcome ≡ Usage) (λ e. patching.no_usage unit mode (Some name) (Some donor) shelf old new (subst (λ o. PatchingAs unit mode (Some name) (Some donor) shelf old new o) e call))
+      not_asked (Patch name unit mode donor) (outcome ≡ Usage) (λ e. patching.stopped unit mode (Some name) (Some donor) shelf old new Usage (subst (λ o. PatchingAs unit mode (Some name) (Some donor) shelf old new o) e call) (λ w. w))
   usage (Some (Bulk n)) outcome call = not_asked (Bulk n) (outcome ≡ Usage) (λ e. bulking.only n old new Usage (subst (λ o. IsBulked n old new o) e call))
 
   -- ---- of an answer
@@ -161,7 +161,7 @@ module _ (shelf : Files) (old new : Streams) where
   platform (Some (Show name)) f call = absurd (no_platform IsShown showing name f call)
   platform (Some (Slack name owner task)) f call = absurd (no_platform (IsSlacked owner task) (slacking owner task) name f call)
   platform (Some (Audit name log)) f call = absurd (auditing.no_platform name log shelf old new f call)
-  platform (Some (Patch name unit mode donor)) f call = absurd (patching.no_platform unit mode (Some name) (Some donor) shelf old new f call)
+  platform (Some (Patch name unit mode donor)) f call = absurd (patching.stopped unit mode (Some name) (Some donor) shelf old new (Platform f) call (λ w. w))
   platform (Some Compile) f call = absurd call
   platform (Some (Bulk n)) f call = absurd (bulking.only n old new (Platform f) call)
 

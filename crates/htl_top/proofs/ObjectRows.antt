@@ -1,9 +1,11 @@
 -- From the answer of a command on an object to its rows, and to those on the object itself.
 use Rattle.std.proofs.Common.{◌≡◌, ◌≤◌, ◌<◌, ◌⊎◌, ℕ, List, length, Option, None, Some, refl, sym, subst, inl, inr}
-use Rattle.htl_top.proofs.Vocabulary.{append_known, Shown, Rose, AppendsPrefix, RefusesBytes, ObjectFault, PatchFault, Object, Files, Streams, IsGiven, IsOrMemory, check_text, IsReadyFile, IsAcceptedFile, IsOnObject, IsReadyObject, Work, IsPlanned, IsCutPlan, IsBadSelection, IsRun, IsWholeRun, IsFaultyRun, IsCutRun, show_text, HasSlack, NamesNoTask, IsTaskCause, object_bytes, HasPatch, IsDonorFault, IsPatchCause, IsUntouched, Command, Go, Compile, CompileWith, Run, Check, Plan, Show, Bulk, Slack, Audit, Patch, command_object, second_file, Outcome, Done, Usage, Refused, Script, Shelf, Task, Unpatched, Read, Write, Memory, TooLong}
+use Rattle.htl_top.proofs.Vocabulary.{append_known, Shown, Rose, AppendsPrefix, RefusesBytes, ObjectFault, PatchFault, Object, Files, Streams, IsGiven, IsOrMemory, check_text, IsReadyFile, IsAcceptedFile, IsOnObject, IsReadyObject, Work, IsPlanned, IsCutPlan, IsBadSelection, IsRun, IsWholeRun, IsFaultyRun, IsCutRun, show_text, HasSlack, NamesNoTask, IsTaskCause, object_bytes, HasPatch, IsDonorFault, IsDonorTold, IsPatchCause, AreFilesOf, IsUntouched, Command, Go, Compile, CompileWith, Run, Check, Plan, Show, Bulk, Slack, Audit, Patch, command_object, second_file, Outcome, Done, Usage, Refused, Script, Shelf, Task, Unpatched, Read, Write, Memory, TooLong}
 use Rattle.htl_top.proofs.Auditing as auditing
-use Rattle.htl_top.proofs.Auditing.{AuditOfAs}
+use Rattle.htl_top.proofs.Auditing.{AuditOf}
 use Rattle.htl_top.proofs.BothFiles as both
+use Rattle.htl_top.proofs.BothFiles.{UnhadAs}
+use Rattle.htl_top.proofs.PatchedObjects as patched
 use Rattle.htl_top.proofs.Bulking as bulking
 use Rattle.htl_top.proofs.Calling.{checking, showing, some_not_none, done_memory, write_memory, read_memory, script_memory}
 use Rattle.htl_top.proofs.ObjectAnswering as objects
@@ -18,7 +20,8 @@ use Rattle.htl_top.proofs.Slacking as slacking
 use Rattle.htl_top.proofs.Slacking.{IsSlacked, slacking as slack_work}
 use Rattle.htl_top.proofs.Stops.{must}
 use Rattle.htl_top.specs.Planned.{IsWholePlan}
-use Rattle.htl_top.specs.Stops.{run_as}
+use Rattle.htl_top.specs.Stops.{Ended, donor_as, ended_as, run_as}
+use Rattle.htl_top.specs.declared.stop.DonorStop.{DonorStop}
 use Rattle.htl_top.proofs.Telling as texts
 use Rattle.htl_top.proofs.Telling.{TextOf, telling}
 use Rattle.htl_top.specs.ObjectRows.{RunRows, CheckRows, ShowRows, SlackRows, PlanRows, PatchRows}
@@ -33,7 +36,7 @@ module _ (shelf : Files) (old new : Streams) where
   long_object (Some (Plan name)) bytes outcome given call long = objects.long_object PlanOf planning (Some name) shelf old new bytes given outcome call long
   long_object (Some (Show name)) bytes outcome given call long = objects.long_object IsShown showing (Some name) shelf old new bytes given outcome call long
   long_object (Some (Slack name owner task)) bytes outcome given call long = objects.long_object (IsSlacked owner task) (slack_work owner task) (Some name) shelf old new bytes given outcome call long
-  long_object (Some (Audit name log)) bytes outcome given call long = both.long_object (AuditOfAs old new) (IsUntouched old new) (Some name) (Some log) shelf bytes given outcome call long
+  long_object (Some (Audit name log)) bytes outcome given call long = both.long_object (AuditOf old new) (IsUntouched old new) (Some name) (Some log) shelf bytes given outcome call long
   long_object (Some (Patch name unit mode donor)) bytes outcome given call long = both.long_object (DonorOf unit mode old new) (new.written ≡ old.written) (Some name) (Some donor) shelf bytes given outcome call.1 long
   long_object _ bytes outcome given call long = absurd (some_not_none (List ℕ) None given.word given.named refl)
 
@@ -52,7 +55,7 @@ module _ (shelf : Files) (old new : Streams) where
       objects.faulty_object (IsSlacked owner task) (slack_work owner task) (Some name) shelf old new bytes given outcome call f short refused
   faulty_object (Some (Audit name log)) bytes outcome given call second f short refused =
       let other = second log refl in
-      both.faulty_object (AuditOfAs old new) (IsUntouched old new) (Some name) (Some log) shelf bytes given other.0 other.1.given other.1.short outcome call f short refused
+      both.faulty_object (AuditOf old new) (IsUntouched old new) (Some name) (Some log) shelf bytes given other.0 other.1.given other.1.short outcome call f short refused
   faulty_object (Some (Patch name unit mode donor)) bytes outcome given call second f short refused =
       let other = second donor refl in
       both.faulty_object (DonorOf unit mode old new) (new.written ≡ old.written) (Some name) (Some donor) shelf bytes given other.0 other.1.given other.1.short outcome call.1 f short refused
@@ -166,15 +169,16 @@ module _ (shelf : Files) (old new : Streams) (outcome : Outcome) (name : List �
 
   pub patch_rows : (unit mode donor : List ℕ) → PatchingAs unit mode (Some name) (Some donor) shelf old new outcome → PatchRows name unit mode donor shelf old new outcome
   patch_rows unit mode donor call = record {
-    done = λ same. elim (told Done same).1 [ inl a ↦ a | inr s ↦ absurd s.0 ];
-    write = λ same. elim (told Write same).1 [
-      | inl a ↦ (
-        a.fact.fact.0,
-        both.AreFilesOf-map (Some name) (Some donor) shelf (λ o bytes. DonorOf unit mode old new o bytes Write)
-            (λ o bytes. HasPatch o unit mode bytes (λ p. AppendsPrefix old.written new.written (object_bytes p))) (λ o bytes t. t.1) a,
-      )
-      | inr s ↦ absurd s.0
-    ];
+    done = λ same. did Done same (λ u. u) (λ o bytes. HasPatch o unit mode bytes (λ p. new.written ≡ append_known old.written (object_bytes p)))
+        (λ o bytes r e is. patched.told_whole o unit mode bytes old.written new.written old.write_faults new.write_faults r e is);
+    write = λ same.
+        let a = did Write same (λ u. u) (λ o bytes. Rose old.write_faults new.write_faults × HasPatch o unit mode bytes (λ p. AppendsPrefix old.written new.written (object_bytes p)))
+        (λ o bytes r e is. patched.told_part o unit mode bytes old.written new.written old.write_faults new.write_faults r e is) in (
+          a.fact.fact.0,
+          both.AreFilesOf-map (Some name) (Some donor) shelf
+              (λ o bytes. Rose old.write_faults new.write_faults × HasPatch o unit mode bytes (λ p. AppendsPrefix old.written new.written (object_bytes p)))
+              (λ o bytes. HasPatch o unit mode bytes (λ p. AppendsPrefix old.written new.written (object_bytes p))) (λ o bytes t. t.1) a,
+        );
     unread = call.0;
     long_donor = λ host bytes had gift long.
         both.long_second (DonorOf unit mode old new) (new.written ≡ old.written) (Some name) (Some donor) shelf host had.given bytes gift outcome call.1 had.short long;
@@ -182,8 +186,13 @@ module _ (shelf : Files) (old new : Streams) (outcome : Outcome) (name : List �
     complete = λ bytes o d g is gift small has can still. patching.complete unit mode (Some name) (Some donor) shelf old new o d g is bytes gift small has can still outcome call;
   }
     where
-      told : (other : Outcome) → outcome ≡ other → PatchingAs unit mode (Some name) (Some donor) shelf old new other
-      told other same = subst (λ (o : Outcome). PatchingAs unit mode (Some name) (Some donor) shelf old new o) same call
+      did : (other : Outcome) → outcome ≡ other → (UnhadAs (Some name) (Some donor) shelf other → ⊥) → (Fact : Object → List ℕ → Type 0)
+          → ((o : Object) (bytes : List ℕ) (r : Ended DonorStop) → other ≡ ended_as donor_as r → IsDonorTold o unit mode bytes old.written new.written old.write_faults new.write_faults r
+          → Fact o bytes) → AreFilesOf (Some name) (Some donor) shelf.holds Fact
+      did other same had Fact f = elim (subst (λ (o : Outcome). PatchingAs unit mode (Some name) (Some donor) shelf old new o) same call).1 [
+        | inl a ↦ both.AreFilesOf-map (Some name) (Some donor) shelf (λ o bytes. DonorOf unit mode old new o bytes other) Fact (λ o bytes d. f o bytes d.result d.is d.came) a
+        | inr s ↦ absurd (had s.0)
+      ]
 
 -- ---- answers of one command alone
 
@@ -201,7 +210,7 @@ module _ (shelf : Files) (old new : Streams) where
   task_cause (Some (CompileWith file)) call = call
   task_cause (Some (Bulk n)) call = bulking.only n old new Task call
   task_cause (Some (Audit name log)) call = auditing.no_task name log shelf old new call
-  task_cause (Some (Patch name unit mode donor)) call = patching.no_task unit mode (Some name) (Some donor) shelf old new call
+  task_cause (Some (Patch name unit mode donor)) call = patching.stopped unit mode (Some name) (Some donor) shelf old new Task call (λ w. w)
   task_cause (Some (Slack name owner task)) call = elim call [
     | inl a ↦
         objects.IsAcceptedFile-map (Some name) shelf.holds (λ o. IsSlacked owner task o old new Task) (λ o. NamesNoTask o.tables owner task) (λ o d. slacking.unknown owner task o old new d) a
@@ -219,11 +228,11 @@ module _ (shelf : Files) (old new : Streams) where
   patch_cause (Some (CompileWith file)) f call = call
   patch_cause (Some (Bulk n)) f call = bulking.only n old new (Unpatched f) call
   patch_cause (Some (Slack name owner task)) f call = elim call [ inl a ↦ (slack_work owner task).only a.object old new (Unpatched f) a.fact | inr s ↦ s.0 ]
-  patch_cause (Some (Audit name log)) f call = elim call [ inl a ↦ elim a.fact.fact [ inl h ↦ h.fact | inr r ↦ r.0 ] | inr s ↦ s.0 ]
+  patch_cause (Some (Audit name log)) f call = auditing.stopped name log shelf old new (Unpatched f) call (λ w. w)
   patch_cause (Some (Patch name unit mode donor)) f call = elim call.1 [
     | inl a ↦
-        both.AreFilesOf-map (Some name) (Some donor) shelf (λ o bytes. DonorOf unit mode old new o bytes (Unpatched f))
-        (λ o bytes. IsDonorFault o unit mode bytes f) (λ o bytes t. t.0) a
+        both.AreFilesOf-map (Some name) (Some donor) shelf (λ o bytes. DonorOf unit mode old new o bytes (Unpatched f)) (λ o bytes. IsDonorFault o unit mode bytes f)
+        (λ o bytes d. (patched.told_fault o unit mode bytes old.written new.written old.write_faults new.write_faults f d.result d.is d.came).0) a
     | inr s ↦ absurd s.0
   ]
   patch_cause (Some (Run show name)) f call = objects.stopped (RunOf show) (running show) (Some name) shelf old new (Unpatched f) call (λ w. w)

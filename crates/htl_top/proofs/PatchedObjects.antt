@@ -4,7 +4,7 @@ use Rattle.htl_top.proofs.Vocabulary.{append_known, Rose, AppendsPrefix, Holding
 use Rattle.htl_patch.specs.declared.fault.PatchFault.TheVariants as fault
 use Rattle.htl_patch.specs.declared.fault.PatchStop.TheVariants as stop
 use Rattle.htl_top.proofs.ObjectAnswering.{one_of_bytes, object_or_bad}
-use Rattle.htl_top.specs.declared.outcome.Outcome.TheVariants.{Done, Patch, Write, Memory}
+use Rattle.htl_top.specs.declared.outcome.Outcome.TheVariants.{Done, Patch, Write}
 use Rattle.htl_top.specs.Stops.{Ended, donor_as, ended_as}
 use Rattle.htl_top.specs.declared.stop.DonorStop.{DonorStop}
 use Rattle.htl_top.specs.declared.stop.DonorStop.TheVariants as unpatched
@@ -22,24 +22,6 @@ pub in_both_files : (name unit mode given : List ℕ) (holds : Option Holdings) 
     → HasBytes host o → IsAccepted o → (Fact : Tables → Type 0) → HasPatchedTables o unit mode donor Fact → IsPatchedTables name unit mode given holds Fact
 in_both_files name unit mode given holds host donor o file other has accepted Fact made =
     record { bytes = host; file = file; object = o; has = has; accepted = accepted; fact = record { bytes = donor; file = other; fact = made } }
-
--- ---- by outcomes
-
--- the new object is written, or a prefix of its bytes; or nothing, since the donor has a fault or no memory was left
-abbrev pub DonorToldAs : List ℕ → List ℕ → Option (List ℕ) → Option (List ℕ) → ℕ → ℕ → Object → List ℕ → Outcome → Type 0
-DonorToldAs unit mode old new before now o bytes Done = HasPatch o unit mode bytes (λ p. new ≡ append_known old (object_bytes p))
-DonorToldAs unit mode old new before now o bytes Write = Rose before now × HasPatch o unit mode bytes (λ p. AppendsPrefix old new (object_bytes p))
-DonorToldAs unit mode old new before now o bytes (Patch f) = IsDonorFault o unit mode bytes f × (new ≡ old)
-DonorToldAs unit mode old new before now o bytes Memory = new ≡ old
-DonorToldAs unit mode old new before now o bytes _ = ⊥
-
-pub donor_told_as : (unit mode : List ℕ) (old new : Option (List ℕ)) (before now : ℕ) (o : Object) (bytes : List ℕ) (r : Ended DonorStop) → IsDonorTold o unit mode bytes old new before now r
-    → DonorToldAs unit mode old new before now o bytes (ended_as donor_as r)
-donor_told_as unit mode old new before now o bytes (Ok done) is = is
-donor_told_as unit mode old new before now o bytes (Err (unpatched.Put put.Write)) is = is
-donor_told_as unit mode old new before now o bytes (Err (unpatched.Put put.Memory)) is = is
-donor_told_as unit mode old new before now o bytes (Err (unpatched.Patch (stop.Refused f t))) is = (is.0, is.2)
-donor_told_as unit mode old new before now o bytes (Err (unpatched.Patch stop.Memory)) is = is
 
 -- ---- what is done
 
@@ -98,30 +80,49 @@ module _ (o : Object) (unit mode bytes : List ℕ) where
   IsDonorTold-stop d has written faults (stop.Refused f t) p = (inr (record { donor = d; has = has; refused = p.0 }), SpeaksOfPatch-back d has f t p.0 p.1, refl)
   IsDonorTold-stop d has written faults stop.Memory p = refl
 
-  -- ---- what is told of it
+  -- ---- what it came to, by its outcome
 
   module _ (old new : Option (List ℕ)) (before now : ℕ) where
-    pub told_unwritten : (outcome : Outcome) → DonorToldAs unit mode old new before now o bytes outcome → IsBeforeRun outcome → new ≡ old
-    told_unwritten Done told early = absurd early
-    told_unwritten Write told early = absurd early
-    told_unwritten (Patch f) told early = told.1
-    told_unwritten Memory told early = told
-    told_unwritten _ told early = absurd told
+    abbrev Told : Ended DonorStop → Type 0
+    Told r = IsDonorTold o unit mode bytes old new before now r
+
+    pub told_unwritten : (r : Ended DonorStop) → Told r → IsBeforeRun (ended_as donor_as r) → new ≡ old
+    told_unwritten (Ok done) told early = absurd early
+    told_unwritten (Err (unpatched.Put put.Write)) told early = absurd early
+    told_unwritten (Err (unpatched.Put put.Memory)) told early = told
+    told_unwritten (Err (unpatched.Patch (stop.Refused f t))) told early = told.2
+    told_unwritten (Err (unpatched.Patch stop.Memory)) told early = told
+
+    pub told_whole : (r : Ended DonorStop) → Done ≡ ended_as donor_as r → Told r → HasPatch o unit mode bytes (λ p. new ≡ append_known old (object_bytes p))
+    told_whole (Ok done) e told = told
+    told_whole (Err (unpatched.Put put.Memory)) e told = absurd (let p = e in cc)
+    told_whole (Err (unpatched.Patch stop.Memory)) e told = absurd (let p = e in cc)
+    told_whole _ e told = absurd (let p = e in cc)
+
+    pub told_part : (r : Ended DonorStop) → Write ≡ ended_as donor_as r → Told r → Rose before now × HasPatch o unit mode bytes (λ p. AppendsPrefix old new (object_bytes p))
+    told_part (Err (unpatched.Put put.Write)) e told = told
+    told_part (Err (unpatched.Patch stop.Memory)) e told = absurd (let p = e in cc)
+    told_part _ e told = absurd (let p = e in cc)
+
+    pub told_fault : (f : PatchFault) (r : Ended DonorStop) → Patch f ≡ ended_as donor_as r → Told r → IsDonorFault o unit mode bytes f × (new ≡ old)
+    told_fault f (Err (unpatched.Patch (stop.Refused h t))) e told =
+        let same : h ≡ f = let p = e in cc in
+        (subst (λ (x : PatchFault). IsDonorFault o unit mode bytes x) same told.0, told.2)
+    told_fault f (Err (unpatched.Put put.Memory)) e told = absurd (let p = e in cc)
+    told_fault f _ e told = absurd (let p = e in cc)
 
     -- the fault is told
-    pub told_faulty : IsAccepted o → (f : PatchFault) → IsDonorFault o unit mode bytes f → (outcome : Outcome) → DonorToldAs unit mode old new before now o bytes outcome
-        → IsOrMemory outcome (Patch f)
-    told_faulty accepted f is Done told = absurd (not_faulty told.donor told.replacement told.has told.can f is)
-    told_faulty accepted f is Write told = absurd (not_faulty told.1.donor told.1.replacement told.1.has told.1.can f is)
-    told_faulty accepted f is (Patch h) told = inl (ap (λ (x : PatchFault). Patch x) (one_donor_fault accepted h f told.0 is))
-    told_faulty accepted f is Memory told = inr refl
-    told_faulty accepted f is _ told = absurd told
+    pub told_faulty : IsAccepted o → (f : PatchFault) → IsDonorFault o unit mode bytes f → (r : Ended DonorStop) → Told r → IsOrMemory (ended_as donor_as r) (Patch f)
+    told_faulty accepted f is (Ok done) told = absurd (not_faulty told.donor told.replacement told.has told.can f is)
+    told_faulty accepted f is (Err (unpatched.Put put.Write)) told = absurd (not_faulty told.1.donor told.1.replacement told.1.has told.1.can f is)
+    told_faulty accepted f is (Err (unpatched.Put put.Memory)) told = inr refl
+    told_faulty accepted f is (Err (unpatched.Patch (stop.Refused h t))) told = inl (ap (λ (x : PatchFault). Patch x) (one_donor_fault accepted h f told.0 is))
+    told_faulty accepted f is (Err (unpatched.Patch stop.Memory)) told = inr refl
 
     -- the new object is written whole, where the output doesn't fail
-    pub told_done : (d : Object) (g : Replacement) → HasBytes bytes d → CanPatch o d unit mode g → (Rose before now → ⊥) → (outcome : Outcome)
-        → DonorToldAs unit mode old new before now o bytes outcome → IsOrMemory outcome Done
-    told_done d g has can still Done told = inl refl
-    told_done d g has can still Write told = absurd (still told.0)
-    told_done d g has can still (Patch f) told = absurd (not_faulty d g has can f told.0)
-    told_done d g has can still Memory told = inr refl
-    told_done d g has can still _ told = absurd told
+    pub told_done : (d : Object) (g : Replacement) → HasBytes bytes d → CanPatch o d unit mode g → (Rose before now → ⊥) → (r : Ended DonorStop) → Told r → IsOrMemory (ended_as donor_as r) Done
+    told_done d g has can still (Ok done) told = inl refl
+    told_done d g has can still (Err (unpatched.Put put.Write)) told = absurd (still told.0)
+    told_done d g has can still (Err (unpatched.Put put.Memory)) told = inr refl
+    told_done d g has can still (Err (unpatched.Patch (stop.Refused f t))) told = absurd (not_faulty d g has can f told.0)
+    told_done d g has can still (Err (unpatched.Patch stop.Memory)) told = inr refl
