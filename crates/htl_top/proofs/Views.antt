@@ -4,7 +4,7 @@ use Rattle.htl_open.specs.Files.{Files}
 use Rattle.htl_open.specs.Objects.{IsAcceptedFile, IsRefusedFile}
 use Rattle.htl_open.specs.Stops.{IsShelfCause}
 use Rattle.htl_top.specs.Answers.{Streams, IsUntouched}
-use Rattle.htl_top.specs.Common.{Object}
+use Rattle.htl_object.specs.declared.object.Object.{Object}
 use Rattle.htl_top.specs.declared.outcome.Outcome.{Outcome}
 use Rattle.htl_top.specs.declared.outcome.Outcome.TheVariants.{Object as Refused, Shelf, Memory}
 
