@@ -1,5 +1,5 @@
 use Rattle.std.proofs.Common.{Ok, Err}
-use Rattle.htl_top.proofs.Vocabulary.{Some, Puts, files, check_text, Object}
+use Rattle.htl_top.proofs.Vocabulary.{Some, subst, Puts, files, check_text, Object, Tables}
 use Rattle.htl_top.proofs.Stops.{loaded_does}
 use Rattle.htl_top.proofs.check.check_file.Goals as goal
 
@@ -7,10 +7,8 @@ pub returns-in-Ok-clause-answer : goal.returns-in-Ok-clause-answer
 returns-in-Ok-clause-answer g c =
     loaded_does (Some c.args.name.now) (files g.S.Shelf.holds g.S.Shelf.faults c.args.shelf.now c.open.new.shelf)
     (λ (o : Object). Puts (g.W.Sink.written c.args.out.now) (g.W.Sink.written c.write_check.new.out) (g.W.Sink.faults c.args.out.now) (g.W.Sink.faults c.write_check.new.out) (check_text o.tables) (Ok tt))
-    c.in_ok-loaded.loaded c.in_ok-loaded.ensures.opened (rw c.tables.ensures.value at c.in-Ok.ensures)
-
-pub returns-in-Err-clause-answer : goal.returns-in-Err-clause-answer
-returns-in-Err-clause-answer g c =
-    loaded_does (Some c.args.name.now) (files g.S.Shelf.holds g.S.Shelf.faults c.args.shelf.now c.open.new.shelf)
-    (λ (o : Object). Puts (g.W.Sink.written c.args.out.now) (g.W.Sink.written c.write_check.new.out) (g.W.Sink.faults c.args.out.now) (g.W.Sink.faults c.write_check.new.out) (check_text o.tables) (Err c.in-Err.failed))
-    c.in_ok-loaded.loaded c.in_ok-loaded.ensures.opened (rw c.tables.ensures.value at c.in-Err.ensures)
+    c.in_ok-loaded.loaded c.in_ok-loaded.ensures.opened (
+    subst
+    (λ (t : Tables). Puts (g.W.Sink.written c.args.out.now) (g.W.Sink.written c.write_check.new.out) (g.W.Sink.faults c.args.out.now) (g.W.Sink.faults c.write_check.new.out) (check_text t) (Ok tt))
+    c.tables.ensures.value c.in-Ok.ensures
+    )

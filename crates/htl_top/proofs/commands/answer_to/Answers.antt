@@ -136,7 +136,7 @@ returns-in-Plan-clause-answer g c =
     let shelf = files g.S.Shelf.holds g.S.Shelf.faults c.args.shelf.now c.plan_file.new.shelf in
     let old = side c.args.input.now c.args.out.now in
     let new = side c.plan_file.new.input c.plan_file.new.out in
-    let told = c.of_run in
+    let told = c.of_run-in-Plan in
     let did = c.plan_file in
     subst (λ (o : Option Command). IsAnswered o shelf old new told.result) (sym (c.in-Some.ensures.command ∙ ap (λ (a : Asked). Some (asked_for a)) c.in-Plan.is))
     (
@@ -157,7 +157,7 @@ returns-in-Show-clause-answer g c =
     let shelf = files g.S.Shelf.holds g.S.Shelf.faults c.args.shelf.now c.show_file.new.shelf in
     let old = side c.args.input.now c.args.out.now in
     let new = side c.args.input.now c.show_file.new.out in
-    let told = c.of_text in
+    let told = c.of_text-in-Show in
     let did = c.show_file in
     subst (λ (o : Option Command). IsAnswered o shelf old new told.result) (sym (c.in-Some.ensures.command ∙ ap (λ (a : Asked). Some (asked_for a)) c.in-Show.is))
     (

@@ -8,9 +8,3 @@ returns-in-Ok-clause-answer g c =
     loaded_does (Some c.args.name.now) (files g.S.Shelf.holds g.S.Shelf.faults c.args.shelf.now c.open.new.shelf)
     (λ (o : Object). Puts (g.W.Sink.written c.args.out.now) (g.W.Sink.written c.write_listing.new.out) (g.W.Sink.faults c.args.out.now) (g.W.Sink.faults c.write_listing.new.out) (show_text o) (Ok tt))
     c.in_ok-loaded.loaded c.in_ok-loaded.ensures.opened c.in-Ok.ensures
-
-pub returns-in-Err-clause-answer : goal.returns-in-Err-clause-answer
-returns-in-Err-clause-answer g c =
-    loaded_does (Some c.args.name.now) (files g.S.Shelf.holds g.S.Shelf.faults c.args.shelf.now c.open.new.shelf)
-    (λ (o : Object). Puts (g.W.Sink.written c.args.out.now) (g.W.Sink.written c.write_listing.new.out) (g.W.Sink.faults c.args.out.now) (g.W.Sink.faults c.write_listing.new.out) (show_text o) (Err c.in-Err.failed))
-    c.in_ok-loaded.loaded c.in_ok-loaded.ensures.opened c.in-Err.ensures
