@@ -14,8 +14,8 @@ returns-in-Ok-clause-answer g c =
     (λ (o : Object). IsPlanned o (side c.args.input.now c.args.out.now) (side c.plan.new.input c.plan.new.out) (Ok tt))
     c.in_ok-loaded.loaded c.in_ok-loaded.ensures.opened c.in-Ok.ensures.answer
 
-pub returns-in-Err-clause-answer : goal.returns-in-Err-clause-answer
-returns-in-Err-clause-answer g c =
+pub returns-clause-answer : goal.returns-clause-answer
+returns-clause-answer g c =
     let side = streams g.R.Source.rest g.R.Source.faults g.W.Sink.written g.W.Sink.faults in
     loaded_does (Some c.args.name.now) (files g.S.Shelf.holds g.S.Shelf.faults c.args.shelf.now c.open.new.shelf)
     (λ (o : Object). IsPlanned o (side c.args.input.now c.args.out.now) (side c.plan.new.input c.plan.new.out) (Err c.in-Err.stop))
