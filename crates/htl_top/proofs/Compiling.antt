@@ -1,6 +1,6 @@
 -- What `compile` came to, by its outcome and its input.
 use Rattle.std.proofs.Common.{arith, ◌≡◌, ◌≤◌, ◌<◌, ℕ, List, length, Option, Some, Ok, Err, refl, sym, ap, subst, inl, inr}
-use Rattle.htl_top.proofs.Vocabulary.{IfSome, append_known, compile_only_memory, one_compile_fault, IsCompiledTo, IsCompileFault, AreSchedulable, AreTyped, IsTablesOf, CompileFault, Rose, AppendsPrefix, none_left, Formed, Tables, Streams, IsBeforeRun, IsOrMemory, HasBuilt, IsCompiling, IsInputCompiled, compiled_bytes, IsInput, IsInputOf, IsInputProgram, IsFaultyInput, IsLongInput, IsInputFault, answer_of, Outcome, Done, Source, IllFormed, Unschedulable, Read, Write, Memory, SourceStop}
+use Rattle.htl_top.proofs.Vocabulary.{IfSome, append_known, compile_only_memory, one_compile_fault, IsCompiledTo, IsCompileFault, AreSchedulable, AreTyped, IsTablesOf, CompileFault, Rose, AppendsPrefix, none_left, Formed, Tables, Streams, IsBeforeRun, IsOrMemory, IsCompiling, IsInputCompiled, compiled_bytes, IsInput, IsInputProgram, IsFaultyInput, IsLongInput, IsInputFault, answer_of, Outcome, Done, Source, IllFormed, Unschedulable, Read, Write, Memory, SourceStop}
 use Rattle.htl_compile.specs.declared.compiling.CompileFault.TheVariants as compile
 use Rattle.htl_compile.specs.declared.source_fault.SourceFault.TheVariants as source
 use Rattle.htl_compile.specs.declared.stop.SourceStop.TheVariants as stop
@@ -47,18 +47,7 @@ module _ (old new : Streams) where
 
 -- ---- what is done
 
--- the input was had, and an object was built of it and put
-pub input_built : (IsBuilt : List ℕ → List ℕ → Type 0) (rest : Option (List ℕ)) (bytes slice object put : List ℕ) → slice ≡ bytes → put ≡ object → IsInput rest bytes → IsBuilt slice object
-    → (Fact : List ℕ → Type 0) → Fact put → IsInputOf rest (HasBuilt IsBuilt Fact)
-input_built IsBuilt rest bytes slice object put is same input built Fact fact =
-    record { bytes = bytes; input = input; fact = (object, subst (λ (bs : List ℕ). IsBuilt bs object) is built, subst Fact same fact) }
-
--- it was had, and none was built
-pub input_unbuilt : (IsUnbuilt : List ℕ → SourceStop → Type 0) (rest : Option (List ℕ)) (bytes slice : List ℕ) (s : SourceStop) → slice ≡ bytes → IsInput rest bytes → IsUnbuilt slice s
-    → IsInputOf rest (λ source. IsUnbuilt source s)
-input_unbuilt IsUnbuilt rest bytes slice s is input unbuilt = record { bytes = bytes; input = input; fact = subst (λ (bs : List ℕ). IsUnbuilt bs s) is unbuilt }
-
--- it wasn't had whole
+-- the input wasn't had whole
 pub unread_stop : (IsBuilt : List ℕ → List ℕ → Type 0) (IsUnbuilt : List ℕ → SourceStop → Type 0) (old new : Streams) (s : InputStop) → new.written ≡ old.written
     → (s ≡ unread.TooLong → IfSome old.rest (λ given. 1048576 < length given)) → (s ≡ unread.Read → Rose old.read_faults new.read_faults)
     → IsInputCompiled IsBuilt IsUnbuilt old new (Err (stopped.Input s))

@@ -14,8 +14,8 @@ returns-in-Ok-clause-answer g c =
     (files g.S.Shelf.holds g.S.Shelf.faults c.args.shelf.now c.open_both.new.shelf) c.in_ok-object.object c.in_ok-object.log.items c.as_slice.result.now c.as_slice.ensures.value
     c.in_ok-object.ensures.opened (Ok tt) c.in-Ok.ensures.answer
 
-pub returns-in-Err-clause-answer : goal.returns-in-Err-clause-answer
-returns-in-Err-clause-answer g c =
+pub returns-clause-answer : goal.returns-clause-answer
+returns-clause-answer g c =
     let side = streams g.R.Source.rest g.R.Source.faults g.W.Sink.written g.W.Sink.faults in
     done_with_both (λ o bytes. IsAuditOf bytes o (side c.args.input.now c.args.out.now) (side c.audit_bytes.new.input c.audit_bytes.new.out)) (Some c.args.name.now) (Some c.args.log.now)
     (files g.S.Shelf.holds g.S.Shelf.faults c.args.shelf.now c.open_both.new.shelf) c.in_ok-object.object c.in_ok-object.log.items c.as_slice.result.now c.as_slice.ensures.value

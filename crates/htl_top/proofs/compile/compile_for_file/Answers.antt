@@ -6,8 +6,8 @@ use Rattle.htl_top.proofs.compile.compile_for_file.Goals as goal
 pub returns-in-Err-clause-taken : goal.returns-in-Err-clause-taken
 returns-in-Err-clause-taken g c = taken_none 1052672 (g.R.Source.rest c.args.input.now)
 
-pub returns-in-Ok-2-clause-answer : goal.returns-in-Ok-2-clause-answer
-returns-in-Ok-2-clause-answer g c =
+pub returns-in-Ok-compile_input_on-clause-answer : goal.returns-in-Ok-compile_input_on-clause-answer
+returns-in-Ok-compile_input_on-clause-answer g c =
     let side = streams g.R.Source.rest g.R.Source.faults g.W.Sink.written g.W.Sink.faults in
     record {
       bytes = c.in-Ok.file.items;
@@ -15,17 +15,17 @@ returns-in-Ok-2-clause-answer g c =
       fact =
           subst
           (λ (bs : List ℕ). IsInputCompiled (IsBuiltOn bs) (IsUnbuiltOn bs) (side c.args.input.now c.args.out.now) (side c.compile_input_on.new.input c.compile_input_on.new.out) (Ok tt))
-          c.as_slice.ensures.value c.in-Ok-2.ensures.answer;
+          c.as_slice.ensures.value c.in-Ok-compile_input_on.ensures.answer;
     }
 
-pub returns-in-Err-2-clause-answer : goal.returns-in-Err-2-clause-answer
-returns-in-Err-2-clause-answer g c =
+pub returns-clause-answer : goal.returns-clause-answer
+returns-clause-answer g c =
     let side = streams g.R.Source.rest g.R.Source.faults g.W.Sink.written g.W.Sink.faults in
     record {
       bytes = c.in-Ok.file.items;
       source = c.in-Ok.ensures.fetched;
       fact =
           subst
-          (λ (bs : List ℕ). IsInputCompiled (IsBuiltOn bs) (IsUnbuiltOn bs) (side c.args.input.now c.args.out.now) (side c.compile_input_on.new.input c.compile_input_on.new.out) (Err c.in-Err-2.stop))
-          c.as_slice.ensures.value c.in-Err-2.ensures.answer;
+          (λ (bs : List ℕ). IsInputCompiled (IsBuiltOn bs) (IsUnbuiltOn bs) (side c.args.input.now c.args.out.now) (side c.compile_input_on.new.input c.compile_input_on.new.out) (Err c.in-Err-compile_input_on.stop))
+          c.as_slice.ensures.value c.in-Err-compile_input_on.ensures.answer;
     }
