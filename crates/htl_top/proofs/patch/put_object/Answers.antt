@@ -1,4 +1,4 @@
-use Rattle.htl_top.proofs.Vocabulary.{List, ℕ, append_known, Rose, AppendsPrefix}
+use Rattle.htl_top.proofs.Vocabulary.{List, ℕ, append_known, AppendsPrefix}
 use Rattle.std.proofs.Common.{◌≡◌}
 use Rattle.htl_top.proofs.PatchedObjects.{IsObjectPut-written}
 use Rattle.htl_top.proofs.patch.put_object.Goals as goal
@@ -10,7 +10,7 @@ returns-in-Ok-put_all-clause-answer g c =
 
 pub returns-in-Ok-clause-answer : goal.returns-in-Ok-clause-answer
 returns-in-Ok-clause-answer g c =
+    let put =
     IsObjectPut-written c.args.l.now c.object.result.now c.in-Ok.bytes.items c.as_slice.result.now c.object.ensures.value c.object.ensures.accepted c.in-Ok.ensures.object c.in-Ok.ensures.spelled
-    c.as_slice.ensures.value
-    (λ (bs : List ℕ). Rose (g.W.Sink.faults c.args.out.now) (g.W.Sink.faults c.put_all.new.sink) × AppendsPrefix (g.W.Sink.written c.args.out.now) (g.W.Sink.written c.put_all.new.sink) bs)
-    (c.in-Err-put_all.ensures.cause.refused, c.in-Err-put_all.ensures.part)
+    c.as_slice.ensures.value (λ (bs : List ℕ). AppendsPrefix (g.W.Sink.written c.args.out.now) (g.W.Sink.written c.put_all.new.sink) bs) c.in-Err-put_all.ensures.part in
+    (put.0, put.1, c.in-Err-put_all.ensures.cause.refused, put.2)
