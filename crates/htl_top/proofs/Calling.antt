@@ -1,7 +1,7 @@
 -- From the answer of a command to the clauses of the top call that all commands share.
 use Rattle.std.proofs.Common.{◌≡◌, ◌⊎◌, ℕ, List, Option, None, Some, refl, sym, subst, inl, inr}
 use Rattle.std.specs.Prelude.{◌↔◌}
-use Rattle.htl_top.proofs.Vocabulary.{MAX_SOURCE, MAX_OBJECT, CompileFault, Shown, ObjectFault, PlatformFault, ScriptFault, Files, Streams, IsBeforeScript, IsBeforeRun, IsBulked, IsFaultOf, IsLongFile, check_text, IsCompileCause, IsPlatformCause, IsRefusedFile, IsOnObject, IsStopped, Work, show_text, answer_of, Command, Go, Compile, CompileWith, Run, Check, Plan, Show, Bulk, Slack, Audit, Patch, RunsObject, source_of, platform_file, command_object, second_file, Outcome, Done, Usage, Platform, Refused, Script, Shelf, Read, Write, Memory, ShelfCause, Failed, TooLong}
+use Rattle.htl_top.proofs.Vocabulary.{MAX_SOURCE, MAX_OBJECT, CompileFault, ObjectFault, PlatformFault, ScriptFault, Files, Streams, IsBeforeScript, IsBeforeRun, IsBulked, IsFaultOf, IsLongFile, check_text, IsCompileCause, IsPlatformCause, IsRefusedFile, IsOnObject, IsStopped, Work, show_text, answer_of, Command, Go, Compile, CompileWith, Run, Check, Plan, Show, Bulk, Slack, Audit, Patch, RunsObject, source_of, platform_file, command_object, second_file, Outcome, Done, Usage, Platform, Refused, Script, Shelf, Read, Write, Memory, ShelfCause, Failed, TooLong}
 use Rattle.htl_compile.specs.declared.compiling.CompileFault.TheVariants as compile
 use Rattle.htl_top.proofs.Auditing as auditing
 use Rattle.htl_top.proofs.Auditing.{AuditAs}

@@ -1,6 +1,6 @@
 -- The line that tells of an answer has names of the tables that it speaks of.
 use Rattle.std.proofs.Common.{◌≡◌, List, ℕ, Option, Some, Err, refl, sym, ap, ◌∙◌, subst}
-use Rattle.htl_top.proofs.Vocabulary.{coded, Shown, Holdings, ObjectFault, Tables, FormFault, patched, PatchFault, with_worst, Files, Streams, HasSource, HasObject, IsAudit, IsCompiling, IsCompilingOn, IsObjectTables, IsPatchOfFiles, SpeaksOfObject, HasPatchedTables, IsPatchedTables, SpeaksOfPatch, IsGoing, IsTypedInput, IsTypedProgram, IsTypedOn, fault_line, SpeaksOf, IsFaultTold, IsPatchFaultTold, IsLineTold, Command, Go, Compile, CompileWith, Run, Check, Plan, Show, Slack, Audit, Patch, Outcome}
+use Rattle.htl_top.proofs.Vocabulary.{coded, Holdings, ObjectFault, Tables, FormFault, patched, PatchFault, with_worst, Files, Streams, HasSource, HasObject, IsAudit, IsCompiling, IsCompilingOn, IsObjectTables, IsPatchOfFiles, SpeaksOfObject, HasPatchedTables, IsPatchedTables, SpeaksOfPatch, IsGoing, IsTypedInput, IsTypedProgram, IsTypedOn, fault_line, SpeaksOf, IsFaultTold, IsPatchFaultTold, IsLineTold, Command, Go, Compile, CompileWith, Run, Check, Plan, Show, Slack, Audit, Patch, Outcome}
 use Rattle.htl_top.proofs.Telling.{IsOfPut}
 use Rattle.htl_load.specs.declared.fault.ObjectFault.TheVariants as fault
 use Rattle.htl_patch.specs.declared.fault.PatchFault.TheVariants as patch

@@ -1,6 +1,6 @@
 -- What `go` answers, by its source.
 use Rattle.std.proofs.Common.{arith, ◌≡◌, ◌≤◌, ◌<◌, ◌⊎◌, ℕ, List, length, Option, None, Some, Ok, Err, refl, sym, ap, ◌∙◌, subst, inl, inr}
-use Rattle.htl_top.proofs.Vocabulary.{get, MAX_SOURCE, built_accepted, compile_only_memory, one_compile_fault, tables_unique, IsCompileFault, IsCompiledTo, built, IsTablesOf, CompileFault, Jobs, Holdings, HoldsUnder, HasBytes, IsLoadedAs, LoadFault, ObjectFault, Rose, Tables, IsAccepted, ObjectOf, Files, Streams, IsBeforeScript, IsBeforeRun, IsFaultOf, IsLongFile, IsSource, IsGiven, IsOrMemory, IsUncompiled, IsGoing, IsReadySource, IsRun, IsWholeRun, IsFaultyRun, IsCutRun, IsProgram, IsFaultyProgram, IsNotCompiled, answer_of, Outcome, Done, Source, IllFormed, Unschedulable, Script, Shelf, Read, Write, Memory, Failed, TooLong, SourceStop}
+use Rattle.htl_top.proofs.Vocabulary.{get, MAX_SOURCE, built_accepted, compile_only_memory, one_compile_fault, tables_unique, IsCompileFault, IsCompiledTo, built, IsTablesOf, CompileFault, Jobs, Holdings, HoldsUnder, HasBytes, IsLoadedAs, LoadFault, ObjectFault, Rose, Tables, IsAccepted, ObjectOf, Files, Streams, IsBeforeScript, IsBeforeRun, IsFaultOf, IsLongFile, IsSource, IsGiven, IsOrMemory, IsGoing, IsReadySource, IsRun, IsWholeRun, IsFaultyRun, IsCutRun, IsProgram, IsFaultyProgram, IsNotCompiled, answer_of, Outcome, Done, Source, IllFormed, Unschedulable, Script, Shelf, Read, Write, Memory, Failed, TooLong, SourceStop}
 use Rattle.htl_compile.specs.declared.compiling.CompileFault.TheVariants as compile
 use Rattle.htl_compile.specs.declared.stop.SourceStop.TheVariants as stop
 use Rattle.htl_load.specs.declared.fault.LoadFault.TheVariants as load

@@ -1,5 +1,5 @@
 -- What a command answered, as its proofs see it: by what was done, and by the answer.
-use Rattle.std.proofs.Common.{◌≡◌, List, ℕ, Option, None, Some}
+use Rattle.std.proofs.Common.{◌≡◌, Option, None, Some}
 use Rattle.htl_top.proofs.Vocabulary.{check_text, show_text, Files, Streams, IsBulked, IsCall, IsGoing, IsOnObject, Object, Work, Command, Go, Compile, CompileWith, Run, Check, Plan, Show, Bulk, Slack, Audit, Patch, Outcome, Usage}
 use Rattle.htl_top.proofs.Slacking.{IsSlacked, seen_slack}
 use Rattle.htl_top.proofs.Auditing.{AuditAs, seen_audit}

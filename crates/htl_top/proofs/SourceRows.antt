@@ -1,6 +1,6 @@
 -- From the answer of a command that compiles to its rows.
-use Rattle.std.proofs.Common.{◌≡◌, ◌⊎◌, ℕ, List, Some, subst, inl, inr}
-use Rattle.htl_top.proofs.Vocabulary.{built, Jobs, Tables, Files, Streams, IsBulked, IsGoing, IsWholeRun, IsProgram, Outcome, Done, Script, Read, Write, Memory}
+use Rattle.std.proofs.Common.{◌≡◌, ℕ, List, Some, subst}
+use Rattle.htl_top.proofs.Vocabulary.{built, Jobs, Files, Streams, IsBulked, IsGoing, IsWholeRun, IsProgram, Outcome, Done, Script, Read, Write}
 use Rattle.htl_top.proofs.Bulking as bulking
 use Rattle.htl_top.proofs.Compiling as compiling
 use Rattle.htl_top.proofs.Compiling.{CompilingAs}
