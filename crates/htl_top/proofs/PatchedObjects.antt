@@ -1,6 +1,6 @@
 -- What a donor's bytes come to: the new object, or the first fault.
 use Rattle.std.proofs.Common.{◌≡◌, ◌⊎◌, ℕ, List, Option, Some, None, Ok, Err, refl, sym, ap, ◌∙◌, subst, inl, inr}
-use Rattle.htl_top.proofs.Vocabulary.{append_known, Rose, AppendsPrefix, Holdings, HasBytes, Tables, IsAccepted, first_bad, IsObject, object_bytes, Malformed, Object, one_patch_fault, patch_not_refused, IsHandedBackBy, IsPatchStop, replacement_of, patched_object, CanPatch, IsFaultBy, IsPatchFault, Replacement, PatchFault, PatchStop, IsBeforeRun, IsOrMemory, IsObjectFile, HasPatch, HasPatchedTables, IsBadDonor, IsDonorFault, IsDonorTold, IsObjectPut, IsPatchedTables, RefusesDonor, SpeaksOfPatch, Outcome, one_bad_field}
+use Rattle.htl_top.proofs.Vocabulary.{append_known, Rose, AppendsPrefix, Holdings, HasBytes, Tables, IsAccepted, first_bad, IsObject, object_bytes, Malformed, Object, one_patch_fault, patch_not_refused, IsHandedBackBy, IsPatchStop, replacement_of, patched_object, CanPatch, IsFaultBy, IsPatchFault, Replacement, PatchFault, PatchStop, IsBeforeRun, IsOrMemory, IsObjectFile, HasPatch, HasPatchedTables, IsBadDonor, IsDonorFault, IsDonorTold, IsObjectPut, IsPatchedTables, RefusesDonor, SpeaksOfPatch, one_bad_field}
 use Rattle.htl_patch.specs.declared.fault.PatchFault.TheVariants as fault
 use Rattle.htl_patch.specs.declared.fault.PatchStop.TheVariants as stop
 use Rattle.htl_top.proofs.ObjectAnswering.{one_of_bytes, object_or_bad}
