@@ -1,5 +1,5 @@
 -- From what a command came to, to all that its answer says.
-use Rattle.std.proofs.Common.{◌≡◌, ◌∙◌, List, ℕ, None, sym, refl, subst}
+use Rattle.std.proofs.Common.{◌≡◌, List, ℕ, None, sym, refl, subst}
 use Rattle.htl_top.proofs.Vocabulary.{Files, Streams, KeepsCounts, Outcome, Usage, Shelf, Read, Write, Failed, SpeaksOf}
 use Rattle.htl_top.proofs.Inputs.{taken_none}
 use Rattle.htl_top.proofs.Stops.{unless}

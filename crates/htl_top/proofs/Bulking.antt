@@ -1,6 +1,6 @@
 -- What `bulk` writes and answers.
 use Rattle.std.proofs.Common.{◌≡◌, ◌≤◌, ℕ, zero, suc, ◌*◌, List, [], ◌∷◌, ◌++◌, length, get_or, Option, None, Result, Ok, Err, ℤ, refl, sym, ap, ap₂, ◌∙◌, subst, inl, inr}
-use Rattle.htl_top.proofs.Vocabulary.{AreSchedulable, AreTyped, Formed, IsCompileFault, IsNotCompiled, IsTablesOf, SourceStop, bulk_events, bulk_has_tables, bulk_sensor, comm_item, compile_only_memory, readings_of, sensor_comm, pos, slice_get, built_accepted, coded_runs, IsCompiledTo, bulk_bytes, built, CanBuild, coded, CompileFault, Rose, Puts, one_line, HasBytes, IsLoadedAs, sense_end, Seen, IsFinished, IsSensorValue, length-list_to, lines_text, line_text, up_to, History, first_value, history, newest, next_value, past, sense, state, Tables, Event, Line, ValueLine, State, IsAccepted, ObjectOf, flat_map, Streams, append_known, AppendsPrefix, IsBeforeRun, IsOrMemory, HasTables, answer_of, Outcome, Done, Write, Memory}
+use Rattle.htl_top.proofs.Vocabulary.{AreSchedulable, AreTyped, Formed, IsCompileFault, IsNotCompiled, IsTablesOf, SourceStop, bulk_events, bulk_has_tables, bulk_sensor, comm_item, compile_only_memory, readings_of, sensor_comm, pos, slice_get, built_accepted, coded_runs, IsCompiledTo, bulk_bytes, built, CanBuild, coded, CompileFault, Rose, Puts, one_line, HasBytes, IsLoadedAs, sense_end, Seen, IsFinished, IsSensorValue, length-list_to, lines_text, line_text, up_to, History, first_value, history, newest, next_value, past, sense, state, Tables, Event, Line, ValueLine, State, IsAccepted, ObjectOf, flat_map, Streams, append_known, AppendsPrefix, IsBeforeRun, IsOrMemory, HasTables, answer_of, Outcome, Done, Write}
 use mathlib.Core.Path.{fun_ext}
 use Rattle.htl_compile.specs.declared.compiling.CompileFault.TheVariants as compile
 use Rattle.htl_compile.specs.declared.stop.SourceStop.TheVariants as stop

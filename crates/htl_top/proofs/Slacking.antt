@@ -1,6 +1,6 @@
 -- The task of two names, and what `slack` answers.
 use Rattle.std.proofs.Common.{◌≡◌, ◌≤◌, ◌<◌, ℕ, Bool, true, false, ◌&&◌, List, length, slice_get, Option, Some, None, Ok, Err, refl, sym, ap, ◌∙◌, subst, arith, inl, inr}
-use Rattle.htl_top.proofs.Vocabulary.{append_known, AppendsPrefix, HasSlack, bytes_eq, and_parts, slice_get_within, bytes_eq-Decides, Rose, Module, TaskOf, Tables, Object, Files, Streams, IsBeforeRun, IsOrMemory, IsOnObject, IsObjectTables, SpeaksOf, IsNamed, IsRootNamed, NamesNoTask, has_names, IsSlackTold, Work, Outcome, Done, Task, Write, Memory}
+use Rattle.htl_top.proofs.Vocabulary.{append_known, AppendsPrefix, HasSlack, bytes_eq, and_parts, slice_get_within, bytes_eq-Decides, Rose, Module, TaskOf, Tables, Object, Files, Streams, IsBeforeRun, IsOrMemory, IsOnObject, IsObjectTables, SpeaksOf, IsNamed, IsRootNamed, NamesNoTask, has_names, IsSlackTold, Work, Outcome, Done, Task, Write}
 use Rattle.htl_top.proofs.ObjectAnswering.{IsWork, IsOfWork}
 use Rattle.htl_top.proofs.Stops.{SpeaksOf-object, answered}
 use Rattle.htl_top.specs.Slacked.{IsSlackCall, IsSlackOnObject}

@@ -1,7 +1,7 @@
 -- Files and streams before and after a call, and what answers leave as it was.
-use Rattle.std.specs.Prelude.{ℕ, ◌≡◌, ◌⊎◌, Option, List}
+use Rattle.std.specs.Prelude.{ℕ, ◌≡◌, Option, List}
 use Rattle.htl_open.specs.Files.{Files}
-use Rattle.htl_top.specs.Common.{append_known, LogKind, Rose, AppendsPrefix}
+use Rattle.htl_top.specs.Common.{LogKind}
 use Rattle.htl_audit.specs.declared.slice.LogKind.TheVariants as kind
 use Rattle.htl_top.specs.declared.outcome.Outcome.{Outcome}
 use Rattle.htl_open.specs.declared.stop.ShelfCause.TheVariants.{Failed}

@@ -1,5 +1,5 @@
 -- What `slack` answers of an accepted object.
-use Rattle.std.specs.Prelude.{◌≡◌, ℕ, Bool, false, ◌&&◌, List, ◌++◌, ◌⊎◌, length, slice_get, Option, Some, None, Ok, Err, codes, decimal}
+use Rattle.std.specs.Prelude.{◌≡◌, ℕ, Bool, false, ◌&&◌, List, ◌++◌, length, slice_get, Option, Some, None, Ok, Err, codes, decimal}
 use Rattle.htl_top.specs.Common.{append_known, bytes_eq, Rose, AppendsPrefix, Holdings, Module, instrs_of, Schedule}
 use Rattle.htl_console.specs.Listing.{all_lines, schedule_lines}
 use Rattle.htl_edf.specs.Greatest.{with_worst, IsGreatest}

@@ -1,4 +1,4 @@
-use Rattle.std.proofs.Common.{Ok, Err}
+use Rattle.std.proofs.Common.{Ok}
 use Rattle.htl_top.proofs.Vocabulary.{Some, subst, Puts, files, check_text, Object, Tables}
 use Rattle.htl_top.proofs.Stops.{loaded_does}
 use Rattle.htl_top.proofs.check.check_file.Goals as goal

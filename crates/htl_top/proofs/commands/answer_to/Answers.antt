@@ -1,5 +1,5 @@
 use Rattle.std.proofs.Common.{◌∙◌, None, Err}
-use Rattle.htl_top.proofs.Vocabulary.{Option, Command, Some, refl, sym, ap, subst, check_text, show_text, files, streams, IsRun, IsPlanned, IsObjectTables, Outcome, Shelf, Failed, Read, Write, asked_for, Asked}
+use Rattle.htl_top.proofs.Vocabulary.{Option, Command, Some, refl, sym, ap, subst, check_text, show_text, files, streams, IsRun, IsPlanned, IsObjectTables, Shelf, Failed, Read, Write, asked_for, Asked}
 use Rattle.htl_open.specs.declared.stop.FetchStop.TheVariants as fetch
 use Rattle.htl_open.specs.declared.stop.OpenStop.TheVariants as open_stop
 use Rattle.htl_top.proofs.Answering.{counted, usage_answered}

@@ -1,4 +1,4 @@
-use Rattle.std.proofs.Common.{Ok, Err}
+use Rattle.std.proofs.Common.{Ok}
 use Rattle.htl_top.proofs.Vocabulary.{Some, Puts, files, show_text, Object}
 use Rattle.htl_top.proofs.Stops.{loaded_does}
 use Rattle.htl_top.proofs.show.show_file.Goals as goal
