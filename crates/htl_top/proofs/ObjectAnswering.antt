@@ -4,16 +4,6 @@ use Rattle.htl_top.proofs.Vocabulary.{MAX_OBJECT, HasBytes, RefusesBytes, Object
 pub use Rattle.htl_open.proofs.OneObject.{IsAcceptedFile-map, one_of_bytes, accepted_or_refused, object_or_bad, one_refusal}
 use Rattle.htl_open.proofs.GivenFiles as files
 
--- an accepted object was had, and the command did its work
-pub IsOnObject-opened : (Does : Work) (name : Option (List ℕ)) (shelf : Files) (old new : Streams) (loaded : Object) (given outcome : Outcome) → outcome ≡ given
-    → IsAcceptedFile name shelf.holds (λ o. o ≡ loaded) → Does loaded old new given → IsOnObject Does name shelf old new outcome
-IsOnObject-opened Does name shelf old new loaded given outcome is opened does =
-    let done : Does loaded old new outcome = subst (λ (o : Outcome). Does loaded old new o) (sym is) does in
-    inl (
-    IsAcceptedFile-map name shelf.holds (λ o. o ≡ loaded) (λ o. Does o old new outcome)
-    (λ o e. subst (λ (p : Object). Does p old new outcome) (sym e) done) opened
-    )
-
 -- ---- answers of work
 
 -- answers that an accepted object may have
