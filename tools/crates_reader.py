@@ -83,10 +83,12 @@ class File:
             self.modules[other or path.split(".")[-1]] = path
             return
         for item in filter(None, (it.strip() for it in items.split(","))):
-            name, _, here = item.partition(" as ")
-            self.local[(here or name).strip()] = (path, name.strip())
+            whole, _, here = item.partition(" as ")
+            below, _, name = whole.strip().rpartition(".")
+            here = here.strip() or name
+            self.local[here] = (f"{path}.{below}" if below else path, name)
             if public:
-                self.passed[(here or name).strip()] = (path, name.strip())
+                self.passed[here] = self.local[here]
 
     def end_of(self, start, name):
         """The line behind a declaration: clauses of its name at the same depth are its own."""

@@ -31,28 +31,33 @@ function flush(    it, n, k, part) {
 	}
 	clause = field = ""
 }
-# What a line of imports brings: the names, each with its file.
-function imported(line,    file, names, n, part, i, own, name) {
-	file = line
-	sub(/^.*use Rattle\.htl_[a-z]*\.specs\./, "", file)
-	names = file
-	sub(/\.\{.*/, "", file)
-	sub(/^[a-z]+\./, "", file)
-	sub(/^.*\.\{/, "", names)
+# What a line of imports brings: the names, each with its file. A name may stand with its file, as in `specs.{Names.is_name}`.
+function imported(line,    base, names, n, part, i, file, own, name) {
+	base = line
+	sub(/^.*use Rattle\.htl_[a-z]*\.specs\./, "", base)
+	names = base
+	sub(/\{.*/, "", base)
+	sub(/^[^{]*\{/, "", names)
 	sub(/\}.*/, "", names)
 	n = split(names, part, /, */)
 	for (i = 1; i <= n; i++) {
-		own = part[i]
+		file = own = base part[i]
+		if (file ~ /^declared\./) continue
 		sub(/ as .*/, "", own)
+		sub(/^.*\./, "", own)
+		sub(/ as .*/, "", file)
+		sub(/\.[^.]*$/, "", file)
+		sub(/^[a-z]+\./, "", file)
 		name = part[i]
 		sub(/^.* as /, "", name)
+		sub(/^.*\./, "", name)
 		if (FILENAME ~ /Common\.antt$/) handed[crate, name] = file ":" own
 		else if (file == "Common") { if ((crate, own) in handed) from[name] = handed[crate, own] }
 		else from[name] = file ":" own
 	}
 }
 FNR == 1 { flush(); fn = record = ""; crate = FILENAME; sub(/^crates\//, "", crate); sub(/\/.*/, "", crate); split("", from) }
-/^(ghost |pub )?use Rattle\.htl_[a-z]*\.specs\..*\{/ && !/\.declared\./ { imported($0) }
+/^(ghost |pub )?use Rattle\.htl_[a-z]*\.specs\..*\{/ { imported($0) }
 FILENAME ~ /antt$/ {
 	if (/^pub record /) { flush(); record = $3 }
 	else if (record != "" && /^  pub [a-z_]+ :/) { flush(); field = $2; text = $0 }
