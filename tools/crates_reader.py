@@ -35,8 +35,7 @@ class Declaration:
             if indent(line) <= self.depth or line.split()[:1] in ([self.name], ["where"], ["unfolding"]):
                 break
             said.append(line.strip())
-        text = " ".join(said)
-        depth = 0
+        text, depth = " ".join(said), 0
         for at, letter in enumerate(text):
             depth += (letter in "({[") - (letter in ")}]")
             if letter == ":" and not depth:
@@ -85,10 +84,9 @@ class File:
         for item in filter(None, (it.strip() for it in items.split(","))):
             whole, _, here = item.partition(" as ")
             below, _, name = whole.strip().rpartition(".")
-            here = here.strip() or name
-            self.local[here] = (f"{path}.{below}" if below else path, name)
+            self.local[here.strip() or name] = (f"{path}.{below}" if below else path, name)
             if public:
-                self.passed[here] = self.local[here]
+                self.passed[here.strip() or name] = self.local[here.strip() or name]
 
     def end_of(self, start, name):
         """The line behind a declaration: clauses of its name at the same depth are its own."""
