@@ -1,14 +1,12 @@
 -- Reading operands and the operators between them in one loop reads what each level does.
 use Rattle.std.proofs.Common.{arith, ◌≡◌, ◌≤◌, ◌<◌, ◌+◌, ◌-◌, ℕ, zero, suc, Bool, true, false, cond, List, ◌∷◌, length, Option, None, Some, Result, Ok, Err, refl, sym, ap, subst, ◌∙◌, inl, inr}
 use Rattle.std.specs.Prelude.{◌==◌, ◌⊎◌}
-use Rattle.htl_parse.proofs.Words.{BinOp, Placed, Put, Expr, Infix, Node, or_of, and_of, compare_of, sum_of, product_of, Sign, PassesBinary, Puts, Stop, level_of, operator_at, level_by, limit_behind, unary_by, product_by, sum_by, compare_by, and_by, further, grown, compared, read_expr}
+use Rattle.htl_parse.proofs.Words.{BinOp, Placed, Put, Expr, Infix, Node, or_of, and_of, sum_of, product_of, Sign, PassesBinary, Puts, Stop, level_of, operator_at, level_by, limit_behind, unary_by, product_by, sum_by, compare_by, and_by, further, grown, compared, read_expr}
 use Rattle.htl_text.specs.declared.token.Token.TheVariants as token
 use Rattle.htl_text.specs.declared.token.Sign.TheVariants as sign
 use Rattle.htl_parse.specs.declared.stop.Stop.TheVariants as stop
 use Rattle.htl_parse.specs.Reading.{Read, Reader, ◌>>=◌}
-use Rattle.htl_parse.proofs.Complete.{IsFree, tail-done, compared-done}
-use Rattle.htl_parse.proofs.Fixed.{Shrinks, further-is}
-use Rattle.htl_parse.proofs.Descent.{unary-shrinks, product-shrinks, compare-shrinks, and-shrinks}
+use Rattle.htl_parse.proofs.{Complete.IsFree, Complete.tail-done, Complete.compared-done, Fronts.Less, Fixed.further-is, Descent.unary-shrinks, Descent.product-shrinks, Descent.compare-shrinks, Descent.and-shrinks}
 
 -- ---- one reader after another
 
@@ -22,41 +20,21 @@ then-ok (Err left) = refl
 
 -- ---- the operators of the levels
 
-or-level : (s : Sign) (op : BinOp) → or_of s ≡ Some op → level_of s ≡ 0
-or-level sign.Or op e = refl
-or-level s op e = absurd cc
-
-and-level : (s : Sign) (op : BinOp) → and_of s ≡ Some op → level_of s ≡ 1
-and-level sign.And op e = refl
-and-level s op e = absurd cc
-
-compare-level : (s : Sign) (op : BinOp) → compare_of s ≡ Some op → level_of s ≡ 2
-compare-level sign.Less op e = refl
-compare-level sign.LessEqual op e = refl
-compare-level sign.Greater op e = refl
-compare-level sign.GreaterEqual op e = refl
-compare-level sign.Equal op e = refl
-compare-level sign.NotEqual op e = refl
-compare-level s op e = absurd cc
-
-sum-level : (s : Sign) (op : BinOp) → sum_of s ≡ Some op → level_of s ≡ 3
-sum-level sign.Plus op e = refl
-sum-level sign.Minus op e = refl
-sum-level s op e = absurd cc
-
-product-level : (s : Sign) (op : BinOp) → product_of s ≡ Some op → level_of s ≡ 4
-product-level sign.Star op e = refl
-product-level sign.Slash op e = refl
-product-level sign.Percent op e = refl
-product-level s op e = absurd cc
-
 operator-level : (l : ℕ) (s : Sign) (op : BinOp) → operator_at l s ≡ Some op → level_of s ≡ l
-operator-level zero s op e = or-level s op e
-operator-level (suc zero) s op e = and-level s op e
-operator-level (suc (suc zero)) s op e = compare-level s op e
-operator-level (suc (suc (suc zero))) s op e = sum-level s op e
-operator-level (suc (suc (suc (suc zero)))) s op e = product-level s op e
-operator-level (suc (suc (suc (suc (suc n))))) s op e = absurd cc
+operator-level zero sign.Or op e = refl
+operator-level (suc zero) sign.And op e = refl
+operator-level (suc (suc zero)) sign.Less op e = refl
+operator-level (suc (suc zero)) sign.LessEqual op e = refl
+operator-level (suc (suc zero)) sign.Greater op e = refl
+operator-level (suc (suc zero)) sign.GreaterEqual op e = refl
+operator-level (suc (suc zero)) sign.Equal op e = refl
+operator-level (suc (suc zero)) sign.NotEqual op e = refl
+operator-level (suc (suc (suc zero))) sign.Plus op e = refl
+operator-level (suc (suc (suc zero))) sign.Minus op e = refl
+operator-level (suc (suc (suc (suc zero)))) sign.Star op e = refl
+operator-level (suc (suc (suc (suc zero)))) sign.Slash op e = refl
+operator-level (suc (suc (suc (suc zero)))) sign.Percent op e = refl
+operator-level l s op e = absurd cc
 
 operator-none : (l : ℕ) (s : Sign) → (level_of s ≡ l → ⊥) → operator_at l s ≡ None
 operator-none l s other = by (operator_at l s) refl
@@ -97,7 +75,7 @@ step-none (suc (suc (suc zero))) e us none = tail-done (product_by read_expr) su
 step-none (suc (suc (suc (suc zero)))) e us none = tail-done (unary_by read_expr) product_of (length us) e us none
 step-none (suc (suc (suc (suc (suc n))))) e us none = refl
 
-further-op : (next : Reader Expr) (ops : Sign → Option BinOp) → Shrinks next → (e : Expr) (k : ℕ) (s : Sign) (us : List Placed) (op : BinOp) → ops s ≡ Some op
+further-op : (next : Reader Expr) (ops : Sign → Option BinOp) → Less next → (e : Expr) (k : ℕ) (s : Sign) (us : List Placed) (op : BinOp) → ops s ≡ Some op
     → further next ops e (Put k (token.Sign s) ∷ us) ≡ (next us >>= λ x. further next ops (Infix k op e x.0) x.1)
 further-op next ops shrinks e k s us op is =
     further-is next ops shrinks e k s us ∙ ap (grown (further next ops) next k e (Put k (token.Sign s) ∷ us) us) is
@@ -228,11 +206,7 @@ module _ (low : ℕ) (old left : List Placed) (limit : ℕ) (e : Expr) (so : IsC
       }
     where
       limit-fits : (l : ℕ) → l < 5 → limit_behind l ≤ 5
-      limit-fits l under = by (l == 2)
-        where
-          by : (b : Bool) → cond b l (l + 1) ≤ 5
-          by true = omega (arith, under)
-          by false = omega (arith, under)
+      limit-fits l under = elim (l == 2) as (λ (b : Bool). cond b l (l + 1) ≤ 5) [ true ↦ omega (arith, under) | false ↦ omega (arith, under) ]
 
   -- where no right operand is read, nothing is
   pub climbing-stopped : (first one last two : List Node) (mid new : List Placed) (k level : ℕ) (op : BinOp) (stopped : Stop) → PassesBinary low limit left mid (Some (k, level, op))

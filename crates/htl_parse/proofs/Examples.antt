@@ -1,11 +1,10 @@
 -- Tokens that begin a source, and the first with which they begin none, as the definitions compute them.
 use Rattle.std.proofs.Common.{List, [], ◌∷◌, ◌++◌, refl}
-use Rattle.htl_parse.proofs.Words.{Put, source, program, no_other, Token, Begins, IsMisfit}
+use Rattle.htl_parse.proofs.{Words.Put, Words.source, Words.program, Words.no_other, Words.Token, Words.Begins, Words.IsMisfit, Stopping.misfit-left}
 use Rattle.htl_text.specs.declared.token.Token.TheVariants as token
 use Rattle.htl_text.specs.declared.token.Sign.TheVariants as sign
 use Rattle.htl_text.specs.declared.token.Word.TheVariants as word
 use Rattle.htl_parse.specs.ReadingStatements.{program_at, source_at}
-use Rattle.htl_parse.proofs.Stopping.{misfit-left}
 
 abbrev head : List Token
 head = token.Word word.Program ∷ token.Ident (80 ∷ []) ∷ []

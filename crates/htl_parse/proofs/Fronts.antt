@@ -1,10 +1,9 @@
 -- Fronts of lists of tokens, and how what was read is part of a whole.
-use Rattle.std.proofs.Common.{arith, ◌≡◌, ℕ, ℤ, Bool, true, false, cond, List, [], ◌∷◌, ◌++◌, ◌+◌, length, Ok, Err, refl, sym, subst, ap, ◌∙◌, append_assoc}
+use Rattle.std.proofs.Common.{arith, ◌≡◌, ℕ, ℤ, Bool, true, false, cond, List, [], ◌∷◌, ◌++◌, ◌+◌, ◌<◌, length, Result, Ok, Err, refl, sym, subst, ap, ◌∙◌, append_assoc}
 use Rattle.std.specs.Prelude.{◌==◌}
-use Rattle.htl_parse.proofs.Words.{Placed, Put, Token, Sign, Word, sign_code, word_code, Id, Num}
+use Rattle.htl_parse.proofs.{Words.Placed, Words.Put, Words.Token, Words.Sign, Words.Word, Words.sign_code, Words.word_code, Words.Id, Words.Num, Coding.sign_code-equal, Coding.word_code-equal}
 use Rattle.htl_text.specs.declared.token.Token.TheVariants as token
-use Rattle.htl_parse.specs.Reading.{Read, ◌>>=◌, after_sign, after_word, name_at, number_at}
-use Rattle.htl_parse.proofs.Coding.{sign_code-equal, word_code-equal}
+use Rattle.htl_parse.specs.Reading.{Read, Reader, ◌>>=◌, after_sign, after_word, name_at, number_at}
 
 -- these tokens, numbered from n on, and then rest
 abbrev pub onto : ℕ → List Token → List Placed → List Placed
@@ -43,9 +42,34 @@ pub record Viable {X : Type 0} (N : List Placed → X → List Placed → Type 0
   pub fin : List Token
   pub ends : (n : ℕ) (rest : List Placed) → (x : X) × N (f (onto n fin rest)) x rest
 
+-- where something was read, this holds of it
+abbrev pub Holds : {A : Type 0} → (A → Type 0) → Result A (List Placed) → Type 0
+Holds P (Ok x) = P x
+Holds P (Err left) = Unit {0}
+
 abbrev pub Tells : {X : Type 0} → (List Placed → X → List Placed → Type 0) → List Placed → Read X → Type 0
 Tells N ts (Ok x) = Replaces N ts x.0 x.1
 Tells N ts (Err left) = Viable N ts left
+
+-- what was read is spelled so
+pub tells-sound : {X : Type 0} (N : List Placed → X → List Placed → Type 0) (ts : List Placed) (r : Read X) → Tells N ts r
+    → Holds (λ (x : X × List Placed). N ts x.0 x.1) r
+tells-sound N ts (Ok x) t = subst (λ (us : List Placed). N us x.0 x.1) (sym t.fronts.whole) (t.spells x.1)
+tells-sound N ts (Err left) v = tt
+
+-- less is left than there was, where something was read
+abbrev pub Less : {X : Type 0} → Reader X → Type 0
+Less {X} read = (ts : List Placed) → Holds (λ (x : X × List Placed). length x.1 < length ts) (read ts)
+
+-- so it is where a spelling has a token
+pub less-of : {X : Type 0} (N : List Placed → X → List Placed → Type 0) (read : Reader X)
+    → ((ts : List Placed) (x : X) (us : List Placed) → N ts x us → length us < length ts)
+    → ((ts : List Placed) → Tells N ts (read ts)) → Less read
+less-of {X} N read shorter tells ts = by (read ts) (tells-sound N ts (read ts) (tells ts))
+  where
+    by : (r : Read X) → Holds (λ (x : X × List Placed). N ts x.0 x.1) r → Holds (λ (x : X × List Placed). length x.1 < length ts) r
+    by (Ok x) s = shorter ts x.0 x.1 s
+    by (Err left) s = tt
 
 onto-append : (n : ℕ) (a b : List Token) (rest : List Placed) → onto n (a ++ b) rest ≡ onto n a (onto (n + length a) b rest)
 onto-append n [] b rest = ap (λ (m : ℕ). onto m b rest) (omega arith)

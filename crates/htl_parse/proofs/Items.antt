@@ -1,10 +1,8 @@
 -- Steps of reading a list in brackets.
 use Rattle.std.proofs.Common.{arith, ◌≡◌, ◌<◌, ℕ, zero, suc, List, [], ◌∷◌, ◌++◌, length, None, Some, Ok, Err, refl, sym, subst, ap, ◌∙◌, append_assoc, append-nil}
-use Rattle.htl_parse.proofs.Words.{Placed, Put, param_at, out_at, end_at, more_at, items_at, SpellsParam, SpellsOut, SpellsEnd, Passes}
+use Rattle.htl_parse.proofs.{Words.Placed, Words.Put, Words.param_at, Words.out_at, Words.end_at, Words.more_at, Words.items_at, Words.SpellsParam, Words.SpellsOut, Words.SpellsEnd, Words.Passes, Fronts.Holds, Fronts.Less, Fronts.less-of}
 use Rattle.htl_parse.specs.Reading.{Read, Reader, ◌>>=◌}
-use Rattle.htl_parse.proofs.Sound.{Holds}
-use Rattle.htl_parse.proofs.Statements.{param-sound, param-shorter, out-sound, out-shorter, end-sound, end-shorter}
-use Rattle.htl_parse.proofs.Listing.{more-is}
+use Rattle.htl_parse.proofs.{Statements.param-shorter, Statements.out-shorter, Statements.end-shorter, ViableParts.param-tells, ViableParts.out-tells, ViableParts.end-tells, Listing.more-is}
 use Rattle.htl_text.specs.declared.token.Token.TheVariants as token
 use Rattle.htl_text.specs.declared.token.Sign.TheVariants as sign
 
@@ -18,9 +16,6 @@ rest_at item ts = more_at item (length ts) ts
 pub record IsListing {X : Type 0} (item : Reader X) (old left : List Placed) (found : List X) : Type 0 where
   pub reads : items_at item old ≡ with_front found (rest_at item left)
 
-abbrev pub Less : {X : Type 0} → Reader X → Type 0
-Less {X} item = (ts : List Placed) → Holds (λ (x : X × List Placed). length x.1 < length ts) (item ts)
-
 pub front-append : {X : Type 0} (found : List X) (x : X) (r : Read (List X)) → with_front found (r >>= λ xs. Ok (x ∷ xs.0, xs.1)) ≡ with_front (found ++ x ∷ []) r
 front-append {X} found x (Ok xs) = ap (λ (ys : List X). Ok (ys, xs.1)) (sym (append_assoc found (x ∷ []) xs.0))
 front-append {X} found x (Err left) = refl
@@ -28,7 +23,7 @@ front-append {X} found x (Err left) = refl
 module _ {X : Type 0} (item : Reader X) (less : Less item) (old left : List Placed) (found : List X) (so : IsListing item old left found) where
   at_comma : (mid : List Placed) (k : ℕ) → Passes (token.Sign sign.Comma) left mid (Some k)
       → items_at item old ≡ with_front found (item mid >>= λ x. rest_at item x.1 >>= λ xs. Ok (x.0 ∷ xs.0, xs.1))
-  at_comma mid k passes = so.reads ∙ ap (λ (ts : List Placed). with_front found (rest_at item ts)) passes ∙ ap (with_front found) (more-is (λ (ts : List Placed) (x : X) (us : List Placed). Unit {0}) item less k mid)
+  at_comma mid k passes = so.reads ∙ ap (λ (ts : List Placed). with_front found (rest_at item ts)) passes ∙ ap (with_front found) (more-is item less k mid)
 
   pub items-more : (mid new : List Placed) (k : ℕ) (x : X) → Passes (token.Sign sign.Comma) left mid (Some k) → item mid ≡ Ok (x, new) → IsListing item old new (found ++ x ∷ [])
   items-more mid new k x passes e = record {
@@ -47,27 +42,18 @@ module _ {X : Type 0} (item : Reader X) (less : Less item) (old left : List Plac
       none_left zero ts never = refl
       none_left (suc n) ts never = refl
 
--- an item that is spelled where it is read leaves less
-pub less-of : {X : Type 0} (Item : List Placed → X → List Placed → Type 0) (item : Reader X) → ((ts : List Placed) → Holds (λ (x : X × List Placed). Item ts x.0 x.1) (item ts))
-    → ((ts : List Placed) (x : X) (us : List Placed) → Item ts x us → length us < length ts) → Less item
-less-of {X} Item item sound shorter ts = by (item ts) (sound ts)
-  where
-    by : (r : Read X) → Holds (λ (x : X × List Placed). Item ts x.0 x.1) r → Holds (λ (x : X × List Placed). length x.1 < length ts) r
-    by (Ok x) s = shorter ts x.0 x.1 s
-    by (Err left) s = tt
-
 -- what was read is no longer left
 pub less-read : {X : Type 0} (item : Reader X) → Less item → (old new : List Placed) (x : X) → item old ≡ Ok (x, new) → length new < length old
 less-read {X} item less old new x e = subst (Holds (λ (x : X × List Placed). length x.1 < length old)) e (less old)
 
 pub param-less : Less param_at
-param-less = less-of SpellsParam param_at param-sound param-shorter
+param-less = less-of SpellsParam param_at param-shorter param-tells
 
 pub out-less : Less out_at
-out-less = less-of SpellsOut out_at out-sound out-shorter
+out-less = less-of SpellsOut out_at out-shorter out-tells
 
 pub end-less : Less end_at
-end-less = less-of SpellsEnd end_at end-sound end-shorter
+end-less = less-of SpellsEnd end_at end-shorter end-tells
 
 -- a comma was passed
 pub comma-less : (old mid new : List Placed) (k : ℕ) → Passes (token.Sign sign.Comma) old mid (Some k) → length new < length mid → length new < length old

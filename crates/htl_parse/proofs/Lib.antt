@@ -20,7 +20,6 @@ pub mod Reparsing
 pub mod Pushing
 pub mod Repeating
 pub mod Repeats
-pub mod Sound
 pub mod Sources
 pub mod Standing
 pub mod Statements

@@ -1,8 +1,7 @@
--- Lists in brackets: what is read is spelled so, and the other way round.
-use Rattle.std.proofs.Common.{arith, ◌≡◌, ◌≤◌, ◌<◌, ℕ, zero, suc, List, [], ◌∷◌, length, Ok, refl, sym, subst, ap, ◌∙◌}
-use Rattle.htl_parse.proofs.Words.{Placed, Put, SpellsMore, no_more, comma, SpellsList, empty, items, more_at, items_at, closed_at, closing_at, list_at}
-use Rattle.htl_parse.specs.Reading.{Read, Reader, ◌>>=◌, after_sign}
-use Rattle.htl_parse.proofs.Sound.{Holds, then, after_sign-sound}
+-- Lists in brackets: what is spelled so is read, and leaves less.
+use Rattle.std.proofs.Common.{arith, ◌≡◌, ◌≤◌, ◌<◌, ℕ, zero, suc, List, [], ◌∷◌, length, Ok, refl, ap, ◌∙◌}
+use Rattle.htl_parse.proofs.{Words.Placed, Words.Put, Words.SpellsMore, Words.no_more, Words.comma, Words.SpellsList, Words.empty, Words.items, Words.more_at, Words.items_at, Words.closed_at, Words.closing_at, Words.list_at, Fronts.Less}
+use Rattle.htl_parse.specs.Reading.{Read, Reader, ◌>>=◌}
 use Rattle.htl_parse.proofs.Fixed.{bind-same}
 use Rattle.htl_text.specs.declared.token.Token.TheVariants as token
 use Rattle.htl_text.specs.declared.token.Sign.TheVariants as sign
@@ -18,34 +17,6 @@ IsClosed (Put k (token.Sign sign.CloseParen) ∷ us) = Unit {0}
 IsClosed us = ⊥
 
 module _ {X : Type 0} (Item : List Placed → X → List Placed → Type 0) (item : Reader X) where
-  -- soundness, where items are read soundly
-  more-sound : ((ts : List Placed) → Holds (λ (x : X × List Placed). Item ts x.0 x.1) (item ts)) → (n : ℕ) (ts : List Placed)
-      → Holds (λ (x : List X × List Placed). SpellsMore Item ts x.0 x.1) (more_at item n ts)
-  more-sound sound (suc n) (Put k (token.Sign sign.Comma) ∷ ts) =
-      then _ _ _ (item ts) (sound ts) (λ x s. then _ _ _ (more_at item n x.1) (more-sound sound n x.1) (λ xs more. comma s more))
-  more-sound sound n ts = no_more
-
-  close : (ts us : List Placed) (x : X) (xs : List X) (rest : List Placed) (m : ℕ) (vs : List Placed) → Item ts x us → SpellsMore Item us xs rest → rest ≡ Put m (token.Sign sign.CloseParen) ∷ vs
-      → (k : ℕ) → SpellsList Item (Put k (token.Sign sign.OpenParen) ∷ ts) (x ∷ xs) vs
-  close ts us x xs rest m vs s more e k = items s (subst (λ (ls : List Placed). SpellsMore Item us xs ls) e more)
-
-  closing-sound : ((ts : List Placed) → Holds (λ (x : X × List Placed). Item ts x.0 x.1) (item ts)) → (k : ℕ) (ts : List Placed)
-      → Holds (λ (x : List X × List Placed). SpellsList Item (Put k (token.Sign sign.OpenParen) ∷ ts) x.0 x.1) (closing_at item ts)
-  closing-sound sound k (Put m (token.Sign sign.CloseParen) ∷ ts) = empty
-  closing-sound sound k ts =
-      then _ _ _ (items_at item ts) (by ts (item ts) (sound ts)) (λ xs whole. then _ _ _ (after_sign sign.CloseParen xs.1) (after_sign-sound sign.CloseParen xs.1) (λ us closed. whole closed.0 us closed.1))
-    where
-      by : (ts : List Placed) (r : Read X) → Holds (λ (x : X × List Placed). Item ts x.0 x.1) r
-          → Holds (λ (x : List X × List Placed). (m : ℕ) (vs : List Placed) → x.1 ≡ Put m (token.Sign sign.CloseParen) ∷ vs → SpellsList Item (Put k (token.Sign sign.OpenParen) ∷ ts) x.0 vs)
-          (r >>= λ x. more_at item (length x.1) x.1 >>= λ xs. Ok (x.0 ∷ xs.0, xs.1))
-      by ts r s = then _ _ _ r s (λ x first. then _ _ _ (more_at item (length x.1) x.1) (more-sound sound (length x.1) x.1) (λ xs more m vs e. close ts x.1 x.0 xs.0 xs.1 m vs first more e k))
-
-  pub list-sound : ((ts : List Placed) → Holds (λ (x : X × List Placed). Item ts x.0 x.1) (item ts)) → (ts : List Placed)
-      → Holds (λ (x : List X × List Placed). SpellsList Item ts x.0 x.1) (list_at item ts)
-  list-sound sound ts =
-      then _ _ _ (after_sign sign.OpenParen ts) (after_sign-sound sign.OpenParen ts) (λ us o.
-      subst (λ (all : List Placed). Holds (λ (x : List X × List Placed). SpellsList Item all x.0 x.1) (closing_at item us)) (sym o.1) (closing-sound sound o.0 us))
-
   -- a list has at least two tokens
   more-shorter : ((ts : List Placed) (x : X) (us : List Placed) → Item ts x us → length us < length ts)
       → {ts : List Placed} {xs : List X} {rest : List Placed} → SpellsMore Item ts xs rest → length rest ≤ length ts
@@ -99,19 +70,16 @@ module _ {X : Type 0} (Item : List Placed → X → List Placed → Type 0) (ite
         behind (Put m (token.Sign sign.CloseParen) ∷ ts) opens s = absurd (opens m ts x us s)
         behind ts opens s = whole ts s
 
-  -- reading needs no bound
-  module _ (less : (ts : List Placed) → Holds (λ (x : X × List Placed). length x.1 < length ts) (item ts)) where
-    more-same : (n m : ℕ) (ts : List Placed) → length ts ≤ n → length ts ≤ m → more_at item n ts ≡ more_at item m ts
-    more-same (suc n) (suc m) (Put k (token.Sign sign.Comma) ∷ ts) a b =
-        bind-same _ _ _ (item ts) (item ts) refl (less ts) (λ x h. ap (λ (r : Read (List X)). r >>= λ xs. Ok (x.0 ∷ xs.0, xs.1)) (more-same n m x.1 (omega (arith, a, h)) (omega (arith, b, h))))
-    more-same zero m (Put k (token.Sign sign.Comma) ∷ ts) a b = absurd (omega (arith, a))
-    more-same n zero (Put k (token.Sign sign.Comma) ∷ ts) a b = absurd (omega (arith, b))
-    more-same zero zero ts a b = refl
-    more-same zero (suc m) ts a b = refl
-    more-same (suc n) zero ts a b = refl
-    more-same (suc n) (suc m) ts a b = refl
+-- reading needs no bound
+module _ {X : Type 0} (item : Reader X) (less : Less item) where
+  pub more-same : (n m : ℕ) (ts : List Placed) → length ts ≤ n → length ts ≤ m → more_at item n ts ≡ more_at item m ts
+  more-same (suc n) (suc m) (Put k (token.Sign sign.Comma) ∷ ts) a b =
+      bind-same _ _ _ (item ts) (item ts) refl (less ts) (λ x h. ap (λ (r : Read (List X)). r >>= λ xs. Ok (x.0 ∷ xs.0, xs.1)) (more-same n m x.1 (omega (arith, a, h)) (omega (arith, b, h))))
+  more-same zero (suc m) (Put k (token.Sign sign.Comma) ∷ ts) a b = absurd (omega (arith, a))
+  more-same (suc n) zero (Put k (token.Sign sign.Comma) ∷ ts) a b = absurd (omega (arith, b))
+  more-same n m ts a b = refl
 
-    pub more-is : (k : ℕ) (ts : List Placed)
-        → more_at item (length (Put k (token.Sign sign.Comma) ∷ ts)) (Put k (token.Sign sign.Comma) ∷ ts) ≡ (item ts >>= λ x. more_at item (length x.1) x.1 >>= λ xs. Ok (x.0 ∷ xs.0, xs.1))
-    more-is k ts =
-        bind-same _ _ _ (item ts) (item ts) refl (less ts) (λ x h. ap (λ (r : Read (List X)). r >>= λ xs. Ok (x.0 ∷ xs.0, xs.1)) (more-same (length ts) (length x.1) x.1 (omega (arith, h)) (omega arith)))
+  pub more-is : (k : ℕ) (ts : List Placed)
+      → more_at item (length (Put k (token.Sign sign.Comma) ∷ ts)) (Put k (token.Sign sign.Comma) ∷ ts) ≡ (item ts >>= λ x. more_at item (length x.1) x.1 >>= λ xs. Ok (x.0 ∷ xs.0, xs.1))
+  more-is k ts =
+      bind-same _ _ _ (item ts) (item ts) refl (less ts) (λ x h. ap (λ (r : Read (List X)). r >>= λ xs. Ok (x.0 ∷ xs.0, xs.1)) (more-same (length ts) (length x.1) x.1 (omega (arith, h)) (omega arith)))

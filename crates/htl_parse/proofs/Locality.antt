@@ -1,10 +1,9 @@
 -- Two lists of tokens that are alike up to and with a token: reading stops before it or at it in both, or in none.
-use Rattle.std.proofs.Common.{arith, ◌≡◌, ◌≤◌, ℕ, Bool, true, false, cond, List, [], ◌∷◌, ◌++◌, length, Ok, Err, refl, sym, subst, ◌∙◌, inl, inr}
+use Rattle.std.proofs.Common.{arith, ◌≡◌, ◌≤◌, ◌+◌, ℕ, Bool, true, false, cond, List, [], ◌∷◌, ◌++◌, length, Ok, Err, refl, sym, subst, ◌∙◌, inl, inr}
 use Rattle.std.specs.Prelude.{◌==◌, ◌⊎◌}
-use Rattle.htl_parse.proofs.Words.{Placed, Put, Sign, sign_code}
+use Rattle.htl_parse.proofs.{Words.Placed, Words.Put, Words.Sign, Words.sign_code, Fronts.Tells, Fronts.Fronts}
 use Rattle.htl_text.specs.declared.token.Token.TheVariants as token
 use Rattle.htl_parse.specs.Reading.{Read, left_of, Reader, ◌>>=◌, after_sign}
-use Rattle.htl_parse.proofs.Fronts.{Tells, Fronts}
 
 -- alike up to and with a token, behind which m and k stand
 pub data Alike (m k : List Placed) : List Placed → List Placed → Type 0 where
@@ -49,30 +48,65 @@ local-then r next lr each = record {
       (λ a ws xs h1 h2 l. (each a).same m k ws xs l);
 }
 
-sign-less : {B : Type 0} (wanted : Sign) (next : List Placed → Read B) → Local next → (us : List Placed) → length (left_of (after_sign wanted us >>= next)) ≤ length us
-sign-less {B} wanted next l (Put j (token.Sign s) ∷ us) = by (sign_code s == sign_code wanted)
-  where
-    by : (b : Bool) → length (left_of (cond b (Ok us) (Err (Put j (token.Sign s) ∷ us)) >>= next)) ≤ length (Put j (token.Sign s) ∷ us)
-    by true = let h = l.less us in omega (arith, h)
-    by false = omega arith
-sign-less wanted next l us = omega arith
+-- a reader that refuses each token
+pub local-err : {X : Type 0} → Local {X = X} (λ (us : List Placed). Err us)
+local-err = record { less = λ us. omega arith; same = λ m k us vs al. inl al }
 
-sign-same : {B : Type 0} (wanted : Sign) (next : List Placed → Read B) → Local next → (m k us vs : List Placed) → Alike m k us vs → Both m k (after_sign wanted us >>= next) (after_sign wanted vs >>= next)
-sign-same {B} wanted next l m k _ _ (here (Put j (token.Sign s))) = by (sign_code s == sign_code wanted)
+-- Behind p, tail passes it and reads what follows, or does what another reader does with p before.
+abbrev pub Begun : {X : Type 0} → Placed → Reader X → Type 0
+Begun {X} p tail = Local tail ⊎ ((other : Reader X) × Local other × ((us : List Placed) → other (p ∷ us) ≡ tail us))
+
+-- a reader is local where it is behind each first token
+pub local-by : {X : Type 0} (read : Reader X) → length (left_of (read [])) ≤ 0 → ((p : Placed) → Begun p (λ (us : List Placed). read (p ∷ us))) → Local read
+local-by {X} read none each = record { less = less; same = same }
   where
-    by : (b : Bool) → Both m k (cond b (Ok m) (Err (Put j (token.Sign s) ∷ m)) >>= next) (cond b (Ok k) (Err (Put j (token.Sign s) ∷ k)) >>= next)
-    by true = inr (l.less m, l.less k)
-    by false = inl (here (Put j (token.Sign s)))
-sign-same {B} wanted next l m k _ _ (later (Put j (token.Sign s)) us vs al) = by (sign_code s == sign_code wanted)
-  where
-    by : (b : Bool) → Both m k (cond b (Ok us) (Err (Put j (token.Sign s) ∷ us)) >>= next) (cond b (Ok vs) (Err (Put j (token.Sign s) ∷ vs)) >>= next)
-    by true = l.same m k us vs al
-    by false = inl (later (Put j (token.Sign s)) us vs al)
-sign-same wanted next l m k _ _ (here p) = inl (here p)
-sign-same wanted next l m k _ _ (later p us vs al) = inl (later p us vs al)
+    less-first : (p : Placed) → Begun p (λ (us : List Placed). read (p ∷ us)) → (us : List Placed) → length (left_of (read (p ∷ us))) ≤ length (p ∷ us)
+    less-first p (inl l) us = let h = l.less us in omega (arith, h)
+    less-first p (inr o) us = subst (λ (r : Read X). length (left_of r) ≤ length (p ∷ us)) (o.2 us) (o.1.less (p ∷ us))
+
+    less : (us : List Placed) → length (left_of (read us)) ≤ length us
+    less [] = none
+    less (p ∷ us) = less-first p (each p) us
+
+    as-other : (p : Placed) (other : Reader X) → Local other → ((us : List Placed) → other (p ∷ us) ≡ read (p ∷ us)) → (m k us vs : List Placed)
+        → Alike m k (p ∷ us) (p ∷ vs)
+        → Both m k (read (p ∷ us)) (read (p ∷ vs))
+    as-other p other l is m k us vs al =
+        subst (λ (r : Read X). Both m k r (read (p ∷ vs))) (is us) (subst (λ (r : Read X). Both m k (other (p ∷ us)) r) (is vs)
+        (l.same m k (p ∷ us) (p ∷ vs) al))
+
+    same-here : (m k : List Placed) (p : Placed) → Begun p (λ (us : List Placed). read (p ∷ us)) → Both m k (read (p ∷ m)) (read (p ∷ k))
+    same-here m k p (inl l) = inr (l.less m, l.less k)
+    same-here m k p (inr o) = as-other p o.0 o.1 o.2 m k m k (here p)
+
+    same-later : (m k us vs : List Placed) → Alike m k us vs → (p : Placed) → Begun p (λ (us : List Placed). read (p ∷ us))
+        → Both m k (read (p ∷ us)) (read (p ∷ vs))
+    same-later m k us vs al p (inl l) = l.same m k us vs al
+    same-later m k us vs al p (inr o) = as-other p o.0 o.1 o.2 m k us vs (later p us vs al)
+
+    same : (m k us vs : List Placed) → Alike m k us vs → Both m k (read us) (read vs)
+    same m k _ _ (here p) = same-here m k p (each p)
+    same m k _ _ (later p us vs al) = same-later m k us vs al p (each p)
+
+-- a reader is local that reads as one with a bound does, where that is long enough, and these are local
+pub local-bound : {X : Type 0} (by : ℕ → Reader X) (read : Reader X) → ((n : ℕ) (us : List Placed) → length us ≤ n → read us ≡ by n us)
+    → ((n : ℕ) → Local (by n)) → Local read
+local-bound {X} by read is each = record {
+  less = λ us. subst (λ (r : Read X). length (left_of r) ≤ length us) (sym (is (length us) us (omega arith))) ((each (length us)).less us);
+  same = λ m k us vs al.
+      let n : ℕ = length us + length vs in
+      subst (λ (r : Read X). Both m k r (read vs)) (sym (is n us (omega arith)))
+      (subst (λ (r : Read X). Both m k (by n us) r) (sym (is n vs (omega arith))) ((each n).same m k us vs al));
+}
 
 pub local-sign : {B : Type 0} (wanted : Sign) (next : List Placed → Read B) → Local next → Local (λ (ts : List Placed). after_sign wanted ts >>= next)
-local-sign wanted next l = record { less = sign-less wanted next l; same = sign-same wanted next l }
+local-sign wanted next l = local-by (λ (ts : List Placed). after_sign wanted ts >>= next) (omega arith) each
+  where
+    each : (p : Placed) → Begun p (λ (us : List Placed). after_sign wanted (p ∷ us) >>= next)
+    each (Put j (token.Sign s)) = elim (sign_code s == sign_code wanted)
+        as (λ (b : Bool). Begun (Put j (token.Sign s)) (λ (us : List Placed). cond b (Ok us) (Err (Put j (token.Sign s) ∷ us)) >>= next))
+        [ true ↦ inl l | false ↦ inr (λ us. Err us, local-err, λ us. refl) ]
+    each p = inr (λ us. Err us, local-err, λ us. refl)
 
 -- what is left is no longer than what there was
 length-front : (front left : List Placed) → length left ≤ length (front ++ left)

@@ -1,6 +1,6 @@
 -- The tokens of the printed form spell the tree again, but for the numbers of the tokens.
 use Rattle.std.proofs.Common.{◌≡◌, ℕ, ◌+◌, Bool, true, false, Option, None, Some, List, [], ◌∷◌, map, length, refl, sym, subst, ap, ◌∙◌}
-use Rattle.htl_parse.proofs.Words.{Ty, UnOp, BinOp, Placed, Put, tokens_numbered, Expr, Number, Flag, Variable, Prefix, Infix, Choice, Or, And, Compare, Sum, Product, Atom, Spells, conj, or, cmp, and, sum, compare, prod, add, unary, multiply, atom, prefix, number, true_atom, false_atom, name, brackets, choice, PlainOut, PlainOuts, Concrete, Abstract, PlainTask, PlainSwitch, PlainMode, PlainModule, PlainProgram, SpellsMore, no_more, comma, SpellsList, empty, items, SpellsEach, no_other, another, SpellsClause, absent, present, SpellsType, int, bool, SpellsConst, positive, negative, true_word, false_word, SpellsComm, communicator, sensor, SpellsParam, param, SpellsOut, out, SpellsTask, concrete, abstract_task, SpellsPort, port, SpellsEnd, comm_end, port_end, SpellsInvoke, invoke, SpellsSwitch, switch, SpellsMode, mode, SpellsModule, a_module, SpellsProgram, program, source, Spelling, each, after_commas, in_brackets, prefix_sign, infix_sign, expr_tokens, type_tokens, const_tokens, comm_tokens, param_tokens, out_tokens, task_tokens, port_tokens, end_tokens, clause_tokens, invoke_tokens, switch_tokens, mode_tokens, module_tokens, program_tokens, source_tokens, bare_id, bare_num, bare_expr, bare_const, bare_comm, bare_param, bare_out, bare_outs, bare_task, bare_end, bare_clause, bare_invoke, bare_switch, bare_mode, bare_module, bare_program, AreAlike, printed_bytes, printed-tokens, Spell, IsPrintable, IsParsedAgain, Token, Word, Id, ParamNode, ConstNode, CommNode, EndNode, InvokeNode}
+use Rattle.htl_parse.proofs.Words.{Ty, UnOp, BinOp, Placed, Put, tokens_numbered, Expr, Number, Flag, Variable, Prefix, Infix, Choice, Or, And, Compare, Sum, Product, Atom, Spells, conj, or, cmp, and, sum, compare, prod, add, unary, multiply, atom, prefix, number, true_atom, false_atom, name, brackets, choice, PlainOut, PlainOuts, Concrete, Abstract, PlainTask, PlainSwitch, PlainMode, PlainModule, PlainProgram, SpellsMore, no_more, comma, SpellsList, empty, items, SpellsEach, no_other, another, SpellsClause, absent, present, SpellsType, int, bool, SpellsConst, positive, negative, true_word, false_word, SpellsComm, communicator, sensor, SpellsParam, param, SpellsOut, out, SpellsTask, concrete, abstract_task, SpellsPort, port, SpellsEnd, comm_end, port_end, SpellsInvoke, invoke, SpellsSwitch, switch, SpellsMode, mode, SpellsModule, a_module, SpellsProgram, program, source, Spelling, each, after_commas, in_brackets, prefix_sign, infix_sign, expr_tokens, type_tokens, const_tokens, comm_tokens, param_tokens, out_tokens, task_tokens, port_tokens, end_tokens, clause_tokens, invoke_tokens, switch_tokens, mode_tokens, module_tokens, program_tokens, source_tokens, bare_id, bare_expr, bare_const, bare_comm, bare_param, bare_out, bare_task, bare_end, bare_clause, bare_invoke, bare_switch, bare_mode, bare_module, bare_program, AreAlike, printed_bytes, printed-tokens, Spell, IsPrintable, IsParsedAgain, Token, Word, Id, Num, ParamNode, ConstNode, CommNode, EndNode, InvokeNode}
 use Rattle.htl_base.specs.declared.Ty.TheVariants as ty
 use Rattle.htl_base.specs.declared.operator.UnOp.TheVariants as un
 use Rattle.htl_base.specs.declared.operator.BinOp.TheVariants as bin
@@ -82,14 +82,14 @@ expr-again (Prefix k op e) n more =
 expr-again (Infix k op l r) n more =
     let a = expr-again l (n + 1) (token.Sign (infix_sign op) ∷ expr_tokens r (token.Sign sign.CloseParen ∷ more)) in
     let b = expr-again r (a.1 + 1) (token.Sign sign.CloseParen ∷ more) in
-    (Infix a.1 op a.0 b.0, b.1 + 1, ap (λ (f : Expr). Infix 0 op f (bare_expr b.0)) a.2 ∙ ap (λ (f : Expr). Infix 0 op (bare_expr l) f) b.2, brackets (infix-spells op a.3 b.3))
+    (Infix a.1 op a.0 b.0, b.1 + 1, cc (a.2, b.2), brackets (infix-spells op a.3 b.3))
 expr-again (Choice k c a b) n more =
     let x = expr-again c (n + 1 + 1) (token.Sign sign.Comma ∷ expr_tokens a (token.Sign sign.Comma ∷ expr_tokens b (token.Sign sign.CloseParen ∷ more))) in
     let y = expr-again a (x.1 + 1) (token.Sign sign.Comma ∷ expr_tokens b (token.Sign sign.CloseParen ∷ more)) in
     let z = expr-again b (y.1 + 1) (token.Sign sign.CloseParen ∷ more) in (
       Choice n x.0 y.0 z.0,
       z.1 + 1,
-      ap (λ (f : Expr). Choice 0 f (bare_expr y.0) (bare_expr z.0)) x.2 ∙ ap (λ (f : Expr). Choice 0 (bare_expr c) f (bare_expr z.0)) y.2 ∙ ap (λ (f : Expr). Choice 0 (bare_expr c) (bare_expr a) f) z.2,
+      cc (x.2, y.2, z.2),
       choice (as_or x.3) (as_or y.3) (as_or z.3),
     )
 
@@ -111,23 +111,18 @@ const-again (const.Bool k true) n more = (const.Bool n true, n + 1, refl, true_w
 const-again (const.Bool k false) n more = (const.Bool n false, n + 1, refl, false_word)
 
 comm-again : (c : CommNode) (n : ℕ) (more : List Token) → Again SpellsComm comm_tokens bare_comm n c more
-comm-again c n more = by c.sensor
-  where
-    behind : List Token
-    behind = token.Sign sign.Semicolon ∷ more
-
-    init : Again SpellsConst const_tokens bare_const (n + 1 + 1 + 1 + 1 + 1 + 1) c.init behind
-    init = const-again c.init (n + 1 + 1 + 1 + 1 + 1 + 1) behind
-
-    found : Bool → CommNode
-    found is_sensor = record { sensor = is_sensor; ty = c.ty; name = record { name = c.name.name; token = n + 1 + 1 }; period = record { x = c.period.x; token = n + 1 + 1 + 1 + 1 }; init = init.0 }
-
-    same : (is_sensor : Bool) → bare_comm (found is_sensor) ≡ bare_comm (record { sensor = is_sensor; ty = c.ty; name = c.name; period = c.period; init = c.init })
-    same is_sensor = ap (λ (i : ConstNode). record { sensor = is_sensor; ty = c.ty; name = bare_id c.name; period = bare_num c.period; init = i }) init.2
-
-    by : (is_sensor : Bool) → Again SpellsComm comm_tokens bare_comm n (record { sensor = is_sensor; ty = c.ty; name = c.name; period = c.period; init = c.init }) more
-    by true = (found true, init.1 + 1, same true, sensor (type-again c.ty (n + 1) (token.Ident c.name.name ∷ token.Word word.Period ∷ token.Number c.period.x ∷ token.Word word.Init ∷ const_tokens c.init behind)) init.3)
-    by false = (found false, init.1 + 1, same false, communicator (type-again c.ty (n + 1) (token.Ident c.name.name ∷ token.Word word.Period ∷ token.Number c.period.x ∷ token.Word word.Init ∷ const_tokens c.init behind)) init.3)
+comm-again c n more =
+    let behind = token.Sign sign.Semicolon ∷ more in
+    let init = const-again c.init (n + 1 + 1 + 1 + 1 + 1 + 1) behind in
+    let after : List Token = token.Word word.Period ∷ token.Number c.period.x ∷ token.Word word.Init ∷ const_tokens c.init behind in
+    let ty = type-again c.ty (n + 1) (token.Ident c.name.name ∷ after) in
+    let name : Id = record { name = c.name.name; token = n + 1 + 1 } in
+    let period : Num = record { x = c.period.x; token = n + 1 + 1 + 1 + 1 } in
+    let found : Bool → CommNode = λ b. record { sensor = b; ty = c.ty; name = name; period = period; init = init.0 } in
+    elim c.sensor as (λ (b : Bool). Again SpellsComm comm_tokens bare_comm n (record c { sensor = b }) more) [
+      | true ↦ (found true, init.1 + 1, cc (init.2), sensor ty init.3)
+      | false ↦ (found false, init.1 + 1, cc (init.2), communicator ty init.3)
+    ]
 
 -- an expression begins with a token
 expr-first : (e : Expr) (more : List Token) → (t : Token) × (us : List Token) × (expr_tokens e more ≡ t ∷ us)
@@ -157,36 +152,28 @@ out-again o n more =
     let e = expr-again o.value (p.1 + 1) more in (
       record { param = p.0; first = p.1 + 1; value = e.0 },
       e.1,
-      ap (λ (q : ParamNode). record { param = q; first = 0; value = bare_expr e.0 }) p.2 ∙ ap (λ (f : Expr). record { param = bare_param o.param; first = 0; value = f }) e.2,
+      cc (p.2, e.2),
       out-of (p.1 + 1) o.value more p.3 (as_or e.3),
     )
 
 task-again : (t : PlainTask) (n : ℕ) (more : List Token) → Again SpellsTask task_tokens bare_task n t more
 task-again t n more = by t.outputs
   where
-    given : PlainOuts → PlainTask
-    given outs = record { name = t.name; inputs = t.inputs; outputs = outs; worst = t.worst }
-
     found : ℕ → ℕ → List ParamNode → PlainOuts → PlainTask
     found m w ins outs = record { name = record { name = t.name.name; token = m }; inputs = ins; outputs = outs; worst = record { x = t.worst.x; token = w } }
-
-    same : (m w : ℕ) (ins : List ParamNode) (outs to : PlainOuts) → map bare_param ins ≡ map bare_param t.inputs → bare_outs outs ≡ bare_outs to → bare_task (found m w ins outs) ≡ bare_task (given to)
-    same m w ins outs to one two =
-        ap (λ (is : List ParamNode). record { name = bare_id t.name; inputs = is; outputs = bare_outs outs; worst = bare_num t.worst }) one
-        ∙ ap (λ (os : PlainOuts). record { name = bare_id t.name; inputs = map bare_param t.inputs; outputs = os; worst = bare_num t.worst }) two
 
     ended : List Token
     ended = token.Word word.Worst ∷ token.Number t.worst.x ∷ token.Sign sign.Semicolon ∷ more
 
-    by : (outs : PlainOuts) → Again SpellsTask task_tokens bare_task n (given outs) more
+    by : (outs : PlainOuts) → Again SpellsTask task_tokens bare_task n (record t { outputs = outs }) more
     by (Concrete outs) =
         let i = list-again SpellsParam param_tokens bare_param param-again t.inputs (n + 1 + 1 + 1) (token.Word word.Output ∷ in_brackets out_tokens outs ended) in
         let o = list-again SpellsOut out_tokens bare_out out-again outs (i.1 + 1) ended in
-        (found (n + 1) (o.1 + 1) i.0 (Concrete o.0), o.1 + 1 + 1 + 1, same (n + 1) (o.1 + 1) i.0 (Concrete o.0) (Concrete outs) i.2 (ap Concrete o.2), concrete i.3 o.3)
+        (found (n + 1) (o.1 + 1) i.0 (Concrete o.0), o.1 + 1 + 1 + 1, cc (i.2, o.2), concrete i.3 o.3)
     by (Abstract outs) =
         let i = list-again SpellsParam param_tokens bare_param param-again t.inputs (n + 1 + 1 + 1 + 1) (token.Word word.Output ∷ in_brackets param_tokens outs ended) in
         let o = list-again SpellsParam param_tokens bare_param param-again outs (i.1 + 1) ended in
-        (found (n + 1 + 1) (o.1 + 1) i.0 (Abstract o.0), o.1 + 1 + 1 + 1, same (n + 1 + 1) (o.1 + 1) i.0 (Abstract o.0) (Abstract outs) i.2 (ap Abstract o.2), abstract_task i.3 o.3)
+        (found (n + 1 + 1) (o.1 + 1) i.0 (Abstract o.0), o.1 + 1 + 1 + 1, cc (i.2, o.2), abstract_task i.3 o.3)
 
 port-again : (p : ParamNode) (n : ℕ) (more : List Token) → Again SpellsPort port_tokens bare_param n p more
 port-again p n more =
@@ -210,9 +197,7 @@ invoke-again i n more =
     let p = clause-again word.Parent i.parent w.1 ended in (
       record { task = record { name = i.task.name; token = n + 1 }; reads = r.0; writes = w.0; parent = p.0 },
       p.1 + 1,
-      ap (λ (xs : List EndNode). record { task = bare_id i.task; reads = xs; writes = map bare_end w.0; parent = bare_clause p.0 }) r.2
-          ∙ ap (λ (xs : List EndNode). record { task = bare_id i.task; reads = map bare_end i.reads; writes = xs; parent = bare_clause p.0 }) w.2
-          ∙ ap (λ (o : Option Id). record { task = bare_id i.task; reads = map bare_end i.reads; writes = map bare_end i.writes; parent = o }) p.2,
+      cc (r.2, w.2, p.2),
       invoke r.3 w.3 p.3,
     )
 
@@ -245,14 +230,10 @@ mode-again m n more =
     let r = clause-again word.Program m.program (n + 1 + 1 + 1 + 1) (token.Sign sign.OpenBrace ∷ ports) in
     let p = each-again SpellsPort port_tokens bare_param port-again m.ports (r.1 + 1) invokes in
     let i = each-again SpellsInvoke invoke_tokens bare_invoke invoke-again m.invokes p.1 switches in
-    let s = each-again SpellsSwitch switch_tokens bare_switch switch-again m.switches i.1 ended in
-    let made : Option Id → List ParamNode → List InvokeNode → List PlainSwitch → PlainMode = λ o ps is ss. record { name = bare_id m.name; period = bare_num m.period; program = o; ports = ps; invokes = is; switches = ss } in (
+    let s = each-again SpellsSwitch switch_tokens bare_switch switch-again m.switches i.1 ended in (
       record { name = record { name = m.name.name; token = n + 1 }; period = record { x = m.period.x; token = n + 1 + 1 + 1 }; program = r.0; ports = p.0; invokes = i.0; switches = s.0 },
       s.1 + 1,
-      ap (λ (o : Option Id). made o (map bare_param p.0) (map bare_invoke i.0) (map bare_switch s.0)) r.2
-          ∙ ap (λ (ps : List ParamNode). made (bare_clause m.program) ps (map bare_invoke i.0) (map bare_switch s.0)) p.2
-          ∙ ap (λ (is : List InvokeNode). made (bare_clause m.program) (map bare_param m.ports) is (map bare_switch s.0)) i.2
-          ∙ ap (λ (ss : List PlainSwitch). made (bare_clause m.program) (map bare_param m.ports) (map bare_invoke m.invokes) ss) s.2,
+      cc (r.2, p.2, i.2, s.2),
       mode r.3 p.3 i.3 s.3,
     )
 
@@ -263,8 +244,7 @@ module-again m n more =
     let d = each-again SpellsMode mode_tokens bare_mode mode-again m.modes t.1 ended in (
       record { name = record { name = m.name.name; token = n + 1 }; start = record { name = m.start.name; token = n + 1 + 1 + 1 }; tasks = t.0; modes = d.0 },
       d.1 + 1,
-      ap (λ (ts : List PlainTask). record { name = bare_id m.name; start = bare_id m.start; tasks = ts; modes = map bare_mode d.0 }) t.2
-          ∙ ap (λ (ds : List PlainMode). record { name = bare_id m.name; start = bare_id m.start; tasks = map bare_task m.tasks; modes = ds }) d.2,
+      cc (t.2, d.2),
       a_module t.3 d.3,
     )
 
@@ -275,8 +255,7 @@ program-again p n more =
     let m = each-again SpellsModule module_tokens bare_module module-again p.modules c.1 ended in (
       record { name = record { name = p.name.name; token = n + 1 }; comms = c.0; modules = m.0 },
       m.1 + 1,
-      ap (λ (cs : List CommNode). record { name = bare_id p.name; comms = cs; modules = map bare_module m.0 }) c.2
-          ∙ ap (λ (ms : List PlainModule). record { name = bare_id p.name; comms = map bare_comm p.comms; modules = ms }) m.2,
+      cc (c.2, m.2),
       program c.3 m.3,
     )
 

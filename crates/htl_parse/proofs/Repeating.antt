@@ -1,22 +1,9 @@
--- Repeated items: what is read is spelled so, and the other way round.
-use Rattle.std.proofs.Common.{arith, ◌≡◌, ◌≤◌, ◌<◌, ℕ, zero, suc, Bool, true, false, List, [], ◌∷◌, length, Ok, refl, ap, ◌∙◌}
-use Rattle.htl_parse.proofs.Words.{Placed, SpellsEach, no_other, another, again_at, each_at, repeated_at}
+-- Repeated items: what is spelled so is read, and leaves less.
+use Rattle.std.proofs.Common.{arith, ◌≡◌, ◌≤◌, ◌<◌, ℕ, zero, suc, Bool, true, false, List, [], ◌∷◌, length, Ok, refl, sym, ap, ◌∙◌}
+use Rattle.htl_parse.proofs.{Words.Placed, Words.SpellsEach, Words.no_other, Words.another, Words.again_at, Words.each_at, Words.repeated_at, Fixed.bind-same, Fronts.Less}
 use Rattle.htl_parse.specs.Reading.{Read, Reader, ◌>>=◌}
-use Rattle.htl_parse.proofs.Sound.{Holds, then}
-use Rattle.htl_parse.proofs.Fixed.{bind-same}
 
 module _ {X : Type 0} (Item : List Placed → X → List Placed → Type 0) (begins : List Placed → Bool) (item : Reader X) where
-  -- soundness, where items are read soundly
-  pub each-sound : ((ts : List Placed) → Holds (λ (x : X × List Placed). Item ts x.0 x.1) (item ts)) → (n : ℕ) (ts : List Placed)
-      → Holds (λ (x : List X × List Placed). SpellsEach Item ts x.0 x.1) (each_at begins item n ts)
-  each-sound sound zero ts = no_other
-  each-sound sound (suc n) ts = by (each-sound sound n) (begins ts)
-    where
-      by : ((us : List Placed) → Holds (λ (x : List X × List Placed). SpellsEach Item us x.0 x.1) (each_at begins item n us)) → (b : Bool)
-          → Holds (λ (x : List X × List Placed). SpellsEach Item ts x.0 x.1) (again_at (each_at begins item n) item ts b)
-      by rec true = then _ _ _ (item ts) (sound ts) (λ x s. then _ _ _ (each_at begins item n x.1) (rec x.1) (λ xs more. another s more))
-      by rec false = no_other
-
   -- completeness, where an item is told by its first token
   pub record IsPart : Type 0 where
     pub shorter : (ts : List Placed) (x : X) (us : List Placed) → Item ts x us → length us < length ts
@@ -48,36 +35,28 @@ module _ {X : Type 0} (Item : List Placed → X → List Placed → Type 0) (beg
   each-shorter shorter (another {ts} {us} {rest} {x} {xs} s more) = omega (arith, shorter ts x us s, each-shorter shorter more)
 
 -- reading needs no bound
-module _ {X : Type 0} (begins : List Placed → Bool) (item : Reader X) (less : (ts : List Placed) → Holds (λ (x : X × List Placed). length x.1 < length ts) (item ts))
-    (some : (ts : List Placed) → begins ts ≡ true → 0 < length ts) where
+module _ {X : Type 0} (begins : List Placed → Bool) (item : Reader X) (less : Less item) (nothing : begins [] ≡ false) where
   again-same : (more also : Reader (List X)) (ts : List Placed) → ((us : List Placed) → length us < length ts → more us ≡ also us) → (b : Bool)
       → again_at more item ts b ≡ again_at also item ts b
   again-same more also ts same true = bind-same _ _ _ (item ts) (item ts) refl (less ts) (λ x h. ap (λ (r : Read (List X)). r >>= λ xs. Ok (x.0 ∷ xs.0, xs.1)) (same x.1 h))
   again-same more also ts same false = refl
 
-  each-same : (n m : ℕ) (ts : List Placed) → length ts ≤ n → length ts ≤ m → each_at begins item n ts ≡ each_at begins item m ts
+  -- with no token nothing begins
+  none-here : (more : Reader (List X)) (ts : List Placed) → length ts ≤ 0 → Ok ([], ts) ≡ again_at more item ts (begins ts)
+  none-here more [] fits = ap (again_at more item []) (sym nothing)
+  none-here more (t ∷ ts) fits = absurd (omega (arith, fits))
+
+  pub each-same : (n m : ℕ) (ts : List Placed) → length ts ≤ n → length ts ≤ m → each_at begins item n ts ≡ each_at begins item m ts
   each-same (suc n) (suc m) ts a b =
       again-same (each_at begins item n) (each_at begins item m) ts (λ us h. each-same n m us (omega (arith, a, h)) (omega (arith, b, h))) (begins ts)
   each-same zero zero ts a b = refl
-  each-same zero (suc m) ts a b = none ts m (omega (arith, a)) (begins ts) refl
-    where
-      none : (ts : List Placed) (m : ℕ) → length ts ≤ 0 → (b : Bool) → begins ts ≡ b → Ok ([], ts) ≡ again_at (each_at begins item m) item ts b
-      none ts m a true e = absurd (omega (arith, a, some ts e))
-      none ts m a false e = refl
-  each-same (suc n) zero ts a b = none ts n (omega (arith, b)) (begins ts) refl
-    where
-      none : (ts : List Placed) (m : ℕ) → length ts ≤ 0 → (b : Bool) → begins ts ≡ b → again_at (each_at begins item m) item ts b ≡ Ok ([], ts)
-      none ts m a true e = absurd (omega (arith, a, some ts e))
-      none ts m a false e = refl
+  each-same zero (suc m) ts a b = none-here (each_at begins item m) ts a
+  each-same (suc n) zero ts a b = sym (none-here (each_at begins item n) ts b)
 
   -- one more item, or none
   pub repeated-is : (ts : List Placed) → repeated_at begins item ts ≡ again_at (repeated_at begins item) item ts (begins ts)
   repeated-is ts = by (length ts) (omega arith)
     where
       by : (n : ℕ) → length ts ≤ n → each_at begins item n ts ≡ again_at (repeated_at begins item) item ts (begins ts)
-      by zero fits = none (begins ts) refl
-        where
-          none : (b : Bool) → begins ts ≡ b → Ok ([], ts) ≡ again_at (repeated_at begins item) item ts b
-          none true e = absurd (omega (arith, fits, some ts e))
-          none false e = refl
+      by zero fits = none-here (repeated_at begins item) ts fits
       by (suc n) fits = again-same (each_at begins item n) (repeated_at begins item) ts (λ us h. each-same n (length us) us (omega (arith, fits, h)) (omega arith)) (begins ts)

@@ -2,12 +2,7 @@
 use Rattle.std.proofs.Common.{arith, ◌≡◌, ◌≤◌, ◌+◌, ◌-◌, ℕ, suc, List, [], ◌∷◌, ◌++◌, length, Ok, Err, refl, sym, subst, ap, ◌∙◌, inl, inr, length-append, append_assoc}
 use Rattle.std.specs.Prelude.{◌<◌}
 use Rattle.htl_parse.proofs.Words.{first-unique, Placed, Put, tokens_numbered, PlainProgram, SpellsSource, Token, Spell, Begins, IsMisfit, Read, left_of, source_at}
-use Rattle.htl_parse.proofs.Fronts.{onto, Tells}
-use Rattle.htl_parse.proofs.Sources.{source-complete}
-use Rattle.htl_parse.proofs.Standing.{length-numbered}
-use Rattle.htl_parse.proofs.Locality.{Alike, here, later, Both}
-use Rattle.htl_parse.proofs.LocalStatements.{source-local}
-use Rattle.htl_parse.proofs.ViableSources.{source-tells}
+use Rattle.htl_parse.proofs.{Fronts.onto, Fronts.Tells, Sources.source-complete, Standing.length-numbered, Locality.Alike, Locality.here, Locality.later, Locality.Both, LocalStatements.source-local, ViableSources.source-tells}
 
 -- where a list of numbered tokens is cut
 pub record Cut (n : ℕ) (tokens : List Token) (front left : List Placed) : Type 0 where
@@ -28,22 +23,13 @@ cut-more n t tokens p front left same c =
       after = c.after ∙ ap (λ (i : ℕ). tokens_numbered i c.b) e;
     }
 
-head_of : Placed → List Placed → Placed
-head_of d [] = d
-head_of d (p ∷ ps) = p
-
-tail_of : List Placed → List Placed
-tail_of [] = []
-tail_of (p ∷ ps) = ps
-
 cut-at : (n : ℕ) (tokens : List Token) (front left : List Placed) → tokens_numbered n tokens ≡ front ++ left → Cut n tokens front left
-unfolding head_of tail_of
 cut-at n tokens [] left e =
     let nil : List Token = [] in
     let z : n ≡ n + length nil = omega arith in
     record { a = []; b = tokens; cut = refl; before = λ o. refl; after = sym e ∙ ap (λ (i : ℕ). tokens_numbered i tokens) z }
 cut-at n [] (p ∷ front) left e = absurd cc
-cut-at n (t ∷ tokens) (p ∷ front) left e = cut-more n t tokens p front left (ap (head_of p) e) (cut-at (n + 1) tokens front left (ap tail_of e))
+cut-at n (t ∷ tokens) (p ∷ front) left e = cut-more n t tokens p front left (cc) (cut-at (n + 1) tokens front left (cc))
 
 onto-nil : (n : ℕ) (ts : List Token) → onto n ts [] ≡ tokens_numbered n ts
 onto-nil n [] = refl
@@ -158,14 +144,6 @@ misfit-left tokens left stop =
 shorter-begins : (a b : List Token) → Begins (a ++ b) → Begins a
 shorter-begins a b s = (b ++ s.0, (s.1.0, subst (λ (ts : List Token). Spell ts s.1.0) (append_assoc a b s.0) s.1.1))
 
-first_of : Token → List Token → Token
-first_of d [] = d
-first_of d (t ∷ ts) = t
-
-rest_of : List Token → List Token
-rest_of [] = []
-rest_of (t ∷ ts) = ts
-
 -- of two cuts of a list, the shorter front with one token more is a front of the longer one
 record Seam (a b c : List Token) : Type 0 where
   pub t : Token
@@ -175,13 +153,12 @@ record Seam (a b c : List Token) : Type 0 where
   pub long : c ≡ (a ++ (t ∷ [])) ++ e
 
 seam : (a b c d : List Token) → a ++ b ≡ c ++ d → length a < length c → Seam a b c
-unfolding first_of rest_of
 seam [] b [] d e less = absurd (omega (arith, less))
 seam [] b (t ∷ c) d e less = record { t = t; r = c ++ d; e = c; back = e; long = refl }
 seam (s ∷ a) b [] d e less = absurd (omega (arith, less))
 seam (s ∷ a) b (t ∷ c) d e less =
-    let x = seam a b c d (ap rest_of e) (omega (arith, less)) in
-    let same : s ≡ t = ap (first_of s) e in
+    let x = seam a b c d (cc) (omega (arith, less)) in
+    let same : s ≡ t = cc in
     record { t = x.t; r = x.r; e = x.e; back = x.back; long = ap (λ (l : List Token). t ∷ l) x.long ∙ ap (λ (u : Token). u ∷ ((a ++ (x.t ∷ [])) ++ x.e)) (sym same) }
 
 none-before : (tokens : List Token) (j k : ℕ) → IsMisfit tokens j → IsMisfit tokens k → j < k → ⊥

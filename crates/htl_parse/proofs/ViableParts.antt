@@ -6,15 +6,8 @@ use Rattle.htl_text.specs.declared.token.Token.TheVariants as token
 use Rattle.htl_text.specs.declared.token.Sign.TheVariants as sign
 use Rattle.htl_text.specs.declared.token.Word.TheVariants as word
 use Rattle.htl_parse.specs.ReadingStatements.{param_at, out_at, port_at, instance_at, port_end_at, end_at, invoke_at}
-use Rattle.htl_parse.proofs.Coding.{word_code-equal}
-use Rattle.htl_parse.proofs.Complete.{shorter}
-use Rattle.htl_parse.proofs.ViableExpressions.{read_expr-tells, some}
-use Rattle.htl_parse.proofs.ViableLists.{list-tells}
+use Rattle.htl_parse.proofs.{Coding.word_code-equal, Complete.shorter, ViableExpressions.read_expr-tells, ViableExpressions.some, ViableLists.list-tells}
 use Rattle.htl_parse.proofs.Fronts.{Fronts, fronts-none, fronts-token, Tells, part, part-front, stops-here, a-sign, a-word, a-name, a-number, one-token}
-
--- a name and a number that serve as any
-pub nm : Token
-nm = token.Ident (80 ∷ [])
 
 pub type-tells : (ts : List Placed) → Tells SpellsType ts (type_at ts)
 type-tells (Put k (token.Word word.Int) ∷ ts) = one-token SpellsType _ ts _ (λ o. int)

@@ -5,9 +5,7 @@ use Rattle.htl_text.specs.declared.token.Token.TheVariants as token
 use Rattle.htl_text.specs.declared.token.Sign.TheVariants as sign
 use Rattle.htl_text.specs.declared.token.Word.TheVariants as word
 use Rattle.htl_parse.specs.ReadingStatements.{begins_comm, comm_at, begins_task, task_at, begins_port, port_at, begins_invoke, invoke_at, begins_switch, switch_at, begins_mode, mode_at, begins_module, module_at, begins_program, program_at, source_at}
-use Rattle.htl_parse.proofs.ViableLists.{repeated-tells}
-use Rattle.htl_parse.proofs.ViableParts.{clause-tells, port-tells, invoke-tells}
-use Rattle.htl_parse.proofs.ViableStatements.{comm-tells, task-tells, switch-tells}
+use Rattle.htl_parse.proofs.{ViableLists.repeated-tells, ViableParts.clause-tells, ViableParts.port-tells, ViableParts.invoke-tells, ViableStatements.comm-tells, ViableStatements.task-tells, ViableStatements.switch-tells}
 use Rattle.htl_parse.proofs.Fronts.{fronts-none, Tells, part, a-sign, a-word, a-name, a-number}
 
 pub mode-tells : (ts : List Placed) → Tells SpellsMode ts (mode_at ts)

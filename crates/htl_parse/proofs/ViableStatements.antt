@@ -5,9 +5,7 @@ use Rattle.htl_text.specs.declared.token.Token.TheVariants as token
 use Rattle.htl_text.specs.declared.token.Sign.TheVariants as sign
 use Rattle.htl_text.specs.declared.token.Word.TheVariants as word
 use Rattle.htl_parse.specs.ReadingStatements.{param_at, out_at, kind_at, comm_at, outputs_at, task_by, task_at, switch_at}
-use Rattle.htl_parse.proofs.Complete.{shorter}
-use Rattle.htl_parse.proofs.ViableExpressions.{read_expr-tells, some}
-use Rattle.htl_parse.proofs.ViableLists.{list-tells}
+use Rattle.htl_parse.proofs.{Complete.shorter, ViableExpressions.read_expr-tells, ViableExpressions.some, ViableLists.list-tells}
 use Rattle.htl_parse.proofs.ViableParts.{type-tells, const-tells, param-tells, out-tells, place-same}
 use Rattle.htl_parse.proofs.Fronts.{Fronts, fronts-none, fronts-token, Tells, part, part-front, stops-here, a-sign, a-word, a-name, a-number, one-token}
 

@@ -1,9 +1,7 @@
 -- From the reading of whole sources to what they spell.
 use Rattle.std.proofs.Common.{◌≡◌, ◌-◌, ℕ, List, [], length, Result, Ok, Err, refl, subst, ap, inl, inr}
 use Rattle.htl_parse.proofs.Words.{Placed, tokens_numbered, PlainProgram, tree_of, SpellsSource, Read, left_of, source_at, IsLong, IsTree, IsParsed, TellsTree, TellsLong, TellsSyntax, first-unique, Token, Tree, ParseFault}
-use Rattle.htl_parse.proofs.Sound.{Holds}
-use Rattle.htl_parse.proofs.Sources.{source-sound, source-complete}
-use Rattle.htl_parse.proofs.Stopping.{misfit-left, misfit-unique}
+use Rattle.htl_parse.proofs.{Fronts.Holds, Fronts.tells-sound, Sources.source-complete, ViableSources.source-tells, Stopping.misfit-left, Stopping.misfit-unique}
 use Rattle.htl_parse.specs.declared.parser.ParseFault.TheVariants as fault
 
 read-same : {Y : Type 0} (r : Read Y) (t u : Y) (vs ws : List Placed) → r ≡ Ok (t, vs) → r ≡ Ok (u, ws) → (t ≡ u) × (vs ≡ ws)
@@ -22,7 +20,8 @@ whole-more read found left gives some = (ap left_of gives, λ y e. some (read-sa
 -- ---- what is read and what is spelled
 
 pub read-spells : (ts : List Placed) (t : List PlainProgram) → source_at ts ≡ Ok (t, []) → SpellsSource ts t []
-read-spells ts t read = subst (Holds (λ (x : List PlainProgram × List Placed). SpellsSource ts x.0 x.1)) read (source-sound ts)
+read-spells ts t read = subst (Holds (λ (x : List PlainProgram × List Placed). SpellsSource ts x.0 x.1)) read
+    (tells-sound SpellsSource ts (source_at ts) (source-tells ts))
 
 read-whole : (ts : List Placed) (t : List PlainProgram) → SpellsSource ts t [] → source_at ts ≡ Ok (t, [])
 read-whole ts t s = source-complete s refl

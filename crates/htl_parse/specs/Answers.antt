@@ -1,12 +1,7 @@
 -- What the parser answers.
 use Rattle.std.specs.Prelude.{ℕ, ◌≡◌, Result, Ok, Err, List, [], ◌∷◌, ◌++◌, length, ◌⊎◌}
-use Rattle.htl_text.specs.Nodes.{PlainProgram, tree_of}
-use Rattle.htl_text.specs.Placed.{tokens_numbered}
-use Rattle.htl_text.specs.Statements.{SpellsSource}
-use Rattle.htl_text.specs.declared.token.Token.{Token}
-use Rattle.htl_text.specs.declared.tree.Tree.{Tree}
-use Rattle.htl_parse.specs.Runs.{AreShort, IsFirstLong}
-use Rattle.htl_parse.specs.declared.parser.ParseFault.{ParseFault}
+use Rattle.htl_text.specs.{Nodes.PlainProgram, Nodes.tree_of, Placed.tokens_numbered, Statements.SpellsSource, declared.token.Token.Token, declared.tree.Tree.Tree}
+use Rattle.htl_parse.specs.{Runs.AreShort, Runs.IsFirstLong, declared.parser.ParseFault.ParseFault}
 use Rattle.htl_parse.specs.declared.parser.ParseFault.TheVariants as fault
 
 -- the tokens, numbered from 0, spell this tree, all of them

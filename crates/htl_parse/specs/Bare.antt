@@ -1,16 +1,10 @@
 -- Trees without the numbers of their tokens: each is 0.
 use Rattle.std.specs.Prelude.{◌≡◌, Option, None, Some, List, map}
-use Rattle.htl_text.specs.Expressions.{Expr, Number, Flag, Variable, Prefix, Infix, Choice}
-use Rattle.htl_text.specs.Nodes.{PlainOut, PlainOuts, Concrete, Abstract, PlainTask, PlainSwitch, PlainMode, PlainModule, PlainProgram}
-use Rattle.htl_text.specs.declared.tree.Id.{Id}
-use Rattle.htl_text.specs.declared.tree.Num.{Num}
-use Rattle.htl_text.specs.declared.tree.ParamNode.{ParamNode}
-use Rattle.htl_text.specs.declared.tree.ConstNode.{ConstNode}
+use Rattle.htl_text.specs.{Expressions.Expr, Expressions.Number, Expressions.Flag, Expressions.Variable, Expressions.Prefix, Expressions.Infix, Expressions.Choice, declared.tree.Id.Id, declared.tree.Num.Num, declared.tree.CommNode.CommNode}
+use Rattle.htl_text.specs.{Nodes.PlainOut, Nodes.PlainOuts, Nodes.Concrete, Nodes.Abstract, Nodes.PlainTask, Nodes.PlainSwitch, Nodes.PlainMode, Nodes.PlainModule, Nodes.PlainProgram, declared.tree.ParamNode.ParamNode}
+use Rattle.htl_text.specs.{declared.tree.ConstNode.ConstNode, declared.tree.EndNode.EndNode, declared.tree.InvokeNode.InvokeNode}
 use Rattle.htl_text.specs.declared.tree.ConstNode.TheVariants as const
-use Rattle.htl_text.specs.declared.tree.CommNode.{CommNode}
-use Rattle.htl_text.specs.declared.tree.EndNode.{EndNode}
 use Rattle.htl_text.specs.declared.tree.EndNode.TheVariants as end
-use Rattle.htl_text.specs.declared.tree.InvokeNode.{InvokeNode}
 
 abbrev pub bare_id : Id → Id
 bare_id id = record { name = id.name; token = 0 }

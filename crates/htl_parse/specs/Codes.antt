@@ -1,8 +1,7 @@
 -- A number for each sign and each reserved word, by which they are compared.
 use Rattle.std.specs.Prelude.{ℕ}
-use Rattle.htl_text.specs.declared.token.Sign.{Sign}
+use Rattle.htl_text.specs.{declared.token.Sign.Sign, declared.token.Word.Word}
 use Rattle.htl_text.specs.declared.token.Sign.TheVariants as sign
-use Rattle.htl_text.specs.declared.token.Word.{Word}
 use Rattle.htl_text.specs.declared.token.Word.TheVariants as word
 
 abbrev pub sign_code : Sign → ℕ

@@ -1,21 +1,12 @@
 -- What the steps of a reader say of the tokens that are left.
 use Rattle.std.specs.Prelude.{Bool, true, false, ℕ, ℤ, ◌≡◌, ◌<◌, ◌≤◌, ◌⊎◌, Option, None, Some, Result, Ok, Err, List, [], ◌∷◌, ◌++◌, length}
-use Rattle.htl_text.specs.Placed.{Placed, Put}
+use Rattle.htl_text.specs.{Placed.Placed, Placed.Put, Expressions.Expr, Expressions.Number, Expressions.Flag, Expressions.Variable, Postfix.nodes_of, Kinds.kind_of, declared.token.Kind.Kind, declared.token.Token.Token}
 use Rattle.htl_base.specs.declared.operator.BinOp.{BinOp}
-use Rattle.htl_text.specs.Expressions.{Expr, Number, Flag, Variable}
-use Rattle.htl_text.specs.Postfix.{nodes_of}
-use Rattle.htl_text.specs.Kinds.{kind_of}
-use Rattle.htl_text.specs.declared.token.Kind.{Kind}
 use Rattle.htl_text.specs.declared.token.Kind.TheVariants as kind
-use Rattle.htl_parse.specs.Levels.{level_of, operator_at}
-use Rattle.htl_parse.specs.Reading.{Read, left_of, place_at}
-use Rattle.htl_parse.specs.ReadingExpressions.{simple_at}
-use Rattle.htl_text.specs.declared.token.Token.{Token}
+use Rattle.htl_parse.specs.{Levels.level_of, Levels.operator_at, Reading.Read, Reading.left_of, Reading.place_at, ReadingExpressions.simple_at, declared.stop.Stop.Stop}
 use Rattle.htl_text.specs.declared.token.Token.TheVariants as token
-use Rattle.htl_text.specs.declared.token.Sign.{Sign}
-use Rattle.htl_text.specs.declared.expression.Node.{Node}
+use Rattle.htl_text.specs.{declared.token.Sign.Sign, declared.expression.Node.Node}
 use Rattle.htl_text.specs.declared.expression.Node.TheVariants as node
-use Rattle.htl_parse.specs.declared.stop.Stop.{Stop}
 use Rattle.htl_parse.specs.declared.stop.Stop.TheVariants as stop
 
 -- the kind of the token that stands next

@@ -1,16 +1,7 @@
 -- Laws over all tokens and all trees.
 use Rattle.std.specs.Prelude.{ℕ, ◌≡◌, ◌≤◌, List, [], length}
-use Rattle.htl_text.specs.Bounds.{IsBounded}
-use Rattle.htl_text.specs.Nodes.{PlainProgram}
-use Rattle.htl_text.specs.PrintedBytes.{printed_bytes}
-use Rattle.htl_text.specs.PrintedTokens.{source_tokens}
-use Rattle.htl_text.specs.Spans.{Tokens}
-use Rattle.htl_text.specs.Spellable.{AreSpellable}
-use Rattle.htl_text.specs.TokenLists.{TokenList}
-use Rattle.htl_parse.specs.Answers.{Spell, IsMisfit}
-use Rattle.htl_parse.specs.Bare.{AreAlike}
-use Rattle.htl_parse.specs.Runs.{AreShort}
-use Rattle.htl_text.specs.declared.token.Token.{Token}
+use Rattle.htl_text.specs.{Bounds.IsBounded, Nodes.PlainProgram, PrintedBytes.printed_bytes, PrintedTokens.source_tokens, Spans.Tokens, Spellable.AreSpellable, TokenLists.TokenList, declared.token.Token.Token}
+use Rattle.htl_parse.specs.{Answers.Spell, Answers.IsMisfit, Bare.AreAlike, Runs.AreShort}
 
 -- tokens spell at most one tree
 abbrev pub OneTree : Type 0

@@ -2,11 +2,8 @@
 use Rattle.std.specs.Prelude.{ℕ, ◌+◌, ◌==◌, cond, Option, None}
 use Rattle.std.proofs.Common.{zero, suc}
 use Rattle.htl_base.specs.declared.operator.BinOp.{BinOp}
-use Rattle.htl_text.specs.Expressions.{Expr}
-use Rattle.htl_text.specs.Grammar.{or_of, and_of, compare_of, sum_of, product_of}
-use Rattle.htl_parse.specs.Reading.{Reader}
-use Rattle.htl_parse.specs.ReadingExpressions.{unary_by, product_by, sum_by, compare_by, and_by, or_by}
-use Rattle.htl_text.specs.declared.token.Sign.{Sign}
+use Rattle.htl_text.specs.{Expressions.Expr, Grammar.or_of, Grammar.and_of, Grammar.compare_of, Grammar.sum_of, Grammar.product_of, declared.token.Sign.Sign}
+use Rattle.htl_parse.specs.{Reading.Reader, ReadingExpressions.unary_by, ReadingExpressions.product_by, ReadingExpressions.sum_by, ReadingExpressions.compare_by, ReadingExpressions.and_by, ReadingExpressions.or_by}
 use Rattle.htl_text.specs.declared.token.Sign.TheVariants as sign
 
 -- the level of a sign; 5 where it stands between no operands

@@ -4,15 +4,10 @@ use Rattle.std.specs.Prelude.{ℕ, Bool, cond, ◌==◌, true, false, Option, So
 use Rattle.htl_base.specs.declared.Ty.{Ty}
 use Rattle.htl_base.specs.declared.Ty.TheVariants as ty
 use Rattle.htl_parse.specs.Codes.{sign_code, word_code}
-use Rattle.htl_text.specs.Placed.{Placed, Put}
+use Rattle.htl_text.specs.{Placed.Placed, Placed.Put, declared.token.Sign.Sign, declared.token.Word.Word, declared.tree.Id.Id, declared.tree.Num.Num, declared.tree.ConstNode.ConstNode}
 use Rattle.htl_text.specs.declared.token.Token.TheVariants as token
-use Rattle.htl_text.specs.declared.token.Sign.{Sign}
 use Rattle.htl_text.specs.declared.token.Sign.TheVariants as sign
-use Rattle.htl_text.specs.declared.token.Word.{Word}
 use Rattle.htl_text.specs.declared.token.Word.TheVariants as word
-use Rattle.htl_text.specs.declared.tree.Id.{Id}
-use Rattle.htl_text.specs.declared.tree.Num.{Num}
-use Rattle.htl_text.specs.declared.tree.ConstNode.{ConstNode}
 use Rattle.htl_text.specs.declared.tree.ConstNode.TheVariants as const
 
 abbrev pub Read : Type 0 → Type 0

@@ -3,12 +3,10 @@ use Rattle.std.specs.Prelude.{ℕ, true, false, Option, Some, None, Ok, Err, Lis
 use Rattle.std.proofs.Common.{zero, suc}
 use Rattle.htl_base.specs.declared.operator.BinOp.{BinOp}
 use Rattle.htl_base.specs.declared.operator.UnOp.TheVariants as un
-use Rattle.htl_text.specs.Placed.{Placed, Put}
-use Rattle.htl_text.specs.Expressions.{Expr, Number, Flag, Variable, Prefix, Infix, Choice}
+use Rattle.htl_text.specs.{Placed.Placed, Placed.Put, Expressions.Expr, Expressions.Number, Expressions.Flag, Expressions.Variable, Expressions.Prefix, Expressions.Infix, Expressions.Choice, declared.token.Sign.Sign}
 use Rattle.htl_text.specs.Grammar.{or_of, and_of, compare_of, sum_of, product_of}
 use Rattle.htl_parse.specs.Reading.{Read, Reader, ◌>>=◌, after_sign}
 use Rattle.htl_text.specs.declared.token.Token.TheVariants as token
-use Rattle.htl_text.specs.declared.token.Sign.{Sign}
 use Rattle.htl_text.specs.declared.token.Sign.TheVariants as sign
 use Rattle.htl_text.specs.declared.token.Word.TheVariants as word
 

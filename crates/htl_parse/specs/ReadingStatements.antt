@@ -1,18 +1,13 @@
 -- Reading the statements of a source, from the inside out.
 use Rattle.std.specs.Prelude.{Bool, true, false, Ok, Err, List, ◌∷◌}
-use Rattle.htl_text.specs.Placed.{Placed, Put}
-use Rattle.htl_text.specs.Nodes.{PlainOut, PlainOuts, Concrete, Abstract, PlainTask, PlainSwitch, PlainMode, PlainModule, PlainProgram}
+use Rattle.htl_text.specs.{Placed.Placed, Placed.Put, Nodes.PlainOut, Nodes.PlainOuts, Nodes.Concrete, Nodes.Abstract, Nodes.PlainTask, Nodes.PlainSwitch, Nodes.PlainMode, Nodes.PlainModule, Nodes.PlainProgram}
 use Rattle.htl_parse.specs.Reading.{Reader, ◌>>=◌, after_sign, after_word, place_at, name_at, number_at, type_at, const_at, clause_at}
-use Rattle.htl_parse.specs.ReadingExpressions.{read_expr}
-use Rattle.htl_parse.specs.ReadingLists.{list_at, repeated_at}
+use Rattle.htl_parse.specs.{ReadingExpressions.read_expr, ReadingLists.list_at, ReadingLists.repeated_at}
 use Rattle.htl_text.specs.declared.token.Token.TheVariants as token
 use Rattle.htl_text.specs.declared.token.Sign.TheVariants as sign
 use Rattle.htl_text.specs.declared.token.Word.TheVariants as word
-use Rattle.htl_text.specs.declared.tree.ParamNode.{ParamNode}
-use Rattle.htl_text.specs.declared.tree.CommNode.{CommNode}
-use Rattle.htl_text.specs.declared.tree.EndNode.{EndNode}
+use Rattle.htl_text.specs.{declared.tree.ParamNode.ParamNode, declared.tree.CommNode.CommNode, declared.tree.EndNode.EndNode, declared.tree.InvokeNode.InvokeNode}
 use Rattle.htl_text.specs.declared.tree.EndNode.TheVariants as end
-use Rattle.htl_text.specs.declared.tree.InvokeNode.{InvokeNode}
 
 unfoldable pub param_at : Reader ParamNode
 param_at ts = type_at ts >>= λ t. name_at t.1 >>= λ n. Ok (record { ty = t.0; name = n.0 }, n.1)

@@ -1,8 +1,6 @@
 use Rattle.std.proofs.Common.{rules, ◌≡◌, ◌-◌, ℕ, length, ap₂, refl, sym, subst}
-use Rattle.htl_parse.proofs.Words.{err_from_is_err_and, Expr, Prefix, Infix, Choice, read_expr}
+use Rattle.htl_parse.proofs.{Words.err_from_is_err_and, Words.Expr, Words.Prefix, Words.Infix, Words.Choice, Words.read_expr, Descent.unary-plain, Fixed.read_expr-is}
 use Rattle.htl_parse.proofs.Climbing.{IsClimbing, climbing-start, climbing-more, climbing-stopped, climbing-done}
-use Rattle.htl_parse.proofs.Descent.{unary-plain}
-use Rattle.htl_parse.proofs.Fixed.{read_expr-is}
 use Rattle.htl_parse.proofs.Pushing.{put-prefix, put-infix, put-choice, chosen-is, prefix-read}
 use Rattle.htl_parse.proofs.expr.+expr.Goals as goal
 

@@ -1,6 +1,5 @@
 use Rattle.std.proofs.Common.{◌≡◌, ◌+◌, ◌*◌, ◌++◌, length}
-use Rattle.htl_parse.proofs.Words.{Expr, nodes_of}
-use Rattle.htl_parse.proofs.Climbing.{IsClimbing}
+use Rattle.htl_parse.proofs.{Words.Expr, Words.nodes_of, Climbing.IsClimbing}
 use Rattle.htl_parse.proofs.expr.+expr.Given as goal
 
 abbrev pub decreases-atom : goal.decreases-atom

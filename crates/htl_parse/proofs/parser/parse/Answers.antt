@@ -1,5 +1,4 @@
-use Rattle.htl_parse.proofs.Bounded.{result-bounded}
-use Rattle.htl_parse.proofs.Whole.{tells-tree, tells-long, tells-syntax}
+use Rattle.htl_parse.proofs.{Bounded.result-bounded, Whole.tells-tree, Whole.tells-long, Whole.tells-syntax}
 use Rattle.htl_parse.proofs.parser.parse.Goals as goal
 
 pub returns-clause-tree : goal.returns-clause-tree

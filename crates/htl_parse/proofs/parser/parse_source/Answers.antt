@@ -1,7 +1,5 @@
 use Rattle.std.proofs.Common.{ℕ, List, [], ◌≡◌, map, sym, subst}
-use Rattle.htl_parse.proofs.Words.{program_of, Placed, SpellsSource, SpellNone, IsMisfit, left_of, source_at}
-use Rattle.htl_parse.proofs.Stopping.{misfit-left}
-use Rattle.htl_parse.proofs.Whole.{IsStopped, read-spells, stopped}
+use Rattle.htl_parse.proofs.{Words.program_of, Words.Placed, Words.SpellsSource, Words.SpellNone, Words.IsMisfit, Words.left_of, Words.source_at, Stopping.misfit-left, Whole.IsStopped, Whole.read-spells, Whole.stopped}
 use Rattle.htl_parse.proofs.parser.parse_source.Goals as goal
 
 pub returns-in-Ok : goal.returns-in-Ok

@@ -1,5 +1,4 @@
-use Rattle.htl_parse.proofs.Words.{map, program_of, source_at}
-use Rattle.htl_parse.proofs.Whole.{whole-ended, whole-more}
+use Rattle.htl_parse.proofs.{Words.map, Words.program_of, Words.source_at, Whole.whole-ended, Whole.whole-more}
 use Rattle.htl_parse.proofs.parser.whole_source.Goals as goal
 
 pub returns-then-is_done : goal.returns-then-is_done

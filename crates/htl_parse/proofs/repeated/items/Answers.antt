@@ -1,5 +1,4 @@
-use Rattle.htl_parse.proofs.Items.{items-more, items-end, less-read, comma-less}
-use Rattle.htl_parse.proofs.Repeats.{less-given}
+use Rattle.htl_parse.proofs.{Items.items-more, Items.items-end, Items.less-read, Items.comma-less, Repeats.less-given}
 use Rattle.htl_parse.proofs.repeated.items.Goals as goal
 
 pub loop-cursor-preserved : goal.loop-cursor-preserved

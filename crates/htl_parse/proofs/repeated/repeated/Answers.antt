@@ -1,7 +1,6 @@
 use Rattle.std.proofs.Common.{sym, ◌∙◌}
 use Rattle.htl_parse.specs.ReadingLists.{repeated_at}
-use Rattle.htl_parse.proofs.Items.{less-read}
-use Rattle.htl_parse.proofs.Repeats.{less-given, repeat-more}
+use Rattle.htl_parse.proofs.{Items.less-read, Repeats.less-given, Repeats.repeat-more}
 use Rattle.htl_parse.proofs.repeated.repeated.Goals as goal
 
 pub items-preserved : goal.items-preserved

@@ -1,5 +1,4 @@
-use Rattle.htl_parse.proofs.Words.{length, repeated_at}
-use Rattle.htl_parse.proofs.Repeats.{IsRepeating}
+use Rattle.htl_parse.proofs.{Words.length, Words.repeated_at, Repeats.IsRepeating}
 use Rattle.htl_parse.proofs.repeated.repeated.Given as goal
 
 abbrev pub invariant-items : goal.invariant-items

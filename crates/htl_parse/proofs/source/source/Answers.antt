@@ -1,7 +1,5 @@
 use Rattle.std.proofs.Common.{map, refl, sym, ◌∙◌}
-use Rattle.htl_parse.proofs.Words.{map-append, program_of, begins_program, program_at, source_at}
-use Rattle.htl_parse.proofs.Items.{less-read}
-use Rattle.htl_parse.proofs.Repeats.{repeat-more, program-less}
+use Rattle.htl_parse.proofs.{Words.map-append, Words.program_of, Words.begins_program, Words.program_at, Words.source_at, Items.less-read, Repeats.repeat-more, Repeats.program-less}
 use Rattle.htl_parse.proofs.source.source.Goals as goal
 
 pub loop-alloc-preserved : goal.loop-alloc-preserved

@@ -1,5 +1,4 @@
-use Rattle.htl_parse.proofs.Words.{map, length, program_of, begins_program, program_at, source_at}
-use Rattle.htl_parse.proofs.Repeats.{IsRepeating}
+use Rattle.htl_parse.proofs.{Words.map, Words.length, Words.program_of, Words.begins_program, Words.program_at, Words.source_at, Repeats.IsRepeating}
 use Rattle.htl_parse.proofs.source.source.Given as goal
 
 abbrev pub invariant-loop-alloc : goal.invariant-loop-alloc

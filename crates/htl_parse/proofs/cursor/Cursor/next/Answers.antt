@@ -1,6 +1,5 @@
 use Rattle.std.proofs.Common.{List, ◌+◌, drop, sym, subst, ap, ◌∙◌}
-use Rattle.htl_parse.proofs.Words.{Placed, next_kind, NextIs}
-use Rattle.htl_parse.proofs.Standing.{next-first, kind-at}
+use Rattle.htl_parse.proofs.{Words.Placed, Words.next_kind, Words.NextIs, Standing.next-first, Standing.kind-at}
 use Rattle.htl_parse.proofs.cursor.Cursor.next.Goals as goal
 
 pub returns-clause-kind : goal.returns-clause-kind

@@ -1,7 +1,6 @@
 use Rattle.std.proofs.Common.{◌≡◌, List, ◌∷◌, ◌+◌, drop, sym, subst, ap, ◌∙◌}
-use Rattle.htl_parse.proofs.Words.{Placed, Put, next_kind, behind, place_at}
+use Rattle.htl_parse.proofs.{Words.Placed, Words.Put, Words.next_kind, Words.behind, Words.place_at, Standing.next-is, Standing.kind-at}
 use Rattle.htl_text.specs.declared.token.Token.TheVariants as token
-use Rattle.htl_parse.proofs.Standing.{next-is, kind-at}
 use Rattle.htl_parse.proofs.cursor.Cursor.next_name.Goals as goal
 
 pub name-requires : goal.name-requires
