@@ -18,14 +18,10 @@ none_same same tells y (x ∷ xs) none = by (same y x) refl (none_same same tell
     by false is later = grind (arith, nat_tests)
 
 pub same_owned_is : (a b : ℕ × List ℕ) → same_owned a b ≡ true → a ≡ b
-same_owned_is a b h =
-    let p = and_parts (eqb a.0 b.0) (bytes_eq a.1 b.1) h in
-    ap (λ (n : ℕ). (n, a.1)) (eqb-true a.0 b.0 p.0) ∙ ap (λ (n : List ℕ). (b.0, n)) ((bytes_eq-Decides a.1 b.1).0 p.1)
+same_owned_is a b h = grind (arith, and_parts, eqb-true, bytes_eq-Decides)
 
 pub same_pair_is : (a b : ℕ × ℕ) → same_pair a b ≡ true → a ≡ b
-same_pair_is a b h =
-    let p = and_parts (eqb a.0 b.0) (eqb a.1 b.1) h in
-    ap (λ (n : ℕ). (n, a.1)) (eqb-true a.0 b.0 p.0) ∙ ap (λ (n : ℕ). (b.0, n)) (eqb-true a.1 b.1 p.1)
+same_pair_is a b h = grind (arith, and_parts, eqb-true)
 
 pub different : (xs : List (List ℕ)) → AreApart xs → are_different xs ≡ true
 different [] apart = refl
@@ -59,14 +55,7 @@ apart_more y xs none apart (suc j) (suc k) x less p q = apart j k x (omega arith
 
 none_again : {A : Type 0} (same : A → A → Bool) → ((a : A) → same a a ≡ true) → (y : A) (xs : List A) → list_any (same y) xs ≡ false → (k : ℕ) → slice_get xs k ≡ Some y → ⊥
 none_again same itself y [] h k e = absurd cc
-none_again same itself y (x ∷ xs) h zero e = let is : x ≡ y = cc in true_false (sym (itself y) ∙ ap (same y) (sym is) ∙ neither (same y x) (list_any (same y) xs) h)
-  where
-    true_false : true ≡ false → ⊥
-    true_false e = cc
-
-    neither : (a b : Bool) → (a || b) ≡ false → a ≡ false
-    neither true b h = h
-    neither false b h = refl
+none_again same itself y (x ∷ xs) h zero e = grind arith
 none_again same itself y (x ∷ xs) h (suc k) e = none_again same itself y xs (or_second (same y x) (list_any (same y) xs) h) k e
 
 bytes_itself : (n : List ℕ) → bytes_eq n n ≡ true

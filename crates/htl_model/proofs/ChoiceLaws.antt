@@ -17,10 +17,4 @@ least_right x c h = omega arith
 -- a cap on the way changes nothing under the cap
 pub capped : (x c rest : ℕ) → min (min x c * rest) c ≡ min (x * rest) c
 capped x c zero = let a : min x c * 0 ≡ 0 = omega arith in let b : x * 0 ≡ 0 = omega arith in ap (λ y. min y c) (a ∙ sym b)
-capped x c (suc r) =
-    elim (cases_le x c) [
-      | inl h ↦ ap (λ y. min (y * suc r) c) (least_left x c h)
-      | inr h ↦
-          ap (λ y. min (y * suc r) c) (least_right x c (omega arith)) ∙ least_right (c * suc r) c (at_least c r)
-          ∙ sym (least_right (x * suc r) c (omega (arith, at_least x r)))
-    ]
+capped x c (suc r) = grind (arith, cases_le, least_left, least_right, at_least)

@@ -5,11 +5,7 @@ use Rattle.htl_model.proofs.Words.{slice_get_within, slice_get-get_or, drop-leng
 module _ (t : Tables) (modes : List (Option ℕ)) (k : ℕ) where
   pub chosen_past : (steps : ℕ) → length t.invs ≤ k → chosen_in steps t modes k ≡ None
   chosen_past zero far = refl
-  chosen_past (suc steps) far = by (slice_get t.invs k) refl
-    where
-      by : (o : Option Inv) → slice_get t.invs k ≡ o → chosen_in (suc steps) t modes k ≡ None
-      by None e = ap (λ o. itself_or t k o (followed (λ n. chosen_in steps t modes n) (child t modes k))) e
-      by (Some i) e = let below : k < length t.invs = slice_get_within t.invs k i e in absurd (omega arith)
+  chosen_past (suc steps) far = grind (arith, slice_get_within)
 
   at_step : (steps : ℕ) (i : Inv) → slice_get t.invs k ≡ Some i → chosen_in (suc steps) t modes k ≡ cond (is_concrete t i) (Some k) (followed (λ n. chosen_in steps t modes n) (child t modes k))
   at_step steps i at = ap (λ o. itself_or t k o (followed (λ n. chosen_in steps t modes n) (child t modes k))) at
@@ -28,10 +24,7 @@ module _ (t : Tables) (modes : List (Option ℕ)) (k : ℕ) where
   pub chosen_less : (steps n : ℕ) (i : Inv) → 0 < steps → slice_get t.invs k ≡ Some i → is_concrete t i ≡ false → child t modes k ≡ Some n
       → chosen_in steps t modes k ≡ chosen_in (steps - 1) t modes n
   chosen_less zero n i some at abstract next = absurd (omega arith)
-  chosen_less (suc steps) n i some at abstract next = chosen_next steps i at abstract ∙ ap (followed (λ m. chosen_in steps t modes m)) next ∙ ap (λ s. chosen_in s t modes n) (one_less steps)
-    where
-      one_less : (s : ℕ) → s ≡ suc s - 1
-      one_less s = omega arith
+  chosen_less (suc steps) n i some at abstract next = grind (arith, chosen_next)
 
   -- one refinement further down
   pub chosen_down : (steps n : ℕ) (i : Inv) (whole : Option ℕ) → 0 < steps → slice_get t.invs k ≡ Some i → is_concrete t i ≡ false → child t modes k ≡ Some n
@@ -51,14 +44,10 @@ get_none (suc n) (suc k) = get_none n k
 
 -- behind the last invocation there are no children
 pub children_none : (t : Tables) (modes : List (Option ℕ)) (invs : List Inv) (size : ℕ) → invs ≡ t.invs → AreChildrenFrom t modes (replicate size None) (length invs)
-children_none t modes invs size same k =
-    get_none size k ∙ sym (ap (child_from t modes k (length invs)) (ap (λ (xs : List Inv). drop (length invs) xs) (sym same) ∙ drop-length invs))
+children_none t modes invs size same k = grind (arith, get_none, drop-length)
 
 -- one invocation more, towards the front
 pub children_more : (t : Tables) (modes old new : List (Option ℕ)) (invs : List Inv) (n : ℕ) (x : Inv) → invs ≡ t.invs → n < length invs → x ≡ get_or invs n x
     → ((k : ℕ) → get_or new k None ≡ cond (is_child t modes k x) (Some n) (get_or old k None))
     → AreChildrenFrom t modes old (suc n) → AreChildrenFrom t modes new n
-children_more t modes old new invs n x same below at note are k =
-    note k ∙ ap (λ (o : Option ℕ). cond (is_child t modes k x) (Some n) o) (are k)
-    ∙ ap (λ (xs : List Inv). cond (is_child t modes k x) (Some n) (child_from t modes k (suc n) (drop (suc n) xs))) (sym same)
-    ∙ sym (ap (child_from t modes k n) (ap (drop n) (sym same) ∙ drop-cons invs n x below ∙ ap (λ (z : Inv). z ∷ drop (suc n) invs) (sym at)))
+children_more t modes old new invs n x same below at note are k = grind (arith, drop-cons)

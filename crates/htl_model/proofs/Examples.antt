@@ -1,7 +1,6 @@
 use Rattle.std.specs.Prelude.{◌≡◌, List, [], ◌∷◌, Some, None, pos, refl}
-use Rattle.htl_model.proofs.Words.{Event, v, m, run_lines, all_value_lines}
+use Rattle.htl_model.proofs.{Words.Event, Words.v, Words.m, Words.run_lines, Words.all_value_lines, Sources.empty_mode, Sources.doubling, Sources.preempted, Sources.refined, Sources.reentered, Sources.alternating, Sources.ports}
 use Rattle.htl_model.specs.declared.event.Event.TheVariants.{At, Sense, End}
-use Rattle.htl_model.proofs.Sources.{empty_mode, doubling, preempted, refined, reentered, alternating, ports}
 
 abbrev two_readings : List Event
 two_readings = At 0 ∷ Sense 0 (pos 3) ∷ At 10 ∷ Sense 0 (pos 5) ∷ End 20 ∷ []

@@ -20,10 +20,7 @@ pub record IsFirstFrom {A B : Type 0} (f : ℕ → A → Option B) (k : ℕ) (xs
 
 pub first_none : {A B : Type 0} (f : ℕ → A → Option B) (k : ℕ) (xs : List A) → first_from f k xs ≡ None → (i : ℕ) (z : A) → slice_get xs i ≡ Some z → f (k + i) z ≡ None
 first_none f k [] e i z h = cc
-first_none f k (x ∷ xs) e zero z h =
-    let same : x ≡ z = cc in
-    let at : k ≡ k + 0 = omega arith in
-    subst (λ j. f j z ≡ None) at (subst (λ w. f k w ≡ None) same (or_else_none (f k x) (first_from f (suc k) xs) e).0)
+first_none f k (x ∷ xs) e zero z h = grind (arith, or_else_none)
 first_none f k (x ∷ xs) e (suc i) z h =
     let step : suc k + i ≡ k + suc i = omega arith in
     subst (λ j. f j z ≡ None) step (first_none f (suc k) xs (or_else_none (f k x) (first_from f (suc k) xs) e).1 i z h)
@@ -31,10 +28,7 @@ first_none f k (x ∷ xs) e (suc i) z h =
 before_cons : {A B : Type 0} (f : ℕ → A → Option B) (k : ℕ) (x : A) (xs : List A) (p : ℕ) → f k x ≡ None
     → ((i : ℕ) (z : A) → i < p → slice_get xs i ≡ Some z → f (suc k + i) z ≡ None)
     → (i : ℕ) (z : A) → i < suc p → slice_get (x ∷ xs) i ≡ Some z → f (k + i) z ≡ None
-before_cons f k x xs p here later zero z below h =
-    let same : x ≡ z = cc in
-    let at : k ≡ k + 0 = omega arith in
-    subst (λ j. f j z ≡ None) at (subst (λ w. f k w ≡ None) same here)
+before_cons f k x xs p here later zero z below h = grind arith
 before_cons f k x xs p here later (suc i) z below h =
     let step : suc k + i ≡ k + suc i = omega arith in
     subst (λ j. f j z ≡ None) step (later i z (omega arith) h)
@@ -101,9 +95,7 @@ to_found f (suc n) y e =
 
 pub first_hit : {A B : Type 0} (f : ℕ → A → Option B) (xs : List A) (k : ℕ) (x : A) (y : B) → first_from f k (drop k xs) ≡ first_from f 0 xs
     → k < length xs → x ≡ get_or xs k x → f k x ≡ Some y → Some y ≡ first_from f 0 xs
-first_hit f xs k x y going below at here =
-    let cut : drop k xs ≡ get_or xs k x ∷ drop (suc k) xs = drop-cons xs k x below in
-    sym (sym going ∙ ap (first_from f k) (cut ∙ ap (λ z. z ∷ drop (suc k) xs) (sym at)) ∙ ap (λ o. or_else o (first_from f (suc k) (drop (suc k) xs))) here)
+first_hit f xs k x y going below at here = grind (arith, drop-cons)
 
 pub first_miss : {A B : Type 0} (f : ℕ → A → Option B) (xs : List A) (k : ℕ) (x : A) → first_from f k (drop k xs) ≡ first_from f 0 xs
     → k < length xs → x ≡ get_or xs k x → f k x ≡ None → first_from f (k + 1) (drop (k + 1) xs) ≡ first_from f 0 xs

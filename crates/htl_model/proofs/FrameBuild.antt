@@ -1,9 +1,8 @@
 -- The numbers of a frame from its parts.
 use Rattle.std.proofs.Common.{◌≡◌, ℕ, zero, suc, ◌+◌, ◌*◌, ◌/◌, ◌≤◌, ◌<◌, List, [], ◌∷◌, ◌++◌, length, map, add-one, take, get_or, slice_get, Option, Some, None, refl, sym, ap, ◌∙◌, arith, inl, inr}
 use Rattle.htl_model.proofs.Words.{flat_map, pos_of_dvd_of_pos, le-div, le_of_dvd, slice_get_cases, Mode, Module, unit_start, unit_period, root_periods, gcd_in, common_multiple, multiple_of, hyper, frame_of, starts_below, starts, rounds_at, rounds, choices, paths, radices, ways, frame_limit, too_long, AreInRange, IsModeInRange, is_root, root_modules, Tables, mode_period, each_at}
-use Rattle.htl_model.proofs.Divisors.{greatest_divisor}
+use Rattle.htl_model.proofs.{Divisors.greatest_divisor, SelectionLaws.all_places_below}
 use Rattle.htl_model.proofs.FrameLimits.{limits_kept, one_divides, frame_is, too_short, radix_few, roots_have, rounds_have, choices_some, choices_starts}
-use Rattle.htl_model.proofs.SelectionLaws.{all_places_below}
 
 -- ---- periods are some
 
@@ -85,11 +84,7 @@ module _ (t : Tables) (r : AreInRange t) (limit : frame_limit t ≡ None) (some 
       omega (arith, radix_few t xs j (roots_have t r) l, ap (λ ys. choices t (flat_map (rounds_at t) ys)) e, (limits_kept t r limit).choices)
 
   pub paths_are : paths t ≡ choices t (rounds t)
-  paths_are = by (root_modules t) some
-    where
-      by : (us : List ℕ) → 0 < length us → elim us as (λ _. ℕ) [ [] ↦ 0 | u ∷ vs ↦ choices t (rounds t) ] ≡ choices t (rounds t)
-      by [] l = absurd (omega (arith, l))
-      by (u ∷ us) l = refl
+  paths_are = grind arith
 
   pub ways_are : (cs : List ℕ) → cs ≡ radices t → ways cs ≡ choices t (rounds t)
   ways_are cs e = ap ways e ∙ sym (choices_starts t (starts t))
@@ -102,27 +97,18 @@ module _ (t : Tables) (r : AreInRange t) (limit : frame_limit t ≡ None) (some 
 
   pub starts_told : (us : List ℕ) (end count : ℕ) (out : List ℕ) → us ≡ root_modules t → end ≡ frame_of t → take (count + 1) out ≡ starts_below (map (unit_period t) us) end ++ end ∷ []
       → count ≡ length (starts_below (map (unit_period t) us) end) → (take (count + 1) out ≡ starts t ++ frame_of t ∷ []) × (count ≡ length (starts t)) × (take count out ≡ starts t)
-  starts_told us end count out e m f n =
-      let whole : take (count + 1) out ≡ starts t ++ frame_of t ∷ [] = f ∙ ap (λ xs. xs ++ end ∷ []) (starts_are us end e m) ∙ ap (λ h. starts t ++ h ∷ []) m in
-      let some : count ≡ length (starts t) = n ∙ ap (λ (xs : List ℕ). length xs) (starts_are us end e m) in
-      (whole, some, front_is (starts t) out count (frame_of t) some whole)
+  starts_told us end count out e m f n = grind (arith, starts_are, front_is)
 
 pub hyper_is : (t : Tables) (m : ℕ) (us : List ℕ) → us ≡ root_modules t → 0 < length (root_modules t) → m ≡ multiple_of 1 (map (unit_period t) us) → Some m ≡ hyper t
 hyper_is t m us e some f = by (root_modules t) refl some
   where
     by : (vs : List ℕ) → root_modules t ≡ vs → 0 < length vs → Some m ≡ hyper t
     by [] g l = absurd (omega (arith, l))
-    by (v ∷ vs) g l =
-        ap (λ (n : ℕ). Some n) (f ∙ ap (λ ws. multiple_of 1 (map (unit_period t) ws)) (e ∙ g) ∙ ap (λ n. multiple_of n (map (unit_period t) vs)) (one_divides (unit_period t v)))
-        ∙ sym (ap (λ (ws : List ℕ). elim (map (unit_period t) ws) as (λ _. Option ℕ) [ [] ↦ None | p ∷ ps ↦ Some (multiple_of p ps) ]) g)
+    by (v ∷ vs) g l = grind (arith, one_divides)
 
 -- where there is a path the radices give the number of paths
 pub paths_ways : (t : Tables) (p : ℕ) → p < paths t → paths t ≡ ways (radices t)
-paths_ways t p h = go (root_modules t) h ∙ choices_starts t (starts t)
-  where
-    go : (us : List ℕ) → p < elim us as (λ _. ℕ) [ [] ↦ 0 | u ∷ vs ↦ choices t (rounds t) ] → elim us as (λ _. ℕ) [ [] ↦ 0 | u ∷ vs ↦ choices t (rounds t) ] ≡ choices t (rounds t)
-    go [] h = absurd (omega (arith, h))
-    go (u ∷ us) h = refl
+paths_ways t p h = grind (arith, choices_starts)
 
 -- ---- no root modules
 

@@ -1,17 +1,12 @@
 -- The limits of frames, and what is kept where none is exceeded.
 use Rattle.std.proofs.Common.{◌≡◌, ℕ, zero, suc, ◌+◌, ◌*◌, ◌/◌, ◌%◌, ◌≤◌, ◌<◌, Bool, true, false, cond, eqb, ltb, min, List, [], ◌∷◌, ◌++◌, length, map, drop, drop-cons, add-one, get_or, Option, Some, None, option_map, refl, sym, ap, ◌∙◌, arith, inl, inr}
 use Rattle.htl_model.proofs.Words.{flat_map, cases_Bool, cases_lt, nat_tests, length-append, length-map, Round, Place, unit_period, root_periods, gcd_in, common_multiple, multiple_of, frame_of, starts_below, starts, rounds_of, rounds_at, rounds, choices, mode_in, places_of, places_in, most_invs, most_positions, ways, too_long, last_of, exceeds, or_else, other_limit, frame_limit, KeepsFrames, AreInRange, is_root, root_modules, modes_of, invs_of, Tables, mod-eq_of_lt, mul_assoc, le-mul_of_pos_right}
-use Rattle.htl_model.proofs.ChoiceLaws.{capped}
-use Rattle.htl_model.proofs.FirstLaws.{or_else_none}
-use Rattle.htl_model.proofs.SelectionLaws.{modes_some, all_places_below}
+use Rattle.htl_model.proofs.{ChoiceLaws.capped, FirstLaws.or_else_none, SelectionLaws.modes_some, SelectionLaws.all_places_below}
 
 -- ---- limits one after another
 
 within_need : (have need : ℕ) → exceeds have need ≡ None → have ≤ need
-within_need have need e = elim (cases_lt need have) [
-  | inl l ↦ absurd (let b : ltb need have ≡ true = grind (arith, nat_tests) in let no : Some (have, need) ≡ None = sym (ap (λ c. cond c (Some (have, need)) None) b) ∙ e in cc)
-  | inr l ↦ l
-]
+within_need have need e = grind (arith, cases_lt)
 
 -- ---- the least common multiple
 
@@ -24,12 +19,7 @@ one_divides p = ap (λ g. 1 / g * p) (gcd_one p) ∙ omega arith
     gcd_one : (p : ℕ) → gcd_in (suc p) 1 p ≡ 1
     gcd_one zero = refl
     gcd_one (suc zero) = refl
-    gcd_one (suc (suc q)) =
-        let e : 1 % suc (suc q) ≡ 1 = mod-eq_of_lt (omega arith) in
-        ap (λ m. gcd_in (suc (suc q)) (suc (suc q)) m) e ∙ gcd_next q
-      where
-        gcd_next : (q : ℕ) → gcd_in (suc (suc q)) (suc (suc q)) 1 ≡ 1
-        gcd_next q = let e : suc (suc q) % 1 ≡ 0 = omega arith in ap (λ m. gcd_in (suc q) 1 m) e
+    gcd_one (suc (suc q)) = grind (arith, mod-eq_of_lt)
 
 pub not_too_long : (t : Tables) (m : ℕ) (us : List ℕ) → m ≤ 1000000 → too_long t m us ≡ None → multiple_of m (map (unit_period t) us) ≤ 1000000
 not_too_long t m [] l e = l
@@ -77,11 +67,7 @@ modes_append t (r ∷ rs) ss a b = (a.0, modes_append t rs ss a.1 b)
 
 modes_at : (t : Tables) (a : ℕ) (us : List ℕ) → EachHas t us → HaveModes t (rounds_of t a us)
 modes_at t a [] h = tt
-modes_at t a (u ∷ us) h = by (eqb (a % unit_period t u) 0) h.0 (modes_at t a us h.1)
-  where
-    by : (b : Bool) → 0 < length (modes_of t u) → HaveModes t (rounds_of t a us) → HaveModes t (cond b (record { at = a; unit = u } ∷ rounds_of t a us) (rounds_of t a us))
-    by true some rest = (some, rest)
-    by false some rest = rest
+modes_at t a (u ∷ us) h = grind (arith, modes_at t a us h.1)
 
 modes_all : (t : Tables) (xs : List ℕ) → EachHas t (root_modules t) → HaveModes t (flat_map (rounds_at t) xs)
 modes_all t [] h = tt
@@ -119,9 +105,7 @@ no_roots t e = record {
     no_rounds = ap (flat_map (rounds_at t)) no_starts
 
 pub frame_is : (t : Tables) (u : ℕ) (us : List ℕ) → root_modules t ≡ u ∷ us → frame_of t ≡ multiple_of 1 (map (unit_period t) (u ∷ us))
-frame_is t u us e =
-    ap (λ (vs : List ℕ). elim (elim (map (unit_period t) vs) as (λ _. Option ℕ) [ [] ↦ None | p ∷ ps ↦ Some (multiple_of p ps) ]) as (λ _. ℕ) [ Some h ↦ h | None ↦ 0 ]) e
-    ∙ sym (ap (λ n. multiple_of n (map (unit_period t) us)) (one_divides (unit_period t u)))
+frame_is t u us e = grind (arith, one_divides)
 
 abbrev pub with_unit : ℕ → ℕ × ℕ → ℕ × (ℕ × ℕ)
 with_unit v o = (v, o)
@@ -135,15 +119,7 @@ abbrev pub limit_of : Tables → List ℕ → Option (ℕ × (ℕ × ℕ))
 limit_of t us = elim us as (λ _. Option (ℕ × (ℕ × ℕ))) [ [] ↦ None | u ∷ vs ↦ limit_by (last_of u vs) (too_long t 1 (u ∷ vs)) (other_limit t) ]
 
 pub too_short : (t : Tables) → frame_limit t ≡ None → too_long t 1 (root_modules t) ≡ None
-too_short t e = by (root_modules t) e
-  where
-    of_long : (v : ℕ) (o : Option (ℕ × ℕ)) → limit_by v o (other_limit t) ≡ None → o ≡ None
-    of_long v (Some x) f = absurd (let no : Some (x.0, (x.1, 1000000)) ≡ None = f in cc)
-    of_long v None f = refl
-
-    by : (us : List ℕ) → limit_of t us ≡ None → too_long t 1 us ≡ None
-    by [] f = refl
-    by (u ∷ us) f = of_long (last_of u us) (too_long t 1 (u ∷ us)) f
+too_short t e = grind arith
 
 pub limits_kept : (t : Tables) → AreInRange t → frame_limit t ≡ None → KeepsFrames t
 limits_kept t r e = by (root_modules t) refl e
@@ -178,21 +154,11 @@ limits_kept t r e = by (root_modules t) refl e
 -- the multiple goes on where it is small
 pub longer_none : (t : Tables) (m : ℕ) (us : List ℕ) (k : ℕ) → k < length us → too_long t m (drop k us) ≡ None
     → (common_multiple m (unit_period t (get_or us k 0)) ≤ 1000000) × (too_long t (common_multiple m (unit_period t (get_or us k 0))) (drop (k + 1) us) ≡ None)
-longer_none t m us k l e =
-    let u = get_or us k 0 in
-    let n = common_multiple m (unit_period t u) in
-    let rest = too_long t n (drop (k + 1) us) in
-    let cut : cond (ltb 1000000 n) (Some (u, n)) rest ≡ None = ap (λ i. cond (ltb 1000000 n) (Some (u, n)) (too_long t n (drop i us))) (add-one k) ∙ sym (ap (too_long t m) (drop-cons us k 0 l)) ∙ e in
-    elim (cases_Bool (ltb 1000000 n)) [
-      | inl b ↦ absurd (let no : Some (u, n) ≡ None = sym (ap (λ c. cond c (Some (u, n)) rest) b) ∙ cut in cc)
-      | inr b ↦ (grind (arith, nat_tests), sym (ap (λ c. cond c (Some (u, n)) rest) b) ∙ cut)
-    ]
+longer_none t m us k l e = grind (arith, add-one, drop-cons, cases_Bool)
 
 pub multiple_next : (t : Tables) (m : ℕ) (us : List ℕ) (k : ℕ) → k < length us
     → multiple_of m (map (unit_period t) (drop k us)) ≡ multiple_of (common_multiple m (unit_period t (get_or us k 0))) (map (unit_period t) (drop (k + 1) us))
-multiple_next t m us k l =
-    ap (λ vs. multiple_of m (map (unit_period t) vs)) (drop-cons us k 0 l)
-    ∙ sym (ap (λ i. multiple_of (common_multiple m (unit_period t (get_or us k 0))) (map (unit_period t) (drop i us))) (add-one k))
+multiple_next t m us k l = grind (arith, drop-cons, add-one)
 
 -- the choices of the rounds of one module more
 pub starting_more : (cap : ℕ) (t : Tables) (a : ℕ) (us : List ℕ) (k n m count whole : ℕ) → k < length us → eqb (a % unit_period t (get_or us k 0)) 0 ≡ true → count ≡ length (modes_of t (get_or us k 0)) → m ≡ min (n * count) cap
@@ -207,10 +173,7 @@ starting_more cap t a us k n m count whole l here c e going =
     ∙ ap (λ y. min y cap) (mul_assoc n count (choices t rest) ∙ ap (λ y. n * (y * choices t rest)) c ∙ sym (ap (λ rs. n * choices t rs) cut)) ∙ going
 
 pub starting_same : (t : Tables) (a : ℕ) (us : List ℕ) (k : ℕ) → k < length us → eqb (a % unit_period t (get_or us k 0)) 0 ≡ false → rounds_of t a (drop k us) ≡ rounds_of t a (drop (k + 1) us)
-starting_same t a us k l none =
-    let u = get_or us k 0 in
-    ap (rounds_of t a) (drop-cons us k 0 l) ∙ ap (λ b. cond b (record { at = a; unit = u } ∷ rounds_of t a (drop (suc k) us)) (rounds_of t a (drop (suc k) us))) none
-    ∙ sym (ap (λ i. rounds_of t a (drop i us)) (add-one k))
+starting_same t a us k l none = grind (arith, drop-cons, add-one)
 
 -- ---- choices are some
 

@@ -1,6 +1,6 @@
 -- A frame is made of modules, modes and invocations: tables that share these three lists have the same frame, the same paths, and the
 -- same limits.
-use Rattle.std.proofs.Common.{◌≡◌, ℕ, ◌+◌, ◌*◌, ◌/◌, ◌%◌, min, max, cond, eqb, ltb, List, [], ◌∷◌, ◌++◌, length, map, get_or, Option, Some, refl, ◌∙◌, ap, ap₂}
+use Rattle.std.proofs.Common.{arith, ◌≡◌, ℕ, ◌+◌, ◌*◌, ◌/◌, ◌%◌, min, max, cond, eqb, ltb, List, [], ◌∷◌, ◌++◌, length, map, get_or, Option, Some, refl, ◌∙◌, ap, ap₂}
 use mathlib.Core.Path.{fun_ext}
 use Rattle.htl_model.proofs.Words.{flat_map, starts, unit_period, common_multiple, rounds_of, rounds_at, rounds, choices, paths, mode_in, radices, places_of, places_in, path_places, most_invs, most_positions, too_long, last_of, exceeds, or_else, other_limit, frame_limit, root_modules, modes_of, invs_of, Tables, Place, Round}
 use Rattle.htl_model.proofs.FrameLimits.{limit_by, limit_of}
@@ -32,9 +32,7 @@ module _ (t : Tables) where
 
   places_in_framed : (path : ℕ) (rs : List Round) → places_in t path rs ≡ places_in (framed t) path rs
   places_in_framed path [] = refl
-  places_in_framed path (r ∷ rs) =
-      ap (λ (n : ℕ). places_of r.at (invs_of t (get_or (modes_of t r.unit) (path / n % length (modes_of t r.unit)) 0)) ++ places_in t path rs) (choices_framed rs)
-      ∙ ap (λ (ps : List Place). places_of r.at (invs_of t (mode_in (framed t) path r rs)) ++ ps) (places_in_framed path rs)
+  places_in_framed path (r ∷ rs) = grind (arith, choices_framed, places_in_framed path rs)
 
   pub path_places_framed : (path : ℕ) → path_places t path ≡ path_places (framed t) path
   path_places_framed path = ap (places_in t path) rounds_framed ∙ places_in_framed path (rounds (framed t))
@@ -51,20 +49,13 @@ module _ (t : Tables) where
 
   most_framed : (rs : List Round) → most_positions t rs ≡ most_positions (framed t) rs
   most_framed [] = refl
-  most_framed (r ∷ rs) =
-      ap (λ (n : ℕ). n + most_positions t rs) (most_invs_framed (modes_of t r.unit))
-      ∙ ap (λ (n : ℕ). most_invs (framed t) (modes_of t r.unit) + n) (most_framed rs)
+  most_framed (r ∷ rs) = grind (arith, most_invs_framed, most_framed rs)
 
   pub all_most_framed : most_positions t (rounds t) ≡ most_positions (framed t) (rounds (framed t))
   all_most_framed = ap (most_positions t) rounds_framed ∙ most_framed (rounds (framed t))
 
   other_framed : other_limit t ≡ other_limit (framed t)
-  other_framed =
-      ap₂ (λ (c m : ℕ). or_else (exceeds (length (starts t)) 32) (or_else (exceeds (min c 4294967295) 1024) (exceeds m 128))) all_choices_framed all_most_framed
+  other_framed = grind (arith, all_choices_framed, all_most_framed)
 
   pub limit_framed : frame_limit t ≡ frame_limit (framed t)
-  limit_framed = by (root_modules t)
-    where
-      by : (us : List ℕ) → limit_of t us ≡ limit_of (framed t) us
-      by [] = refl
-      by (u ∷ us) = ap₂ (limit_by (last_of u us)) (too_long_framed 1 (u ∷ us)) other_framed
+  limit_framed = grind (arith, too_long_framed, other_framed)

@@ -2,10 +2,7 @@
 use Rattle.std.proofs.Common.{◌≡◌, ℕ, zero, suc, ◌*◌, ◌/◌, ◌%◌, ◌<◌, List, [], ◌∷◌, length, map, get_or, slice_get, Bool, true, false, cond, ltb, Option, Some, None, option_map, refl, sym, ap, ◌∙◌, arith}
 use Rattle.std.specs.Prelude.{◌≤◌, ◌+◌, ◌-◌}
 use Rattle.htl_model.proofs.Words.{eqb-true, slice_get-get_or, mul-div_assoc, dvd-mul_left, mod_self, dvd_trans, dvd_of_mod-eq-zero, mod-eq-zero_of_dvd, Mode, breach, BreaksAt, Broken, KeptTo, FrameLimits, Part, Itself, Input, Output, Test, Site, KeptApart, gcd_in, common_multiple, multiple_of, frame_of, unit_period, too_long, other_limit, frame_limit, first_mode, AreInRange, is_root, root_modules, modes_of, mode_of_module, Tables}
-use Rattle.htl_model.proofs.Divisors.{greatest_divisor}
-use Rattle.htl_model.proofs.FrameBuild.{frame_is_multiple}
-use Rattle.htl_model.proofs.FrameLimits.{with_unit}
-use Rattle.htl_model.proofs.LimitCode.{limit_none, limit_long, limit_rest}
+use Rattle.htl_model.proofs.{Divisors.greatest_divisor, FrameBuild.frame_is_multiple, FrameLimits.with_unit, LimitCode.limit_none, LimitCode.limit_long, LimitCode.limit_rest}
 use Rattle.htl_model.proofs.SelectionLaws.{modes_some, places_below, place_passes_0}
 
 -- ---- what divides the frame
@@ -62,15 +59,8 @@ pub limit_among : (t : Tables) (u h n : ℕ) → frame_limit t ≡ Some (u, (h, 
 limit_among t u h n e = by (root_modules t) refl (too_long t 1 (root_modules t)) refl
   where
     by : (us : List ℕ) → us ≡ root_modules t → (o : Option (ℕ × ℕ)) → too_long t 1 (root_modules t) ≡ o → (j : ℕ) × (slice_get (root_modules t) j ≡ Some u)
-    by [] roots o long =
-        let none : frame_limit t ≡ None = limit_none t (let z : length (root_modules t) ≡ 0 = sym (ap (λ (vs : List ℕ). length vs) roots) in z) in
-        absurd (let no : None ≡ Some (u, (h, n)) = sym none ∙ e in cc)
-    by (v ∷ us) roots (Some x) long =
-        let is : Some (x.0, (x.1, 1000000)) ≡ Some (u, (h, n)) = sym (limit_long t (root_modules t) x refl long) ∙ e in
-        let both : (x.0, (x.1, 1000000)) ≡ (u, (h, n)) = cc in
-        let same : x.0 ≡ u = ap (λ (y : ℕ × (ℕ × ℕ)). y.0) both in
-        let found = long_among t 1 (root_modules t) x long in
-        (found.0, found.1 ∙ ap (λ (y : ℕ). Some y) same)
+    by [] roots o long = grind (arith, limit_none, n)
+    by (v ∷ us) roots (Some x) long = grind (arith, n, limit_long, long_among)
     by (v ∷ us) roots None long =
         let some : 0 < length (root_modules t) = omega (arith, ap (λ (vs : List ℕ). length vs) roots) in
         let j : ℕ = length (root_modules t) - 1 in
@@ -101,17 +91,7 @@ frames_kept t last r few kept = by (frame_limit t) refl
 
 -- where none is exceeded the rule is broken nowhere
 pub frames_unbroken : (t : Tables) → frame_limit t ≡ None → (s : Site) (h n : ℕ) → Broken t FrameLimits s h n → ⊥
-frames_unbroken t none s h n broken = at s.inv s.part broken.2
-  where
-    at : (k : Option ℕ) (p : Part) → BreaksAt t (breach t FrameLimits) s.mode broken.0 k p h n → ⊥
-    at None Itself b = (let no : None ≡ Some (broken.0.«module», (h, n)) = sym none ∙ b.limit in cc)
-    at None (Input j) b = b
-    at None (Output j) b = b
-    at None (Test l j) b = b.5
-    at (Some k) Itself b = b.3
-    at (Some k) (Input j) b = b.3.2
-    at (Some k) (Output j) b = b.3.2
-    at (Some k) (Test l j) b = b.3
+frames_unbroken t none s h n broken = grind arith
 
 -- Rules that are kept are kept but for that one.
 pub kept_apart : (t : Tables) (last : ℕ) → KeptTo t last → KeptApart t last

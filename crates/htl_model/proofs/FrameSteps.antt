@@ -76,11 +76,7 @@ nodes_few (c ∷ cs) h =
     by c (ways cs) (nodes_of cs) (length cs) some.1 rest
   where
     by : (c w n k : ℕ) → 0 < w → n ≤ k * w → c * suc n ≤ suc k * (c * w)
-    by c w n k a b =
-        let more : suc k * w ≡ w + k * w = grind arith in
-        let f : c * suc n ≤ c * (suc k * w) = mul-le-mul_left c (omega (arith, more, a, b)) in
-        let g : c * (suc k * w) ≡ suc k * (c * w) = grind arith in
-        omega (arith, f, g)
+    by c w n k a b = grind (arith, mul-le-mul_left)
 
 pub quotient : (c r b : ℕ) → b ≡ c * r → 0 < c → b / c ≡ r
 quotient zero r b e l = absurd (omega (arith, l))
@@ -139,13 +135,7 @@ node_step cs i path b m l e some n =
     at_most d c k a = mul-le-mul_right k (omega (arith, a))
 
 pub nodes_small : (cs : List ℕ) (paths nodes : ℕ) → paths ≡ ways cs → nodes ≡ nodes_of cs → 0 < paths → paths ≤ 1024 → length cs ≤ 32 → nodes ≤ 32768
-nodes_small cs paths nodes a b some few short =
-    let n = nodes_few cs (omega (arith, a, some)) in
-    let m = bound (length cs) (ways cs) short (omega (arith, a, few)) in
-    omega (arith, n, m, b)
-  where
-    bound : (k w : ℕ) → k ≤ 32 → w ≤ 1024 → k * w ≤ 32768
-    bound k w a b = omega (arith, mul-le-mul_right w a, mul-le-mul_left 32 b)
+nodes_small cs paths nodes a b some few short = grind (arith, nodes_few, mul-le-mul_right, mul-le-mul_left)
 
 -- one start more of the count of nodes
 pub count_step : (cs : List ℕ) (i n f : ℕ) → i < length cs → 0 < ways (drop i cs) → n + f * nodes_of (drop i cs) ≡ nodes_of cs → f * ways (drop i cs) ≡ ways cs

@@ -17,13 +17,11 @@ past_known h c u p = ap (λ b. cond b (at_place h c (length h - suc u)) (pos 0))
 
 past_older : (x : State) (h : History) (c u : ℕ) → u < length h → past (x ∷ h) c u ≡ past h c u
 unfolding at_place
-past_older x h c u p =
-    past_known (x ∷ h) c u (omega arith) ∙ ap (at_place (x ∷ h) c) (let e : suc (length h) - suc u ≡ suc (length h - suc u) = omega arith in e) ∙ sym (past_known h c u p)
+past_older x h c u p = grind (arith, past_known, at_place)
 
 past_newest : (x : State) (h : History) (c u : ℕ) → u ≡ length h → past (x ∷ h) c u ≡ get_or x.values c (pos 0)
 unfolding at_place
-past_newest x h c u p =
-    past_known (x ∷ h) c u (omega arith) ∙ ap (at_place (x ∷ h) c) (let e : suc (length h) - suc u ≡ 0 = omega arith in e)
+past_newest x h c u p = grind (arith, past_known, at_place)
 
 -- the history holds the value of each instant so far
 pub past_is : (t : Tables) (f : ℕ → ℕ → ℤ) (n c u : ℕ) → u ≤ n → past (history t f n) c u ≡ get_or (newest (history t f u)).values c (pos 0)
@@ -45,11 +43,7 @@ abbrev pub seen_before : Tables → List Event → ℕ → ℕ → ℕ → ℤ
 seen_before t es now c u = cond (ltb u now) (val t es c u) (pos 0)
 
 past_is_val : (t : Tables) (es : List Event) (n c u : ℕ) → past (history t (sense t es) n) c u ≡ seen_before t es (suc n) c u
-past_is_val t es n c u =
-    elim (cases_le u n) [
-      | inl q ↦ past_is t (sense t es) n c u q ∙ sym (ap (λ b. cond b (val t es c u) (pos 0)) (lt-ltb u (suc n) (omega arith)))
-      | inr q ↦ past_later t (sense t es) n c u q ∙ sym (ap (λ b. cond b (val t es c u) (pos 0)) (le-ltb u (suc n) (omega arith)))
-    ]
+past_is_val t es n c u = grind (arith, cases_le, past_is, lt-ltb, past_later, le-ltb)
 
 -- the state at each later instant, by that at the instant before and the values read
 pub state_step : (t : Tables) (es : List Event) (n : ℕ) →

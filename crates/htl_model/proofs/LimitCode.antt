@@ -1,8 +1,7 @@
 -- The limits of frames, as the code finds them.
 use Rattle.std.proofs.Common.{◌≡◌, ℕ, ◌+◌, ◌-◌, ◌≤◌, ◌<◌, true, false, cond, ltb, min, List, [], ◌∷◌, ◌++◌, take, length, map, get_or, Some, None, option_map, refl, sym, ap, ◌∙◌, arith}
 use Rattle.htl_model.proofs.Words.{nat_tests, flat_map, Round, unit_period, root_periods, starts_below, rounds_at, multiple_of, frame_of, starts, rounds, choices, most_positions, too_long, last_of, exceeds, or_else, frame_limit, other_limit, root_modules, Tables}
-use Rattle.htl_model.proofs.FrameBuild.{frame_is_multiple, front_is}
-use Rattle.htl_model.proofs.FrameLimits.{limit_by, limit_of, not_too_long, with_unit}
+use Rattle.htl_model.proofs.{FrameBuild.frame_is_multiple, FrameBuild.front_is, FrameLimits.limit_by, FrameLimits.limit_of, FrameLimits.not_too_long, FrameLimits.with_unit}
 
 -- ---- one limit
 
@@ -17,8 +16,7 @@ paths_are : (t : Tables) → length (starts t) ≤ 32 → other_limit t ≡ or_e
 paths_are t s = ap (λ o. or_else o (or_else (exceeds (min (choices t (rounds t)) 4294967295) 1024) (exceeds (most_positions t (rounds t)) 128))) (not_exceeded (length (starts t)) 32 s)
 
 pub paths_over : (t : Tables) (h : ℕ) → length (starts t) ≤ 32 → h ≡ min (choices t (rounds t)) 4294967295 → 1024 < h → Some (h, 1024) ≡ other_limit t
-paths_over t h s e l =
-    sym (paths_are t s ∙ ap (λ n. or_else (exceeds n 1024) (exceeds (most_positions t (rounds t)) 128)) (sym e) ∙ ap (λ o. or_else o (exceeds (most_positions t (rounds t)) 128)) (exceeded h 1024 l))
+paths_over t h s e l = grind (arith, paths_are, exceeded)
 
 pub rest_is : (t : Tables) → length (starts t) ≤ 32 → min (choices t (rounds t)) 4294967295 ≤ 1024 → other_limit t ≡ exceeds (most_positions t (rounds t)) 128
 rest_is t s c = paths_are t s ∙ ap (λ o. or_else o (exceeds (most_positions t (rounds t)) 128)) (not_exceeded (min (choices t (rounds t)) 4294967295) 1024 c)
@@ -30,27 +28,13 @@ last_is u [] = refl
 last_is u (v ∷ vs) = last_is v vs
 
 pub limit_none : (t : Tables) → length (root_modules t) ≡ 0 → frame_limit t ≡ None
-limit_none t e = by (root_modules t) e
-  where
-    by : (us : List ℕ) → length us ≡ 0 → limit_of t us ≡ None
-    by [] e = refl
-    by (u ∷ us) e = absurd (omega (arith, e))
+limit_none t e = grind arith
 
 pub limit_long : (t : Tables) (us : List ℕ) (x : ℕ × ℕ) → us ≡ root_modules t → too_long t 1 us ≡ Some x → frame_limit t ≡ Some (x.0, (x.1, 1000000))
-limit_long t us x e f = sym (ap (limit_of t) e) ∙ by us f
-  where
-    by : (us : List ℕ) → too_long t 1 us ≡ Some x → limit_of t us ≡ Some (x.0, (x.1, 1000000))
-    by [] f = absurd (let no : None ≡ Some x = f in cc)
-    by (u ∷ us) f = ap (λ o. limit_by (last_of u us) o (other_limit t)) f
+limit_long t us x e f = grind arith
 
 pub limit_rest : (t : Tables) (us : List ℕ) → us ≡ root_modules t → 0 < length us → too_long t 1 us ≡ None → frame_limit t ≡ option_map (with_unit (get_or us (length us - 1) 0)) (other_limit t)
-limit_rest t us e l f = sym (ap (limit_of t) e) ∙ by us l f
-  where
-    by : (us : List ℕ) → 0 < length us → too_long t 1 us ≡ None → limit_of t us ≡ option_map (with_unit (get_or us (length us - 1) 0)) (other_limit t)
-    by [] l f = absurd (omega (arith, l))
-    by (u ∷ us) l f =
-        let n : length us ≡ length (u ∷ us) - 1 = omega arith in
-        ap (λ o. limit_by (last_of u us) o (other_limit t)) f ∙ ap (λ v. option_map (with_unit v) (other_limit t)) (last_is u us ∙ ap (λ k. get_or (u ∷ us) k 0) n)
+limit_rest t us e l f = grind (arith, last_is)
 
 -- ---- the frame
 
@@ -70,5 +54,4 @@ few_starts t us h many e f n = n ∙ ap (λ (xs : List ℕ). length xs) (starts_
 
 pub rounds_same : (t : Tables) (us : List ℕ) (h n k : ℕ) (out : List ℕ) (rs : List Round) → us ≡ root_modules t → h ≡ frame_of t → take (n + 1) out ≡ starts_below (map (unit_period t) us) h ++ h ∷ [] → n ≡ length (starts_below (map (unit_period t) us) h)
     → take k rs ≡ flat_map (rounds_at t) (take n out) → take k rs ≡ rounds t
-rounds_same t us h n k out rs e f whole count is =
-    is ∙ ap (flat_map (rounds_at t)) (front_is (starts_below (map (unit_period t) us) h) out n h count whole ∙ starts_same t us h e f)
+rounds_same t us h n k out rs e f whole count is = grind (arith, front_is, starts_same)

@@ -12,29 +12,20 @@ list_to_same f g n h = ap (λ k. list_to k n) (fun_ext h)
 
 next_value_local : (t : Tables) (f g seen : ℕ → ℕ → ℤ) (ws : List (Option Stay)) (old : List ℤ) (now c : ℕ) (o : Option Comm) → Agree f g now → next_value t f seen ws old now c o ≡ next_value t g seen ws old now c o
 next_value_local t f g seen ws old now c None h = refl
-next_value_local t f g seen ws old now c (Some x) h =
-    ap (λ y. cond x.sensor y (written t seen ws old now c)) (h c (x.period * (now / x.period)) (round_down x.period now))
+next_value_local t f g seen ws old now c (Some x) h = grind (arith, round_down)
 
 next_values_local : (t : Tables) (f g seen : ℕ → ℕ → ℤ) (ws : List (Option Stay)) (old : List ℤ) (now : ℕ) → Agree f g now → next_values t f seen ws old now ≡ next_values t g seen ws old now
-next_values_local t f g seen ws old now h =
-    list_to_same (λ c. next_value t f seen ws old now c (slice_get t.comms c)) (λ c. next_value t g seen ws old now c (slice_get t.comms c)) (length t.comms)
-    (λ c. next_value_local t f g seen ws old now c (slice_get t.comms c) h)
+next_values_local t f g seen ws old now h = grind (arith, list_to_same, next_value_local)
 
 first_value_local : (f g : ℕ → ℕ → ℤ) (c : ℕ) (o : Option Comm) → Agree f g 0 → first_value f c o ≡ first_value g c o
 first_value_local f g c None a = refl
 first_value_local f g c (Some x) a = ap (λ y. cond x.sensor y x.init) (a c 0 (omega arith))
 
 next_state_local : (t : Tables) (f g : ℕ → ℕ → ℤ) (h : History) (old : State) (now : ℕ) → Agree f g now → next_state t f h old now ≡ next_state t g h old now
-next_state_local t f g h old now a =
-    let P : List ℤ → State = λ values. record { values = values; stays = stays_at t values now old.stays } in
-    ap P (next_values_local t f g (past h) old.stays old.values now a)
+next_state_local t f g h old now a = grind (arith, next_values_local)
 
 first_state_local : (t : Tables) (f g : ℕ → ℕ → ℤ) → Agree f g 0 → first_state t f ≡ first_state t g
-first_state_local t f g a =
-    let P : List ℤ → State = λ values. record { values = values; stays = stays_at t values 0 [] } in
-    let e : first_values t f ≡ first_values t g =
-    list_to_same (λ c. first_value f c (slice_get t.comms c)) (λ c. first_value g c (slice_get t.comms c)) (length t.comms) (λ c. first_value_local f g c (slice_get t.comms c) a) in
-    ap P e
+first_state_local t f g a = grind (arith, list_to_same, first_value_local)
 
 -- sensors that agree up to n give the same states up to n
 pub history_local : (t : Tables) (f g : ℕ → ℕ → ℤ) (n : ℕ) → Agree f g n → history t f n ≡ history t g n

@@ -8,11 +8,7 @@ has_number p (suc n) k h = by (p n) refl (λ e. has_number p n k e) h
   where
     by : (b : Bool) → p n ≡ b → (list_any (eqb k) (numbers_below p n) ≡ true → (k < n) × (p k ≡ true))
         → list_any (eqb k) (cond b (n ∷ numbers_below p n) (numbers_below p n)) ≡ true → (k < suc n) × (p k ≡ true)
-    by true is later h =
-        elim (or_cases (eqb k n) (list_any (eqb k) (numbers_below p n)) h) [
-          | inl e ↦ let same : n ≡ k = grind (arith, nat_tests) in (omega arith, subst (λ x. p x ≡ true) same is)
-          | inr e ↦ let r = later e in (omega (arith, r.0), r.1)
-        ]
+    by true is later h = grind (arith, or_cases)
     by false is later h = let r = later h in (omega (arith, r.0), r.1)
 
 pub number_has : (p : ℕ → Bool) (n k : ℕ) → k < n → p k ≡ true → list_any (eqb k) (numbers_below p n) ≡ true
@@ -21,45 +17,25 @@ number_has p (suc n) k less h = by (p n) refl (λ below. number_has p n k below 
   where
     by : (b : Bool) → p n ≡ b → (k < n → list_any (eqb k) (numbers_below p n) ≡ true) → list_any (eqb k) (cond b (n ∷ numbers_below p n) (numbers_below p n)) ≡ true
     by true is later = elim (cases_below k n less) [ inl below ↦ or_right (eqb k n) _ (later below) | inr same ↦ or_left (eqb k n) _ (eq-eqb k n same) ]
-    by false is later =
-        elim (cases_below k n less) [
-          | inl below ↦ later below
-          | inr same ↦ absurd (let no : false ≡ true = sym is ∙ sym (ap p same) ∙ h in cc)
-        ]
+    by false is later = grind (arith, cases_below)
 
 apart : (p : ℕ → Bool) (m n : ℕ) → n ≤ m → AllByRecursion (λ y. eqb m y ≡ false) (numbers_below p n)
 apart p m zero h = tt
-apart p m (suc n) h = by (p n) (apart p m n (omega arith))
-  where
-    by : (b : Bool) → AllByRecursion (λ y. eqb m y ≡ false) (numbers_below p n) → AllByRecursion (λ y. eqb m y ≡ false) (cond b (n ∷ numbers_below p n) (numbers_below p n))
-    by true others = (grind (arith, nat_tests), others)
-    by false others = others
+apart p m (suc n) h = grind (arith, apart p m n (omega arith))
 
 pub numbers_once : (p : ℕ → Bool) (n : ℕ) → IsDistinct eqb (numbers_below p n)
 numbers_once p zero = IsDistinct-from_apart eqb [] (λ i j d a b. absurd (omega arith))
-numbers_once p (suc n) = by (p n) (numbers_once p n) (apart p n n (omega arith))
-  where
-    by : (b : Bool) → IsDistinct eqb (numbers_below p n) → AllByRecursion (λ y. eqb n y ≡ false) (numbers_below p n) → IsDistinct eqb (cond b (n ∷ numbers_below p n) (numbers_below p n))
-    by true once others = IsDistinct-cons eqb n (numbers_below p n) others once
-    by false once others = once
+numbers_once p (suc n) = grind (arith, apart, IsDistinct-cons, numbers_once p n)
 
 -- ---- how many
 
 pub length_numbers : (p : ℕ → Bool) (n : ℕ) → length (numbers_below p n) ≡ count_below p n
 length_numbers p zero = refl
-length_numbers p (suc n) = by (p n) (length_numbers p n)
-  where
-    by : (b : Bool) → length (numbers_below p n) ≡ count_below p n → length (cond b (n ∷ numbers_below p n) (numbers_below p n)) ≡ count_below p n + cond b 1 0
-    by true e = omega arith
-    by false e = omega arith
+length_numbers p (suc n) = grind (arith, length_numbers p n)
 
 count_most : (p : ℕ → Bool) (n : ℕ) → count_below p n ≤ n
 count_most p zero = omega arith
-count_most p (suc n) = by (p n) (count_most p n)
-  where
-    by : (b : Bool) → count_below p n ≤ n → count_below p n + cond b 1 0 ≤ suc n
-    by true h = omega arith
-    by false h = omega arith
+count_most p (suc n) = grind (arith, count_most p n)
 
 pub count_less : (p : ℕ → Bool) (n q : ℕ) → q < n → p q ≡ false → count_below p n < n
 count_less p zero q h e = absurd (omega arith)
@@ -73,13 +49,7 @@ count_less p (suc n) q h e = by (p n) refl (λ less. count_less p n q less e) (c
 
 count_mono : (p r : ℕ → Bool) (n : ℕ) → ((x : ℕ) → p x ≡ true → r x ≡ true) → count_below p n ≤ count_below r n
 count_mono p r zero h = omega arith
-count_mono p r (suc n) h = by (p n) (r n) (h n) (count_mono p r n h)
-  where
-    by : (a b : Bool) → (a ≡ true → b ≡ true) → count_below p n ≤ count_below r n → count_below p n + cond a 1 0 ≤ count_below r n + cond b 1 0
-    by true true f h = omega arith
-    by true false f h = absurd (let no : false ≡ true = f refl in cc)
-    by false true f h = omega arith
-    by false false f h = omega arith
+count_mono p r (suc n) h = grind (arith, count_mono p r n h)
 
 pub count_strict : (p r : ℕ → Bool) (n q : ℕ) → ((x : ℕ) → p x ≡ true → r x ≡ true) → q < n → p q ≡ false → r q ≡ true → count_below p n < count_below r n
 count_strict p r zero q h less e f = absurd (omega arith)

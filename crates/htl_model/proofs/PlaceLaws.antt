@@ -5,11 +5,7 @@ use Rattle.htl_model.proofs.Words.{take-suc, take-suc-set, drop-set-lt, length-m
 -- ---- tasks
 
 pub count_types : (k : Task) → length (task_types k) ≡ function_count k
-count_types k = by k.is_abstract
-  where
-    by : (b : Bool) → length (cond b [] (map (output_type k.inputs) k.outputs)) ≡ cond b 0 (length k.outputs)
-    by true = refl
-    by false = length-map k.outputs (output_type k.inputs)
+count_types k = grind (arith, length-map)
 
 pub count_more : (k : Task) (ts : List Task) (n : ℕ) → count_before (suc n) (k ∷ ts) ≡ function_count k + count_before n ts
 count_more k ts zero = omega arith
@@ -17,31 +13,22 @@ count_more k ts (suc n) = let e : count_before (suc n) (k ∷ ts) ≡ function_c
 
 pub count_all : (ts : List Task) → length (flat_map task_types ts) ≡ count_before (length ts) ts
 count_all [] = refl
-count_all (k ∷ ts) =
-    let e = length-append (task_types k) (flat_map task_types ts) in
-    omega (arith, e, count_types k, count_all ts, count_more k ts (length ts))
+count_all (k ∷ ts) = grind (arith, length-append, count_types, count_more, count_all ts)
 
 -- there is a type for each function
 pub count_function_types : (t : Tables) → AreInRange t → length (function_types t) ≡ length t.functions
-count_function_types t r =
-    let e = length-append (flat_map task_types t.tasks) (map (switch_type t) t.switches) in
-    omega (arith, e, length-map t.switches (switch_type t), count_all t.tasks, r.function_count)
+count_function_types t r = grind (arith, length-append, length-map, count_all)
 
 task_at : (ts : List Task) (n j : ℕ) (k : Task) (f : FunctionType) → slice_get ts n ≡ Some k → slice_get (task_types k) j ≡ Some f → slice_get (flat_map task_types ts) (count_before n ts + j) ≡ Some f
 task_at [] n j k f e g = cc
-task_at (x ∷ ts) zero j k f e g =
-    let same : x ≡ k = cc in
-    let place : count_before zero (x ∷ ts) + j ≡ j = omega arith in
-    ap (slice_get (task_types x ++ flat_map task_types ts)) place
-    ∙ get_front (task_types x) (flat_map task_types ts) j f (ap (λ z. slice_get (task_types z) j) same ∙ g)
+task_at (x ∷ ts) zero j k f e g = grind (arith, get_front)
 task_at (x ∷ ts) (suc n) j k f e g =
     let place : count_before (suc n) (x ∷ ts) + j ≡ length (task_types x) + (count_before n ts + j) = omega (arith, count_more x ts n, count_types x) in
     ap (slice_get (task_types x ++ flat_map task_types ts)) place ∙ get_back (task_types x) (flat_map task_types ts) (count_before n ts + j)
     ∙ task_at ts n j k f e g
 
 concrete_types : (k : Task) (j : ℕ) (y : Ty) → k.is_abstract ≡ false → slice_get k.outputs j ≡ Some y → slice_get (task_types k) j ≡ Some (output_type k.inputs y)
-concrete_types k j y c e =
-    ap (λ (b : Bool). slice_get (cond b [] (map (output_type k.inputs) k.outputs)) j) c ∙ get_mapped (output_type k.inputs) k.outputs j y e
+concrete_types k j y c e = grind (arith, get_mapped)
 
 -- the types of the function of an output
 pub output_types_at : (t : Tables) (n j : ℕ) (k : Task) (y : Ty) → slice_get t.tasks n ≡ Some k → k.is_abstract ≡ false → slice_get k.outputs j ≡ Some y
@@ -78,6 +65,4 @@ types_more f reads types k d below room front =
 
 -- what lies behind is left as it was
 pub rest_same : (types old : List Ty) (k : ℕ) (y : Ty) → drop k types ≡ drop k old → drop (k + 1) (set types k y) ≡ drop (k + 1) old
-rest_same types old k y same =
-    drop-set-lt (k + 1) types k y (omega arith) ∙ ap (λ (n : ℕ). drop n types) (add-one k) ∙ drop_first k types ∙ ap (drop 1) same
-    ∙ sym (ap (λ (n : ℕ). drop n old) (add-one k) ∙ drop_first k old)
+rest_same types old k y same = grind (arith, drop-set-lt, add-one, drop_first)

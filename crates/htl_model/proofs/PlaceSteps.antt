@@ -1,7 +1,6 @@
 -- One round more of a path, and one choice more.
 use Rattle.std.proofs.Common.{◌≡◌, ℕ, zero, suc, ◌+◌, ◌*◌, ◌/◌, ◌%◌, ◌<◌, cond, ◌&&◌, eqb, min, List, ◌++◌, length, drop, drop-cons, get_or, add-one, refl, sym, ap, ◌∙◌, arith}
-use Rattle.htl_model.proofs.Words.{mul_assoc, Round, choices, mode_in, mode_from, places_of, places_in, modes_of, invs_of, Tables}
-use Rattle.htl_model.proofs.ChoiceLaws.{capped}
+use Rattle.htl_model.proofs.{Words.mul_assoc, Words.Round, Words.choices, Words.mode_in, Words.mode_from, Words.places_of, Words.places_in, Words.modes_of, Words.invs_of, Words.Tables, ChoiceLaws.capped}
 
 abbrev pub no_round : Round
 no_round = record { at = 0; unit = 0 }
@@ -14,14 +13,7 @@ quotient b zero r e l = absurd (omega (arith, e, l))
 quotient b (suc c) r e l = by e
   where
     by : b ≡ suc c * r → (b / suc c ≡ r) × (0 < b / suc c)
-    by e = let q : b / suc c ≡ r = ap (λ n. n / suc c) e ∙ whole c r in (q, omega (arith, q, some r e l))
-      where
-        whole : (c r : ℕ) → suc c * r / suc c ≡ r
-        whole c r = grind arith
-
-        some : (r : ℕ) → b ≡ suc c * r → 0 < b → 0 < r
-        some zero e l = let z : suc c * 0 ≡ 0 = omega arith in absurd (omega (arith, e, l, z))
-        some (suc r) e l = omega arith
+    by e = grind arith
 
 pub choices_cut : (t : Tables) (rounds : List Round) (k : ℕ) → k < length rounds → choices t (drop k rounds) ≡ length (modes_of t (round_at rounds k).unit) * choices t (drop (k + 1) rounds)
 choices_cut t rounds k l = rw add-one (ap (choices t) (drop-cons rounds k no_round l))
@@ -46,10 +38,7 @@ place_next t rounds k path behind count mode l b some c m =
 -- one round more of a product that is capped
 pub choices_more : (cap : ℕ) (t : Tables) (rounds : List Round) (k n m count whole : ℕ) → k < length rounds → count ≡ length (modes_of t (round_at rounds k).unit) → m ≡ min (n * count) cap
     → min (n * choices t (drop k rounds)) cap ≡ whole → min (m * choices t (drop (k + 1) rounds)) cap ≡ whole
-choices_more cap t rounds k n m count whole l c e going =
-    let rest = choices t (drop (k + 1) rounds) in
-    ap (λ y. min (y * rest) cap) e ∙ capped (n * count) cap rest
-    ∙ ap (λ y. min y cap) (mul_assoc n count rest ∙ ap (λ y. n * (y * rest)) c ∙ ap (λ y. n * y) (sym (choices_cut t rounds k l))) ∙ going
+choices_more cap t rounds k n m count whole l c e going = grind (arith, capped, mul_assoc, choices_cut)
 
 -- one round more in the search for a module's mode
 pub mode_next : (t : Tables) (rounds : List Round) (k path u a behind count : ℕ) → k < length rounds → behind ≡ choices t (drop k rounds) → 0 < behind → count ≡ length (modes_of t (round_at rounds k).unit)

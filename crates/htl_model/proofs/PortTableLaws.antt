@@ -5,24 +5,7 @@ use Rattle.htl_model.specs.declared.parts.End.TheVariants as E
 
 -- one writer more among those before number q
 pub one_writer : (w : ℕ → Bool) (q r : ℕ) (old new last : Bool) → old ≡ (ltb r q && w r) → last ≡ w q → new ≡ (old || (eqb r q && last)) → new ≡ (ltb r (q + 1) && w r)
-one_writer w q r old new last before is made = made ∙ ap (λ b. b || (eqb r q && last)) before ∙ ap (λ b. (ltb r q && w r) || (eqb r q && b)) is ∙ by (order r q)
-  where
-    order : (r q : ℕ) → (r < q) ⊎ ((r ≡ q) ⊎ (q < r))
-    order r q = grind arith
-
-    less : (r q : ℕ) (x y : Bool) → r < q → ((ltb r q && x) || (eqb r q && y)) ≡ (ltb r (q + 1) && x)
-    less r q x y h = grind (arith, nat_tests)
-
-    equal : (r q : ℕ) (x : Bool) → r ≡ q → ((ltb r q && x) || (eqb r q && x)) ≡ (ltb r (q + 1) && x)
-    equal r q x h = grind (arith, nat_tests)
-
-    more : (r q : ℕ) (x y : Bool) → q < r → ((ltb r q && x) || (eqb r q && y)) ≡ (ltb r (q + 1) && x)
-    more r q x y h = grind (arith, nat_tests)
-
-    by : (r < q) ⊎ ((r ≡ q) ⊎ (q < r)) → ((ltb r q && w r) || (eqb r q && w q)) ≡ (ltb r (q + 1) && w r)
-    by (inl h) = less r q (w r) (w q) h
-    by (inr (inl h)) = ap (λ x. (ltb r q && w r) || (eqb r q && w x)) (sym h) ∙ equal r q (w r) h
-    by (inr (inr h)) = more r q (w r) (w q) h
+one_writer w q r old new last before is made = grind arith
 
 pub any_same : {A : Type 0} (f g : A → Bool) (xs : List A) → ((k : ℕ) (x : A) → slice_get xs k ≡ Some x → f x ≡ g x) → list_any f xs ≡ list_any g xs
 any_same f g [] h = refl
@@ -47,25 +30,11 @@ module _ (t : Tables) (r : AreInRange t) (x y : Inv) (m n : ℕ) (at_x : slice_g
 
   by_read : (e : End) (k : ℕ) → slice_get y.reads k ≡ Some e → is_read_from x.writes e ≡ true → x.mode ≡ y.mode
   by_read (E.Comm c o) k at h = cc
-  by_read (E.Port p) k at h = by_write (some_place (is_port p) x.writes h)
-    where
-      by_write : (j : ℕ) × (e : End) × (slice_get x.writes j ≡ Some e) × (is_port p e ≡ true) → x.mode ≡ y.mode
-      by_write (j, E.Comm c o, written, is) = cc
-      by_write (j, E.Port q, written, is) =
-          let same : q ≡ p = grind (arith, nat_tests) in
-          port_mode p j k (subst (λ z. slice_get x.writes j ≡ Some (E.Port z)) same written) at
+  by_read (E.Port p) k at h = grind (arith, some_place, port_mode)
 
   -- so the modes needn't be compared
   pub feeds_by_reads : feeds_at (Some x) (Some y) ≡ list_any (is_read_from x.writes) y.reads
-  feeds_by_reads = by (list_any (is_read_from x.writes) y.reads) refl
-    where
-      and_true : (a b : Bool) → a ≡ true → (a && b) ≡ b
-      and_true true b e = refl
-      and_true false b e = cc
-
-      by : (b : Bool) → list_any (is_read_from x.writes) y.reads ≡ b → (eqb x.mode y.mode && list_any (is_read_from x.writes) y.reads) ≡ list_any (is_read_from x.writes) y.reads
-      by true e = let f = some_place (is_read_from x.writes) y.reads e in and_true (eqb x.mode y.mode) _ (eq-eqb x.mode y.mode (by_read f.1 f.0 f.2 f.3))
-      by false e = ap (λ b. eqb x.mode y.mode && b) e ∙ and_none (eqb x.mode y.mode) ∙ sym e
+  feeds_by_reads = grind (arith, some_place, eq-eqb, by_read, and_none)
 
   -- a table that has bit q for the ports that x writes says what y reads from x
   pub row_of_reads : (table : List ℕ) (q : ℕ) → length t.ports ≤ length table → ((p : ℕ) → p < length table → cell table p q ≡ writes_to (Some x) p)

@@ -40,10 +40,7 @@ all_below key u (x ∷ xs) h =
 -- and no more than all
 pub most_below : {X : Type 0} (key : X → ℕ) (u : ℕ) (xs : List X) → below key u xs ≤ length xs
 most_below key u [] = omega arith
-most_below key u (x ∷ xs) = let more = most_below key u xs in elim (cases_lt (key x) u) [
-  | inl h ↦ let here = ap (λ b. cond b 1 0 + below key u xs) (lt-ltb (key x) u h) in omega (arith, more, here)
-  | inr h ↦ let here = ap (λ b. cond b 1 0 + below key u xs) (le-ltb (key x) u h) in omega (arith, more, here)
-]
+most_below key u (x ∷ xs) = grind (arith, cases_lt, lt-ltb, le-ltb, most_below key u xs)
 
 one_below : {X : Type 0} (key : X → ℕ) (u : ℕ) (x : X) (xs : List X) → key x < u → below key u (x ∷ xs) ≡ 1 + below key u xs
 one_below key u x xs h = ap (λ b. cond b 1 0 + below key u xs) (lt-ltb (key x) u h)
@@ -92,13 +89,7 @@ not_below key u x xs h = let here = ap (λ b. cond b 1 0 + below key u xs) (le-l
 -- they are as many as lie between
 pub run_length : {X : Type 0} (key : X → ℕ) (u k : ℕ) (xs : List X) → length (places_of key u k xs) + below key u xs ≡ below key (u + 1) xs
 run_length key u k [] = refl
-run_length key u k (x ∷ xs) =
-    let more = run_length key u (suc k) xs in
-    elim (cases_less_same (key x) u) [
-      | inl h ↦ omega (arith, more, ap length (passed key u k x xs (inl h)), one_below key u x xs h, one_below key (u + 1) x xs (omega arith))
-      | inr (inl h) ↦ omega (arith, more, ap length (taken key u k x xs h), not_below key u x xs (omega arith), one_below key (u + 1) x xs (omega arith))
-      | inr (inr h) ↦ omega (arith, more, ap length (passed key u k x xs (inr h)), not_below key u x xs (omega arith), not_below key (u + 1) x xs (omega arith))
-    ]
+run_length key u k (x ∷ xs) = grind (arith, cases_less_same, passed, one_below, taken, not_below, run_length key u (suc k) xs)
 
 -- and follow one another
 taken_at : {X : Type 0} (key : X → ℕ) (u k j : ℕ) (xs : List X) → ((i : ℕ) → i < length (places_of key u (suc k) xs) → get_or (places_of key u (suc k) xs) i 0 ≡ suc k + below key u xs + i)

@@ -1,11 +1,8 @@
 -- The modes of all root modules in a selection, digit by digit, and the positions as one pass over the invocations meets them.
 use Rattle.std.proofs.Common.{◌≡◌, ◌≤◌, ◌<◌, ◌⊎◌, ◌+◌, ◌-◌, ◌*◌, ◌/◌, ◌%◌, ℕ, zero, suc, Bool, true, false, ◌&&◌, ◌||◌, cond, eqb, List, [], ◌∷◌, ◌++◌, length, map, replicate, drop, drop-cons, get_or, slice_get, Option, Some, None, add-one, leb, set, min, refl, sym, ◌∙◌, ap, arith, inl, inr}
 use Rattle.htl_model.proofs.Words.{flat_map, IsNonDecreasing, div-div-eq-div-mul, mul_comm, nat_tests, slice_get_within, slice_get-get_or, slice_get_cases, get_or-set_same, get_or-set_other, Inv, Mode, Module, places_from, AreInRange, IsInvInRange, IsModeInRange, root_entry, AreRootModes, below, modes_below, entry, is_at, is_running, is_root, modes_of, choices_from, root_mode, invs_of, positions, Tables, mode_module, eq-eqb, ne_eqb, cases_lt, cases_order, cases_up_to}
-use Rattle.htl_model.proofs.ChoiceLaws.{capped}
-use Rattle.htl_model.proofs.ChosenLaws.{get_none}
+use Rattle.htl_model.proofs.{ChoiceLaws.capped, ChosenLaws.get_none, SelectionLaws.modes_some, SelectionLaws.cut_front, PortTableLaws.all_at}
 use Rattle.htl_model.proofs.RisingKeys.{Rises, rises, unequal, most_below, all_below, key_below, key_above, run_length, run_at, places_same, none_pass, in_two, AreInTurn}
-use Rattle.htl_model.proofs.SelectionLaws.{modes_some, cut_front}
-use Rattle.htl_model.proofs.PortTableLaws.{all_at}
 
 pub modes_rise : (t : Tables) → AreInRange t → Rises (λ (m : Mode). m.«module») t.modes
 modes_rise t r = rises (λ (m : Mode). m.«module») t.modes r.modes_by_module
@@ -59,9 +56,7 @@ choices_none t (x ∷ xs) k = choices_none t xs k
 
 pub choices_cut : (t : Tables) (modules : List Module) (k : ℕ) (x : Module) → k < length modules → x ≡ get_or modules k x
     → choices_from t k (drop k modules) ≡ cond (is_root x) (length (modes_of t k)) 1 * choices_from t (k + 1) (drop (k + 1) modules)
-choices_cut t modules k x below at =
-    ap (choices_from t k) (drop-cons modules k x below ∙ ap (λ z. z ∷ drop (suc k) modules) (sym at))
-    ∙ ap (λ n. cond (is_root x) (length (modes_of t k)) 1 * choices_from t n (drop n modules)) (sym (add-one k))
+choices_cut t modules k x below at = grind (arith, drop-cons, add-one)
 
 -- one more module in front
 pub choices_before : (cap : ℕ) (t : Tables) (modules : List Module) (k n m count : ℕ) (x : Module) → k < length modules → x ≡ get_or modules k x → count ≡ length (modes_of t k)
@@ -104,18 +99,11 @@ abbrev pub AreRootModesFrom : Tables → ℕ → ℕ → List (Option ℕ) → T
 AreRootModesFrom t sel k entries = (u : ℕ) → k ≤ u → entry entries u ≡ root_entry t sel u
 
 pub entries_none : (t : Tables) (sel k size : ℕ) → length t.modules ≤ k → AreRootModesFrom t sel k (replicate size None)
-entries_none t sel k size end u h =
-    get_none size u ∙ (elim (slice_get_cases t.modules u).1 [
-      | inl c ↦ absurd (omega (arith, slice_get_within t.modules u c.0 c.2))
-      | inr c ↦ sym (ap (λ (o : Option Module). elim o as (λ _. Option ℕ) [ Some y ↦ cond (is_root y) (Some (root_mode t sel u)) None | None ↦ None ]) c.1)
-    ])
+entries_none t sel k size end u h = grind (arith, get_none, slice_get_cases, slice_get_within)
 
 pub entries_more : (t : Tables) (sel k : ℕ) (entries : List (Option ℕ)) (mode : Option ℕ) → k < length entries → mode ≡ root_entry t sel k
     → AreRootModesFrom t sel (suc k) entries → AreRootModesFrom t sel k (set entries k mode)
-entries_more t sel k entries mode room is so_far u h = elim (cases_up_to k u h) [
-  | inl less ↦ get_or-set_other entries k u mode None (λ e. omega (arith, e)) ∙ so_far u (omega arith)
-  | inr e ↦ ap (λ (n : ℕ). get_or (set entries k mode) n None) (sym e) ∙ get_or-set_same entries k mode None room ∙ is ∙ ap (root_entry t sel) e
-]
+entries_more t sel k entries mode room is so_far u h = grind (arith, cases_up_to, get_or-set_other, set, get_or-set_same)
 
 -- ---- the positions
 
@@ -151,16 +139,7 @@ all_behind m b = grind (arith, nat_tests)
 
 -- later modes are of no earlier module
 pub owners_rise : (t : Tables) (m n : ℕ) → AreInRange t → m ≤ n → n < length t.modes → mode_module t m ≤ mode_module t n
-owners_rise t m n r le h = elim (slice_get_cases t.modes m).1 [
-  | inl c ↦ elim (slice_get_cases t.modes n).1 [
-    | inl d ↦
-        let low = ap {B = ℕ} (λ (o : Option Mode). elim o [ Some y ↦ y.«module» | None ↦ 0 ]) c.2 in
-        let high = ap {B = ℕ} (λ (o : Option Mode). elim o [ Some y ↦ y.«module» | None ↦ 0 ]) d.2 in
-        omega (arith, low, high, modes_rise t r m n c.0 d.0 le c.2 d.2)
-    | inr d ↦ absurd (omega (arith, d.0))
-  ]
-  | inr c ↦ absurd (omega (arith, c.0))
-]
+owners_rise t m n r le h = grind (arith, slice_get_cases, modes_rise)
 
 module _ (t : Tables) (sel : ℕ) (entries : List (Option ℕ)) (r : AreInRange t) (are : AreRootModes t sel entries) where
   -- the invocation stands in the selection, in this module
@@ -173,16 +152,7 @@ module _ (t : Tables) (sel : ℕ) (entries : List (Option ℕ)) (r : AreInRange 
 
   -- the modes of invocations are modes of modules
   owner_within : (j : ℕ) (i : Inv) → slice_get t.invs j ≡ Some i → (i.mode < length t.modes) × (mode_module t i.mode < length t.modules)
-  owner_within j i at =
-      let low = (all_at (IsInvInRange t) t.invs j i r.invs at).owner in (
-        low,
-        elim (slice_get_cases t.modes i.mode).1 [
-          | inl c ↦
-              let is = ap {B = ℕ} (λ (o : Option Mode). elim o [ Some y ↦ y.«module» | None ↦ 0 ]) c.2 in
-              omega (arith, is, (all_at (IsModeInRange t) t.modes i.mode c.0 r.modes c.2).owner)
-          | inr c ↦ absurd (omega (arith, c.0))
-        ],
-      )
+  owner_within j i at = grind (arith, all_at, slice_get_cases)
 
   at_root : (b : Bool) (m n : ℕ) → is_at (cond b (Some n) None) m ≡ cond b (eqb m n) false
   at_root true m n = grind (arith, nat_tests)
@@ -232,8 +202,7 @@ module _ (t : Tables) (sel : ℕ) (entries : List (Option ℕ)) (r : AreInRange 
 
   from_module : (k : ℕ) (modules : List Module) → ((j : ℕ) → slice_get modules j ≡ slice_get t.modules (k + j)) → length modules + k ≡ length t.modules
       → flat_map (λ u. invs_of t (root_mode t sel u)) (places_from is_root k modules) ≡ places_from (behind k) 0 t.invs
-  from_module k [] at long =
-      sym (none_pass (behind k) 0 t.invs (λ j y there passes. let far = far_at (mode_module t y.mode) k (is_running t entries y.mode) passes in omega (arith, far, (owner_within j y there).1)))
+  from_module k [] at long = grind (arith, none_pass, far_at, owner_within)
   from_module k (x ∷ xs) at long =
       let f = λ (u : ℕ). invs_of t (root_mode t sel u) in
       let more = from_module (suc k) xs (λ j. at (suc j) ∙ ap (slice_get t.modules) (let e : k + suc j ≡ suc k + j = omega arith in e)) (omega arith) in
@@ -246,8 +215,7 @@ module _ (t : Tables) (sel : ℕ) (entries : List (Option ℕ)) (r : AreInRange 
 
   -- one pass over the invocations meets the positions in their cases_up_to
   pub positions_met : positions t sel ≡ places_from (λ i. is_running t entries i.mode) 0 t.invs
-  positions_met = from_module 0 t.modules (λ j. ap (slice_get t.modules) (let e : j ≡ 0 + j = omega arith in e)) (omega arith)
-      ∙ places_same (behind 0) (λ (i : Inv). is_running t entries i.mode) 0 t.invs (λ j i there. all_behind (mode_module t i.mode) (is_running t entries i.mode))
+  positions_met = grind (arith, from_module, places_same, all_behind)
 
 -- ---- the pass itself
 
@@ -265,12 +233,10 @@ module _ (test : Inv → Bool) (invs : List Inv) (k : ℕ) (x : Inv) (below_end 
   cut = ap (places_from test k) (drop-cons invs k x below_end ∙ ap (λ z. z ∷ drop (suc k) invs) (sym at))
 
   pub met_here : test x ≡ true → places_from test k (drop k invs) ≡ k ∷ places_from test (k + 1) (drop (k + 1) invs)
-  met_here e = cut ∙ ap (λ (b : Bool). cond b (k ∷ places_from test (suc k) (drop (suc k) invs)) (places_from test (suc k) (drop (suc k) invs))) e
-      ∙ ap (λ n. k ∷ places_from test n (drop n invs)) (sym (add-one k))
+  met_here e = grind (arith, cut, add-one)
 
   pub passed_over : test x ≡ false → places_from test k (drop k invs) ≡ places_from test (k + 1) (drop (k + 1) invs)
-  passed_over e = cut ∙ ap (λ (b : Bool). cond b (k ∷ places_from test (suc k) (drop (suc k) invs)) (places_from test (suc k) (drop (suc k) invs))) e
-      ∙ ap (λ n. places_from test n (drop n invs)) (sym (add-one k))
+  passed_over e = grind (arith, cut, add-one)
 
   pub count_here : (n m whole : ℕ) → test x ≡ true → m ≡ n + 1 → n + length (places_from test k (drop k invs)) ≡ whole → m + length (places_from test (k + 1) (drop (k + 1) invs)) ≡ whole
   count_here n m whole e f h = omega (arith, f, ap length (met_here e))
@@ -283,9 +249,7 @@ module _ (test : Inv → Bool) (invs : List Inv) (k : ℕ) (x : Inv) (below_end 
   found_here found e h = sym (ap (λ z. get_or z 0 0) (met_here e)) ∙ h
 
   pub found_later : (n m found : ℕ) → test x ≡ true → 0 < n → m ≡ n - 1 → get_or (places_from test k (drop k invs)) n 0 ≡ found → get_or (places_from test (k + 1) (drop (k + 1) invs)) m 0 ≡ found
-  found_later n m found e some f h =
-      let next : n ≡ suc m = omega arith in
-      sym (ap (λ z. get_or z (suc m) 0) (met_here e)) ∙ ap (λ (i : ℕ). get_or (places_from test k (drop k invs)) i 0) (sym next) ∙ h
+  found_later n m found e some f h = grind (arith, met_here)
 
   pub found_over : (n m found : ℕ) → test x ≡ false → m ≡ n → get_or (places_from test k (drop k invs)) n 0 ≡ found → get_or (places_from test (k + 1) (drop (k + 1) invs)) m 0 ≡ found
   found_over n m found e f h = ap (λ i. get_or (places_from test (k + 1) (drop (k + 1) invs)) i 0) f ∙ sym (ap (λ z. get_or z n 0) (passed_over e)) ∙ h

@@ -1,5 +1,5 @@
 -- Tables in range stay in range when their functions are exchanged, and have the same selections; the same invocations stand for others.
-use Rattle.std.proofs.Common.{◌≡◌, ◌≤◌, ◌<◌, ℕ, zero, suc, ◌+◌, ◌*◌, ◌/◌, ◌%◌, cond, List, [], ◌∷◌, length, drop, get_or, Option, Some, None, All, IfSome, refl, sym, ◌∙◌, ap, subst}
+use Rattle.std.proofs.Common.{arith, ◌≡◌, ◌≤◌, ◌<◌, ℕ, zero, suc, ◌+◌, ◌*◌, ◌/◌, ◌%◌, cond, List, [], ◌∷◌, length, drop, get_or, Option, Some, None, All, IfSome, refl, sym, ◌∙◌, ap, subst}
 use mathlib.Core.Path.{fun_ext}
 use Rattle.htl_model.proofs.Words.{flat_map, Inv, Module, End, KeepsLimits, AreInRange, IsModeThat, parent_of, is_within, IsModuleInRange, IsEndInRange, IsInvInRange, IsFunInRange, is_root, root_modules, modes_of, choices_from, selection_count, root_mode, invs_of, positions, Tables, Fun, mode_module, with_functions}
 use Rattle.htl_model.specs.declared.parts.End.TheVariants as E
@@ -23,16 +23,7 @@ module _ (t : Tables) (fs : List Fun) where
       record { start = h.start; parent = parent_same x.parent (λ owner. owner < k) h.parent; levels = sym (within_same 7 x.parent) ∙ h.levels }
 
   inv_same : (i : Inv) → IsInvInRange t i → IsInvInRange (with_functions t fs) i
-  inv_same i h =
-      record {
-        owner = h.owner;
-        task = h.task;
-        parent = h.parent;
-        reads = λ k d less. end_same i.mode (get_or i.reads k d) (h.reads k d less);
-        writes = λ k d less. end_same i.mode (get_or i.writes k d) (h.writes k d less);
-        few_reads = h.few_reads;
-        few_writes = h.few_writes;
-      }
+  inv_same i h = grind (arith, end_same)
 
   pub in_range : AreInRange t → All IsFunInRange fs → length fs ≡ length t.functions → AreInRange (with_functions t fs)
   in_range r each count =
@@ -87,8 +78,4 @@ module _ (t : Tables) (fs : List Fun) where
   positions_same sel = ap (λ (f : ℕ → List ℕ). flat_map f (root_modules t)) (fun_ext (λ u. ap (invs_of t) (root_mode_same sel u)))
 
   pub limits_same : KeepsLimits t → KeepsLimits (with_functions t fs)
-  limits_same h =
-      record {
-        selections = subst (λ (n : ℕ). n ≤ 1024) selection_count_same h.selections;
-        positions = λ sel less. subst (λ (ps : List ℕ). length ps ≤ 128) (positions_same sel) (h.positions sel (subst (λ (n : ℕ). sel < n) (sym selection_count_same) less));
-      }
+  limits_same h = grind (arith, selection_count_same, positions_same)

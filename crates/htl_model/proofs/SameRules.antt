@@ -1,5 +1,5 @@
 -- The form rules say nothing of functions: tables break the same rules whatever functions they have.
-use Rattle.std.proofs.Common.{◌≡◌, ◌≤◌, ◌<◌, ◌⊎◌, ℕ, ◌*◌, List, [], ◌∷◌, Option, Some, None, refl, sym, ◌∙◌, ap, subst, inl, inr}
+use Rattle.std.proofs.Common.{arith, ◌≡◌, ◌≤◌, ◌<◌, ◌⊎◌, ℕ, ◌*◌, List, [], ◌∷◌, Option, Some, None, refl, sym, ◌∙◌, ap, subst, inl, inr}
 use Rattle.htl_model.proofs.Words.{Ty, Inv, Mode, End, Breach, breach, PartBreaks, ModeBreaks, BreaksAt, Broken, Formed, IsFirstBroken, site_of, FormFault, ReadLate, WriteOutside, TypeDiffers, WindowEmpty, AbstractRead, SensorWritten, input_types, output_types, FormRule, FrameLimits, Divides, Offsets, Ends, Windows, PortWriters, PortCycles, AbstractPorts, Sensors, ConcreteWriters, AbstractPlaces, Parents, SharedParents, Inheritance, Part, Itself, Input, Output, Test, Site, FrameExceeds, EndNotDivided, IsOnCycle, AreOnCycles, InCycle, Unwritten, Rewritten, IsRefined, StandsUnrefined, IsAbstractIn, ParentAstray, ParentFault, SharesParent, SecondChild, AsksMore, Exceeds, IsWriterOf, Unordered, OnPath, itself, above, AreSameWrite, WritesBefore, SecondWriter, Tables, Fun, comm_period, mode_period, task_worst, offsets, release, window_end, greatest, least_or, with_functions, frame_limit}
 use Rattle.htl_model.specs.declared.parts.End.TheVariants as E
 use Rattle.htl_model.proofs.FrameLists.{limit_framed}
@@ -46,8 +46,7 @@ module _ (t : Tables) (fs gs : List Fun) where
 
   abstract_read : (i : Inv) (j : ℕ) (e : End) (have need : ℕ) → AbstractRead (with_functions t fs) i j e have need → AbstractRead (with_functions t gs) i j e have need
   abstract_read i j (E.Comm c n) have need h = h
-  abstract_read i j (E.Port p) have need h =
-      (h.0, h.1, h.2, record { number = h.3.number; writer = h.3.writer; at = h.3.at; abstract = h.3.abstract; place = h.3.place; writes = h.3.writes })
+  abstract_read i j (E.Port p) have need h = grind arith
 
   sensor_written : (j : ℕ) (e : End) (have need : ℕ) → SensorWritten (with_functions t fs) j e have need → SensorWritten (with_functions t gs) j e have need
   sensor_written j (E.Comm c n) have need h = h
@@ -77,22 +76,9 @@ module _ (t : Tables) (fs gs : List Fun) where
   writer_of : (p a : ℕ) → IsWriterOf (with_functions t fs) p a → IsWriterOf (with_functions t gs) p a
   writer_of p a h = record { number = h.number; writer = h.writer; at = h.at; place = h.place; writes = h.writes; parent = h.parent }
 
--- what a child asks for, by the windows
-abbrev pub Asks : Tables → Inv → Inv → ℕ → ℕ → ℕ → ℕ → ℕ → ℕ → Type 0
-Asks t i y have need a b c d =
-    ((have ≡ a) × (need ≡ b) × (need < have))
-    ⊎ ((a ≤ b) × (have ≡ c) × (need ≡ d) × (have < need))
-    ⊎ ((a ≤ b) × (d ≤ c) × (have ≡ task_worst t i.task) × (need ≡ task_worst t y.task) × (need < have))
-
 module _ (t : Tables) (fs gs : List Fun) where
   asks_more : (i y : Inv) (have need : ℕ) → AsksMore (with_functions t fs) i y have need → AsksMore (with_functions t gs) i y have need
-  asks_more i y have need h =
-      let f : Tables = with_functions t fs in
-      let g : Tables = with_functions t gs in
-      subst (λ (d : ℕ). Asks t i y have need (release g i) (release g y) (window_end g i) d) (window_end_same t fs gs y)
-      (subst (λ (c : ℕ). Asks t i y have need (release g i) (release g y) c (window_end f y)) (window_end_same t fs gs i)
-      (subst (λ (b : ℕ). Asks t i y have need (release g i) b (window_end f i) (window_end f y)) (release_same t fs gs y)
-      (subst (λ (a : ℕ). Asks t i y have need a (release f y) (window_end f i) (window_end f y)) (release_same t fs gs i) h)))
+  asks_more i y have need h = grind (arith, window_end_same, release_same)
 
   on_cycles : (m : ℕ) (ks : List ℕ) → AreOnCycles (with_functions t fs) m ks → AreOnCycles (with_functions t gs) m ks
   on_cycles m ks h = record { once = h.once; only = λ k c. on_cycle t fs gs m k (h.only k c); all = λ k c. h.all k (on_cycle t gs fs m k c) }

@@ -18,10 +18,7 @@ count_places test k (x ∷ xs) =
 
 pub places_some : {A : Type 0} (test : A → Bool) (k p : ℕ) (xs : List A) (x : A) → slice_get xs p ≡ Some x → test x ≡ true → 0 < length (places_from test k xs)
 places_some test k p [] x e f = cc
-places_some test k zero (y ∷ ys) x e f =
-    let same : y ≡ x = cc in
-    let passes : test y ≡ true = ap test same ∙ f in
-    rw passes (omega arith)
+places_some test k zero (y ∷ ys) x e f = grind arith
 places_some test k (suc p) (y ∷ ys) x e f = on_front (test y) k (places_from test (suc k) ys) (places_some test (suc k) p ys x e f)
 
 -- p is the place, counted from k, of an item that passes
@@ -43,10 +40,7 @@ place_passes test k j p (x ∷ xs) e = by (test x) refl j (λ i f. place_passes 
 
 -- what passes from 0 on
 pub place_passes_0 : {A : Type 0} (test : A → Bool) (j p : ℕ) (xs : List A) → slice_get (places_from test 0 xs) j ≡ Some p → (x : A) × (slice_get xs p ≡ Some x) × (test x ≡ true)
-place_passes_0 test j p xs e =
-    let h = place_passes test 0 j p xs e in
-    let same : h.0 ≡ p = omega (arith, h.1) in
-    (h.2, ap (slice_get xs) (sym same) ∙ h.3, h.4)
+place_passes_0 test j p xs e = grind (arith, place_passes)
 
 -- ---- modes of a module in range
 
@@ -71,12 +65,7 @@ choices_some t k (x ∷ xs) h =
 
 -- a quotient by a number of choices that is capped above the dividend is the quotient
 pub capped_quotient : (sel c cap : ℕ) → sel < cap → 0 < c → sel / min c cap ≡ sel / c
-capped_quotient sel c cap h k = elim (cases_lt cap c) [
-  | inl a ↦
-      let m : min c cap ≡ cap = omega arith in
-      ap (λ n. sel / n) m ∙ div-eq_of_lt h ∙ sym (div-eq_of_lt (let b : sel < c = omega arith in b))
-  | inr a ↦ let m : min c cap ≡ c = omega arith in ap (λ n. sel / n) m
-]
+capped_quotient sel c cap h k = grind (arith, cases_lt, div-eq_of_lt)
 
 pub later_choices : (t : Tables) (u : ℕ) → AreInRange t → u < length t.modules → 0 < choices_from t (u + 1) (drop (u + 1) t.modules)
 later_choices t u r h = choices_some t (u + 1) (drop (u + 1) t.modules) (λ j b. modes_some t (u + 1 + j) r (omega (arith, length-drop (u + 1) t.modules)))
@@ -85,11 +74,7 @@ later_choices t u r h = choices_some t (u + 1) (drop (u + 1) t.modules) (λ j b.
 pub root_mode_found : (t : Tables) (sel u later count mode : ℕ) → AreInRange t → u < length t.modules → sel < 2 ^ 64 - 1
     → later ≡ min (choices_from t (u + 1) (drop (u + 1) t.modules)) (2 ^ 64 - 1) → count ≡ length (modes_of t u)
     → mode ≡ get_or (modes_of t u) (sel / later % count) 0 → mode ≡ root_mode t sel u
-root_mode_found t sel u later count mode r h small e f g =
-    let c = choices_from t (u + 1) (drop (u + 1) t.modules) in
-    g ∙ ap (λ n. get_or (modes_of t u) (sel / n % count) 0) e
-    ∙ ap (λ n. get_or (modes_of t u) (n % count) 0) (capped_quotient sel c (2 ^ 64 - 1) small (later_choices t u r h))
-    ∙ ap (λ n. get_or (modes_of t u) (sel / c % n) 0) f
+root_mode_found t sel u later count mode r h small e f g = grind (arith, capped_quotient, later_choices)
 
 -- ---- positions
 
@@ -130,13 +115,10 @@ module _ (t : Tables) (u p : ℕ) where
   by_roots : (roots : List ℕ) → slice_get roots 0 ≡ Some u → 0 < length (modes_of t u) → p ≡ mode_period t (get_or (modes_of t u) 0 0)
       → Some p ≡ elim roots [ [] ↦ None | v ∷ us ↦ elim (modes_of t v) [ [] ↦ None | m ∷ ms ↦ Some (mode_period t m) ] ]
   by_roots [] e some is = cc
-  by_roots (v ∷ us) e some is =
-      let same : u ≡ v = cc in
-      by_modes (modes_of t v) (subst (λ n. 0 < length (modes_of t n)) same some) (subst (λ n. p ≡ mode_period t (get_or (modes_of t n) 0 0)) same is)
+  by_roots (v ∷ us) e some is = grind (arith, by_modes)
 
   pub root_period_is : AreInRange t → slice_get (root_modules t) 0 ≡ Some u → p ≡ mode_period t (get_or (modes_of t u) 0 0) → Some p ≡ root_period t
-  root_period_is r e is = let below : u < 0 + length t.modules = places_below is_root 0 0 u t.modules e in
-      by_roots (root_modules t) e (modes_some t u r (omega arith)) is
+  root_period_is r e is = grind (arith, places_below, by_roots, modes_some)
 
 -- ---- functions
 
@@ -160,22 +142,14 @@ output_within t task output r h below = elim (slice_get_cases t.tasks task).1 [
 -- ---- what is found is in range
 
 pub all_places_below : {A : Type 0} (test : A → Bool) (xs : List A) → All (λ p. p < length xs) (places_from test 0 xs)
-all_places_below test xs =
-    All-from_get_or (λ p. p < length xs) (places_from test 0 xs) 0
-    (λ i h. let below : get_or (places_from test 0 xs) i 0 < 0 + length xs = places_below test 0 i (get_or (places_from test 0 xs) i 0) xs (slice_get-get_or (places_from test 0 xs) i 0 h) in omega arith)
+all_places_below test xs = grind (arith, All-from_get_or, places_below, slice_get-get_or)
 
 all_flat_map : (n : ℕ) (f : ℕ → List ℕ) → ((u : ℕ) → All (λ p. p < n) (f u)) → (us : List ℕ) → All (λ p. p < n) (flat_map f us)
 all_flat_map n f each [] = λ i d h. absurd (omega arith)
 all_flat_map n f each (u ∷ us) = All-append (λ p. p < n) (f u) (flat_map f us) (each u) (all_flat_map n f each us)
 
 pub root_mode_below : (t : Tables) (sel u : ℕ) → AreInRange t → u < length t.modules → root_mode t sel u < length t.modes
-root_mode_below t sel u r h =
-    let some : 0 < length (modes_of t u) = modes_some t u r h in
-    let place = sel / choices_from t (u + 1) (drop (u + 1) t.modules) % length (modes_of t u) in
-    let within : place < length (modes_of t u) = omega arith in
-    All-get_or (λ p. p < length t.modes) (modes_of t u) place 0 within (all_places_below (mode_of_module u) t.modes)
+root_mode_below t sel u r h = grind (arith, modes_some, All-get_or, all_places_below)
 
 pub position_below : (t : Tables) (sel p : ℕ) → p < length (positions t sel) → get_or (positions t sel) p 0 < length t.invs
-position_below t sel p h =
-    All-get_or (λ k. k < length t.invs) (positions t sel) p 0 h
-    (all_flat_map (length t.invs) (λ u. invs_of t (root_mode t sel u)) (λ u. all_places_below (inv_of_mode (root_mode t sel u)) t.invs) (root_modules t))
+position_below t sel p h = grind (arith, All-get_or, all_flat_map, all_places_below)

@@ -26,14 +26,7 @@ other_mode f n u m k i e = ap (λ b. cond b (told n u m (Some k) (at_inv f k i))
 
 -- nothing is found before the mode's invocations
 pub found_from_start : (t : Tables) (f : Tests) (n u m b : ℕ) → IsStartOf t m b → first_from (inv_in_mode f n u m) b (drop b t.invs) ≡ first_from (inv_in_mode f n u m) 0 t.invs
-found_from_start t f n u m b s =
-    let from_zero : b ≡ 0 + b = omega arith in
-    ap (λ j. first_from (inv_in_mode f n u m) j (drop b t.invs)) from_zero
-    ∙ nothing_before (inv_in_mode f n u m) 0 b t.invs
-    (λ q i less at. (
-    let zero_add : q ≡ 0 + q = omega arith in
-    subst (λ j. inv_in_mode f n u m j i ≡ None) zero_add (other_mode f n u m q i (let low = s.below q i less at in grind (arith, nat_tests)))
-    ))
+found_from_start t f n u m b s = grind (arith, nothing_before, other_mode)
 
 -- nor behind them
 pub nothing_later : (t : Tables) (f : Tests) (n u m e : ℕ) → IsStartOf t (m + 1) e → first_from (inv_in_mode f n u m) e (drop e t.invs) ≡ None

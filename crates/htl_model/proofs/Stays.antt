@@ -4,8 +4,7 @@ use Rattle.htl_model.proofs.Words.{Tables, Mode, Stay, mode_module, stay_of, sta
 
 pub length-stays_to : (t : Tables) (v : List ℤ) (now : ℕ) (old : List (Option Stay)) (k : ℕ) → length (stays_to t v now old k) ≡ k
 length-stays_to t v now old zero = refl
-length-stays_to t v now old (suc k) =
-    length-append (stays_to t v now old k) _ ∙ omega (arith, length-stays_to t v now old k)
+length-stays_to t v now old (suc k) = grind (arith, length-append, length-stays_to t v now old k)
 
 get_end : {A : Type 0} (xs : List A) (y : A) (k : ℕ) → k ≡ length xs → slice_get (xs ++ y ∷ []) k ≡ Some y
 get_end [] y zero h = refl
@@ -33,8 +32,4 @@ module_is t m x e = ap (λ (o : Option Mode). elim o [ Some y ↦ y.«module» |
 
 -- a mode that runs is that of its module's stay
 pub runs_is : (t : Tables) (stays : List (Option Stay)) (m : ℕ) → runs t stays m ≡ true → (y : Stay) × (stay_of stays (mode_module t m) ≡ Some y) × (y.mode ≡ m)
-runs_is t stays m e = by_stay (stay_of stays (mode_module t m)) refl e
-  where
-    by_stay : (o : Option Stay) → stay_of stays (mode_module t m) ≡ o → elim o [ Some x ↦ eqb x.mode m | None ↦ false ] ≡ true → (y : Stay) × (stay_of stays (mode_module t m) ≡ Some y) × (y.mode ≡ m)
-    by_stay None is f = absurd (let z : ⊥ = cc in z)
-    by_stay (Some y) is f = (y, is, eqb-true y.mode m f)
+runs_is t stays m e = grind (arith, eqb-true)

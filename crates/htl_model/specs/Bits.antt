@@ -1,6 +1,5 @@
 -- Rows of bits.
-use Rattle.std.specs.Prelude.{ℕ, Bool, eqb, List, get_or}
-use Rattle.std.specs.Int.{bit_at}
+use Rattle.std.specs.{Prelude.ℕ, Prelude.Bool, Prelude.eqb, Prelude.List, Prelude.get_or, Int.bit_at}
 
 abbrev pub has_bit : ℕ → ℕ → Bool
 has_bit row k = eqb (bit_at row k) 1

@@ -1,20 +1,11 @@
 -- When a form rule is broken, and which broken one is the first.
 use Rattle.std.specs.Prelude.{◌≡◌, ◌≤◌, ◌<◌, ℕ, Option, Some, None, length, slice_get}
 use Rattle.htl_base.specs.declared.limits.TheConstants.{MAX_SELECTIONS, MAX_POSITIONS}
-use Rattle.htl_model.specs.declared.parts.Mode.{Mode}
-use Rattle.htl_model.specs.declared.parts.Inv.{Inv}
-use Rattle.htl_model.specs.declared.parts.Switch.{Switch}
-use Rattle.htl_model.specs.declared.parts.End.{End}
-use Rattle.htl_model.specs.declared.form_fault.FormFault.{FormFault}
-use Rattle.htl_model.specs.Tables.{Tables, mode_module}
-use Rattle.htl_model.specs.Selections.{selection_count, positions}
+use Rattle.htl_model.specs.{declared.parts.Mode.Mode, declared.parts.Inv.Inv, declared.parts.Switch.Switch, declared.parts.End.End, declared.form_fault.FormFault.FormFault, Tables.Tables, Tables.mode_module, PortOrder.InCycle}
+use Rattle.htl_model.specs.{Selections.selection_count, Selections.positions, PeriodRules.PeriodDiffers, PeriodRules.FrameExceeds, PeriodRules.NotDivided, PeriodRules.EndNotDivided, PortWriters.Unwritten, PortWriters.Rewritten}
 use Rattle.htl_model.specs.FormRules.{FormRule, ModulePeriod, FrameLimits, Divides, Offsets, Ends, Windows, WorstCases, PortWriters, PortCycles, AbstractPorts, Sensors, ConcreteWriters, AbstractPlaces, Parents, SharedParents, Inheritance, number_of, Part, Itself, Input, Output, Test, Site, ComesBefore}
-use Rattle.htl_model.specs.PeriodRules.{PeriodDiffers, FrameExceeds, NotDivided, EndNotDivided}
 use Rattle.htl_model.specs.EndRules.{ReadLate, WriteOutside, input_types, output_types, CountsDiffer, TypeDiffers, WindowEmpty, WorstLong, AbstractRead, SensorWritten}
-use Rattle.htl_model.specs.PortWriters.{Unwritten, Rewritten}
-use Rattle.htl_model.specs.PortOrder.{InCycle}
-use Rattle.htl_model.specs.SecondWriters.{SecondWriter}
-use Rattle.htl_model.specs.RefinementRules.{StandsUnrefined, ParentWrong, SecondChild, Exceeds, Unordered}
+use Rattle.htl_model.specs.{SecondWriters.SecondWriter, RefinementRules.StandsUnrefined, RefinementRules.ParentWrong, RefinementRules.SecondChild, RefinementRules.Exceeds, RefinementRules.Unordered}
 
 -- what breaks a rule, with the numbers that there are and that there ought to be: a mode, an invocation as a whole, an input or an
 -- output of one (the invocation's number, it, the place, the end), a communicator that a switch of a mode reads

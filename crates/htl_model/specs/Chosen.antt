@@ -1,8 +1,6 @@
 -- Which concrete invocation stands for an invocation where the modules are in these modes.
 use Rattle.std.specs.Prelude.{◌≡◌, ℕ, zero, suc, Bool, true, false, ◌&&◌, cond, List, [], ◌∷◌, length, drop, get_or, slice_get, Option, Some, None}
-use Rattle.htl_model.specs.declared.parts.Inv.{Inv}
-use Rattle.htl_model.specs.Selected.{is_at, Runs, is_running}
-use Rattle.htl_model.specs.Tables.{Tables, is_concrete}
+use Rattle.htl_model.specs.{declared.parts.Inv.Inv, Selected.is_at, Selected.Runs, Selected.is_running, Tables.Tables, Tables.is_concrete}
 
 -- invocation c stands for invocation k: it is k, a concrete one; or k is abstract, and c stands for an invocation that has
 -- parent k and is in a mode that runs

@@ -1,10 +1,6 @@
 -- Tables whose functions are exchanged for others that mean the same.
 use Rattle.std.specs.Prelude.{◌≡◌, ◌↔◌, ℕ, List, ℤ}
-use Rattle.htl_model.specs.Tables.{Tables, Fun, function_value}
-use Rattle.htl_model.specs.declared.event.Event.{Event}
-use Rattle.htl_model.specs.Broken.{Broken}
-use Rattle.htl_model.specs.FormRules.{FormRule, Site}
-use Rattle.htl_model.specs.Meaning.{history, value_lines, run_lines}
+use Rattle.htl_model.specs.{Tables.Tables, Tables.Fun, Tables.function_value, declared.event.Event.Event, Broken.Broken, FormRules.FormRule, FormRules.Site, Meaning.history, Meaning.value_lines, Meaning.run_lines}
 use Rattle.htl_model.specs.Lines.{lines_to_text, lines_before_text}
 
 -- the tables with other functions

@@ -1,9 +1,7 @@
 -- The numbers of a frame, as the code keeps them.
 use Rattle.std.specs.Prelude.{◌≡◌, ◌+◌, ◌≤◌, [], ◌∷◌, ◌++◌, length, take}
 use Rattle.htl_base.specs.declared.limits.TheConstants.{MAX_STARTS, MAX_ROUNDS}
-use Rattle.htl_model.specs.declared.frame.Frame.{Frame}
-use Rattle.htl_model.specs.Frames.{frame_of, starts, rounds, radices, paths, nodes, KeepsFrames}
-use Rattle.htl_model.specs.Tables.{Tables}
+use Rattle.htl_model.specs.{declared.frame.Frame.Frame, Frames.frame_of, Frames.starts, Frames.rounds, Frames.radices, Frames.paths, Frames.nodes, Frames.KeepsFrames, Tables.Tables}
 
 -- the starts and the frame's end, the rounds, and the choices at each start
 pub record IsFrame (t : Tables) (f : Frame) : Type 0 where

@@ -2,12 +2,7 @@
 use Rattle.std.specs.Prelude.{◌≤◌, ℕ, zero, suc, ◌+◌, ◌*◌, ◌/◌, ◌%◌, Bool, cond, ◌&&◌, eqb, leb, ltb, max, min, List, [], ◌∷◌, ◌++◌, length, get_or, slice_get, map, Option, Some, None, option_map}
 use Rattle.std.specs.List.{flat_map, list_any}
 use Rattle.htl_base.specs.declared.limits.TheConstants.{MAX_FRAME, MAX_STARTS, MAX_PATHS, MAX_POSITIONS}
-use Rattle.htl_model.specs.declared.frame.Round.{Round}
-use Rattle.htl_model.specs.declared.frame.Place.{Place}
-use Rattle.htl_model.specs.First.{or_else}
-use Rattle.htl_model.specs.Functions.{of_bool}
-use Rattle.htl_model.specs.Tables.{Tables, mode_period}
-use Rattle.htl_model.specs.Selections.{root_modules, modes_of, invs_of}
+use Rattle.htl_model.specs.{declared.frame.Round.Round, declared.frame.Place.Place, First.or_else, Functions.of_bool, Tables.Tables, Tables.mode_period, Selections.root_modules, Selections.modes_of, Selections.invs_of}
 
 -- ---- the frame
 

@@ -1,7 +1,6 @@
 -- Functions that are code.
 use Rattle.std.specs.Prelude.{All}
-use Rattle.htl_model.specs.Tables.{Tables, Fun, Formula, Compiled, fun_of}
-use Rattle.htl_model.specs.declared.function.Function.{Function}
+use Rattle.htl_model.specs.{Tables.Tables, Tables.Fun, Tables.Formula, Tables.Compiled, Tables.fun_of, declared.function.Function.Function}
 
 abbrev pub IsCode : Fun → Type 0
 IsCode (Formula first e) = ⊥

@@ -1,17 +1,11 @@
 -- What a function of the tables means: a value for its arguments.
 use Rattle.std.specs.Prelude.{◌≡◌, ℕ, ◌+◌, ◌≤◌, max, Bool, true, false, cond, ◌&&◌, eqb, ltb, leb, List, [], ◌∷◌, ◌++◌, length, get_or, slice_get, map, Option, Some, None, ℤ, pos, negsuc, int_lt, int_le, int_rem}
 use Rattle.std.specs.Int.{w64, int_wrapping_add, int_wrapping_sub, int_wrapping_mul, int_wrapping_div, int_wrapping_neg}
-use Rattle.htl_base.specs.declared.limits.TheConstants.{MAX_INSTRUCTIONS, MAX_STACK}
-use Rattle.htl_base.specs.declared.Ty.{Ty}
-use Rattle.htl_base.specs.declared.Ty.TheVariants.{Int as IntTy, Bool as BoolTy}
-use Rattle.htl_base.specs.declared.operator.UnOp.{UnOp}
-use Rattle.htl_base.specs.declared.operator.UnOp.TheVariants.{Neg, Not}
-use Rattle.htl_base.specs.declared.operator.BinOp.{BinOp}
+use Rattle.htl_base.specs.{declared.limits.TheConstants.MAX_INSTRUCTIONS, declared.limits.TheConstants.MAX_STACK, declared.Ty.Ty, declared.Ty.TheVariants.Int as IntTy, declared.Ty.TheVariants.Bool as BoolTy, declared.operator.UnOp.UnOp}
+use Rattle.htl_base.specs.{declared.operator.UnOp.TheVariants.Neg, declared.operator.UnOp.TheVariants.Not, declared.operator.BinOp.BinOp}
 use Rattle.htl_base.specs.declared.operator.BinOp.TheVariants.{Add, Sub, Mul, Div, Rem, Lt, Le, Gt, Ge, Eq, Ne, And, Or}
-use Rattle.htl_model.specs.declared.function.FInstr.{FInstr}
+use Rattle.htl_model.specs.{declared.function.FInstr.FInstr, declared.function.Code.Code, declared.function.Expr.Expr}
 use Rattle.htl_model.specs.declared.function.FInstr.TheVariants as I
-use Rattle.htl_model.specs.declared.function.Code.{Code}
-use Rattle.htl_model.specs.declared.function.Expr.{Expr}
 use Rattle.htl_model.specs.declared.function.Expr.TheVariants as E
 
 -- an expression, with the number of the token of each part

@@ -1,13 +1,7 @@
 -- The lines of values, modes and totals as text.
 use Rattle.std.specs.Prelude.{ℕ, List, [], ◌++◌, slice_get, Option, Some, None, codes, decimal}
-use Rattle.std.specs.Fmt.{signed_decimal}
-use Rattle.std.specs.List.{flat_map}
-use Rattle.htl_model.specs.declared.event.Event.{Event}
-use Rattle.htl_model.specs.declared.line.Line.{Line}
-use Rattle.htl_model.specs.declared.line.Line.TheVariants.{ValueLine, ModeLine}
-use Rattle.htl_model.specs.Lists.{up_to}
-use Rattle.htl_model.specs.Meaning.{run_lines, value_lines}
-use Rattle.htl_model.specs.Tables.{Tables}
+use Rattle.std.specs.{Fmt.signed_decimal, List.flat_map}
+use Rattle.htl_model.specs.{declared.event.Event.Event, declared.line.Line.Line, declared.line.Line.TheVariants.ValueLine, declared.line.Line.TheVariants.ModeLine, Lists.up_to, Meaning.run_lines, Meaning.value_lines, Tables.Tables}
 
 abbrev pub comm_name : Tables → ℕ → List ℕ
 comm_name t c = elim (slice_get t.comms c) [ Some x ↦ x.name | None ↦ [] ]

@@ -1,20 +1,9 @@
 -- Logical execution time: the modes and the values at each instant, by the tables and the sensors alone.
 use Rattle.std.specs.Prelude.{ℕ, zero, suc, ◌+◌, ◌-◌, ◌*◌, ◌/◌, Bool, true, false, cond, not, ◌&&◌, ◌||◌, eqb, ltb, leb, List, [], ◌∷◌, ◌++◌, length, get_or, slice_get, map, Option, Some, None, ℤ, pos}
-use Rattle.htl_model.specs.declared.parts.Comm.{Comm}
-use Rattle.htl_model.specs.declared.parts.Module.{Module}
-use Rattle.htl_model.specs.declared.parts.Inv.{Inv}
-use Rattle.htl_model.specs.declared.parts.Switch.{Switch}
-use Rattle.htl_model.specs.declared.parts.End.{End}
+use Rattle.htl_model.specs.{declared.parts.Comm.Comm, declared.parts.Module.Module, declared.parts.Inv.Inv, declared.parts.Switch.Switch, declared.parts.End.End, declared.state.Stay.Stay, declared.state.State.State, declared.line.Line.Line}
 use Rattle.htl_model.specs.declared.parts.End.TheVariants as E
-use Rattle.htl_model.specs.declared.state.Stay.{Stay}
-use Rattle.htl_model.specs.declared.state.State.{State}
-use Rattle.htl_model.specs.declared.state.Write.{Write}
-use Rattle.htl_model.specs.declared.event.Event.{Event}
+use Rattle.htl_model.specs.{declared.state.Write.Write, declared.event.Event.Event, declared.line.Line.TheVariants.ValueLine, declared.line.Line.TheVariants.ModeLine, Functions.is_zero, Functions.same, Lists.up_to, Lists.list_to}
 use Rattle.htl_model.specs.declared.event.Event.TheVariants as V
-use Rattle.htl_model.specs.declared.line.Line.{Line}
-use Rattle.htl_model.specs.declared.line.Line.TheVariants.{ValueLine, ModeLine}
-use Rattle.htl_model.specs.Functions.{is_zero, same}
-use Rattle.htl_model.specs.Lists.{up_to, list_to}
 use Rattle.htl_model.specs.Tables.{Tables, mode_period, mode_module, comm_period, is_concrete, output_function, switch_function, function_value}
 
 -- ---- sensors

@@ -1,14 +1,8 @@
 -- The rules on periods: one in a module, with a frame for those of the root modules that keeps its limits, and divided by those of the
 -- communicators.
 use Rattle.std.specs.Prelude.{◌≡◌, ◌≢◌, ◌⊎◌, ℕ, ◌%◌, Option, Some, None, option_map, slice_get}
-use Rattle.htl_model.specs.declared.parts.Mode.{Mode}
-use Rattle.htl_model.specs.declared.parts.Inv.{Inv}
-use Rattle.htl_model.specs.declared.parts.End.{End}
+use Rattle.htl_model.specs.{declared.parts.Mode.Mode, declared.parts.Inv.Inv, declared.parts.End.End, Tables.Tables, Tables.mode_period, Tables.comm_period, Ranges.parent_of, Frames.frame_limit, Selections.modes_of}
 use Rattle.htl_model.specs.declared.parts.End.TheVariants as E
-use Rattle.htl_model.specs.Tables.{Tables, mode_period, comm_period}
-use Rattle.htl_model.specs.Ranges.{parent_of}
-use Rattle.htl_model.specs.Frames.{frame_limit}
-use Rattle.htl_model.specs.Selections.{modes_of}
 
 -- the first mode of a module
 abbrev pub first_mode : Tables → ℕ → Option ℕ

@@ -1,11 +1,8 @@
 -- What precedes what by ports: an invocation that reads a port follows the invocation that writes it.
 use Rattle.std.specs.Prelude.{◌≡◌, ℕ, zero, suc, Bool, true, false, eqb, ◌&&◌, ◌||◌, List, length, slice_get, Option, Some, None}
 use Rattle.std.specs.List.{list_any, Contains, IsDistinct}
-use Rattle.htl_model.specs.declared.parts.Inv.{Inv}
-use Rattle.htl_model.specs.declared.parts.End.{End}
+use Rattle.htl_model.specs.{declared.parts.Inv.Inv, declared.parts.End.End, Tables.Tables, PortWriters.is_port}
 use Rattle.htl_model.specs.declared.parts.End.TheVariants as E
-use Rattle.htl_model.specs.Tables.{Tables}
-use Rattle.htl_model.specs.PortWriters.{is_port}
 
 -- a leads to b: by one step, or through another
 pub data Leads (step : ℕ → ℕ → Bool) : ℕ → ℕ → Type 0 where

@@ -1,11 +1,7 @@
 -- A table with a row for each port: a bit for each of its writers.
-use Rattle.std.specs.Prelude.{ℕ, Bool, false, List, Option, Some, None}
-use Rattle.std.specs.List.{list_any}
-use Rattle.htl_model.specs.declared.parts.Inv.{Inv}
-use Rattle.htl_model.specs.declared.parts.End.{End}
+use Rattle.std.specs.{Prelude.ℕ, Prelude.Bool, Prelude.false, Prelude.List, Prelude.Option, Prelude.Some, Prelude.None, List.list_any}
+use Rattle.htl_model.specs.{declared.parts.Inv.Inv, declared.parts.End.End, Bits.cell, PortWriters.is_port}
 use Rattle.htl_model.specs.declared.parts.End.TheVariants as E
-use Rattle.htl_model.specs.Bits.{cell}
-use Rattle.htl_model.specs.PortWriters.{is_port}
 
 -- whether the invocation writes the port
 abbrev pub writes_to : Option Inv → ℕ → Bool

@@ -1,10 +1,8 @@
 -- Who writes a port: it is read only where some output writes it, and no two outputs write it.
 use Rattle.std.specs.Prelude.{◌≡◌, ◌<◌, ◌⊎◌, ℕ, Bool, false, eqb, List, slice_get, Some}
 use Rattle.std.specs.List.{count_by, sum_by}
-use Rattle.htl_model.specs.declared.parts.Inv.{Inv}
-use Rattle.htl_model.specs.declared.parts.End.{End}
+use Rattle.htl_model.specs.{declared.parts.Inv.Inv, declared.parts.End.End, Tables.Tables}
 use Rattle.htl_model.specs.declared.parts.End.TheVariants as E
-use Rattle.htl_model.specs.Tables.{Tables}
 
 -- the end is the port
 abbrev pub is_port : ℕ → End → Bool

@@ -1,12 +1,8 @@
 -- The rules on refinement: what stands for an abstract invocation asks for no more than it.
 use Rattle.std.specs.Prelude.{◌≡◌, ◌≢◌, ◌≤◌, ◌<◌, ◌⊎◌, ℕ, false, Option, Some, None, slice_get}
-use Rattle.htl_model.specs.declared.parts.Inv.{Inv}
-use Rattle.htl_model.specs.declared.parts.Module.{Module}
-use Rattle.htl_model.specs.declared.parts.End.{End}
+use Rattle.htl_model.specs.{declared.parts.Inv.Inv, declared.parts.Module.Module, declared.parts.End.End, Tables.Tables, Tables.mode_module, Tables.is_concrete, Tables.task_worst, Tables.release, Tables.window_end}
 use Rattle.htl_model.specs.declared.parts.End.TheVariants as E
-use Rattle.htl_model.specs.Tables.{Tables, mode_module, is_concrete, task_worst, release, window_end}
-use Rattle.htl_model.specs.PortOrder.{Leads, feeds}
-use Rattle.htl_model.specs.SecondWriters.{parent_mode}
+use Rattle.htl_model.specs.{PortOrder.Leads, PortOrder.feeds, SecondWriters.parent_mode}
 
 -- some module refines the mode
 pub record IsRefined (t : Tables) (m : ℕ) : Type 0 where

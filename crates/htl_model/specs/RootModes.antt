@@ -1,9 +1,6 @@
 -- The modes of all root modules in a selection.
 use Rattle.std.specs.Prelude.{◌≡◌, ℕ, ◌+◌, cond, ltb, List, [], ◌∷◌, slice_get, Option, Some, None}
-use Rattle.htl_model.specs.declared.parts.Mode.{Mode}
-use Rattle.htl_model.specs.Selected.{entry}
-use Rattle.htl_model.specs.Selections.{is_root, root_mode}
-use Rattle.htl_model.specs.Tables.{Tables}
+use Rattle.htl_model.specs.{declared.parts.Mode.Mode, Selected.entry, Selections.is_root, Selections.root_mode, Tables.Tables}
 
 -- the mode of a root module in a selection; none where a module refines a mode, and none where there is no module
 abbrev pub root_entry : Tables → ℕ → ℕ → Option ℕ

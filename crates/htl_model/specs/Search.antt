@@ -1,13 +1,6 @@
 -- The first that a rule's tests find, going over modes, invocations and ends in order.
 use Rattle.std.specs.Prelude.{ℕ, cond, eqb, List, Option, Some, None}
-use Rattle.htl_model.specs.declared.parts.Mode.{Mode}
-use Rattle.htl_model.specs.declared.parts.Inv.{Inv}
-use Rattle.htl_model.specs.declared.parts.End.{End}
-use Rattle.htl_model.specs.declared.parts.Switch.{Switch}
-use Rattle.htl_model.specs.declared.form_fault.FormFault.{FormFault}
-use Rattle.htl_model.specs.First.{or_else, first_from}
-use Rattle.htl_model.specs.Found.{Found}
-use Rattle.htl_model.specs.Tables.{Tables}
+use Rattle.htl_model.specs.{declared.parts.Mode.Mode, declared.parts.Inv.Inv, declared.parts.End.End, declared.parts.Switch.Switch, declared.form_fault.FormFault.FormFault, First.or_else, First.first_from, Found.Found, Tables.Tables}
 
 -- what the tests of a rule find: at a mode, at an invocation as a whole, at an input or output of one, at a communicator that a
 -- switch of a mode reads

@@ -1,12 +1,8 @@
 -- Which concrete invocations write the same: an instance twice in one mode, or a communicator in two modes that can stand
 -- together.
 use Rattle.std.specs.Prelude.{◌≡◌, ◌≢◌, ◌<◌, ◌⊎◌, ℕ, true, Option, Some, slice_get}
-use Rattle.htl_model.specs.declared.parts.Inv.{Inv}
-use Rattle.htl_model.specs.declared.parts.End.{End}
+use Rattle.htl_model.specs.{declared.parts.Inv.Inv, declared.parts.End.End, Tables.Tables, Tables.is_concrete, Tables.mode_module, Ranges.parent_of, PortWriters.OutputBefore}
 use Rattle.htl_model.specs.declared.parts.End.TheVariants as E
-use Rattle.htl_model.specs.Tables.{Tables, is_concrete, mode_module}
-use Rattle.htl_model.specs.Ranges.{parent_of}
-use Rattle.htl_model.specs.PortWriters.{OutputBefore}
 
 -- the mode that a mode's module refines
 abbrev pub parent_mode : Tables → ℕ → Option ℕ

@@ -1,8 +1,6 @@
 -- Selections of running modes: of each module the mode in which it is, or none.
 use Rattle.std.specs.Prelude.{◌≡◌, ℕ, suc, Bool, true, false, not, ◌&&◌, eqb, List, [], ◌∷◌, length, get_or, slice_get, Option, Some, None}
-use Rattle.htl_model.specs.declared.parts.Module.{Module}
-use Rattle.htl_model.specs.declared.parts.Mode.{Mode}
-use Rattle.htl_model.specs.Tables.{Tables, mode_module}
+use Rattle.htl_model.specs.{declared.parts.Module.Module, declared.parts.Mode.Mode, Tables.Tables, Tables.mode_module}
 
 -- the mode in which a module is; none where it is inactive
 abbrev pub entry : List (Option ℕ) → ℕ → Option ℕ

@@ -1,11 +1,7 @@
 -- Root selections and their positions.
 use Rattle.std.specs.Prelude.{ℕ, suc, ◌+◌, ◌*◌, ◌/◌, ◌%◌, Bool, true, false, cond, eqb, List, [], ◌∷◌, length, get_or, drop, Option, Some, None}
 use Rattle.std.specs.List.{flat_map}
-use Rattle.htl_model.specs.declared.parts.Module.{Module}
-use Rattle.htl_model.specs.declared.parts.Mode.{Mode}
-use Rattle.htl_model.specs.declared.parts.Inv.{Inv}
-use Rattle.htl_model.specs.Lists.{places_from}
-use Rattle.htl_model.specs.Tables.{Tables, mode_period}
+use Rattle.htl_model.specs.{declared.parts.Module.Module, declared.parts.Mode.Mode, declared.parts.Inv.Inv, Lists.places_from, Tables.Tables, Tables.mode_period}
 
 abbrev pub is_root : Module → Bool
 is_root x = elim x.parent [ Some p ↦ false | None ↦ true ]

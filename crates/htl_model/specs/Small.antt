@@ -1,9 +1,7 @@
 -- Functions of a size that can be compiled.
 use Rattle.std.specs.Prelude.{◌≡◌, ◌≤◌, ◌<◌, ℕ, ◌+◌, length, slice_get, Some}
 use Rattle.htl_base.specs.declared.limits.TheConstants.{MAX_INSTRUCTIONS, MAX_ARGUMENTS}
-use Rattle.htl_model.specs.Functions.{Term, Arg, Unary, Binary, Choose}
-use Rattle.htl_model.specs.FunctionTypes.{FunctionType, function_types}
-use Rattle.htl_model.specs.Tables.{Tables, Fun, Formula, Compiled}
+use Rattle.htl_model.specs.{Functions.Term, Functions.Arg, Functions.Unary, Functions.Binary, Functions.Choose, FunctionTypes.FunctionType, FunctionTypes.function_types, Tables.Tables, Tables.Fun, Tables.Formula, Tables.Compiled}
 
 -- how many literals, arguments and operators an expression has
 abbrev pub nodes : Term → ℕ

@@ -1,7 +1,6 @@
 -- Where the invocations of a mode begin in the list.
 use Rattle.std.specs.Prelude.{◌≡◌, ◌≤◌, ◌<◌, ℕ, length, slice_get, Some}
-use Rattle.htl_model.specs.declared.parts.Inv.{Inv}
-use Rattle.htl_model.specs.Tables.{Tables}
+use Rattle.htl_model.specs.{declared.parts.Inv.Inv, Tables.Tables}
 
 -- the invocations of mode m and of later modes are those from number k on
 pub record IsStartOf (t : Tables) (m k : ℕ) : Type 0 where

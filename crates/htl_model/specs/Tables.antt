@@ -1,19 +1,9 @@
 -- The flat tables, and what their numbers name.
 use Rattle.std.specs.Prelude.{Option, ℕ, zero, suc, ◌+◌, ◌*◌, min, max, Bool, false, cond, not, List, [], ◌∷◌, length, slice_get, map, Some, None, ℤ, pos}
-use Rattle.htl_model.specs.declared.parts.Comm.{Comm}
-use Rattle.htl_model.specs.declared.parts.Mode.{Mode}
-use Rattle.htl_model.specs.declared.parts.Module.{Module}
-use Rattle.htl_model.specs.declared.parts.Port.{Port}
-use Rattle.htl_model.specs.declared.parts.Task.{Task}
-use Rattle.htl_model.specs.declared.parts.Inv.{Inv}
-use Rattle.htl_model.specs.declared.parts.Switch.{Switch}
-use Rattle.htl_model.specs.declared.parts.End.{End}
+use Rattle.htl_model.specs.{declared.parts.Comm.Comm, declared.parts.Mode.Mode, declared.parts.Module.Module, declared.parts.Port.Port, declared.parts.Task.Task, declared.parts.Inv.Inv, declared.parts.Switch.Switch, declared.parts.End.End}
 use Rattle.htl_model.specs.declared.parts.End.TheVariants as E
-use Rattle.htl_model.specs.declared.function.Code.{Code}
-use Rattle.htl_model.specs.declared.function.Function.{Function}
+use Rattle.htl_model.specs.{declared.function.Code.Code, declared.function.Function.Function, declared.parts.Parts.Parts, Functions.Term, Functions.term_of, Functions.value, Functions.value_or, Functions.tree}
 use Rattle.htl_model.specs.declared.function.Function.TheVariants as F
-use Rattle.htl_model.specs.declared.parts.Parts.{Parts}
-use Rattle.htl_model.specs.Functions.{Term, term_of, value, value_or, tree}
 
 -- a function: an expression with the number of its first token, or code
 pub data Fun : Type 0 where

@@ -2,11 +2,8 @@
 use Rattle.std.specs.Prelude.{◌≡◌, ℕ, refl, ◌⊎◌}
 use Rattle.std.specs.Coded.{Coded, code_by, coded×, coded⊎, coded_ℕ}
 use Rattle.std.proofs.Common.{inl, inr}
-use Rattle.htl_model.specs.declared.function.Code.{Code}
+use Rattle.htl_model.specs.{declared.function.Code.Code, Functions.Term, TermCode.term_code, Tables.Fun, Tables.Formula, Tables.Compiled}
 use Rattle.htl_model.specs.contracts.function.Code as code_row
-use Rattle.htl_model.specs.Functions.{Term}
-use Rattle.htl_model.specs.TermCode.{term_code}
-use Rattle.htl_model.specs.Tables.{Fun, Formula, Compiled}
 
 abbrev pub split_fun : Fun → (ℕ × Term) ⊎ Code
 split_fun (Formula n e) = inl (n, e)

@@ -2,10 +2,7 @@
 use Rattle.std.specs.Prelude.{◌≡◌, ℕ, true, false, List, [], ◌∷◌, ◌++◌, Option, Some, None, refl}
 use Rattle.std.specs.Coded.{Coded, code_by, coded_list, coded×, coded_ℕ}
 use Rattle.std.proofs.Common.{ap, sym, ◌∙◌, append_assoc, append-nil}
-use Rattle.htl_base.specs.declared.operator.UnOp.{UnOp}
-use Rattle.htl_base.specs.declared.operator.UnOp.TheVariants.{Neg, Not}
-use Rattle.htl_base.specs.declared.operator.BinOp.{BinOp}
-use Rattle.htl_base.specs.declared.operator.BinOp.TheVariants.{Add}
+use Rattle.htl_base.specs.{declared.operator.UnOp.UnOp, declared.operator.UnOp.TheVariants.Neg, declared.operator.UnOp.TheVariants.Not, declared.operator.BinOp.BinOp, declared.operator.BinOp.TheVariants.Add}
 use Rattle.htl_model.specs.declared.function.FInstr.{FInstr}
 use Rattle.htl_model.specs.declared.function.FInstr.TheVariants as I
 use Rattle.htl_model.specs.contracts.function.FInstr as instr

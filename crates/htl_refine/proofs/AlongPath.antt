@@ -1,18 +1,15 @@
 -- A path whose modes are those of the selections has their positions.
 use Rattle.std.proofs.Common.{append_assoc, ◌≡◌, ℕ, zero, suc, ◌+◌, ◌*◌, ◌/◌, ◌%◌, ◌≤◌, ◌<◌, Bool, true, false, cond, ◌&&◌, eqb, eqb-true, eq-eqb, ne_eqb, List, [], ◌∷◌, ◌++◌, length, map, take, drop, get_or, Option, Some, None, refl, sym, ◌∙◌, ap, arith, inl, inr}
 use Rattle.htl_refine.proofs.Words.{slice_get, flat_map, div-add-mod, lt-leb, length-map, get_or_from_slice_get, none-some, Place, Round, begins, starts_below, root_periods, frame_of, unit_period, rounds_of, rounds_at, rounds, starts, mode_in, mode_from, path_mode, places_of, places_in, path_places, known_by, of_bool, entry, is_root, root_modules, invs_of, Tables, placed_job, placed_jobs, legs_of, legs, AreWithin, derived_place, derived_jobs, start_places, standing_place, begun_places, begun_jobs, start_modes, IsAlong, known_append, map_append, known_few, from_map}
-use Rattle.htl_refine.proofs.BegunTimes.{start_below, started_at}
-use Rattle.htl_refine.proofs.Members.{of_joined, of_flat}
-use Rattle.htl_refine.proofs.RisingPositions.{AreRising, Has, joined_rise, places_rise}
+use Rattle.htl_refine.proofs.{BegunTimes.start_below, BegunTimes.started_at, Members.of_joined, Members.of_flat, RisingPositions.AreRising, RisingPositions.Has, RisingPositions.joined_rise, RisingPositions.places_rise}
 
 -- ---- lists that rise
 
 rising_at : (xs : List ℕ) (i j x y : ℕ) → AreRising xs → slice_get xs i ≡ Some x → slice_get xs j ≡ Some y → i < j → x < y
 rising_at [] i j x y r e f l = absurd (none-some x e)
-rising_at (z ∷ xs) zero zero x y r e f l = absurd (omega (arith, l))
 rising_at (z ∷ xs) zero (suc j) x y r e f l = let same : z ≡ x = cc in omega (arith, same, r.0 y (j, f))
-rising_at (z ∷ xs) (suc i) zero x y r e f l = absurd (omega (arith, l))
 rising_at (z ∷ xs) (suc i) (suc j) x y r e f l = rising_at xs i j x y r.1 e f (omega (arith, l))
+rising_at (z ∷ xs) _ zero x y r e f l = absurd (omega (arith, l))
 
 starts_rise : (ps : List ℕ) (n : ℕ) → AreRising (starts_below ps n)
 starts_rise ps zero = tt
@@ -31,12 +28,7 @@ starts_rise ps (suc n) = joined_rise (starts_below ps n) (cond (begins ps n) (n 
 
 rounds_append : (t : Tables) (a : ℕ) (us vs : List ℕ) → rounds_of t a (us ++ vs) ≡ rounds_of t a us ++ rounds_of t a vs
 rounds_append t a [] vs = refl
-rounds_append t a (u ∷ us) vs = by (eqb (a % unit_period t u) 0) (rounds_append t a us vs)
-  where
-    by : (b : Bool) → rounds_of t a (us ++ vs) ≡ rounds_of t a us ++ rounds_of t a vs
-        → cond b (record { at = a; unit = u } ∷ rounds_of t a (us ++ vs)) (rounds_of t a (us ++ vs)) ≡ cond b (record { at = a; unit = u } ∷ rounds_of t a us) (rounds_of t a us) ++ rounds_of t a vs
-    by true behind = ap (λ rs. let r : Round = record { at = a; unit = u } in r ∷ rs) behind
-    by false behind = behind
+rounds_append t a (u ∷ us) vs = grind (arith, rounds_append t a us vs)
 
 flat_append : (t : Tables) (xs ys : List ℕ) → flat_map (rounds_at t) (xs ++ ys) ≡ flat_map (rounds_at t) xs ++ flat_map (rounds_at t) ys
 flat_append t [] ys = refl
@@ -48,10 +40,9 @@ cut_at (y ∷ xs) zero x e = let same : y ≡ x = cc in ap (λ z. z ∷ xs) same
 cut_at (y ∷ xs) (suc j) x e = ap (λ zs. y ∷ zs) (cut_at xs j x e)
 
 of_front : (k p : ℕ) (xs : List ℕ) (x : ℕ) → slice_get (take k xs) p ≡ Some x → (p < k) × (slice_get xs p ≡ Some x)
-of_front zero p xs x e = absurd (none-some x e)
-of_front (suc k) p [] x e = absurd (none-some x e)
 of_front (suc k) zero (y ∷ xs) x e = (omega arith, e)
 of_front (suc k) (suc p) (y ∷ xs) x e = let f = of_front k p xs x e in (omega (arith, f.0), f.1)
+of_front _ p _ x e = absurd (none-some x e)
 
 of_rounds : (t : Tables) (a : ℕ) (us : List ℕ) (p : ℕ) (r : Round) → slice_get (rounds_of t a us) p ≡ Some r → (r.at ≡ a) × (i : ℕ) × (slice_get us i ≡ Some r.unit)
 of_rounds t a [] p r e = absurd (none-some r e)
@@ -94,13 +85,12 @@ mode_begun t path j a i u at_j at_i e =
     let later = flat_map (rounds_at t) (drop (suc j) as') in
     let behind = rounds_of t a (drop (suc i) us) in
     let whole : a / p * p ≡ a = omega (arith, div-add-mod a p, e) in
-    let instant : get_or as' j 0 / p * p ≡ a = ap (λ n. n / p * p) (get_or_from_slice_get as' j a 0 at_j) ∙ whole in
     let own : rounds_of t a (u ∷ drop (suc i) us) ≡ here ∷ behind = ap (λ b. cond b (here ∷ behind) behind) (eq-eqb (a % p) 0 e) in
     let round : rounds_at t a ≡ rounds_of t a (take i us) ++ here ∷ behind = ap (rounds_of t a) (cut_at us i u at_i) ∙ rounds_append t a (take i us) (u ∷ drop (suc i) us) ∙ ap (λ rs. rounds_of t a (take i us) ++ rs) own in
     let frame : rounds t ≡ (before ++ rounds_of t a (take i us)) ++ here ∷ (behind ++ later) =
     ap (flat_map (rounds_at t)) (cut_at as' j a at_j) ∙ flat_append t (take j as') (a ∷ drop (suc j) as') ∙ ap (λ rs. before ++ (rs ++ later)) round
     ∙ ap (λ rs. before ++ rs) (append_assoc (rounds_of t a (take i us)) (here ∷ behind) later) ∙ sym (append_assoc before (rounds_of t a (take i us)) (here ∷ (behind ++ later))) in
-    ap (λ n. mode_from t path u n (rounds t)) instant ∙ ap (mode_from t path u a) frame
+    ap (λ n. mode_from t path u n (rounds t)) (ap (λ n. n / p * p) (get_or_from_slice_get as' j a 0 at_j) ∙ whole) ∙ ap (mode_from t path u a) frame
     ∙ mode_there t path u a (before ++ rounds_of t a (take i us)) (behind ++ later) (λ q r f unit at. elim (of_joined before (rounds_of t a (take i us)) q r f) [
       | inl g ↦
           let s = rounds_start t (take j as') q r g in
@@ -115,9 +105,8 @@ mode_begun t path j a i u at_j at_i e =
 -- ---- the root invocations that have begun
 
 abbrev root_places : Tables → List (List (Option ℕ)) → List ℕ → List Place
-root_places t [] as' = []
-root_places t (m ∷ ms) [] = []
 root_places t (m ∷ ms) (a ∷ as') = start_places t m a (root_modules t) ++ root_places t ms as'
+root_places t _ _ = []
 
 module _ (t : Tables) (path : ℕ) where
   along_start : (m : List (Option ℕ)) (a : ℕ) (us : List ℕ) (later : List Round)
@@ -145,9 +134,8 @@ module _ (t : Tables) (path : ℕ) where
   along_places [] as' l h = refl
   along_places (m ∷ ms) [] l h = absurd (omega (arith, l))
   along_places (m ∷ ms) (a ∷ as') l h =
-      let rest = along_places ms as' (omega (arith, l)) (λ j b i u n e f. h (suc j) b i u n e f) in
       along_start m a (root_modules t) (flat_map (rounds_at t) as') (λ i u e f. h 0 a i u m refl refl e f)
-      ∙ ap (λ xs. start_places t m a (root_modules t) ++ xs) rest
+      ∙ ap (λ xs. start_places t m a (root_modules t) ++ xs) (along_places ms as' (omega (arith, l)) (λ j b i u n e f. h (suc j) b i u n e f))
       ∙ sym (append_assoc (start_places t m a (root_modules t)) (root_places t ms as') (places_in t path (flat_map (rounds_at t) (drop (length ms) as'))))
 
   pub along_whole : (sels : List (List (Option ℕ))) → length sels ≤ length (starts t) → IsAlong t path sels
@@ -164,16 +152,13 @@ same_map f g (x ∷ xs) h = ap (λ y. y ∷ map f xs) (h 0 x refl) ∙ ap (λ ys
 
 module _ (t : Tables) where
   root_at : (ms : List (List (Option ℕ))) (as' : List ℕ) (p : ℕ) (x : Place) → slice_get (root_places t ms as') p ≡ Some x → Has as' x.at
-  root_at [] as' p x e = absurd (none-some x e)
-  root_at (m ∷ ms) [] p x e = absurd (none-some x e)
   root_at (m ∷ ms) (a ∷ as') p x e = elim (of_joined (start_places t m a (root_modules t)) (root_places t ms as') p x e) [
     | inl f ↦ (0, ap (λ (n : ℕ). Some n) (sym (started_at t m a (root_modules t) p x f)))
     | inr f ↦ let j = root_at ms as' f.0 x f.1 in (suc j.0, j.1)
   ]
+  root_at _ _ p x e = absurd (none-some x e)
 
   stands_as : (ms : List (List (Option ℕ))) (as' : List ℕ) → AreRising as' → begun_places t ms as' ≡ map (derived_place t (start_modes ms as')) (root_places t ms as')
-  stands_as [] as' r = refl
-  stands_as (m ∷ ms) [] r = refl
   stands_as (m ∷ ms) (a ∷ as') r =
       let xs = start_places t m a (root_modules t) in
       let ys = root_places t ms as' in
@@ -188,6 +173,7 @@ module _ (t : Tables) where
     where
       by_modes : (x : Place) (p q : List (Option ℕ)) → p ≡ q → standing_place t p x ≡ standing_place t q x
       by_modes x p q e = ap (λ n. standing_place t n x) e
+  stands_as _ _ r = refl
 
 take_front : {A : Type 0} (xs ys : List A) (n : ℕ) → n ≡ length xs → take n (xs ++ ys) ≡ xs
 take_front [] ys zero e = refl
@@ -227,9 +213,8 @@ placed_start t path (r ∷ rs) p x e = elim (of_joined (places_of r.at (invs_of 
 ]
 
 pub legs_within : (h n k : ℕ) (xs : List Place) (as' : List ℕ) → ((j a : ℕ) → j < k → slice_get as' j ≡ Some a → known_by a xs ≤ n) → AreWithin n (take k (legs_of h xs as'))
-legs_within h n zero xs as' l = tt
-legs_within h n (suc k) xs [] l = tt
 legs_within h n (suc k) xs (a ∷ as') l = (l 0 a (omega arith) refl, legs_within h n k xs as' (λ j b less e. l (suc j) b (omega (arith, less)) e))
+legs_within h n _ xs _ l = tt
 
 dropped : (k p x : ℕ) (xs : List ℕ) → slice_get (drop k xs) p ≡ Some x → slice_get xs (k + p) ≡ Some x
 dropped zero p x xs e = let same : 0 + p ≡ p = omega arith in ap (slice_get xs) same ∙ e

@@ -2,9 +2,7 @@
 use Rattle.std.proofs.Common.{◌≡◌, ℕ, ◌≤◌, ◌<◌, List, length, take, Option, refl, sym, ◌∙◌, ap, subst}
 use Rattle.htl_refine.proofs.Words.{length-map, paths, starts, path_places, KeptApart, AreInRange, Tables, frame_some, Job, SInstr, placed_job, path_jobs, legs, IsPathAccepted, AreWithin, HaveLengths, AreWithinWorst, some_root, legs_follow, derived_jobs, begun_places, begun_jobs, start_modes, IsAlong}
 use Rattle.htl_walk.specs.PathLaws.{RefinesFront, IsInherited}
-use Rattle.htl_refine.proofs.AlongPath.{jobs_along, legs_reached}
-use Rattle.htl_refine.proofs.PathDerived.{path_refinement}
-use Rattle.htl_refine.proofs.PathServing.{path_serves}
+use Rattle.htl_refine.proofs.{AlongPath.jobs_along, AlongPath.legs_reached, PathDerived.path_refinement, PathServing.path_serves}
 
 module _ (t : Tables) (path : ℕ) (sels : List (List (Option ℕ))) (out : List Job) (range : AreInRange t) (kept : KeptApart t 16) (few : length sels ≤ length (starts t)) (along : IsAlong t path sels) (is : out ≡ begun_jobs t sels) where
   abbrev derived : List Job

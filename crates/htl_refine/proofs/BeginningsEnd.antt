@@ -1,10 +1,7 @@
 -- Where a round of a root module begins, its round before ends.
 use Rattle.std.proofs.Common.{◌≡◌, ◌<◌, ◌≤◌, ◌⊎◌, ℕ, suc, ◌+◌, ◌*◌, ◌/◌, ◌%◌, Bool, true, false, ◌||◌, eqb, eqb-true, List, [], ◌∷◌, length, map, slice_get, Option, Some, None, refl, sym, ◌∙◌, ap, subst, arith, inl, inr}
 use Rattle.htl_refine.proofs.Words.{div-add-mod, mod-lt, slice_get_within, Mode, Module, Stay, unit_start, unit_period, begins, state, stay_of, entry, IsEntry, IsModeOf, root_modules, Tables, mode_module, mode_period, RoundEnds, BeginningsEnd, modes_at, times_grow}
-use Rattle.htl_refine.proofs.OwnPeriods.{same_period, some_time}
-use Rattle.htl_refine.proofs.OwnRounds.{own_starts}
-use Rattle.htl_refine.proofs.PathDerived.{root_units}
-use Rattle.htl_refine.proofs.StateLaws.{mode_in, entry_is, states_are_selections}
+use Rattle.htl_refine.proofs.{OwnPeriods.same_period, OwnPeriods.some_time, OwnRounds.own_starts, PathDerived.root_units, StateLaws.mode_in, StateLaws.entry_is, StateLaws.states_are_selections}
 
 some_begins : (t : Tables) (us : List ℕ) (a : ℕ) → begins (map (unit_period t) us) a ≡ true → (j u : ℕ) × (slice_get us j ≡ Some u) × (a % unit_period t u ≡ 0)
 some_begins t [] a e = absurd (let z : ⊥ = cc in z)
@@ -17,24 +14,7 @@ some_begins t (u ∷ us) a e = by (eqb (a % unit_period t u) 0) refl e (λ h. so
 
 -- the round of a period ends at the next multiple
 ends_there : (p n : ℕ) → 0 < p → suc n % p ≡ 0 → p * (n / p) + p ≡ suc n
-ends_there p n some even = by (order (suc n / p) (n / p))
-  where
-    order : (a b : ℕ) → (a ≤ b) ⊎ (suc b ≤ a)
-    order a b = grind arith
-
-    by : (suc n / p ≤ n / p) ⊎ (suc (n / p) ≤ suc n / p) → p * (n / p) + p ≡ suc n
-    by (inl l) =
-        let now : p * (n / p) + n % p ≡ n = div-add-mod n p in
-        let later : p * (suc n / p) + suc n % p ≡ suc n = div-add-mod (suc n) p in
-        let less : p * (suc n / p) ≤ p * (n / p) = times_grow p (suc n / p) (n / p) l in
-        absurd (omega (arith, now, later, less, even))
-    by (inr l) =
-        let now : p * (n / p) + n % p ≡ n = div-add-mod n p in
-        let later : p * (suc n / p) + suc n % p ≡ suc n = div-add-mod (suc n) p in
-        let rest : n % p < p = mod-lt n some in
-        let more : p * suc (n / p) ≤ p * (suc n / p) = times_grow p (suc (n / p)) (suc n / p) l in
-        let one : p * suc (n / p) ≡ p * (n / p) + p = grind arith in
-        omega (arith, now, later, rest, more, one, even)
+ends_there p n some even = grind (arith, div-add-mod, times_grow, mod-lt)
 
 owner : (t : Tables) (u m : ℕ) → IsModeOf t u m → mode_module t m ≡ u
 owner t u m h = ap (λ (o : Option Mode). elim o [ Some z ↦ z.«module» | None ↦ 0 ]) h.1 ∙ h.2
@@ -51,8 +31,7 @@ beginnings_end t es n range kept e =
         → IsEntry t (modes_at t es n) u None (mode_in (stay_of (state t es n).stays u)) → RoundEnds t (state t es n).stays (suc n)
     by u x at even None is own = absurd (subst (λ o. IsEntry t (modes_at t es n) u None (mode_in o)) is own tt)
     by u x at even (Some y) is own =
-        let mine = subst (λ o. IsEntry t (modes_at t es n) u None (mode_in o)) is own in
-        let mode_at : IsModeOf t u y.mode = mine.0 in
+        let mode_at : IsModeOf t u y.mode = (subst (λ o. IsEntry t (modes_at t es n) u None (mode_in o)) is own).0 in
         let real : y.mode < length t.modes = slice_get_within t.modes y.mode mode_at.0 mode_at.1 in
         let start : IsModeOf t u x.start = (range.modules u x at).start in
         let first : unit_start t u ≡ x.start = ap (λ (o : Option Module). elim o [ Some z ↦ z.start | None ↦ 0 ]) at in
@@ -60,5 +39,4 @@ beginnings_end t es n range kept e =
         same_period t range kept y.mode x.start u real (slice_get_within t.modes x.start start.0 start.1) (owner t u y.mode mode_at) (owner t u x.start start) ∙ ap (mode_period t) (sym first) in
         let some : 0 < mode_period t y.mode = some_time t range kept y.mode real in
         let began = own_starts t range kept es n u y is in
-        let there = ends_there (mode_period t y.mode) n some (ap (λ z. suc n % z) same ∙ even) in
-        record { unit = u; stay = y; is = is; ends = omega (arith, began, there) }
+        record { unit = u; stay = y; is = is; ends = omega (arith, began, ends_there (mode_period t y.mode) n some (ap (λ z. suc n % z) same ∙ even)) }

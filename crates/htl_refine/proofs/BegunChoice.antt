@@ -40,10 +40,7 @@ choice_below t modes a n k whole us range is sum less =
     by n (choices t (rounds_of t a (drop k us))) (path_in t (λ x. modes) (rounds_of t a (drop k us))) some sum
   where
     by : (n c p : ℕ) → 0 < c → n * c + p ≡ whole → n < 1024
-    by n c p x y = let z : n ≤ n * c = more n c x in omega (arith, z, y, less)
-      where
-        more : (n c : ℕ) → 0 < c → n ≤ n * c
-        more n c x = grind arith
+    by n c p x y = grind arith
 
     behind : (k : ℕ) (us : List ℕ) (i u : ℕ) → slice_get (drop k us) i ≡ Some u → (j : ℕ) × (slice_get us j ≡ Some u)
     behind zero us i u e = (i, e)
@@ -51,6 +48,4 @@ choice_below t modes a n k whole us range is sum less =
     behind (suc k) (v ∷ us) i u e = let r = behind k us i u e in (suc r.0, r.1)
 
     roots : (i u : ℕ) → slice_get (root_modules t) i ≡ Some u → 0 < length (modes_of t u)
-    roots i u e =
-        let m = of_places is_root 0 t.modules i u e in
-        modes_some t u range (omega (arith, m.2, slice_get_within t.modules m.0 m.1 m.3))
+    roots i u e = grind (arith, of_places, modes_some, slice_get_within)

@@ -1,11 +1,7 @@
 -- What begins at one start of a frame keeps within the limits of frames.
 use Rattle.std.proofs.Common.{◌≡◌, ℕ, zero, suc, ◌≤◌, ◌<◌, List, [], ◌∷◌, length, get_or, Option, None, refl, arith}
 use Rattle.htl_refine.proofs.Words.{flat_map, slice_get-get_or, frame_limit, frame_of, root_periods, starts, rounds_at, most_positions, AreInRange, IsSelection, root_modules, Tables, radix_few, roots_have, limits_kept, new_jobs, choice_of, start_places}
-use Rattle.htl_refine.proofs.BegunPlaces.{most_append, one_few}
-use Rattle.htl_refine.proofs.BegunTimes.{start_below}
-use Rattle.htl_refine.proofs.NewJobs.{new_many, end_is}
-use Rattle.htl_refine.proofs.NodeRead.{at_roots}
-use Rattle.htl_refine.proofs.PathRead.{below}
+use Rattle.htl_refine.proofs.{BegunPlaces.most_append, BegunPlaces.one_few, BegunTimes.start_below, NewJobs.new_many, NewJobs.end_is, NodeRead.at_roots, PathRead.below}
 
 -- the positions of one start are among those of all
 most_one : (t : Tables) (from : List ℕ) (j : ℕ) → j < length from → most_positions t (rounds_at t (get_or from j 0)) ≤ most_positions t (flat_map (rounds_at t) from)
@@ -15,15 +11,11 @@ most_one t (a ∷ from) (suc j) l = omega (arith, most_append t (rounds_at t a) 
 
 module _ (t : Tables) (range : AreInRange t) (limit : frame_limit t ≡ None) (j : ℕ) (there : j < length (starts t)) where
   pub start_early : get_or (starts t) j 0 ≤ 1000000
-  start_early =
-      let before = start_below (root_periods t) (frame_of t) j (get_or (starts t) j 0) (slice_get-get_or (starts t) j 0 there) in
-      omega (arith, before, (limits_kept t range limit).frame)
+  start_early = grind (arith, start_below, slice_get-get_or, limits_kept)
 
   module _ (m : List (Option ℕ)) (s : IsSelection t m) where
     pub choice_few : choice_of t m (get_or (starts t) j 0) < 1024
-    choice_few =
-        let a = get_or (starts t) j 0 in
-        omega (arith, below t (λ x. m) (λ x. s) (rounds_at t a) (at_roots t a), radix_few t (starts t) j (roots_have t range) there, (limits_kept t range limit).choices)
+    choice_few = grind (arith, below, at_roots, radix_few, roots_have, limits_kept)
 
     pub new_few : length (new_jobs t m (get_or (starts t) j 0) 0) ≤ 128
     new_few =

@@ -11,12 +11,7 @@ begun_more t sels as' j l k = rw add-one (ap (λ ms. begun_places t ms (drop j a
 
 begun_cut : (t : Tables) (sels : List (List (Option ℕ))) (as' : List ℕ) (j : ℕ) (m : List (Option ℕ)) (a : ℕ) (us : List ℕ) → j < length sels → j < length as' → m ≡ get_or sels j [] → a ≡ get_or as' j 0 → us ≡ root_modules t
     → begun_places t (drop j sels) (drop j as') ≡ map (standing_place t m) (start_places t m a us) ++ begun_places t (drop (j + 1) sels) (drop (j + 1) as')
-begun_cut t sels as' j m a us l k em ea eu =
-    let rest = begun_places t (drop (j + 1) sels) (drop (j + 1) as') in
-    begun_more t sels as' j l k
-    ∙ ap (λ z. map (standing_place t z) (start_places t z (get_or as' j 0) (root_modules t)) ++ rest) (sym em)
-    ∙ ap (λ z. map (standing_place t m) (start_places t m z (root_modules t)) ++ rest) (sym ea)
-    ∙ ap (λ z. map (standing_place t m) (start_places t m a z) ++ rest) (sym eu)
+begun_cut t sels as' j m a us l k em ea eu = grind (arith, begun_more)
 
 -- the positions of one start more are written
 pub begun_step : (t : Tables) (sels : List (List (Option ℕ))) (as' : List ℕ) (j n end : ℕ) (out new : List Place) (m : List (Option ℕ)) (a : ℕ) (us : List ℕ) (whole : List Place)
@@ -98,16 +93,14 @@ module _ (t : Tables) where
   one_few m a s = start_few m a (root_modules t) s roots_are
 
   pub begun_few : (sels : List (List (Option ℕ))) (as' : List ℕ) → All (IsSelection t) sels → length (begun_places t sels as') ≤ most_positions t (flat_map (rounds_at t) as')
-  begun_few [] as' s = omega arith
-  begun_few (m ∷ ms) [] s = omega arith
   begun_few (m ∷ ms) (a ∷ as') s =
-      let first : IsSelection t m = s 0 m (omega arith) in
       let rest : All (IsSelection t) ms = λ k d l. s (suc k) d (omega (arith, l)) in
       omega (
         arith,
         length-append (map (standing_place t m) (start_places t m a (root_modules t))) (begun_places t ms as'),
         length-map (start_places t m a (root_modules t)) (standing_place t m),
-        one_few m a first,
+        one_few m a (s 0 m (omega arith)),
         begun_few ms as' rest,
         most_append t (rounds_at t a) (flat_map (rounds_at t) as'),
       )
+  begun_few _ _ s = omega arith

@@ -13,36 +13,26 @@ start_below ps (suc n) p a e = elim (of_joined (starts_below ps n) (cond (begins
   where
     by : (b : Bool) (q : ℕ) → slice_get (cond b (n ∷ []) []) q ≡ Some a → a < suc n
     by true zero f = let same : n ≡ a = cc in omega (arith, same)
-    by true (suc q) f = absurd (none-some a f)
-    by false q f = absurd (none-some a f)
+    by _ _ f = absurd (none-some a f)
 
 module _ (t : Tables) where
   -- a root invocation of a round that begins at a
   pub started_at : (m : List (Option ℕ)) (a : ℕ) (us : List ℕ) (p : ℕ) (x : Place) → slice_get (start_places t m a us) p ≡ Some x → x.at ≡ a
-  started_at m a us p x e = let f = of_flat (round_places t m a) us p x e in by (begun_mode t m a f.1) f.3 f.4
-    where
-      by : (o : Option ℕ) (q : ℕ) → slice_get (elim o as (λ _. List Place) [ Some n ↦ places_of a (invs_of t n) | None ↦ [] ]) q ≡ Some x → x.at ≡ a
-      by (Some n) q g = let k = from_map (λ (i : ℕ). let y : Place = record { inv = Some i; at = a } in y) (invs_of t n) q x g in sym (ap (λ (y : Place). y.at) k.2)
-      by None q g = absurd (none-some x g)
+  started_at m a us p x e = grind (arith, of_flat, from_map, none-some)
 
   pub begun_at : (sels : List (List (Option ℕ))) (as' : List ℕ) (p : ℕ) (x : Place) → slice_get (begun_places t sels as') p ≡ Some x → (j : ℕ) × (slice_get as' j ≡ Some x.at)
-  begun_at [] as' p x e = absurd (none-some x e)
-  begun_at (m ∷ ms) [] p x e = absurd (none-some x e)
   begun_at (m ∷ ms) (a ∷ as') p x e = elim (of_joined (map (standing_place t m) (start_places t m a (root_modules t))) (begun_places t ms as') p x e) [
     | inl f ↦
         let y = from_map (standing_place t m) (start_places t m a (root_modules t)) p x f in
         (0, ap (λ (n : ℕ). Some n) (sym (started_at m a (root_modules t) p y.0 y.1) ∙ ap (λ (z : Place). z.at) y.2))
     | inr f ↦ let j = begun_at ms as' f.0 x f.1 in (suc j.0, j.1)
   ]
+  begun_at _ _ p x e = absurd (none-some x e)
 
   module _ (range : AreInRange t) (kept : KeptApart t 12) where
     placed_times : (all : List Place) (a : ℕ) (o : Option ℕ) → a ≤ 1000000 → HasTimes (placed t all a o)
     placed_times all a None l = (omega arith, omega arith)
-    placed_times all a (Some k) l = by (slice_get t.invs k) refl
-      where
-        by : (o : Option Inv) → slice_get t.invs k ≡ o → HasTimes (job_in t all a k o)
-        by None e = (omega arith, omega arith)
-        by (Some i) e = let w = window_small t k i range kept e in (omega (arith, w.0, w.1, l), omega (arith, w.1, l))
+    placed_times all a (Some k) l = grind (arith, window_small)
 
     pub begun_times : (sels : List (List (Option ℕ))) → frame_of t ≤ 1000000 → All HasTimes (begun_jobs t sels)
     begun_times sels short =
@@ -50,8 +40,7 @@ module _ (t : Tables) where
         All-from_get_or HasTimes (begun_jobs t sels) absent_job (λ p l.
         let y = from_map (placed_job t ys) ys p (get_or (begun_jobs t sels) p absent_job) (slice_get-get_or (begun_jobs t sels) p absent_job l) in
         let j = begun_at sels (starts t) p y.0 y.1 in
-        let early = start_below (root_periods t) (frame_of t) j.0 y.0.at j.1 in
-        subst HasTimes y.2 (placed_times ys y.0.at y.0.inv (omega (arith, early, short))))
+        subst HasTimes y.2 (placed_times ys y.0.at y.0.inv (omega (arith, start_below (root_periods t) (frame_of t) j.0 y.0.at j.1, short))))
 
     -- those of one start, behind any number of positions
     pub new_times : (m : List (Option ℕ)) (a n : ℕ) → a ≤ 1000000 → All HasTimes (placed_jobs t (new_places t m a n))
@@ -64,7 +53,6 @@ module _ (t : Tables) where
         at_most : (n p : ℕ) (x : Place) → slice_get (new_places t m a n) p ≡ Some x → x.at ≤ 1000000
         at_most zero p x e =
             let y = from_map (standing_place t m) (start_places t m a (root_modules t)) p x e in
-            let at : x.at ≡ a = ap (λ (z : Place). z.at) (sym y.2) ∙ started_at m a (root_modules t) p y.0 y.1 in
-            omega (arith, at, short)
+            omega (arith, ap (λ (z : Place). z.at) (sym y.2) ∙ started_at m a (root_modules t) p y.0 y.1, short)
         at_most (suc n) zero x e = let same : nowhere ≡ x = cc in omega (arith, ap (λ (z : Place). z.at) same)
         at_most (suc n) (suc p) x e = at_most n p x e

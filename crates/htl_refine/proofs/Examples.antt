@@ -4,10 +4,9 @@ use Rattle.htl_refine.proofs.Words.{IntTy, Event, Inv, Mode, Module, Port, Task,
 use Rattle.htl_model.specs.declared.event.Event.TheVariants as V
 use Rattle.htl_model.specs.declared.parts.End.{End}
 use Rattle.htl_model.specs.declared.parts.End.TheVariants as E
-use Rattle.htl_form.specs.Cycles.{precedes_itself}
+use Rattle.htl_form.specs.{Cycles.precedes_itself, WriterFaults.stand_together}
 use Rattle.htl_form.specs.Rules as form
 use Rattle.htl_form.specs.Search as form_search
-use Rattle.htl_form.specs.WriterFaults.{stand_together}
 use Rattle.htl_refine.specs.Refining.{inv_precedes}
 
 -- ---- the rules, one by one

@@ -1,31 +1,20 @@
 -- What a record says that finishes a job.
 use Rattle.std.proofs.Common.{◌≡◌, ℕ, zero, suc, ◌+◌, ◌-◌, ◌≤◌, ◌<◌, Bool, true, false, cond, ◌&&◌, ◌||◌, eqb, ltb, is_some, List, [], ◌∷◌, ◌++◌, length, get_or, slice_get, take, Option, Some, None, refl, sym, ap, ◌∙◌, subst, arith, inl, inr}
 use Rattle.htl_refine.proofs.Words.{cases_lt, eqb-true, eq-eqb, ltb-true, lt-ltb, Job, SInstr, Dispatch, Idle, End, Leg, list_point, walks_from, end_to_end, AreInForm, Point, Left, job_at, dispatch_begins, time_after, work_after, slice_between, slice_onto, finishes_by, next_point, left_by, walk_from, last_point, is_position, finish, slices, InForm, no_finish, left_falls_to, left_falls, left_same, no_leg, Rises, done_by, get_back, within_front, same_Some}
-use Rattle.htl_refine.proofs.RecordOrder.{not_some, walk_rises}
-use Rattle.htl_refine.proofs.SliceOrder.{slice_from}
+use Rattle.htl_refine.proofs.{RecordOrder.not_some, RecordOrder.walk_rises, SliceOrder.slice_from}
 
 -- ---- one record more
 
 pub finish_more : (ls : List Left) (k p : ℕ) (l : Left) → slice_get ls k ≡ Some l → done_by ls (suc k) p ≡ (done_by ls k p || (is_position l.position p && l.finished))
 finish_more [] k p l h = not_some l h
-finish_more (m ∷ ls) zero p l h = by_test (is_position m.position p && m.finished) ∙ ap (λ (z : Left). is_position z.position p && z.finished) (same_Some _ _ h)
-  where
-    by_test : (b : Bool) → is_some (cond b (Some m.at) None) ≡ b
-    by_test true = refl
-    by_test false = refl
-finish_more (m ∷ ls) (suc k) p l h = by_test (is_position m.position p && m.finished) (finish_more ls k p l h)
-  where
-    by_test : (b : Bool) → is_some (finish (take (suc k) ls) p) ≡ (is_some (finish (take k ls) p) || (is_position l.position p && l.finished))
-        → is_some (cond b (Some m.at) (finish (take (suc k) ls) p)) ≡ (is_some (cond b (Some m.at) (finish (take k ls) p)) || (is_position l.position p && l.finished))
-    by_test true ih = refl
-    by_test false ih = ih
+finish_more (m ∷ ls) zero p l h = grind (arith, same_Some, is_some)
+finish_more (m ∷ ls) (suc k) p l h = grind (arith, is_some, finish_more ls k p l h)
 
 -- ---- in one list
 
 finishes_is : (a b : ℕ) → finishes_by a b ≡ true → (0 < a) × (b ≡ 0)
-finishes_is zero b e = absurd (let z : ⊥ = cc in z)
 finishes_is (suc a) zero e = (omega arith, refl)
-finishes_is (suc a) (suc b) e = absurd (let z : ⊥ = cc in z)
+finishes_is _ _ e = absurd (let z : ⊥ = cc in z)
 
 -- the last work is done at an offset behind the release, in a slice that begins before it
 runs_late : (now w r until : ℕ) → 0 < w → work_after now w r until ≡ 0 → (r < time_after now w r until) × (dispatch_begins now r until < until) × (dispatch_begins now r until < time_after now w r until)
@@ -41,9 +30,7 @@ pub record IsLast (jobs : List Job) (is : List SInstr) (x : Point) (k p : ℕ) (
 
 module _ (jobs : List Job) (p : ℕ) where
   slices_here : (l : Left) (ls : List Left) (s : ℕ × ℕ) → l.position ≡ Some p → l.slice ≡ Some s → slice_get (slices (l ∷ ls) p) 0 ≡ Some s
-  slices_here l ls s at is =
-      ap (λ b. slice_get (cond b (slice_onto l.slice (slices ls p)) (slices ls p)) 0) (ap (λ o. is_position o p) at ∙ eq-eqb p p refl)
-      ∙ ap (λ o. slice_get (slice_onto o (slices ls p)) 0) is
+  slices_here l ls s at is = grind (arith, eq-eqb)
 
   -- the first slice, with a record in front
   slices_front : (i : SInstr) (x : Point) (ls : List Left) (a : ℕ) → (next_point jobs i x).time ≤ a → ((s : ℕ × ℕ) × (slice_get (slices ls p) 0 ≡ Some s) × (s.0 < a))
@@ -75,8 +62,7 @@ module _ (jobs : List Job) (p : ℕ) where
   last_here q h is x same e =
       let y = next_point jobs (Dispatch q h) x in
       let f = finishes_is (get_or x.left q 0) (get_or y.left q 0) e in
-      let none : work_after x.time (get_or x.left q 0) (job_at jobs q).release h ≡ 0 = sym (left_same x.left q x.time (job_at jobs q).release h) ∙ f.1 in
-      let late = runs_late x.time (get_or x.left q 0) (job_at jobs q).release h f.0 none in
+      let late = runs_late x.time (get_or x.left q 0) (job_at jobs q).release h f.0 (sym (left_same x.left q x.time (job_at jobs q).release h) ∙ f.1) in
       let from = dispatch_begins x.time (job_at jobs q).release h in
       let l = left_by jobs (Dispatch q h) x y in
       record {
@@ -102,12 +88,11 @@ module _ (jobs : List Job) (p : ℕ) where
       let y = next_point jobs i x in
       let r = last_is is y k l at pos fin in
       let fall : get_or y.left p 0 ≤ get_or x.left p 0 = left_falls jobs i x p in
-      let later : y.time ≤ l.at = at_least (walk_from jobs is y) y.time k l (walk_rises jobs is y) at in
       record {
         some = omega (arith, r.some);
         open_yet = not_first i r.some r.open_yet;
         released = r.released;
-        first = slices_front i x (walk_from jobs is y) l.at later r.first;
+        first = slices_front i x (walk_from jobs is y) l.at (at_least (walk_from jobs is y) y.time k l (walk_rises jobs is y) at) r.first;
       }
     where
       at_least : (ls : List Left) (a k : ℕ) (l : Left) → Rises a ls → slice_get ls k ≡ Some l → a ≤ l.at
@@ -124,9 +109,8 @@ module _ (jobs : List Job) (p : ℕ) where
           y = next_point jobs (Dispatch q h) x
 
           not_done : (a b : ℕ) → 0 < b → finishes_by a b ≡ false
-          not_done zero b g = refl
           not_done (suc a) zero g = absurd (omega arith)
-          not_done (suc a) (suc b) g = refl
+          not_done _ _ g = refl
 
           by_position : (b : Bool) → eqb q p ≡ b → is_some (cond (b && finishes_by (get_or x.left q 0) (get_or y.left q 0)) (Some y.time) (finish (take k (walk_from jobs is y)) p)) ≡ false
           by_position false g = e
@@ -142,11 +126,7 @@ finish_record (l ∷ ls) p f e = by_test (is_position l.position p && l.finished
   where
     both : (o : Option ℕ) (b : Bool) → (is_position o p && b) ≡ true → (o ≡ Some p) × (b ≡ true)
     both None b h = absurd (let z : ⊥ = cc in z)
-    both (Some q) b h = by_position (eqb q p) refl h
-      where
-        by_position : (c : Bool) → eqb q p ≡ c → (c && b) ≡ true → (Some q ≡ Some p) × (b ≡ true)
-        by_position true g h = (ap (λ z. Some z) (eqb-true q p g), h)
-        by_position false g h = absurd (let z : ⊥ = cc in z)
+    both (Some q) b h = grind (arith, eqb-true)
 
     by_test : (b : Bool) → (is_position l.position p && l.finished) ≡ b → cond b (Some l.at) (finish ls p) ≡ Some f
         → (finish ls p ≡ Some f → (k : ℕ) × (m : Left) × (slice_get ls k ≡ Some m) × (m.position ≡ Some p) × (m.finished ≡ true) × (m.at ≡ f))
@@ -159,12 +139,7 @@ finish_record (l ∷ ls) p f e = by_test (is_position l.position p && l.finished
 done_in : (xs ys : List Left) (k p : ℕ) → k < length xs → done_by (xs ++ ys) k p ≡ done_by xs k p
 done_in [] ys k p h = absurd (omega arith)
 done_in (x ∷ xs) ys zero p h = refl
-done_in (x ∷ xs) ys (suc k) p h = ap (λ (b : Bool). b) (by (is_position x.position p && x.finished) (done_in xs ys k p (omega arith)))
-  where
-    by : (b : Bool) → is_some (finish (take k (xs ++ ys)) p) ≡ is_some (finish (take k xs) p)
-        → is_some (cond b (Some x.at) (finish (take k (xs ++ ys)) p)) ≡ is_some (cond b (Some x.at) (finish (take k xs) p))
-    by true e = refl
-    by false e = e
+done_in (x ∷ xs) ys (suc k) p h = grind (arith, is_some, done_in xs ys k p (omega arith))
 
 pub done_past : (xs ys : List Left) (k p : ℕ) → finish xs p ≡ None → done_by (xs ++ ys) (length xs + k) p ≡ done_by ys k p
 done_past [] ys k p e = let z : 0 + k ≡ k = omega arith in ap (λ m. done_by ys m p) z
@@ -229,13 +204,12 @@ finishing jobs (s ∷ ss) (g ∷ gs) x k p l f e pos fin = elim (cases_lt k (len
         let at : slice_get ls k ≡ Some l = sym (within_front ls ms k h) ∙ e in
         let last = last_is jobs p s (list_point g.from x) k l at pos fin in
         let one = listed ls p 0 last.first.0 last.first.1 in
-        let from : g.from ≤ last.first.0.0 = slice_from jobs s (list_point g.from x) one.0 one.1 last.first.0 one.2 one.3 in
         record {
           some = last.some;
           open_yet = done_in ls ms k p h ∙ last.open_yet;
           place = 0;
           there = omega arith;
-          before = omega (arith, from, last.first.2);
+          before = omega (arith, slice_from jobs s (list_point g.from x) one.0 one.1 last.first.0 one.2 one.3, last.first.2);
           known = known_in jobs g.known g.to s (list_point g.from x) k p l f.0 at pos;
         }
 
@@ -245,8 +219,7 @@ finishing jobs (s ∷ ss) (g ∷ gs) x k p l f e pos fin = elim (cases_lt k (len
         → IsFinishing jobs (end_to_end (walks_from jobs (s ∷ ss) (g ∷ gs) x)) (g ∷ gs) x k p l
     there h ih =
         let ls = walk_from jobs s (list_point g.from x) in
-        let z = last_point jobs s (list_point g.from x) in
-        let ms = end_to_end (walks_from jobs ss gs z) in
+        let ms = end_to_end (walks_from jobs ss gs (last_point jobs s (list_point g.from x))) in
         let d = k - length ls in
         let is : length ls + d ≡ k = omega (arith, h) in
         let r = ih d (sym (get_back ls ms d) ∙ ap (slice_get (ls ++ ms)) is ∙ e) in

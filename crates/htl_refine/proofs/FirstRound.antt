@@ -13,13 +13,7 @@ rounds_first t (u ∷ us) = let e : 0 % unit_period t u ≡ 0 = omega arith in r
 
 pub choices_first : (t : Tables) (k : ℕ) (ms : List Module) → choices t (map first_round (places_from is_root k ms)) ≡ choices_from t k ms
 choices_first t k [] = refl
-choices_first t k (m ∷ ms) = by (is_root m) (choices_first t (suc k) ms)
-  where
-    by : (b : Bool) → choices t (map first_round (places_from is_root (suc k) ms)) ≡ choices_from t (suc k) ms
-        → choices t (map first_round (cond b (k ∷ places_from is_root (suc k) ms) (places_from is_root (suc k) ms)))
-        ≡ cond b (length (modes_of t k)) 1 * choices_from t (suc k) ms
-    by true ih = ap (λ n. length (modes_of t k) * n) ih
-    by false ih = ih ∙ (let z : choices_from t (suc k) ms ≡ 1 * choices_from t (suc k) ms = omega arith in z)
+choices_first t k (m ∷ ms) = grind (arith, choices_first t (suc k) ms)
 
 -- ---- the path
 
@@ -37,9 +31,7 @@ path_is t modes k (m ∷ ms) = by (is_root m) refl (path_is t modes (suc k) ms)
 
 pub places_are : (t : Tables) (modes : ℕ → List (Option ℕ)) (us : List ℕ) → running_places t modes (map first_round us) ≡ places_of 0 (flat_map (running_invs t (modes 0)) us)
 places_are t modes [] = refl
-places_are t modes (u ∷ us) =
-    ap (λ xs. places_of 0 (running_invs t (modes 0) u) ++ xs) (places_are t modes us)
-    ∙ places_join (running_invs t (modes 0) u) (flat_map (running_invs t (modes 0)) us)
+places_are t modes (u ∷ us) = grind (arith, places_join, places_are t modes us)
 
 abbrev pub at_first : List (Option ℕ) → List Place
 at_first os = map (λ o. record { inv = o; at = 0 }) os

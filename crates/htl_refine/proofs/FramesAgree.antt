@@ -1,11 +1,8 @@
 -- Frames of two runs whose modes agree so far.
 use Rattle.std.proofs.Common.{◌≡◌, ◌<◌, ◌≤◌, ◌⊎◌, ℕ, zero, suc, ◌+◌, ◌*◌, Bool, false, ◌&&◌, eqb, leb, le-leb, List, [], ◌∷◌, ◌++◌, length, get_or, map, slice_get, take, Option, Some, None, refl, sym, ◌∙◌, ap, ap₂, subst, arith, inl, inr}
 use Rattle.htl_refine.proofs.Words.{cases_lt, ne_eqb, Event, Place, Round, Inv, followed, chosen, frame_of, starts, rounds, node, places_of, known_by, of_bool, list_to, AreInRange, Tables, Job, is_fed_by, mask, job_in, placed, placed_job, placed_jobs, next_of, legs_of, Leg, FramesAgree, running_invs, derived_place, standing_places, frame_modes, path_of, running_places, frame_places, frame_jobs, known_append, length-list_to, map_same, take_front, list_same, take-map}
-use Rattle.htl_refine.proofs.AlongPath.{known_none}
-use Rattle.htl_refine.proofs.Fronts.{front_there}
-use Rattle.htl_refine.proofs.NodeRead.{nodes_read, nodes_agree}
+use Rattle.htl_refine.proofs.{AlongPath.known_none, Fronts.front_there, NodeRead.nodes_read, NodeRead.nodes_agree, StateLaws.states_are_selections}
 use Rattle.htl_refine.proofs.RoundOrder.{Sorted, RoundLess, ByStart, sorted_rounds, least_first, run_of, frame_by_start, standing_by_start, begun_known, known_begun, known_same}
-use Rattle.htl_refine.proofs.StateLaws.{states_are_selections}
 
 -- ---- the places so far
 
@@ -50,10 +47,7 @@ places_agree t modes later d (r ∷ rs) s same = by (cases_lt d r.at) (places_ag
 
     by : (d < r.at) ⊎ (r.at ≤ d) → Agree d (running_places t modes rs) (running_places t later rs) → Agree d (running_places t modes (r ∷ rs)) (running_places t later (r ∷ rs))
     by (inl c) ih = none_agree d (running_places t modes (r ∷ rs)) (running_places t later (r ∷ rs)) (late_rounds t modes d (r ∷ rs) (behind c)) (late_rounds t later d (r ∷ rs) (behind c))
-    by (inr h) ih =
-        let ks = running_invs t (modes r.at) r.unit in
-        subst (λ ms. Agree d (places_of r.at ks ++ running_places t modes rs) (places_of r.at (running_invs t ms r.unit) ++ running_places t later rs)) (same r.at h)
-        (block_agree d (places_of r.at ks) (running_places t modes rs) (running_places t later rs) (block_known d r.at ks h) ih)
+    by (inr h) ih = grind (arith, block_agree, block_known)
 
 -- ---- what stands at them, and the jobs
 
@@ -85,30 +79,19 @@ job_front t ys m a (Some k) h = by (slice_get t.invs k)
     by (Some i) = ap (λ n. let j : Job = record (job_in t ys a k (Some i)) { preds = n } in j) preds
 
 jobs_front : (t : Tables) (ys : List Place) (m d : ℕ) → Sorted ByStart ys → m ≡ known_by d ys → take m (placed_jobs t ys) ≡ placed_jobs t (take m ys)
-jobs_front t ys m d sorted is =
-    take-map (placed_job t ys) m ys
-    ∙ map_same (placed_job t ys) (placed_job t (take m ys)) (take m ys) (λ q x e.
-    let r = front_there m ys q x e in
-    let begun : x.at ≤ d = known_begun d ys q x sorted r.0 (omega (arith, r.1, is)) in
-    job_front t ys m x.at x.inv (λ p y l g. elim (cases_lt d y.at) [ inl c ↦ omega (arith, c, begun) | inr c ↦ absurd (omega (arith, l, is, begun_known d ys p y sorted g c)) ]))
+jobs_front t ys m d sorted is = grind (arith, take-map, map_same, front_there, known_begun, job_front, cases_lt, begun_known)
 
 -- ---- legs and lists
 
 legs_agree : (h : ℕ) (xs ys : List Place) (from : List ℕ) (k : ℕ) → ((j : ℕ) → j < k → j < length from → known_by (get_or from j 0) xs ≡ known_by (get_or from j 0) ys)
     → take k (legs_of h xs from) ≡ take k (legs_of h ys from)
-legs_agree h xs ys [] k e = refl
-legs_agree h xs ys (a ∷ later) zero e = refl
 legs_agree h xs ys (a ∷ later) (suc k) e =
     ap₂ (λ n gs. let g : Leg = record { from = a; to = next_of h later; known = n } in g ∷ gs) (e 0 (omega arith) (omega arith)) (legs_agree h xs ys later k (λ j l m. e (suc j) (omega (arith, l)) (omega (arith, m))))
+legs_agree h xs ys _ _ e = refl
 
 lists_agree : {A : Type 0} (g h : ℕ → A) (n k : ℕ) → ((j : ℕ) → j < k → g j ≡ h j) → take k (list_to g n) ≡ take k (list_to h n)
 lists_agree g h zero k e = refl
-lists_agree {A} g h (suc n) k e = by (cases_lt n k) (lists_agree g h n k e)
-  where
-    by : (n < k) ⊎ (k ≤ n) → take k (list_to g n) ≡ take k (list_to h n) → take k (list_to g (suc n)) ≡ take k (list_to h (suc n))
-    by (inl l) ih = ap (take k) (list_same g h (suc n) (λ j m. e j (omega (arith, l, m))))
-    by (inr l) ih =
-        take_front k (list_to g n) (g n ∷ []) (omega (arith, l, length-list_to g n)) ∙ ih ∙ sym (take_front k (list_to h n) (h n ∷ []) (omega (arith, l, length-list_to h n)))
+lists_agree {A} g h (suc n) k e = grind (arith, cases_lt, list_same, take_front, length-list_to, lists_agree g h n k e)
 
 -- ---- the frames
 
@@ -121,12 +104,7 @@ module _ (t : Tables) (es fs : List Event) (f d : ℕ) (range : AreInRange t) (s
 
   stands_same : (q : ℕ) (x : Place) → slice_get (take (known_by d (frame_places t (frame_modes t es f))) (frame_places t (frame_modes t es f))) q ≡ Some x
       → derived_place t (frame_modes t es f) x ≡ derived_place t (frame_modes t fs f) x
-  stands_same q x e =
-      let modes = frame_modes t es f in
-      let xs = frame_places t modes in
-      let r = front_there (known_by d xs) xs q x e in
-      let begun : x.at ≤ d = known_begun d xs q x (frame_by_start t modes) r.0 r.1 in
-      ap (λ (ms : List (Option ℕ)). let y : Place = record { inv = followed (λ k. chosen t ms k) x.inv; at = x.at } in y) (same x.at begun)
+  stands_same q x e = grind (arith, front_there, known_begun, frame_by_start)
 
   fronts : take (known_by d (frame_places t (frame_modes t es f))) (standing_places t es f) ≡ take (known_by d (frame_places t (frame_modes t fs f))) (standing_places t fs f)
   fronts =
@@ -140,11 +118,10 @@ module _ (t : Tables) (es fs : List Event) (f d : ℕ) (range : AreInRange t) (s
   jobs_agree =
       let m = known_by d (frame_places t (frame_modes t es f)) in
       let n = known_by d (frame_places t (frame_modes t fs f)) in
-      let number : m ≡ n = (agree_by d (omega arith)).known in
       jobs_front t (standing_places t es f) m d (standing_sorted es) (sym (known_same t (frame_modes t es f) d (frame_places t (frame_modes t es f))))
       ∙ ap (placed_jobs t) fronts
       ∙ sym (jobs_front t (standing_places t fs f) n d (standing_sorted fs) (sym (known_same t (frame_modes t fs f) d (frame_places t (frame_modes t fs f)))))
-      ∙ ap (λ z. take z (frame_jobs t (frame_modes t fs f))) (sym number)
+      ∙ ap (λ z. take z (frame_jobs t (frame_modes t fs f))) (sym ((agree_by d (omega arith)).known))
 
   pub node_agrees : (j : ℕ) → ((i : ℕ) → i ≤ j → get_or (starts t) i 0 ≤ d) → node t (path_of t (frame_modes t es f)) j ≡ node t (path_of t (frame_modes t fs f)) j
   node_agrees j early =

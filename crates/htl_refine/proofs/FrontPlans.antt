@@ -1,9 +1,7 @@
 -- Frames that agree in their first lists and positions, and in how long these take, plan and leave the same there.
 use Rattle.std.proofs.Common.{◌≡◌, ℕ, zero, suc, ◌≤◌, ◌<◌, List, [], ◌∷◌, length, get_or, take, refl, sym, ap, ap₂, ◌∙◌, arith}
 use Rattle.htl_refine.proofs.Words.{length-take, Job, SInstr, Leg, AgreeOn, AgreeAt, AreInForm, AreWithin, end_to_end, path_point, Point, job_at, last_point, first_point, work, same_length, AreSameSoFar, Frame, walks_of, ListPlan, no_leg, leg_at, front_of, list_start, list_plan, get_taken, work_length, same_number_lists, job_front}
-use Rattle.htl_refine.proofs.Fronts.{take_work}
-use Rattle.htl_refine.proofs.PointsAgree.{points_agree}
-use Rattle.htl_refine.proofs.WalksAgree.{fronts_alike}
+use Rattle.htl_refine.proofs.{Fronts.take_work, PointsAgree.points_agree, WalksAgree.fronts_alike}
 
 -- ---- lists
 
@@ -16,15 +14,12 @@ get_take j xs ys d e = sym (front j xs d) ∙ ap (λ zs. get_or zs j d) e ∙ fr
     front (suc j) (x ∷ xs) d = front j xs d
 
 take_less : {A : Type 0} (k : ℕ) (xs : List A) → take k xs ≡ take k (take (suc k) xs)
-take_less zero xs = refl
-take_less (suc k) [] = refl
 take_less (suc k) (x ∷ xs) = ap (λ ys. x ∷ ys) (take_less k xs)
+take_less _ _ = refl
 
 pub point_long : (jobs : List Job) (ss : List (List SInstr)) (gs : List Leg) (j : ℕ) (x : Point) → length (path_point jobs ss gs j 0 x).left ≡ length x.left
-point_long jobs [] gs j x = refl
-point_long jobs (s ∷ ss) [] j x = refl
-point_long jobs (s ∷ ss) (g ∷ gs) zero x = refl
 point_long jobs (s ∷ ss) (g ∷ gs) (suc j) x = point_long jobs ss gs j (last_point jobs s (record { time = g.from; left = x.left })) ∙ same_length jobs s (record { time = g.from; left = x.left })
+point_long jobs _ _ _ x = refl
 
 -- points that agree have the same front
 front_same : (n : ℕ) (x y : Point) → AgreeAt n x y → n ≤ length x.left → n ≤ length y.left → front_of n x ≡ front_of n y

@@ -1,8 +1,7 @@
 -- Other lengths of jobs that aren't released yet change nothing of what is left of the lists that have begun.
 use Rattle.std.proofs.Common.{◌≡◌, ◌≢◌, ℕ, zero, suc, ◌≤◌, ◌<◌, ◌⊎◌, max, true, List, [], ◌∷◌, length, get_or, refl, sym, ap, ap₂, ◌∙◌, arith, inl, inr}
 use Rattle.htl_refine.proofs.Words.{Job, SInstr, Dispatch, Idle, End, AgreeBefore, Leg, list_point, AreInForm, AreChained, path_point, HaveLengths, Point, job_at, time_after, work_after, next_point, last_point, first_point, work, earlier, stays, left_same, left_other, Alike, alike_walks, job_there, work_present, present_or_idle, Frame, LengthsLater, no_leg, list_start, cases_eq, cases_lt, time_rises_to}
-use Rattle.htl_refine.proofs.ListCounts.{chain_to}
-use Rattle.htl_refine.proofs.ListWalks.{list_is}
+use Rattle.htl_refine.proofs.{ListCounts.chain_to, ListWalks.list_is}
 
 -- ---- one dispatch of a job that isn't released
 
@@ -37,59 +36,16 @@ module _ (jobs : List Job) (t p until : ℕ) (x y : Point) (a : Alike jobs t x y
 
   -- a job that is released: the same is done
   released_alike : (job_at jobs p).release < t → Alike jobs t (next_point jobs (Dispatch p until) x) (next_point jobs (Dispatch p until) y)
-  released_alike soon =
-      let w = a.released p soon in
-      record {
-        time = ap₂ (λ n v. time_after n v (job_at jobs p).release until) a.time w;
-        released = λ q b. elim (cases_eq p q) [
-          | inl e ↦ here_x q e ∙ ap₂ (λ n v. work_after n v (job_at jobs p).release until) a.time w ∙ sym (here_y q e)
-          | inr n ↦ else_x q n ∙ a.released q b ∙ sym (else_y q n)
-        ];
-        unreleased = λ q b.
-            let n : p ≢ q = λ e. let same : (job_at jobs p).release ≡ (job_at jobs q).release = ap (λ z. (job_at jobs z).release) e in omega (arith, same, soon, b) in
-            others q n (a.unreleased q b);
-      }
-    where
-      others : (q : ℕ) → p ≢ q → ((get_or x.left q 0 ≡ 0) × (get_or y.left q 0 ≡ 0)) ⊎ ((0 < get_or x.left q 0) × (0 < get_or y.left q 0))
-          → ((get_or (next_point jobs (Dispatch p until) x).left q 0 ≡ 0) × (get_or (next_point jobs (Dispatch p until) y).left q 0 ≡ 0))
-          ⊎ ((0 < get_or (next_point jobs (Dispatch p until) x).left q 0) × (0 < get_or (next_point jobs (Dispatch p until) y).left q 0))
-      others q n (inl z) = inl (else_x q n ∙ z.0, else_y q n ∙ z.1)
-      others q n (inr z) = inr (omega (arith, else_x q n, z.0), omega (arith, else_y q n, z.1))
+  released_alike soon = grind (arith, cases_eq, here_x, here_y, else_x, else_y)
 
   -- a job that isn't: nothing is done
   kept_alike : t ≤ (job_at jobs p).release → (next_point jobs (Dispatch p until) x).time ≡ (next_point jobs (Dispatch p until) y).time
       → work_after x.time (get_or x.left p 0) (job_at jobs p).release until ≡ get_or x.left p 0 → work_after y.time (get_or y.left p 0) (job_at jobs p).release until ≡ get_or y.left p 0
       → Alike jobs t (next_point jobs (Dispatch p until) x) (next_point jobs (Dispatch p until) y)
-  kept_alike late time one two =
-      record {
-        time = time;
-        released = λ q b. all_x q ∙ a.released q b ∙ sym (all_y q);
-        unreleased = λ q b. elim (a.unreleased q b) [
-          | inl z ↦ inl (all_x q ∙ z.0, all_y q ∙ z.1)
-          | inr z ↦ inr (omega (arith, all_x q, z.0), omega (arith, all_y q, z.1))
-        ];
-      }
-    where
-      all_x : (q : ℕ) → get_or (next_point jobs (Dispatch p until) x).left q 0 ≡ get_or x.left q 0
-      all_x q = elim (cases_eq p q) [ inl e ↦ here_x q e ∙ one ∙ ap (λ z. get_or x.left z 0) e | inr n ↦ else_x q n ]
-
-      all_y : (q : ℕ) → get_or (next_point jobs (Dispatch p until) y).left q 0 ≡ get_or y.left q 0
-      all_y q = elim (cases_eq p q) [ inl e ↦ here_y q e ∙ two ∙ ap (λ z. get_or y.left z 0) e | inr n ↦ else_y q n ]
+  kept_alike late time one two = grind (arith, cases_eq, here_x, else_x, here_y, else_y)
 
   dispatch_alike : (next_point jobs (Dispatch p until) x).time < t → Alike jobs t (next_point jobs (Dispatch p until) x) (next_point jobs (Dispatch p until) y)
-  dispatch_alike early = elim (cases_lt (job_at jobs p).release t) [ inl soon ↦ released_alike soon | inr late ↦ by late (a.unreleased p late) ]
-    where
-      by : t ≤ (job_at jobs p).release → ((get_or x.left p 0 ≡ 0) × (get_or y.left p 0 ≡ 0)) ⊎ ((0 < get_or x.left p 0) × (0 < get_or y.left p 0))
-          → Alike jobs t (next_point jobs (Dispatch p until) x) (next_point jobs (Dispatch p until) y)
-      by late (inl none) =
-          let one = nothing x.time (get_or x.left p 0) (job_at jobs p).release until none.0 in
-          let two = nothing y.time (get_or y.left p 0) (job_at jobs p).release until none.1 in
-          kept_alike late (one.0 ∙ a.time ∙ sym two.0) (one.1 ∙ sym none.0) (two.1 ∙ sym none.1)
-      by late (inr some) =
-          let soon : until < t = waits x.time (get_or x.left p 0) (job_at jobs p).release until t late some.0 early in
-          let one = waited x.time (get_or x.left p 0) (job_at jobs p).release until t late some.0 soon in
-          let two = waited y.time (get_or y.left p 0) (job_at jobs p).release until t late some.1 soon in
-          kept_alike late (one.0 ∙ ap (λ n. max n until) a.time ∙ sym two.0) one.1 two.1
+  dispatch_alike early = grind (arith, cases_lt, released_alike, nothing, kept_alike, waits, waited)
 
 step_alike : (jobs : List Job) (t : ℕ) (i : SInstr) (x y : Point) → Alike jobs t x y → (next_point jobs i x).time < t → Alike jobs t (next_point jobs i x) (next_point jobs i y)
 step_alike jobs t (Dispatch p until) x y a early = dispatch_alike jobs t p until x y a early
@@ -110,16 +66,14 @@ begun_alike jobs t b x y a = record { time = refl; released = a.released; unrele
 pub path_alike : (jobs : List Job) (t : ℕ) (ss : List (List SInstr)) (gs : List Leg) (a h n j : ℕ) (x y : Point) → AreInForm ss gs → AreChained a h n gs → j < length gs → (get_or gs j no_leg).from < t
     → Alike jobs t x y → Alike jobs t (path_point jobs ss gs j 0 x) (path_point jobs ss gs j 0 y)
 path_alike jobs t [] [] a h n j x y f c l e k = absurd (omega arith)
-path_alike jobs t [] (g ∷ gs) a h n j x y f c l e k = absurd f
-path_alike jobs t (s ∷ ss) [] a h n j x y f c l e k = absurd f
 path_alike jobs t (s ∷ ss) (g ∷ gs) a h n zero x y f c l e k = begun_alike jobs t g.from x y k
 path_alike jobs t (s ∷ ss) (g ∷ gs) a h n (suc j) x y f c l e k =
     let v = list_point g.from x in
     let w = list_point g.from y in
     let ends : (last_point jobs s v).time ≤ g.to = stays jobs g.known g.to s v f.0 c.1 in
-    let later : g.to ≤ (get_or gs j no_leg).from = chain_to g.to h n j gs c.3 (omega arith) in
     path_alike jobs t ss gs g.to h n j (last_point jobs s v) (last_point jobs s w) f.1 c.3 (omega arith) e
-    (list_alike jobs t s v w (begun_alike jobs t g.from x y k) (omega (arith, ends, later, e)))
+    (list_alike jobs t s v w (begun_alike jobs t g.from x y k) (omega (arith, ends, chain_to g.to h n j gs c.3 (omega arith), e)))
+path_alike jobs t _ _ a h n j x y f c l e k = absurd f
 
 -- ---- the lengths at first
 
@@ -129,28 +83,10 @@ module _ (jobs : List Job) (ns ms : List ℕ) (t : ℕ) (some_ns : HaveLengths j
 
   -- who isn't present has nothing, whatever the lengths
   either_way : (q : ℕ) → ((job_at jobs q).present ≡ true) ⊎ ((get_or (work jobs ns) q 0 ≡ 0) × (get_or (work jobs ms) q 0 ≡ 0))
-  either_way q = elim (present_or_idle jobs ns q) [
-    | inl e ↦ inl e
-    | inr z ↦ elim (present_or_idle jobs ms q) [ inl e ↦ inl e | inr y ↦ inr (z, y) ]
-  ]
+  either_way q = grind (arith, present_or_idle)
 
   pub first_alike : Alike jobs t (first_point jobs ns) (first_point jobs ms)
-  first_alike =
-      record {
-        time = refl;
-        released = λ q soon. elim (either_way q) [
-          | inl e ↦ present_work ns q e ∙ agree q (job_at jobs q) (job_there jobs q e) e soon ∙ sym (present_work ms q e)
-          | inr z ↦ z.0 ∙ sym z.1
-        ];
-        unreleased = λ q late. elim (either_way q) [
-          | inl e ↦
-              inr (
-                omega (arith, present_work ns q e, some_ns q (job_at jobs q) (job_there jobs q e) e),
-                omega (arith, present_work ms q e, some_ms q (job_at jobs q) (job_there jobs q e) e),
-              )
-          | inr z ↦ inl z
-        ];
-      }
+  first_alike = grind (arith, either_way, present_work, job_there)
 
 pub lengths_later : LengthsLater
 lengths_later f ms h t i forms chain l early some_ns some_ms agree =

@@ -1,10 +1,7 @@
 -- The records of a frame, list by list.
 use Rattle.std.proofs.Common.{◌≡◌, ℕ, zero, suc, ◌+◌, ◌≤◌, ◌<◌, ◌⊎◌, Bool, true, false, cond, ◌&&◌, is_some, ltb, List, [], ◌∷◌, ◌++◌, length, get_or, slice_get, take, Option, Some, None, refl, sym, ap, ◌∙◌, arith, inl, inr}
 use Rattle.htl_refine.proofs.Words.{lt-ltb, le-ltb, length-append, Job, SInstr, Leg, list_point, walks_from, end_to_end, AreInForm, AreChained, Point, Left, walk_from, last_point, first_point, is_position, finish, walk_of, CountSplit, DoneSplit, no_leg, records_before, Rises, count_left_before, done_by}
-use Rattle.htl_refine.proofs.DoneRecords.{done_is}
-use Rattle.htl_refine.proofs.FinishingRecords.{finish_record, done_past, finishing}
-use Rattle.htl_refine.proofs.ListWalks.{walk_is}
-use Rattle.htl_refine.proofs.RecordOrder.{not_some, path_rises, times_within}
+use Rattle.htl_refine.proofs.{DoneRecords.done_is, FinishingRecords.finish_record, FinishingRecords.done_past, FinishingRecords.finishing, ListWalks.walk_is, RecordOrder.not_some, RecordOrder.path_rises, RecordOrder.times_within}
 
 -- ---- counts over joined lists of records
 
@@ -43,8 +40,6 @@ split_count : (jobs : List Job) (ss : List (List SInstr)) (gs : List Leg) (a h n
     → (get_or gs j no_leg).from < e → e ≤ (get_or gs j no_leg).to
     → count_left_before e (end_to_end (walks_from jobs ss gs x)) ≡ base_of jobs ss gs x j + count_left_before e (walk_in jobs ss gs x j)
 split_count jobs [] [] a h n j e x f c l lo hi = absurd (omega arith)
-split_count jobs [] (g ∷ gs) a h n j e x f c l lo hi = absurd f
-split_count jobs (s ∷ ss) [] a h n j e x f c l lo hi = absurd f
 split_count jobs (s ∷ ss) (g ∷ gs) a h n zero e x f c l lo hi =
     let y = list_point g.from x in
     count_in e g.to (walk_from jobs s y) (end_to_end (walks_from jobs ss gs (last_point jobs s y))) (path_rises jobs ss gs g.to h n (last_point jobs s y) f.1 c.3) hi
@@ -58,11 +53,10 @@ split_count jobs (s ∷ ss) (g ∷ gs) a h n (suc j) e x f c l lo hi =
     ∙ ap (λ m. length ls + m) (split_count jobs ss gs g.to h n j e v f.1 c.3 (omega arith) lo hi)
     ∙ (let z : length ls + (base_of jobs ss gs v j + count_left_before e (walk_in jobs ss gs v j)) ≡ (length ls + base_of jobs ss gs v j) + count_left_before e (walk_in jobs ss gs v j) = omega arith in z)
     ∙ ap (λ m. m + count_left_before e (walk_in jobs ss gs v j)) (sym (length-append ls (end_to_end (take j (walks_from jobs ss gs v)))))
+split_count jobs _ _ a h n j e x f c l lo hi = absurd f
 
 pub count_split : CountSplit
-count_split f h j e serving l lo hi =
-    split_count f.jobs f.lists f.legs 0 h (length f.jobs) j e (first_point f.jobs f.lengths) serving.forms serving.chain l lo hi
-    ∙ ap (λ ls. records_before f j + count_left_before e ls) (walk_is f j serving.forms l)
+count_split f h j e serving l lo hi = grind (arith, split_count, walk_is)
 
 -- ---- who is done where a list ends
 
@@ -110,11 +104,7 @@ count_all e (l ∷ ls) h = ap (λ b. cond b (suc (count_left_before e ls)) 0) (l
 
 joined_more : (xs ys zs : List Left) (d p : ℕ) → ((k : ℕ) (l : Left) → slice_get xs k ≡ Some l → l.at < suc d) → (m : ℕ)
     → done_by ys (count_left_before (suc d) ys) p ≡ done_by ys m p → done_by (xs ++ ys) (count_left_before (suc d) (xs ++ ys)) p ≡ done_by (xs ++ ys) (length xs + m) p
-joined_more xs ys zs d p early m e = ap (λ k. done_by (xs ++ ys) k p) (count_past (suc d) xs ys early) ∙ by (finish xs p) refl
-  where
-    by : (o : Option ℕ) → finish xs p ≡ o → done_by (xs ++ ys) (length xs + count_left_before (suc d) ys) p ≡ done_by (xs ++ ys) (length xs + m) p
-    by (Some g) f = done_front xs ys (count_left_before (suc d) ys) p g f ∙ sym (done_front xs ys m p g f)
-    by None f = done_past xs ys (count_left_before (suc d) ys) p f ∙ e ∙ sym (done_past xs ys m p f)
+joined_more xs ys zs d p early m e = grind (arith, count_past, done_front, done_past)
 
 split_done : (jobs : List Job) (ss : List (List SInstr)) (gs : List Leg) (a h n j d p : ℕ) (x : Point) → AreInForm ss gs → AreChained a h n gs → j < length gs
     → (get_or gs j no_leg).from ≤ d → d ≤ (get_or gs j no_leg).to

@@ -46,15 +46,10 @@ of_places {A} test k (x ∷ xs) r p e = by (test x) refl (of_places test (suc k)
 pub in_places : {A : Type 0} (test : A → Bool) (k : ℕ) (xs : List A) (j : ℕ) (x : A) → slice_get xs j ≡ Some x → test x ≡ true
     → (r : ℕ) × (slice_get (places_from test k xs) r ≡ Some (k + j))
 in_places test k [] j x at pass = absurd (none-some x at)
-in_places test k (y ∷ ys) zero x at pass =
-    let same : y ≡ x = cc in
-    let is : test y ≡ true = ap test same ∙ pass in
-    let zero_add : k ≡ k + 0 = omega arith in
-    (0, ap (λ b. slice_get (cond b (k ∷ places_from test (suc k) ys) (places_from test (suc k) ys)) 0) is ∙ ap (λ (n : ℕ). Some n) zero_add)
+in_places test k (y ∷ ys) zero x at pass = grind arith
 in_places test k (y ∷ ys) (suc j) x at pass =
     let m = in_places test (suc k) ys j x at pass in
-    let next : suc k + j ≡ k + suc j = omega arith in
-    by (test y) m.0 (m.1 ∙ ap (λ (n : ℕ). Some n) next)
+    by (test y) m.0 (m.1 ∙ ap (λ (n : ℕ). Some n) (omega arith))
   where
     by : (b : Bool) (i : ℕ) → slice_get (places_from test (suc k) ys) i ≡ Some (k + suc j)
         → (r : ℕ) × (slice_get (cond b (k ∷ places_from test (suc k) ys) (places_from test (suc k) ys)) r ≡ Some (k + suc j))

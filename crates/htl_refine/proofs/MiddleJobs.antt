@@ -8,8 +8,7 @@ use Rattle.htl_refine.proofs.FramesAgree.{all_false}
 pub flat_split : (g : ℕ → List Place) (from : List ℕ) (i : ℕ) → i < length from → flat_map g from ≡ flat_map g (take i from) ++ (g (get_or from i 0) ++ flat_map g (drop (suc i) from))
 flat_split g [] i l = absurd (omega (arith, l))
 flat_split g (a ∷ from) zero l = refl
-flat_split g (a ∷ from) (suc i) l =
-    ap (λ zs. g a ++ zs) (flat_split g from i (omega (arith, l))) ∙ sym (append_assoc (g a) (flat_map g (take i from)) (g (get_or from i 0) ++ flat_map g (drop (suc i) from)))
+flat_split g (a ∷ from) (suc i) l = grind (arith, append_assoc, flat_split g from i (omega (arith, l)))
 
 pub flat_next : (g : ℕ → List Place) (from : List ℕ) (i : ℕ) → i < length from → flat_map g (take (suc i) from) ≡ flat_map g (take i from) ++ g (get_or from i 0)
 flat_next g [] i l = absurd (omega (arith, l))
@@ -34,8 +33,7 @@ same_mask : (test : Place → Bool) (xs bs cs : List Place) → test nowhere ≡
     → mask (map test (xs ++ (bs ++ cs))) ≡ mask (map test (replicate (length xs) nowhere ++ bs))
 same_mask test [] bs cs none before behind = only_middle test bs cs behind
 same_mask test (x ∷ xs) bs cs none before behind =
-    let rest = same_mask test xs bs cs none (λ q y e. before (suc q) y e) behind in
-    ap₂ (λ a n. of_bool a + 2 * n) (before 0 x refl ∙ sym none) rest
+    ap₂ (λ a n. of_bool a + 2 * n) (before 0 x refl ∙ sym none) (same_mask test xs bs cs none (λ q y e. before (suc q) y e) behind)
 
 module _ (t : Tables) (xs bs cs : List Place) (a : ℕ) (before : (q : ℕ) (y : Place) → slice_get xs q ≡ Some y → y.at < a) (behind : (q : ℕ) (y : Place) → slice_get cs q ≡ Some y → a < y.at) where
   away : (b : ℕ) (c : Bool) → (b ≡ a → ⊥) → (eqb b a && c) ≡ false
@@ -71,9 +69,8 @@ module _ (t : Tables) (xs bs cs : List Place) (a : ℕ) (before : (q : ℕ) (y :
   middle_jobs here =
       let f = placed_job t (xs ++ (bs ++ cs)) in
       let g = placed_job t (replicate (length xs) nowhere ++ bs) in
-      let one : placed_jobs t (xs ++ (bs ++ cs)) ≡ map f xs ++ (map f bs ++ map f cs) = map-append f xs (bs ++ cs) ∙ ap (λ zs. map f xs ++ zs) (map-append f bs cs) in
       let size : length xs + length bs ≡ length (map f xs) + length (map f bs) = omega (arith, length-map xs f, length-map bs f) in
-      ap₂ (λ n js. drop (length xs) (take n js)) size one
+      ap₂ (λ n js. drop (length xs) (take n js)) size (map-append f xs (bs ++ cs) ∙ ap (λ zs. map f xs ++ zs) (map-append f bs cs))
       ∙ ap (drop (length xs)) (take_both (map f xs) (map f bs) (map f cs))
       ∙ ap (λ n. drop n (map f xs ++ map f bs)) (sym (length-map xs f))
       ∙ drop-append_seam (map f xs) (map f bs)

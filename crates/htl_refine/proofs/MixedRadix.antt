@@ -3,10 +3,7 @@ use Rattle.std.proofs.Common.{◌≡◌, ℕ, suc, ◌+◌, ◌*◌, ◌/◌, �
 use Rattle.htl_refine.proofs.Words.{div-mul-add, mod-eq_of_lt, add-mul-mod_self_left, grow_times, one_more_time}
 
 pub digits : (p c l r : ℕ) → p < l → r < c → p * c + r < l * c
-digits p c l r a b =
-    let most : suc p * c ≤ l * c = grow_times (suc p) l c a in
-    let one : suc p * c ≡ p * c + c = one_more_time p c in
-    omega (arith, most, one, b)
+digits p c l r a b = omega (arith, grow_times (suc p) l c a, one_more_time p c, b)
 
 pub regroup : (d l c e q : ℕ) → d * (l * c) + (e * c + q) ≡ (d * l + e) * c + q
 regroup d l c e q = grind arith

@@ -1,11 +1,7 @@
 -- The jobs of a frame, start by start: those that begin at one are those that new rounds give.
 use Rattle.std.proofs.Common.{append_assoc, ◌≡◌, ℕ, zero, suc, ◌+◌, ◌-◌, ◌%◌, ◌≤◌, ◌<◌, Bool, true, false, cond, eqb, leb, List, [], ◌∷◌, ◌++◌, length, map, drop, take, get_or, replicate, Option, Some, None, refl, sym, ◌∙◌, ap, ap₂, subst, arith, append-nil}
 use Rattle.htl_refine.proofs.Words.{slice_get, flat_map, le-leb, length-append, length-map, length-drop, length-replicate, map-append, Place, Round, root_periods, unit_period, frame_of, starts, rounds_of, rounds_at, places_of, known_by, of_bool, entry, root_modules, invs_of, Tables, Job, placed, placed_job, placed_jobs, starts_rise, nowhere, new_places, new_jobs, derived_place, begun_mode, round_places, start_places, standing_place, running_places, frame_places, frame_jobs, known_append, starts_order}
-use Rattle.htl_refine.proofs.AlongPath.{known_none}
-use Rattle.htl_refine.proofs.ListsFollow.{rises_next}
-use Rattle.htl_refine.proofs.RecordOrder.{not_some}
-use Rattle.htl_refine.proofs.RoundOrder.{known_same}
-use Rattle.htl_refine.proofs.MiddleJobs.{flat_split, flat_next, middle_jobs}
+use Rattle.htl_refine.proofs.{AlongPath.known_none, ListsFollow.rises_next, RecordOrder.not_some, RoundOrder.known_same, MiddleJobs.flat_split, MiddleJobs.flat_next, MiddleJobs.middle_jobs}
 
 -- ---- what stands, start by start
 
@@ -16,23 +12,11 @@ module _ (t : Tables) (modes : ℕ → List (Option ℕ)) where
 
   running_both : (rs ss : List Round) → running_places t modes (rs ++ ss) ≡ running_places t modes rs ++ running_places t modes ss
   running_both [] ss = refl
-  running_both (r ∷ rs) ss =
-      let ps = places_of r.at (elim (entry (modes r.at) r.unit) as (λ _. List ℕ) [ Some m ↦ invs_of t m | None ↦ [] ]) in
-      ap (λ zs. ps ++ zs) (running_both rs ss) ∙ sym (append_assoc ps (running_places t modes rs) (running_places t modes ss))
+  running_both (r ∷ rs) ss = grind (arith, append_assoc, running_both rs ss)
 
   running_at : (a : ℕ) (us : List ℕ) → running_places t modes (rounds_of t a us) ≡ start_places t (modes a) a us
   running_at a [] = refl
-  running_at a (u ∷ us) = by (eqb (a % unit_period t u) 0) (running_at a us)
-    where
-      places : (o : Option ℕ) → places_of a (elim o as (λ _. List ℕ) [ Some m ↦ invs_of t m | None ↦ [] ]) ≡ elim o as (λ _. List Place) [ Some m ↦ places_of a (invs_of t m) | None ↦ [] ]
-      places None = refl
-      places (Some m) = refl
-
-      by : (b : Bool) → running_places t modes (rounds_of t a us) ≡ start_places t (modes a) a us
-          → running_places t modes (cond b (record { at = a; unit = u } ∷ rounds_of t a us) (rounds_of t a us))
-          ≡ elim (cond b (entry (modes a) u) None) as (λ _. List Place) [ Some m ↦ places_of a (invs_of t m) | None ↦ [] ] ++ start_places t (modes a) a us
-      by false ih = ih
-      by true ih = ap₂ (λ ps zs. ps ++ zs) (places (entry (modes a) u)) ih
+  running_at a (u ∷ us) = grind (arith, running_at a us)
 
   stand_round : (a : ℕ) (ks : List ℕ) → map (derived_place t modes) (places_of a ks) ≡ map (standing_place t (modes a)) (places_of a ks)
   stand_round a [] = refl
@@ -119,8 +103,7 @@ module _ (t : Tables) (modes : ℕ → List (Option ℕ)) where
   up i (suc k) less l =
       let rise = starts_rise (root_periods t) (frame_of t) in
       let a = starts_order (root_periods t) (frame_of t) (starts t) i k rise (omega (arith, less)) (omega (arith, l)) in
-      let b = rises_next (root_periods t) (frame_of t) (starts t) k rise l in
-      omega (arith, a, b)
+      omega (arith, a, rises_next (root_periods t) (frame_of t) (starts t) k rise l)
 
   known_starts : (j : ℕ) → j < length (starts t) → known_by (get_or (starts t) j 0) (frame_places t modes) ≡ length (flat_map stand (take (suc j) (starts t)))
   known_starts j l =
@@ -131,12 +114,10 @@ module _ (t : Tables) (modes : ℕ → List (Option ℕ)) where
       let from = starts t in
       let a = get_or from i 0 in
       let xs = flat_map stand (take i from) in
-      let cs = flat_map stand (drop (suc i) from) in
-      let all : map (derived_place t modes) (frame_places t modes) ≡ xs ++ (stand a ++ cs) = stand_all from ∙ flat_split stand from i l in
       let many : known_by a (frame_places t modes) ≡ length xs + length (stand a) =
       known_starts i l ∙ ap (λ (zs : List Place). length zs) (flat_next stand from i l) ∙ length-append xs (stand a) in
-      ap₂ (λ m js. drop (length xs) (take m js)) many (ap (placed_jobs t) all)
-      ∙ middle_jobs t xs (stand a) cs a
+      ap₂ (λ m js. drop (length xs) (take m js)) many (ap (placed_jobs t) (stand_all from ∙ flat_split stand from i l))
+      ∙ middle_jobs t xs (stand a) (flat_map stand (drop (suc i) from)) a
       (λ q y e. let r = in_rounds (take i from) q y e in let z = before from i r.0 (omega (arith, r.1)) l in let w = up r.0 i z.0 l in omega (arith, r.2, z.1, w))
       (λ q y e. let r = in_rounds (drop (suc i) from) q y e in let z = behind from (suc i) r.0 r.1 in let w = up i (suc i + r.0) (omega arith) z.0 in omega (arith, r.2, z.1, w))
       (λ q y e. in_round a (root_modules t) q y e)

@@ -2,8 +2,7 @@
 use Rattle.std.proofs.Common.{◌≡◌, ℕ, ◌≤◌, ◌<◌, ◌⊎◌, inl, inr, Option, Some, Result, Ok, Err, OnOk, sym, ◌∙◌, ap, subst, arith}
 use Rattle.htl_refine.proofs.Words.{slice_get, FormFault, Mode, Tables, mode_module, AreInRange, FormRule, number_of, Site, ComesBefore, breach, BreaksAt, Broken, site_of, IsFirstBroken, KeptTo, Formed, SameSite, order, one_at, same_fault, broken_there, one_form_fault, refinement_law_of, refinement_rules, tests}
 use Rattle.htl_model.specs.FormRules as law
-use Rattle.htl_refine.proofs.RuleOrder.{place_of}
-use Rattle.htl_refine.proofs.SearchLaws.{judges}
+use Rattle.htl_refine.proofs.{RuleOrder.place_of, SearchLaws.judges}
 
 last_number : (r : FormRule) → number_of r ≤ 16
 last_number law.ModulePeriod = omega arith
@@ -18,13 +17,7 @@ kept_all t formed = λ r s h n few b. formed r s h n b
 -- ---- one fault
 
 one_law : (l m : FormRule) → number_of l ≡ number_of m → 12 < number_of m → l ≡ m
-one_law l m e some =
-    let r = place_of m some in
-    let s = place_of l (omega (arith, e, some)) in
-    let place : s.0 ≡ r.0 = omega (arith, e, r.2, s.2) in
-    let both : Some s.1 ≡ Some r.1 = sym s.3 ∙ ap (slice_get refinement_rules) place ∙ r.3 in
-    let rule : s.1 ≡ r.1 = cc in
-    sym s.4 ∙ ap refinement_law_of rule ∙ r.4
+one_law l m e some = grind (arith, place_of)
 
 -- at one place the two numbers are one
 one_broken : (t : Tables) → AreInRange t → KeptTo t 12 → (l : FormRule) → 12 < number_of l → (s : Site) (h n a c : ℕ) → Broken t l s h n → Broken t l s a c → (h ≡ a) × (n ≡ c)
@@ -51,9 +44,8 @@ one_refine_fault t range kept f g p q = by (order p.law q.law (site_of f p.part)
     by (inl before) = absurd (q.first p.law (site_of f p.part) f.have f.need before p.broken)
     by (inr (inr after)) = absurd (p.first q.law (site_of g q.part) g.have g.need after q.broken)
     by (inr (inl same)) =
-        let law_is = one_law p.law q.law same.0 above in
         let numbers = one_broken t range kept q.law above (site_of g q.part) f.have f.need g.have g.need
-        (broken_there t (site_of f p.part) (site_of g q.part) p.law q.law f.have f.need same.1 law_is p.broken) q.broken in
+        (broken_there t (site_of f p.part) (site_of g q.part) p.law q.law f.have f.need same.1 (one_law p.law q.law same.0 above) p.broken) q.broken in
         same_fault f g (p.rule ∙ same.0 ∙ sym q.rule) (p.«module» ∙ ap (mode_module t) same.1.mode ∙ sym q.«module») same.1.mode same.1.inv numbers.0 numbers.1
 
 -- ---- all rules

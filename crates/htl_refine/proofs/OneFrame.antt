@@ -2,9 +2,7 @@
 use Rattle.std.proofs.Common.{◌≡◌, ℕ, zero, suc, ◌+◌, ◌-◌, ◌*◌, ◌/◌, ◌%◌, ◌≤◌, ◌<◌, Bool, true, false, cond, eqb, List, [], ◌∷◌, length, map, get_or, Some, refl, sym, ap, ◌∙◌, arith, append-nil}
 use Rattle.htl_refine.proofs.Words.{flat_map, filter, eqb-true, eqb-false, eq-eqb, ne_eqb, lt-ltb, div-add-mod, mul-div-le, Event, Module, joined, list_to, places_from, AreInRange, is_root, root_modules, selection_count, root_period, Tables, Job, SInstr, concrete_jobs, lengths_of, modes_at, rounds_before, round_at, left_at, selection_of, hyper, frame_of, starts, rounds_at, rounds, node, known_by, Leg, legs_of, HasOnePeriod, derived_jobs, one_period, OneFrameRecords, RunningList, lists_from, lists_at, left_in, begun_before, begins_at, in_frame, old_records_by, new_records_by, frame_modes, path_in, path_of, running_places, frame_places, frame_jobs, Frame, frame_at, walks_of, up_to_same, times_grow}
 use Rattle.htl_refine.specs.Records as by_rounds
-use Rattle.htl_refine.proofs.RootSelection.{below_count}
-use Rattle.htl_refine.proofs.StateLaws.{states_are_selections}
-use Rattle.htl_refine.proofs.FirstRound.{first_round, rounds_first, path_is, places_are, concrete_are}
+use Rattle.htl_refine.proofs.{RootSelection.below_count, StateLaws.states_are_selections, FirstRound.first_round, FirstRound.rounds_first, FirstRound.path_is, FirstRound.places_are, FirstRound.concrete_are}
 
 -- ---- a frame
 
@@ -21,19 +19,13 @@ module _ (t : Tables) (period : ℕ) (lists : List (List SInstr)) (es : List Eve
     here = omega arith
 
     path_same : path_of t (frame_modes t es f) ≡ selection_of t (modes_at t es f)
-    path_same =
-        ap (path_in t (frame_modes t es f)) rounds_are ∙ path_is t (frame_modes t es f) 0 t.modules
-        ∙ ap (λ n. selection_of t (modes_at t es n)) here
+    path_same = grind (arith, f, rounds_are, path_is, here)
 
     few : selection_of t (modes_at t es f) < selection_count t
     few = below_count t (modes_at t es f) range (states_are_selections t range es f) (modules_there t.modules one.some)
 
     jobs_same : frame_jobs t (frame_modes t es f) ≡ concrete_jobs t (modes_at t es f)
-    jobs_same =
-        ap (λ rs. derived_jobs t (frame_modes t es f) (running_places t (frame_modes t es f) rs)) rounds_are
-        ∙ ap (derived_jobs t (frame_modes t es f)) (places_are t (frame_modes t es f) (root_modules t))
-        ∙ concrete_are t (frame_modes t es f)
-        ∙ ap (λ n. concrete_jobs t (modes_at t es n)) here
+    jobs_same = grind (arith, f, rounds_are, places_are, concrete_are, here)
 
     node_same : node t (path_of t (frame_modes t es f)) 0 ≡ selection_of t (modes_at t es f)
     node_same = ap (λ p. node t p 0) path_same ∙ (one_period t period one).node (selection_of t (modes_at t es f)) few
@@ -68,23 +60,12 @@ module _ (t : Tables) (period : ℕ) (lists : List (List SInstr)) (es : List Eve
     pub in_one : (which : RunningList → Bool) (now : ℕ) (b : Bool)
         → which (record { from = f + 0; node = node t (path_of t (frame_modes t es f)) 0; code = (round_at t lists es f).schedule; walk = by_rounds.round_walk (round_at t lists es f) }) ≡ b
         → in_frame t lists es which now f ≡ cond b (left_at t lists es f now) []
-    in_one which now b e =
-        ap (λ rs. joined (left_in now f) (filter which rs)) lists_running
-        ∙ by b e
-      where
-        by : (b : Bool) → which (record { from = f + 0; node = node t (path_of t (frame_modes t es f)) 0; code = (round_at t lists es f).schedule; walk = by_rounds.round_walk (round_at t lists es f) }) ≡ b
-            → joined (left_in now f) (filter which (record { from = f + 0; node = node t (path_of t (frame_modes t es f)) 0; code = (round_at t lists es f).schedule; walk = by_rounds.round_walk (round_at t lists es f) } ∷ [])) ≡ cond b (left_at t lists es f now) []
-        by true e = rw e (append-nil (left_at t lists es f now))
-        by false e = rw e refl
+    in_one which now b e = grind (arith, f, lists_running, append-nil)
 
 -- ---- the records
 
 begun_below : (h now k : ℕ) → 0 < h → k < rounds_before h now → k * h + 0 < now
-begun_below h now k some less =
-    let whole : h * ((now + h - 1) / h) ≤ now + h - 1 = mul-div-le (now + h - 1) h in
-    let below : h * (suc k) ≤ h * ((now + h - 1) / h) = times_grow h (suc k) ((now + h - 1) / h) (omega arith) in
-    let is : k * h + h ≡ h * (suc k) = grind arith in
-    omega (arith, whole, below, is, some)
+begun_below h now k some less = grind (arith, mul-div-le, times_grow)
 
 pub one_frame_records : OneFrameRecords
 one_frame_records t period lists es now range one root = (old, new)
@@ -113,8 +94,7 @@ one_frame_records t period lists es now range one root = (old, new)
 
         by : (b : Bool) → eqb (now % period) 0 ≡ b → in_frame t lists es (begins_at now) now (period * (now / period)) ≡ cond b (left_at t lists es now now) []
         by true e =
-            let z : now % period ≡ 0 = eqb-true (now % period) 0 e in
-            let same : period * (now / period) ≡ now = omega (arith, whole, z) in
+            let same : period * (now / period) ≡ now = omega (arith, whole, eqb-true (now % period) 0 e) in
             in_one t period lists es range one (period * (now / period)) (begins_at now) now true (eq-eqb (period * (now / period) + 0) now (omega (arith, same)))
             ∙ ap (λ a. left_at t lists es a now) same
         by false e =

@@ -1,9 +1,7 @@
 -- A selection of running modes has one root selection.
 use Rattle.std.proofs.Common.{◌≡◌, ◌≤◌, ◌<◌, ℕ, zero, suc, ◌+◌, ◌*◌, ◌/◌, ◌%◌, Bool, true, false, cond, eqb, List, [], ◌∷◌, length, get_or, drop, Option, Some, None, refl, sym, ◌∙◌, ap, ap₂, subst, arith, add-one}
 use Rattle.htl_refine.proofs.Words.{slice_get, div-add-mod, div-lt_iff_lt-mul, mod-lt, mul_comm, nat_tests, Module, places_from, AreInRange, is_root, mode_of_module, modes_of, choices_from, selection_count, Tables, modes_some, slice_get_within, IsOfSelection, place_among, entry_place, selection_from, selection_of, entry, eq-eqb}
-use Rattle.htl_refine.proofs.MixedRadix.{regroup, digit}
-use Rattle.htl_refine.proofs.Positions.{rootless}
-use Rattle.htl_refine.proofs.RootSelection.{digit_at, roots_some}
+use Rattle.htl_refine.proofs.{MixedRadix.regroup, MixedRadix.digit, Positions.rootless, RootSelection.digit_at, RootSelection.roots_some}
 
 -- a factor of a number above 0 is above 0
 factor : (e c : ℕ) → 0 < e * c → 0 < c
@@ -33,9 +31,7 @@ place_is test k (x ∷ xs) d h = by (test x) d (λ i below. place_is test (suc k
         → i < length (cond b (k ∷ places_from test (suc k) xs) (places_from test (suc k) xs))
         → place_among (get_or (cond b (k ∷ places_from test (suc k) xs) (places_from test (suc k) xs)) i 0) (cond b (k ∷ places_from test (suc k) xs) (places_from test (suc k) xs)) ≡ i
     by true zero later f = ap (λ c. cond c 0 (suc (place_among k (places_from test (suc k) xs)))) (eq-eqb k k refl)
-    by true (suc i) later f =
-        let y = get_or (places_from test (suc k) xs) i 0 in
-        ap (λ c. cond c 0 (suc (place_among y (places_from test (suc k) xs)))) (other k y (above test (suc k) xs i (omega arith))) ∙ ap suc (later i (omega arith))
+    by true (suc i) later f = grind (arith, other, above)
     by false i later f = later i f
 
 -- ---- a number by its digits
@@ -72,9 +68,8 @@ module _ (t : Tables) (modes : List (Option ℕ)) where
           let number : d * choices_from t k (x ∷ xs) + n ≡ d * (l * c) + (n / c * c + n % c) = ap (λ b. d * (cond b l 1 * c) + n) is ∙ ap (λ w. d * (l * c) + w) (sym turn) in
           let zero_add : k + 0 ≡ k = omega arith in
           let own : (d * choices_from t k (x ∷ xs) + n) / c % l ≡ entry_place t modes k = subst (λ u. digit_at t modes (d * choices_from t k (x ∷ xs) + n) u (x ∷ xs) 0 ≡ entry_place t modes u) zero_add (digits 0 x refl is) in
-          let first : n / c ≡ entry_place t modes k = sym (digit d l c (n / c) (n % c) high (mod-lt n some)) ∙ ap (λ w. w / c % l) (sym number) ∙ own in
           let low : n % c ≡ selection_from t modes (suc k) xs = ih (d * l + n / c) (n % c) (mod-lt n some) (later (d * l + n / c) (n % c) (number ∙ regroup d l c (n / c) (n % c))) in
-          sym turn ∙ ap₂ (λ w q. w * c + q) first low
+          sym turn ∙ ap₂ (λ w q. w * c + q) (sym (digit d l c (n / c) (n % c) high (mod-lt n some)) ∙ ap (λ w. w / c % l) (sym number) ∙ own) low
       by ih false is f =
           let c = choices_from t (suc k) xs in
           let number : d * choices_from t k (x ∷ xs) + n ≡ d * c + n = ap (λ b. d * (cond b (length (modes_of t k)) 1 * c) + n) is ∙ plain d c n in
@@ -82,9 +77,7 @@ module _ (t : Tables) (modes : List (Option ℕ)) where
 
   -- the root selection with these root modes
   pub one_selection : AreInRange t → 0 < length t.modules → (sel : ℕ) → sel < selection_count t → IsOfSelection t sel modes → sel ≡ selection_of t modes
-  one_selection range some sel less roots =
-      let plain : sel ≡ 0 * choices_from t 0 t.modules + sel = omega arith in
-      made 0 t.modules 0 sel below (subst (λ n. HasDigits n 0 t.modules) plain digits)
+  one_selection range some sel less roots = made 0 t.modules 0 sel below (subst (λ n. HasDigits n 0 t.modules) (omega arith) digits)
     where
       below : sel < choices_from t 0 t.modules
       below =
@@ -93,9 +86,7 @@ module _ (t : Tables) (modes : List (Option ℕ)) where
           omega (arith, count, less)
 
       digits : HasDigits sel 0 t.modules
-      digits j x at pass =
-          let zero_add : j ≡ 0 + j = omega arith in
-          subst (λ u. digit_at t modes sel u t.modules j ≡ entry_place t modes u) zero_add (here j x at pass)
+      digits j x at pass = subst (λ u. digit_at t modes sel u t.modules j ≡ entry_place t modes u) (omega arith) (here j x at pass)
         where
           here : (u : ℕ) (x : Module) → slice_get t.modules u ≡ Some x → is_root x ≡ true → digit_at t modes sel u t.modules u ≡ entry_place t modes u
           here u x at pass =

@@ -3,8 +3,7 @@ use Rattle.std.proofs.Common.{◌≡◌, ◌≢◌, ◌≤◌, ◌<◌, ◌⊎�
 use Rattle.htl_refine.proofs.Words.{slice_get, list_any, slice_get_within, Inv, AreInRange, IsInvInRange, IsEndInRange, Tables, or_else, IsRangeOf, through_all, AreSteps, follows, leads_same, filled_at, cell_below, way_out, way_in, unfold_follows, has_bit, cell, Leads, leads_below, leads_from, leads_within, AreRowsBelow, ArePlaces, IsPut, inv_precedes, writer_parent, same_truth, all_at, cases_below_next}
 use Rattle.htl_model.specs.declared.parts.End.{End}
 use Rattle.htl_model.specs.declared.parts.End.TheVariants as E
-use Rattle.htl_refine.proofs.PrecedenceLaws.{precedes_is, strangers}
-use Rattle.htl_refine.proofs.RefiningLaws.{parent_writer}
+use Rattle.htl_refine.proofs.{PrecedenceLaws.precedes_is, PrecedenceLaws.strangers, RefiningLaws.parent_writer}
 
 -- ---- closed rows
 
@@ -23,9 +22,7 @@ cell_is t m base n b a rows w long steps is_b is_a =
 
 -- an item from `base` on
 put_at : (base n k : ℕ) (f : ℕ → ℕ) (old new : List ℕ) → IsPut base n f old new → base ≤ k → k < base + n → get_or new k 0 ≡ f (k - base)
-put_at base n k f old new put low high =
-    let is : base + (k - base) ≡ k = omega arith in
-    subst (λ z. get_or new z 0 ≡ f (k - base)) is (put.inside (k - base) (omega arith))
+put_at base n k f old new put low high = subst (λ z. get_or new z 0 ≡ f (k - base)) (omega arith) (put.inside (k - base) (omega arith))
 
 -- an item elsewhere
 put_off : (base n k : ℕ) (f : ℕ → ℕ) (old new : List ℕ) → IsPut base n f old new → (k < base) ⊎ (base + n ≤ k) → get_or new k 0 ≡ get_or old k 0
@@ -37,8 +34,7 @@ outside t m base n k i w at other = elim (order k) [
   | inl h ↦ inl h
   | inr (inr h) ↦ inr h
   | inr (inl h) ↦
-      let is : base + (k - base) ≡ k = omega (arith, h.0) in
-      absurd (other (w.inside (k - base) i (omega (arith, h.0, h.1)) (ap (slice_get t.invs) is ∙ at)))
+      absurd (other (w.inside (k - base) i (omega (arith, h.0, h.1)) (ap (slice_get t.invs) (omega (arith, h.0)) ∙ at)))
 ]
   where
     order : (k : ℕ) → (k < base) ⊎ (((base ≤ k) × (k < base + n)) ⊎ (base + n ≤ k))
@@ -58,23 +54,14 @@ noted_more t m base n closed rows new_rows places new_places w is put_r put_p be
   | inr here ↦
       let in_a = w.outside a x at_a (same ∙ here) in
       let in_b = w.outside b y at_b here in
-      let a_is : base + (a - base) ≡ a = omega (arith, in_a.0) in
-      let b_is : base + (b - base) ≡ b = omega (arith, in_b.0) in
       ap (λ r. has_bit r (get_or new_places a 0)) (put_at base n b (λ q. get_or closed q 0) rows new_rows put_r in_b.0 in_b.1)
       ∙ ap (λ p. has_bit (get_or closed (b - base) 0) p) (put_at base n a (λ q. q) places new_places put_p in_a.0 in_a.1)
       ∙ is (b - base) (a - base) (omega (arith, in_b.0, in_b.1)) (omega (arith, in_a.0, in_a.1))
-      ∙ ap (λ z. inv_precedes t z (base + (b - base))) a_is ∙ ap (λ z. inv_precedes t a z) b_is
+      ∙ ap (λ z. inv_precedes t z (base + (b - base))) (omega (arith, in_a.0)) ∙ ap (λ z. inv_precedes t a z) (omega (arith, in_b.0))
 ]
 
 pub places_more : (base n : ℕ) (places new : List ℕ) → n ≤ 128 → IsPut base n (λ q. q) places new → ArePlaces places → ArePlaces new
-places_more base n places new few put before a = elim (order a) [
-  | inl h ↦ omega (arith, put.below a h, before a)
-  | inr (inl h) ↦ omega (arith, put_at base n a (λ q. q) places new put h.0 h.1, h.1)
-  | inr (inr h) ↦ omega (arith, put.above a h, before a)
-]
-  where
-    order : (k : ℕ) → (k < base) ⊎ (((base ≤ k) × (k < base + n)) ⊎ (base + n ≤ k))
-    order k = grind arith
+places_more base n places new few put before a = grind (arith, put_at)
 
 -- ---- at first
 
@@ -93,13 +80,7 @@ pub past_second : (t : Tables) (a b : ℕ) → length t.invs ≤ b → inv_prece
 past_second t a b far = strangers t a b (λ m. let below : b < length t.invs = slice_get_within t.invs b m.second m.at_second in omega arith)
 
 pub other_modes : (t : Tables) (a b : ℕ) (x y : Inv) → slice_get t.invs a ≡ Some x → slice_get t.invs b ≡ Some y → x.mode ≢ y.mode → inv_precedes t a b ≡ false
-other_modes t a b x y at_a at_b apart =
-    strangers t a b (λ m.
-    let item_a : Some x ≡ Some m.first = sym at_a ∙ m.at_first in
-    let is_a : x ≡ m.first = cc in
-    let item_b : Some y ≡ Some m.second = sym at_b ∙ m.at_second in
-    let is_b : m.second ≡ y = cc in
-    apart (ap (λ (i : Inv). i.mode) is_a ∙ m.mode ∙ ap (λ (i : Inv). i.mode) is_b))
+other_modes t a b x y at_a at_b apart = grind (arith, strangers)
 
 pub mode_below : (t : Tables) (k : ℕ) (i : Inv) → AreInRange t → slice_get t.invs k ≡ Some i → i.mode < 256
 mode_below t k i r at = let few = r.few_modes in omega (arith, (all_at (IsInvInRange t) t.invs k i r.invs at).owner)
@@ -132,7 +113,6 @@ pub one_end : (f : End → Bool) (ends : List End) (k : ℕ) (d : End) (old new 
     → or_else new (cond (list_any f (drop (k + 1) ends)) parent None) ≡ start
 one_end f ends k d old new start parent below before is =
     let e = get_or ends k d in
-    let cut : drop k ends ≡ e ∷ drop (k + 1) ends = drop-cons ends k d below ∙ ap (λ n. e ∷ drop n ends) (sym (add-one k)) in
     ap (λ o. or_else o (cond (list_any f (drop (k + 1) ends)) parent None)) is
     ∙ joined old parent (f e) (list_any f (drop (k + 1) ends))
-    ∙ ap (λ xs. or_else old (cond (list_any f xs) parent None)) (sym cut) ∙ before
+    ∙ ap (λ xs. or_else old (cond (list_any f xs) parent None)) (sym (drop-cons ends k d below ∙ ap (λ n. e ∷ drop n ends) (sym (add-one k)))) ∙ before

@@ -19,11 +19,7 @@ places_first {A} p q (suc d) (y ∷ xs) x at pass = by_test (p y) refl (places_f
     by_test false is r = (r.0, suc r.1, r.2, omega (arith, r.3), r.4, r.5, r.6)
 
 pub same_or : (a b : ℕ) → (a ≢ b → ⊥) → a ≡ b
-same_or a b h = by_test (eqb a b) refl
-  where
-    by_test : (c : Bool) → eqb a b ≡ c → a ≡ b
-    by_test true e = eqb-true a b e
-    by_test false e = absurd (h (λ f. let z : true ≡ false = sym (eq-eqb a b f) ∙ e in cc))
+same_or a b h = grind (arith, eqb-true, eq-eqb)
 
 module _ (t : Tables) (range : AreInRange t) (kept : KeptApart t 12) where
   -- a mode has the period that is asked of its module

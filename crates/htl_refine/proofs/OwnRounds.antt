@@ -1,8 +1,7 @@
 -- When a module's rounds begin, and how long they stand.
 use Rattle.std.proofs.Common.{◌≡◌, ◌≢◌, ℕ, zero, suc, ◌+◌, ◌*◌, ◌/◌, ◌%◌, ◌≤◌, ◌<◌, ◌⊎◌, Bool, true, false, eqb, List, [], length, slice_get, Option, Some, None, ℤ, refl, sym, ap, ◌∙◌, arith, inl, inr}
 use Rattle.htl_refine.proofs.Words.{eqb-true, eq-eqb, ne_eqb, slice_get_within, div-add-mod, mod-lt, add-mul-div_left, div-eq_of_lt, mul-div_cancel_left, Event, Module, Stay, KeptApart, state, stay_of, stays_at, stays_to, next_stay, go_on_or_begin, runs, target, AreInRange, parent_of, Tables, mode_period, mode_module, stay_at, OwnStarts, StaysSince, StaysUntil, item_at, cases_up_to, zero_down, runs_is}
-use Rattle.htl_refine.proofs.OwnPeriods.{same_period, parent_period, some_time}
-use Rattle.htl_refine.proofs.RecordOrder.{not_some}
+use Rattle.htl_refine.proofs.{OwnPeriods.same_period, OwnPeriods.parent_period, OwnPeriods.some_time, RecordOrder.not_some}
 use Rattle.htl_refine.proofs.Standing.{Came, began, turned, stayed, is_there, IsStanding, parent_lower, lower_is, standing_at, stood}
 
 -- ---- when rounds begin
@@ -46,18 +45,10 @@ module _ (t : Tables) (range : AreInRange t) where
 
 -- rounds of a period, one after the other
 pub goes_on : (p n : ℕ) → 0 < p → suc n ≢ p * (n / p) + p → p * (suc n / p) ≡ p * (n / p)
-goes_on p n h d =
-    let whole : p * (n / p) + n % p ≡ n = div-add-mod n p in
-    let rest : n % p < p = mod-lt n h in
-    let less : suc (n % p) < p = omega (arith, d, whole, rest) in
-    let is : suc n ≡ suc (n % p) + p * (n / p) = omega (arith, whole) in
-    let same : suc n / p ≡ n / p = ap (λ z. z / p) is ∙ add-mul-div_left (suc (n % p)) (n / p) h ∙ ap (λ z. z + n / p) (div-eq_of_lt less) ∙ omega arith in
-    ap (λ z. p * z) same
+goes_on p n h d = grind (arith, div-add-mod, mod-lt, add-mul-div_left, div-eq_of_lt)
 
 pub turns : (p n : ℕ) → 0 < p → suc n ≡ p * (n / p) + p → p * (suc n / p) ≡ suc n
-turns p n h e =
-    let is : suc n ≡ p * (n / p + 1) = grind (arith, e) in
-    ap (λ z. p * (z / p)) is ∙ ap (λ z. p * z) (mul-div_cancel_left (n / p + 1) h) ∙ sym is
+turns p n h e = grind (arith, mul-div_cancel_left)
 
 module _ (t : Tables) (range : AreInRange t) (kept : KeptApart t 12) where
   parent_at : (k : ℕ) (x : Module) → slice_get t.modules k ≡ Some x → parent_of t k ≡ x.parent
@@ -109,8 +100,7 @@ module _ (t : Tables) (range : AreInRange t) (kept : KeptApart t 12) where
               by_parent None p = contradiction (active t range es n k x at (inl p))
               by_parent (Some m) p =
                   let less : mode_module t m < k = parent_lower t range k m x at p in
-                  let up : runs t (state t es (suc n)).stays m ≡ true = here.parent k m y e (parent_at k x at ∙ p) in
-                  let r = runs_is t (state t es (suc n)).stays m up in
+                  let r = runs_is t (state t es (suc n)).stays m (here.parent k m y e (parent_at k x at ∙ p)) in
                   let period : mode_period t y.mode ≡ mode_period t m = parent_period t range kept y.mode k m (here.real k y e) (here.own k y e) (parent_at k x at ∙ p) in
                   let began_then : r.0.start ≡ mode_period t r.0.mode * (suc n / mode_period t r.0.mode) = lower (mode_module t m) r.0 (omega (arith, less, h)) r.1 in
                   elim (cases_up_to r.0.start (suc n) (here.past (mode_module t m) r.0 r.1)) [
@@ -125,9 +115,7 @@ module _ (t : Tables) (range : AreInRange t) (kept : KeptApart t 12) where
 
   -- where a module is, it has been since its round began
   pub since : (es : List Event) (n k : ℕ) (y : Stay) → stay_of (state t es n).stays k ≡ Some y → stay_of (state t es y.start).stays k ≡ Some y
-  since es zero k y e =
-      let past : y.start ≤ 0 = (standing_at t range es 0).past k y e in
-      ap (λ z. stay_of (state t es z).stays k) (let z : y.start ≡ 0 = omega (arith, past) in z) ∙ e
+  since es zero k y e = ap (λ z. stay_of (state t es z).stays k) (let z : y.start ≡ 0 = omega (arith, (standing_at t range es 0).past k y e) in z) ∙ e
   since es (suc n) k y e = by_order (cases_up_to y.start (suc n) ((standing_at t range es (suc n)).past k y e)) (λ f. since es n k y f)
     where
       by_order : (y.start < suc n) ⊎ (y.start ≡ suc n) → (stay_of (state t es n).stays k ≡ Some y → stay_of (state t es y.start).stays k ≡ Some y) → stay_of (state t es y.start).stays k ≡ Some y
@@ -153,13 +141,10 @@ module _ (t : Tables) (range : AreInRange t) (kept : KeptApart t 12) where
               → (x.parent ≡ None) ⊎ ((m : ℕ) × (x.parent ≡ Some m) × (runs t (state t es (suc n)).stays m ≡ true))
           by_parent x at st None p lower = inl p
           by_parent x at st (Some m) p lower =
-              let up : runs t (state t es n).stays m ≡ true = st.parent k m y e (parent_at k x at ∙ p) in
-              let r = runs_is t (state t es n).stays m up in
+              let r = runs_is t (state t es n).stays m (st.parent k m y e (parent_at k x at ∙ p)) in
               let small : mode_module t m < k = parent_lower t range k m x at p in
               let period : mode_period t y.mode ≡ mode_period t r.0.mode = parent_period t range kept y.mode k m (st.real k y e) (st.own k y e) (parent_at k x at ∙ p) ∙ ap (mode_period t) (sym r.2) in
-              let own : y.start ≡ mode_period t y.mode * (n / mode_period t y.mode) = own_starts es n k y e in
-              let above : r.0.start ≡ mode_period t r.0.mode * (n / mode_period t r.0.mode) = own_starts es n (mode_module t m) r.0 r.1 in
-              let same : y.start ≡ r.0.start = own ∙ ap (λ z. z * (n / z)) period ∙ sym above in
+              let same : y.start ≡ r.0.start = (own_starts es n k y e) ∙ ap (λ z. z * (n / z)) period ∙ sym (own_starts es n (mode_module t m) r.0 r.1) in
               let on : stay_of (state t es (suc n)).stays (mode_module t m) ≡ Some r.0 = lower (mode_module t m) r.0 (omega (arith, small, h)) r.1 (omega (arith, less, same, period)) in
               inr (m, p, ap (λ (o : Option Stay). elim o [ Some x ↦ eqb x.mode m | None ↦ false ]) on ∙ eq-eqb r.0.mode m r.2)
 

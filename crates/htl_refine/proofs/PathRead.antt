@@ -1,9 +1,7 @@
 -- The modes that run in a frame make one path, whose positions are those of the modes.
 use Rattle.std.proofs.Common.{◌≡◌, ℕ, suc, ◌+◌, ◌*◌, ◌<◌, List, [], ◌∷◌, ◌++◌, length, get_or, Option, Some, None, refl, sym, ap, ap₂, ◌∙◌, arith}
 use Rattle.htl_refine.proofs.Words.{IsSelection, modes_of, invs_of, Tables, running_invs, entry_place, Round, rounds, choices, mode_in, places_of, places_in, path_in, path_of, running_places, PathsRead}
-use Rattle.htl_refine.proofs.MixedRadix.{digits, regroup, digit}
-use Rattle.htl_refine.proofs.PathDerived.{AreRootRounds, path_rounds}
-use Rattle.htl_refine.proofs.RootSelection.{root_place}
+use Rattle.htl_refine.proofs.{MixedRadix.digits, MixedRadix.regroup, MixedRadix.digit, PathDerived.AreRootRounds, PathDerived.path_rounds, RootSelection.root_place}
 
 module _ (t : Tables) (modes : ℕ → List (Option ℕ)) (selections : (a : ℕ) → IsSelection t (modes a)) where
   pub below : (rs : List Round) → AreRootRounds t rs → path_in t modes rs < choices t rs

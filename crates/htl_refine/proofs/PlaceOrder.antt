@@ -1,13 +1,8 @@
 -- The positions of a frame are by their rounds' starts, and nobody has two in one round.
 use Rattle.std.proofs.Common.{◌≡◌, ◌<◌, ◌≤◌, ◌⊎◌, ℕ, suc, ◌+◌, true, List, [], ◌∷◌, slice_get, Option, Some, None, refl, sym, ◌∙◌, ap, subst, arith, inl, inr}
-use Rattle.htl_refine.proofs.Words.{Event, Place, Round, Inv, Mode, Module, StandsFor, itself, below, chosen, KeptApart, rounds, places_of, known_by, AreInRange, parent_mode, entry, IsEntry, IsSelection, is_root, inv_of_mode, invs_of, Tables, mode_module, running_invs, derived_place, place, standing_places, AreOrdered, PlacesOrdered, frame_modes, running_places, frame_places, modes_at, from_map, eqb-true, same_Some}
-use Rattle.htl_refine.proofs.Chains.{Under, same, under_more, one_top, no_parent}
-use Rattle.htl_refine.proofs.Exact.{chosen_exact_apart}
-use Rattle.htl_refine.proofs.Members.{of_places}
-use Rattle.htl_refine.proofs.Positions.{rootless}
-use Rattle.htl_refine.proofs.RecordOrder.{not_some}
+use Rattle.htl_refine.proofs.Words.{cases_less_same, Event, Place, Round, Inv, Mode, Module, StandsFor, itself, below, chosen, KeptApart, rounds, places_of, known_by, AreInRange, parent_mode, entry, IsEntry, IsSelection, is_root, inv_of_mode, invs_of, Tables, mode_module, running_invs, derived_place, place, standing_places, AreOrdered, PlacesOrdered, frame_modes, running_places, frame_places, modes_at, from_map, eqb-true, same_Some}
+use Rattle.htl_refine.proofs.{Chains.Under, Chains.same, Chains.under_more, Chains.one_top, Chains.no_parent, Exact.chosen_exact_apart, Members.of_places, Positions.rootless, RecordOrder.not_some, StateLaws.states_are_selections}
 use Rattle.htl_refine.proofs.RoundOrder.{Sorted, sorted_at, sorted_join, Less, sorted_places, RoundLess, sorted_rounds, round_of, run_of, ByStart, frame_by_start, standing_by_start, begun_known, known_begun, known_same}
-use Rattle.htl_refine.proofs.StateLaws.{states_are_selections}
 
 -- ---- places
 
@@ -28,18 +23,11 @@ sorted_block a [] s = tt
 sorted_block a (k ∷ ks) s = (λ q y e. by q y (from_map (λ z. place z a) ks q y e), sorted_block a ks s.1)
   where
     by : (q : ℕ) (y : Place) → (z : ℕ) × (slice_get ks q ≡ Some z) × (place z a ≡ y) → (a ≤ y.at) × (place k a ≡ y → ⊥)
-    by q y m =
-        let at : a ≡ y.at = ap (λ (w : Place). w.at) m.2 in
-        let less : k < m.0 = s.0 q m.0 m.1 in
-        (omega (arith, at), λ e. let one : k ≡ m.0 = number_of k m.0 a a (e ∙ sym m.2) in omega (arith, less, one))
+    by q y m = (omega (arith, ap (λ (w : Place). w.at) m.2), λ e. let one : k ≡ m.0 = number_of k m.0 a a (e ∙ sym m.2) in omega (arith, s.0 q m.0 m.1, one))
 
 sorted_invs : (t : Tables) (ms : List (Option ℕ)) (u : ℕ) → Sorted Less (running_invs t ms u)
 unfolding Sorted
-sorted_invs t ms u = by (entry ms u)
-  where
-    by : (o : Option ℕ) → Sorted Less (elim o as (λ _. List ℕ) [ Some m ↦ invs_of t m | None ↦ [] ])
-    by None = tt
-    by (Some m) = sorted_places (inv_of_mode m) 0 t.invs
+sorted_invs t ms u = grind (arith, sorted_places)
 
 -- a root invocation of module u
 record IsRootInv (t : Tables) (k u : ℕ) : Type 0 where
@@ -57,8 +45,7 @@ AreRoots t modes rs = (q : ℕ) (r : Round) → slice_get rs q ≡ Some r → (j
 apart_rounds : (t : Tables) (k l u v a b : ℕ) → IsRootInv t k u → IsRootInv t l v → (a < b) ⊎ ((a ≡ b) × (u < v)) → PlaceLess (place k a) (place l b)
 unfolding PlaceLess
 apart_rounds t k l u v a b x y (inl less) = (omega (arith, less), λ e. let at : a ≡ b = ap (λ (w : Place). w.at) e in omega (arith, at, less))
-apart_rounds t k l u v a b x y (inr less) =
-    (omega (arith, less.0), λ e. let number : k ≡ l = number_of k l a b e in let unit : u ≡ v = one_unit t l u v (subst (λ z. IsRootInv t z u) number x) y in omega (arith, unit, less.1))
+apart_rounds t k l u v a b x y (inr less) = grind (arith, number_of, one_unit)
 
 sorted_run : (t : Tables) (modes : ℕ → List (Option ℕ)) (rs : List Round) → Sorted RoundLess rs → AreRoots t modes rs → Sorted PlaceLess (running_places t modes rs)
 unfolding Sorted RoundLess AreRoots
@@ -85,22 +72,16 @@ module _ (t : Tables) (es : List Event) (f : ℕ) (range : AreInRange t) (kept :
   selections a = states_are_selections t range es a
 
   running_of : (ms : List (Option ℕ)) (u j k : ℕ) → slice_get (running_invs t ms u) j ≡ Some k → (q : ℕ) × (entry ms u ≡ Some q) × (slice_get (invs_of t q) j ≡ Some k)
-  running_of ms u j k e = by (entry ms u) refl e
-    where
-      by : (o : Option ℕ) → entry ms u ≡ o → slice_get (elim o as (λ _. List ℕ) [ Some q ↦ invs_of t q | None ↦ [] ]) j ≡ Some k → (q : ℕ) × (entry ms u ≡ Some q) × (slice_get (invs_of t q) j ≡ Some k)
-      by None g h = not_some k h
-      by (Some q) g h = (q, g, h)
+  running_of ms u j k e = grind (arith, not_some)
 
   root_inv : (ms : List (Option ℕ)) (u j k : ℕ) (um : Module) → IsSelection t ms → slice_get t.modules u ≡ Some um → is_root um ≡ true → slice_get (running_invs t ms u) j ≡ Some k → IsRootInv t k u
   root_inv ms u j k um selection at root e =
       let run = running_of ms u j k e in
-      let own : IsEntry t ms u um.parent (Some run.0) = subst (IsEntry t ms u um.parent) run.1 (selection.each u um at) in
-      let mode_at = own.0 in
+      let mode_at = (subst (IsEntry t ms u um.parent) run.1 (selection.each u um at)).0 in
       let unit : mode_module t run.0 ≡ u = ap (λ (o : Option Mode). elim o [ Some z ↦ z.«module» | None ↦ 0 ]) mode_at.1 ∙ mode_at.2 in
       let kx = of_places (inv_of_mode run.0) 0 t.invs j k run.2 in
       let inv_at : slice_get t.invs k ≡ Some kx.1 = ap (slice_get t.invs) (let z : k ≡ kx.0 = omega (arith, kx.2) in z) ∙ kx.3 in
-      let mode : kx.1.mode ≡ run.0 = eqb-true kx.1.mode run.0 kx.4 in
-      let is : mode_module t kx.1.mode ≡ u = ap (mode_module t) mode ∙ unit in
+      let is : mode_module t kx.1.mode ≡ u = ap (mode_module t) (eqb-true kx.1.mode run.0 kx.4) ∙ unit in
       record {
         inv = kx.1;
         at = inv_at;
@@ -138,19 +119,16 @@ module _ (t : Tables) (es : List Event) (f : ℕ) (range : AreInRange t) (kept :
       let r = run_of t modes (rounds t) p x.0 x.1 in
       let is : derived_place t modes (place r.4 r.1.at) ≡ place i a = ap (derived_place t modes) (sym r.6) ∙ x.2 in
       let at : r.1.at ≡ a = ap (λ (z : Place). z.at) is in
-      let stood : chosen t (modes r.1.at) r.4 ≡ Some i = ap (λ (z : Place). z.inv) is in
       record {
         number = r.4;
         at = x.1 ∙ ap (λ (z : Place). Some z) r.6 ∙ ap (λ z. Some (place r.4 z)) at;
-        stands = (chosen_exact_apart t (modes a) range kept r.4 i).0 (ap (λ z. chosen t (modes z) r.4) (sym at) ∙ stood);
+        stands = (chosen_exact_apart t (modes a) range kept r.4 i).0 (ap (λ z. chosen t (modes z) r.4) (sym at) ∙ (ap (λ (z : Place). z.inv) is));
         unit = r.1.unit;
         root = roots r.0 r.1 r.2 r.3 r.4 r.5;
       }
 
   top_is : (k u : ℕ) → IsRootInv t k u → (x : Inv) → slice_get t.invs k ≡ Some x → x.parent ≡ None
-  top_is k u r x at =
-      let one : r.inv ≡ x = same_Some r.inv x (sym r.at ∙ at) in
-      no_parent t range kept k x at (subst (λ (z : Inv). parent_mode t z.mode ≡ None) one r.root)
+  top_is k u r x at = no_parent t range kept k x at (subst (λ (z : Inv). parent_mode t z.mode ≡ None) (same_Some r.inv x (sym r.at ∙ at)) r.root)
 
   not_twice : (p q i a : ℕ) → p < q → slice_get (standing_places t es f) p ≡ Some (place i a) → slice_get (standing_places t es f) q ≡ Some (place i a) → ⊥
   unfolding PlaceLess
@@ -165,26 +143,11 @@ module _ (t : Tables) (es : List Event) (f : ℕ) (range : AreInRange t) (kept :
   unfolding ByStart
   in_turn p q x y l a b = sorted_at ByStart (standing_places t es f) p q x y by_start l a b
 
-  three : (p q : ℕ) → (p < q) ⊎ ((p ≡ q) ⊎ (q < p))
-  three p q = grind arith
-
   one_place : (p q i a : ℕ) → slice_get (standing_places t es f) p ≡ Some (place i a) → slice_get (standing_places t es f) q ≡ Some (place i a) → p ≡ q
-  one_place p q i a e g = elim (three p q) [
-    | inl l ↦ absurd (not_twice p q i a l e g)
-    | inr (inl z) ↦ z
-    | inr (inr l) ↦ absurd (not_twice q p i a l g e)
-  ]
+  one_place p q i a e g = grind (arith, cases_less_same, not_twice)
 
   pub ordered : (d : ℕ) → AreOrdered (standing_places t es f) (known_by d (frame_places t (frame_modes t es f))) d
-  ordered d =
-      let modes = frame_modes t es f in
-      let same = known_same t modes d (frame_places t modes) in
-      record {
-        order = in_turn;
-        once = one_place;
-        begun = λ p x e l. omega (arith, begun_known d (standing_places t es f) p x by_start e l, same);
-        front = λ p x e l. known_begun d (standing_places t es f) p x by_start e (omega (arith, l, same));
-      }
+  ordered d = grind (arith, known_same, in_turn, one_place, begun_known, by_start, known_begun)
 
 pub places_ordered : PlacesOrdered
 places_ordered t es f d range kept = ordered t es f range kept d

@@ -1,5 +1,5 @@
 -- What precedes what by the ports: the test and the words.
-use Rattle.std.proofs.Common.{◌≡◌, ℕ, Bool, true, false, length, Some, refl, sym, ◌∙◌, ap}
+use Rattle.std.proofs.Common.{arith, ◌≡◌, ℕ, Bool, true, false, length, Some, refl, sym, ◌∙◌, ap}
 use Rattle.htl_refine.proofs.Words.{slice_get, Decides, Inv, Tables, Leads, direct, through, feeds, leads_from, leads_within, feeds_within, same_mode}
 use Rattle.htl_refine.specs.Refining.{inv_precedes}
 
@@ -28,8 +28,4 @@ precedes_is t a b = (leads_from (feeds t) (length t.invs) a b, leads_within (fee
 
 -- invocations that aren't of one mode don't precede each other
 pub strangers : (t : Tables) (a b : ℕ) → (AreMates t a b → ⊥) → inv_precedes t a b ≡ false
-strangers t a b apart = by (inv_precedes t a b) refl
-  where
-    by : (c : Bool) → inv_precedes t a b ≡ c → c ≡ false
-    by true e = absurd (apart (leads_mates t a b ((precedes_is t a b).0 e)))
-    by false e = refl
+strangers t a b apart = grind (arith, leads_mates, precedes_is)

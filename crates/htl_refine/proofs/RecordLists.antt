@@ -2,11 +2,7 @@
 use Rattle.std.proofs.Common.{◌≡◌, ◌≢◌, ℕ, zero, suc, ◌+◌, ◌-◌, ◌*◌, ◌/◌, ◌≤◌, ◌<◌, ◌⊎◌, Bool, true, false, cond, eqb, ltb, List, [], ◌∷◌, ◌++◌, length, get_or, map, slice_get, Option, Some, None, refl, sym, ap, ap₂, ◌∙◌, subst, arith, append-nil, inl, inr}
 use Rattle.htl_refine.proofs.Words.{filter, eqb-true, eq-eqb, ne_eqb, lt-ltb, ltb-true, slice_get-get_or, same_Some, add-mul-div_left, div-eq_of_lt, Event, hyper, frame_of, root_periods, starts, node, joined, numbered, up_to, Tables, Job, SInstr, Leg, list_point, walks_from, AreInForm, AreChained, path_point, Point, Left, walk_from, last_point, first_point, RunningList, lists_from, lists_at, left_in, begun_before, begins_at, in_frame, old_records_by, new_records_by, frame_modes, path_of, frame_places, frame_at, walks_of, no_leg, leg_at, list_start, list_at, ListsRun, OldRecords, NoOldRecords, NewRecords, NoNewRecords, shifted, rounds_before, IsServing, IsFeasibleRun, past_legs, starts_order, cases_less_same, form_at}
 use Rattle.htl_walk.proofs.Starts.{Rises, starts_rise}
-use Rattle.htl_refine.proofs.BegunTimes.{start_below}
-use Rattle.htl_refine.proofs.ListCounts.{chain_to}
-use Rattle.htl_refine.proofs.ListWalks.{list_is}
-use Rattle.htl_refine.proofs.ListsFollow.{rises_next, legs_many, leg_from}
-use Rattle.htl_refine.proofs.RecordOrder.{not_some, times_within}
+use Rattle.htl_refine.proofs.{BegunTimes.start_below, ListCounts.chain_to, ListWalks.list_is, ListsFollow.rises_next, ListsFollow.legs_many, ListsFollow.leg_from, RecordOrder.not_some, RecordOrder.times_within}
 use Rattle.htl_refine.proofs.ServedFrames.{frames_are_served}
 
 -- ---- lists end to end, of which at most one gives something
@@ -23,11 +19,9 @@ joined_one : {A B : Type 0} (g : A → List B) (test : A → Bool) (xs : List A)
     → ((i : ℕ) (y : A) → i ≢ j → slice_get xs i ≡ Some y → test y ≡ true → g y ≡ []) → joined g (filter test xs) ≡ g x
 joined_one g test [] j x at pass h = not_some x at
 joined_one {A} {B} g test (y ∷ ys) zero x at pass h =
-    let same : y ≡ x = same_Some y x at in
-    let rest : joined g (filter test ys) ≡ [] = joined_none g test ys (λ i z e. h (suc i) z (λ q. omega (arith, q)) e) in
-    ap (λ (z : A). joined g (filter test (z ∷ ys))) same
+    ap (λ (z : A). joined g (filter test (z ∷ ys))) (same_Some y x at)
     ∙ ap (λ (b : Bool). joined g (cond b (x ∷ filter test ys) (filter test ys))) pass
-    ∙ ap (λ (zs : List B). g x ++ zs) rest ∙ append-nil (g x)
+    ∙ ap (λ (zs : List B). g x ++ zs) (joined_none g test ys (λ i z e. h (suc i) z (λ q. omega (arith, q)) e)) ∙ append-nil (g x)
 joined_one {A} {B} g test (y ∷ ys) (suc j) x at pass h = by (test y) refl (joined_one g test ys j x at pass (λ i z n e. h (suc i) z (λ q. n (let same : i ≡ j = omega (arith, q) in same)) e))
   where
     by : (b : Bool) → test y ≡ b → joined g (filter test ys) ≡ g x → joined g (cond b (y ∷ filter test ys) (filter test ys)) ≡ g x
@@ -55,27 +49,22 @@ lists_there : (jobs : List Job) (number : ℕ → ℕ) (f n m : ℕ) (ss : List 
     → slice_get (lists_from number f n ss gs (walks_from jobs ss gs x)) j
     ≡ Some (record { from = f + (get_or gs j no_leg).from; node = number m; code = get_or ss j []; walk = walk_from jobs (get_or ss j []) (path_point jobs ss gs j 0 x) })
 lists_there jobs number f n m [] [] x j form l e = absurd (omega (arith, l))
-lists_there jobs number f n m [] (g ∷ gs) x j form l e = absurd form
-lists_there jobs number f n m (s ∷ ss) [] x j form l e = absurd form
-lists_there jobs number f n m (s ∷ ss) (g ∷ gs) x zero form l e =
-    ap (λ (z : ℕ). let r : RunningList = record { from = f + g.from; node = number z; code = s; walk = walk_from jobs s (list_point g.from x) } in Some r) (let z : n ≡ m = omega (arith, e) in z)
+lists_there jobs number f n m (s ∷ ss) (g ∷ gs) x zero form l e = grind arith
 lists_there jobs number f n m (s ∷ ss) (g ∷ gs) x (suc j) form l e =
     lists_there jobs number f (suc n) m ss gs (last_point jobs s (list_point g.from x)) j form.1 (omega (arith, l)) (omega (arith, e))
+lists_there jobs number f n m _ _ x j form l e = absurd form
 
 lists_within : (number : ℕ → ℕ) (f n : ℕ) (ss : List (List SInstr)) (gs : List Leg) (ws : List (List Left)) (i : ℕ) (y : RunningList) → slice_get (lists_from number f n ss gs ws) i ≡ Some y → i < length gs
-lists_within number f n [] gs ws i y e = not_some y e
-lists_within number f n (s ∷ ss) [] ws i y e = not_some y e
-lists_within number f n (s ∷ ss) (g ∷ gs) [] i y e = not_some y e
 lists_within number f n (s ∷ ss) (g ∷ gs) (w ∷ ws) zero y e = omega arith
 lists_within number f n (s ∷ ss) (g ∷ gs) (w ∷ ws) (suc i) y e = let r = lists_within number f (suc n) ss gs ws i y e in omega (arith, r)
+lists_within number f n _ _ _ i y e = not_some y e
 
 -- a list begins at its leg's start
 point_time : (jobs : List Job) (ss : List (List SInstr)) (gs : List Leg) (j : ℕ) (x : Point) → AreInForm ss gs → j < length gs → (path_point jobs ss gs j 0 x).time ≡ (get_or gs j no_leg).from
 point_time jobs [] [] j x f h = absurd (omega arith)
-point_time jobs [] (g ∷ gs) j x f h = absurd f
-point_time jobs (s ∷ ss) [] j x f h = absurd f
 point_time jobs (s ∷ ss) (g ∷ gs) zero x f h = refl
 point_time jobs (s ∷ ss) (g ∷ gs) (suc j) x f h = point_time jobs ss gs j (last_point jobs s (list_point g.from x)) f.1 (omega arith)
+point_time jobs _ _ j x f h = absurd f
 
 leg_order : (a h n j : ℕ) (gs : List Leg) → AreChained a h n gs → j < length gs → (get_or gs j no_leg).from ≤ (get_or gs j no_leg).to
 leg_order a h n j [] c l = absurd (omega (arith, l))
@@ -96,37 +85,19 @@ legs_order a h n (suc i) (suc j) (g ∷ gs) c less l = legs_order g.to h n i j g
 -- ---- frames
 
 frames_begun : (h k now : ℕ) → 0 < h → k * h < now → now ≤ k * h + h → rounds_before h now ≡ suc k
-frames_begun h k now some began upto =
-    let d = now - k * h - 1 in
-    let times : h * suc k ≡ k * h + h = grind arith in
-    let is : now + h - 1 ≡ (now - k * h - 1) + h * suc k = omega (arith, times, began, some) in
-    let less : now - k * h - 1 < h = omega (arith, began, upto, some) in
-    ap (λ z. z / h) is ∙ add-mul-div_left (now - k * h - 1) (suc k) some ∙ ap (λ z. z + suc k) (div-eq_of_lt less) ∙ (let e : 0 + suc k ≡ suc k = omega arith in e)
+frames_begun h k now some began upto = grind (arith, add-mul-div_left, div-eq_of_lt)
 
 frame_is : (h k a : ℕ) → 0 < h → a < h → h * ((k * h + a) / h) ≡ k * h
-frame_is h k a some less =
-    let is : k * h + a ≡ a + h * k = grind arith in
-    let turn : h * k ≡ k * h = grind arith in
-    ap (λ z. h * (z / h)) is ∙ ap (λ z. h * z) (add-mul-div_left a k some ∙ ap (λ z. z + k) (div-eq_of_lt less) ∙ (let e : 0 + k ≡ k = omega arith in e)) ∙ turn
+frame_is h k a some less = grind (arith, add-mul-div_left, div-eq_of_lt)
 
 frame_before : (h i k : ℕ) → i < k → i * h + h ≤ k * h
-frame_before h i k less =
-    let more : suc i * h ≤ k * h = grow h (suc i) k (omega (arith, less)) in
-    let is : suc i * h ≡ i * h + h = grind arith in
-    omega (arith, more, is)
-  where
-    grow : (h a b : ℕ) → a ≤ b → a * h ≤ b * h
-    grow h a b l = grind arith
+frame_before h i k less = grind arith
 
 -- ---- in a run
 
 module _ (t : Tables) (lists : List (List SInstr)) (es : List Event) (run : IsFeasibleRun t lists es) where
   hyper_is : hyper t ≡ Some (frame_of t)
-  hyper_is = by (hyper t) run.ticks
-    where
-      by : (o : Option ℕ) → 0 < elim o as (λ _. ℕ) [ Some h ↦ h | None ↦ 0 ] → o ≡ Some (elim o as (λ _. ℕ) [ Some h ↦ h | None ↦ 0 ])
-      by None h = absurd (omega (arith, h))
-      by (Some h) p = refl
+  hyper_is = grind arith
 
   serving : (f : ℕ) → IsServing (frame_at t lists es f) (frame_of t)
   serving f = frames_are_served t lists es f run
@@ -146,8 +117,7 @@ module _ (t : Tables) (lists : List (List SInstr)) (es : List Event) (run : IsFe
   only f i y e =
       let p = frame_at t lists es f in
       let l : i < length p.legs = lists_within (node t (path_of t (frame_modes t es f))) f 0 p.lists p.legs (walks_of p) i y e in
-      let many = legs_many (frame_of t) (frame_places t (frame_modes t es f)) (starts t) in
-      let few : i < length (starts t) = omega (arith, many, l) in
+      let few : i < length (starts t) = omega (arith, legs_many (frame_of t) (frame_places t (frame_modes t es f)) (starts t), l) in
       (few, same_Some _ _ (sym (there f i few) ∙ e))
 
   -- a list leaves nothing after its leg
@@ -171,15 +141,10 @@ module _ (t : Tables) (lists : List (List SInstr)) (es : List Event) (run : IsFe
   strict i (suc j) less l =
       let rise : Rises (root_periods t) (frame_of t) (starts t) = starts_rise (root_periods t) (frame_of t) in
       let up = starts_order (root_periods t) (frame_of t) (starts t) i j rise (omega (arith, less)) (omega (arith, l)) in
-      let next = rises_next (root_periods t) (frame_of t) (starts t) j rise l in
-      omega (arith, up, next)
+      omega (arith, up, rises_next (root_periods t) (frame_of t) (starts t) j rise l)
 
   one_start : (i j : ℕ) → i < length (starts t) → j < length (starts t) → get_or (starts t) i 0 ≡ get_or (starts t) j 0 → i ≢ j → ⊥
-  one_start i j l m same other = elim (cases_less_same i j) [
-    | inl less ↦ let s = strict i j less m in omega (arith, s, same)
-    | inr (inl e) ↦ other e
-    | inr (inr more) ↦ let s = strict j i more l in omega (arith, s, same)
-  ]
+  one_start i j l m same other = grind (arith, cases_less_same, strict)
 
   -- ---- what depends on the records of lists at an instant: where there are none it is nothing
 
@@ -202,8 +167,7 @@ module _ (t : Tables) (lists : List (List SInstr)) (es : List Event) (run : IsFe
         by i few other start (inr (inl same)) = absurd (other same)
         by i few other start (inr (inr more)) =
             let p = frame_at t lists es f in
-            let order : (leg_at p j).to ≤ (leg_at p i).from = legs_order 0 (frame_of t) (length p.jobs) j i p.legs (serving f).chain more (known_leg f i few) in
-            absurd (omega (arith, order, upto, start))
+            absurd (omega (arith, legs_order 0 (frame_of t) (length p.jobs) j i p.legs (serving f).chain more (known_leg f i few), upto, start))
 
     in_earlier : (f : ℕ) → f + frame_of t < now → joined (g f) (filter (begun_before now) (lists_at t lists es f)) ≡ []
     in_earlier f past =
@@ -248,8 +212,7 @@ module _ (t : Tables) (lists : List (List SInstr)) (es : List Event) (run : IsFe
         let f = frame_of t * (now / frame_of t) in
         joined_none (g f) (begins_at now) (lists_at t lists es f) (λ i y at pass.
         let o = only f i y at in
-        let same : (list_at t lists es f i).from ≡ now = ap (λ (z : RunningList). z.from) o.1 ∙ eqb-true y.from now pass in
-        absurd (away i o.0 (let a = start_of f i o.0 in omega (arith, a, same))))
+        absurd (away i o.0 (let a = start_of f i o.0 in omega (arith, a, ap (λ (z : RunningList). z.from) o.1 ∙ eqb-true y.from now pass))))
 
   pub no_frames : rounds_before (frame_of t) 0 ≡ 0
   no_frames = first (frame_of t) run.ticks

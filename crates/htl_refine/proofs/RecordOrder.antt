@@ -36,9 +36,8 @@ pub path_rises : (jobs : List Job) (ss : List (List SInstr)) (gs : List Leg) (a 
 path_rises jobs [] [] a h n x f c = tt
 path_rises jobs (s ∷ ss) (g ∷ gs) a h n x f c =
     let y = list_point g.from x in
-    let own : Rises g.from (walk_from jobs s y) = walk_rises jobs s y in
     rises_later a g.from (end_to_end (walks_from jobs (s ∷ ss) (g ∷ gs) x)) (omega (arith, c.0))
-    (rises_join g.from g.to (walk_from jobs s y) (end_to_end (walks_from jobs ss gs (last_point jobs s y))) c.1 own
+    (rises_join g.from g.to (walk_from jobs s y) (end_to_end (walks_from jobs ss gs (last_point jobs s y))) c.1 (walk_rises jobs s y)
     (λ k l e. times_within jobs g.known g.to s y f.0 c.1 k l e) (path_rises jobs ss gs g.to h n (last_point jobs s y) f.1 c.3))
 path_rises jobs _ _ a h n x f c = absurd f
 
@@ -54,10 +53,7 @@ path_within jobs (s ∷ ss) (g ∷ gs) a h n x m b f c e = elim (cases_lt m (len
 ]
   where
     here : m < length (walk_from jobs s (list_point g.from x)) → b.at ≤ h
-    here l =
-        let y = list_point g.from x in
-        let ms = end_to_end (walks_from jobs ss gs (last_point jobs s y)) in
-        let r : b.at ≤ g.to = times_within jobs g.known g.to s y f.0 c.1 m b (sym (within_front (walk_from jobs s y) ms m l) ∙ e) in omega (arith, r, past_legs g.to h n gs c.3)
+    here l = grind (arith, times_within, within_front, past_legs)
 
     there : length (walk_from jobs s (list_point g.from x)) ≤ m → ((q : ℕ) → slice_get (end_to_end (walks_from jobs ss gs (last_point jobs s (list_point g.from x)))) q ≡ Some b → b.at ≤ h) → b.at ≤ h
     there l ih =
@@ -65,8 +61,7 @@ path_within jobs (s ∷ ss) (g ∷ gs) a h n x m b f c e = elim (cases_lt m (len
         let ls = walk_from jobs s y in
         let ms = end_to_end (walks_from jobs ss gs (last_point jobs s y)) in
         let q = m - length ls in
-        let is : length ls + q ≡ m = omega (arith, l) in
-        ih q (sym (get_back ls ms q) ∙ ap (slice_get (ls ++ ms)) is ∙ e)
+        ih q (sym (get_back ls ms q) ∙ ap (slice_get (ls ++ ms)) (omega (arith, l)) ∙ e)
 
 -- ---- the records before an offset
 

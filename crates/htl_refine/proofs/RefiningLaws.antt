@@ -1,49 +1,25 @@
 -- The tests of the rules not-true refinement find exactly what the words say.
 use Rattle.std.proofs.Common.{◌≡◌, ◌≢◌, ◌≤◌, ◌<◌, ◌⊎◌, ℕ, Bool, true, false, not, ◌&&◌, ◌||◌, cond, eqb, ltb, length, Option, Some, None, refl, sym, ◌∙◌, ap, subst, arith, inl, inr}
-use Rattle.htl_refine.proofs.Words.{slice_get, Decides, list_any, nat_tests, Inv, Tables, mode_module, is_concrete, task_worst, release, window_end, AreInRange, KeptTo, Leads, feeds, is_port, IsRefined, StandsUnrefined, IsAbstractIn, ParentFault, ParentWrong, SharesParent, SecondChild, AsksMore, Exceeds, IsWriterOf, Unordered, parent_mode, or_else, unless, finds_or_else, Finds, finds_nothing, finds_unless, none_at, found_at, to_none, to_found, taken, slice_get_within, none-some, is_at, refines, is_refined, place_fault, is_abstract_at, parent_fault_by, parent_fault, clashes, clash_before, first_clash, told_clash, shared_fault_by, shared_fault, unless_more, unless_less, excess, excess_at, excess_by, excess_fault, writers_parent, writer_parent, inv_precedes, order_fault_by, order_fault, and_parts, eq-eqb, eqb-true, false_from_ne_true, not-true, or_parts, le-ltb, lt-ltb, or_right, goes, true_not_false, eqb_apart, any_passes_from_place, some_place}
+use Rattle.htl_refine.proofs.Words.{ne_eqb, cases_less_same, slice_get, Decides, list_any, nat_tests, Inv, Tables, mode_module, is_concrete, task_worst, release, window_end, AreInRange, KeptTo, Leads, feeds, is_port, IsRefined, StandsUnrefined, IsAbstractIn, ParentFault, ParentWrong, SharesParent, SecondChild, AsksMore, Exceeds, IsWriterOf, Unordered, parent_mode, or_else, unless, finds_or_else, Finds, finds_nothing, finds_unless, none_at, found_at, to_none, to_found, taken, slice_get_within, none-some, is_at, refines, is_refined, place_fault, is_abstract_at, parent_fault_by, parent_fault, clashes, clash_before, first_clash, told_clash, shared_fault_by, shared_fault, unless_more, unless_less, excess, excess_at, excess_by, excess_fault, writers_parent, writer_parent, inv_precedes, order_fault_by, order_fault, and_parts, eq-eqb, eqb-true, false_from_ne_true, not-true, or_parts, le-ltb, lt-ltb, or_right, goes, true_not_false, eqb_apart, any_passes_from_place, some_place}
 use Rattle.htl_model.specs.declared.parts.End.{End}
 use Rattle.htl_model.specs.declared.parts.End.TheVariants as E
-use Rattle.htl_refine.proofs.Kept.{one_writer}
-use Rattle.htl_refine.proofs.PrecedenceLaws.{precedes_is}
-use Rattle.htl_refine.proofs.SelectedLaws.{at_number, number_at}
+use Rattle.htl_refine.proofs.{Kept.one_writer, PrecedenceLaws.precedes_is, SelectedLaws.at_number, SelectedLaws.number_at}
 
 -- ---- 13
 
 refined_is : (t : Tables) (m : ℕ) → Decides (is_refined t m) (IsRefined t m)
-refined_is t m = (
-  λ h. let p = some_place (refines m) t.modules h in record { number = p.0; «module» = p.1; at = p.2; refines = at_number p.1.parent m p.3 },
-  λ r. any_passes_from_place (refines m) t.modules r.number r.«module» r.at (number_at r.«module».parent m r.refines),
-)
+refined_is t m = grind (arith, some_place, at_number, any_passes_from_place, number_at)
 
 pub place_is : (t : Tables) (i : Inv) → Finds (place_fault t i) (StandsUnrefined t i)
-place_is t i =
-    finds_unless (is_concrete t i || is_refined t i.mode) 0 1 (StandsUnrefined t i)
-    (λ e. (let two = or_parts (is_concrete t i) (is_refined t i.mode) e in (refl, refl, two.0, λ r. true_not_false (is_refined t i.mode) ((refined_is t i.mode).1 r) two.1)))
-    (λ h n p. (fold p.2 (false_from_ne_true (is_refined t i.mode) (λ e. p.3 ((refined_is t i.mode).0 e))), p.0, p.1))
-  where
-    fold : is_concrete t i ≡ false → is_refined t i.mode ≡ false → (is_concrete t i || is_refined t i.mode) ≡ false
-    fold a b = ap (λ c. c || is_refined t i.mode) a ∙ b
+place_is t i = grind (arith, finds_unless, or_parts, true_not_false, refined_is, false_from_ne_true)
 
 -- ---- 14
 
 abstract_is : (t : Tables) (m p : ℕ) → Decides (is_abstract_at t m (slice_get t.invs p)) (IsAbstractIn t m p)
-abstract_is t m p = by (slice_get t.invs p) refl
-  where
-    by : (o : Option Inv) → slice_get t.invs p ≡ o → Decides (is_abstract_at t m o) (IsAbstractIn t m p)
-    by (Some y) e = (
-      λ h. let two = and_parts (not (is_concrete t y)) (eqb y.mode m) h in record { parent = y; at = e; abstract = not-true (is_concrete t y) two.0; mode = eqb-true y.mode m two.1 },
-      λ a.
-          let item : Some y ≡ Some a.parent = sym e ∙ a.at in
-          let is : a.parent ≡ y = cc in
-          ap (λ b. not b && eqb y.mode m) (subst (λ (z : Inv). is_concrete t z ≡ false) is a.abstract) ∙ eq-eqb y.mode m (subst (λ (z : Inv). z.mode ≡ m) is a.mode),
-    )
-    by None e = (λ h. cc, λ a. absurd (none-some a.parent (sym e ∙ a.at)))
+abstract_is t m p = grind (arith, and_parts, not-true, eqb-true, eq-eqb, none-some)
 
 parent_by_is : (t : Tables) (o q : Option ℕ) → Finds (parent_fault_by t o q) (ParentFault t o q)
-parent_by_is t (Some m) (Some p) =
-    finds_unless (is_abstract_at t m (slice_get t.invs p)) 2 1 (ParentFault t (Some m) (Some p))
-    (λ e. (refl, (refl, λ a. true_not_false (is_abstract_at t m (slice_get t.invs p)) ((abstract_is t m p).1 a) e)))
-    (λ h n b. (false_from_ne_true (is_abstract_at t m (slice_get t.invs p)) (λ e. b.1.1 ((abstract_is t m p).0 e)), b.1.0, b.0))
+parent_by_is t (Some m) (Some p) = grind (arith, finds_unless, true_not_false, abstract_is, false_from_ne_true)
 parent_by_is t (Some m) None = finds_unless false 0 1 (ParentFault t (Some m) None) (λ e. (refl, refl)) (λ h n b. (refl, b.1, b.0))
 parent_by_is t None (Some p) = finds_unless false 2 0 (ParentFault t None (Some p)) (λ e. (refl, refl)) (λ h n b. (refl, b.1, b.0))
 parent_by_is t None None = finds_nothing
@@ -59,47 +35,14 @@ either_clash false b h = inl refl
 
 module _ (t : Tables) (k : ℕ) (i : Inv) (p : ℕ) where
   clash_shares : (l : ℕ) (x : Inv) (y : ℕ) → slice_get t.invs l ≡ Some x → clash_before t k i p l x ≡ Some y → (l ≡ y) × SharesParent t k i p l
-  clash_shares l x y at e =
-      let c = taken (ltb l k && clashes t i p x) (Some l) y e in
-      let two = and_parts (ltb l k) (clashes t i p x) c.0 in
-      let three = and_parts (is_at x.parent p) _ two.1 in
-      let number : l ≡ y = (let same = c.1 in cc) in (
-        number,
-        record {
-          earlier = grind (arith, nat_tests);
-          other = x;
-          at = at;
-          parent = at_number x.parent p three.0;
-          clash = elim (either_clash (eqb (mode_module t x.mode) (mode_module t i.mode)) (eqb x.mode i.mode) three.1) [
-            | inl h ↦ inl (eqb_apart (mode_module t x.mode) (mode_module t i.mode) h)
-            | inr h ↦ inr (eqb-true x.mode i.mode h)
-          ];
-        },
-      )
+  clash_shares l x y at e = grind (arith, taken, and_parts, at_number, either_clash, eqb_apart, eqb-true)
 
   shares_clash : (l : ℕ) (s : SharesParent t k i p l) → clash_before t k i p l s.other ≡ Some l
-  shares_clash l s =
-      ap (λ b. cond b (Some l) None)
-      (ap (λ b. b && clashes t i p s.other) (lt-ltb l k s.earlier)
-      ∙ ap (λ b. b && (not (eqb (mode_module t s.other.mode) (mode_module t i.mode)) || eqb s.other.mode i.mode)) (number_at s.other.parent p s.parent)
-      ∙ by s.clash)
-    where
-      differ : (a b : ℕ) (c : Bool) → a ≢ b → (not (eqb a b) || c) ≡ true
-      differ a b c h = grind (arith, nat_tests)
-
-      by : (mode_module t s.other.mode ≢ mode_module t i.mode) ⊎ (s.other.mode ≡ i.mode)
-          → (not (eqb (mode_module t s.other.mode) (mode_module t i.mode)) || eqb s.other.mode i.mode) ≡ true
-      by (inl h) = differ (mode_module t s.other.mode) (mode_module t i.mode) (eqb s.other.mode i.mode) h
-      by (inr h) = or_right (not (eqb (mode_module t s.other.mode) (mode_module t i.mode))) (eqb s.other.mode i.mode) (eq-eqb s.other.mode i.mode h)
+  shares_clash l s = grind (arith, lt-ltb, number_at, ne_eqb, or_right, eq-eqb)
 
   told : (o : Option ℕ) (h n : ℕ) → told_clash p o ≡ Some (h, n) → (o ≡ Some h) × (p ≡ n)
-  told (Some l) h n e =
-      let pair : ◌≡◌ {A = ℕ × ℕ} (l, p) (h, n) = cc in
-      (ap (λ (q : ℕ × ℕ). Some q.0) pair, ap (λ (q : ℕ × ℕ). q.1) pair)
+  told (Some l) h n e = grind arith
   told None h n e = absurd (none-some (h, n) e)
-
-  some_inner : (l h : ℕ) → l ≡ h → ◌≡◌ {A = Option ℕ} (Some l) (Some h)
-  some_inner l h e = ap (λ (x : ℕ). Some x) e
 
   first_is : (l : ℕ) → SharesParent t k i p l → ((q : ℕ) → q < l → SharesParent t k i p q → ⊥) → first_clash t k i p ≡ Some l
   first_is l s least = by (first_clash t k i p) refl
@@ -109,15 +52,11 @@ module _ (t : Tables) (k : ℕ) (i : Inv) (p : ℕ) where
       by (Some y) e =
           let g = found_at (clash_before t k i p) t.invs y e in
           let c = clash_shares g.place g.item y g.at g.gives in
-          let order : (y < l) ⊎ ((y ≡ l) ⊎ (l < y)) = cases y l in
-          elim order [
+          elim (cases_less_same y l) [
             | inl less ↦ absurd (least y less (subst (SharesParent t k i p) c.0 c.1))
-            | inr (inl same) ↦ e ∙ some_inner y l same
+            | inr (inl same) ↦ e ∙ ap (λ (x : ℕ). Some x) same
             | inr (inr more) ↦ absurd (none-some l (sym (g.before l s.other (omega (arith, c.0)) s.at) ∙ shares_clash l s))
           ]
-        where
-          cases : (y l : ℕ) → (y < l) ⊎ ((y ≡ l) ⊎ (l < y))
-          cases y l = grind arith
 
   shares_found : (h : ℕ) → first_clash t k i p ≡ Some h → SharesParent t k i p h × ((l : ℕ) → l < h → SharesParent t k i p l → ⊥)
   shares_found h e =
@@ -149,8 +88,7 @@ shared_by_is t k i (Some p) is =
           first_is t k i p h (subst (λ q. SharesParent t k i q h) same c.shares) (λ l less s. c.least l less (subst (λ q. SharesParent t k i q l) (sym same) s)) in
           ap (told_clash p) first ∙ ap (λ (q : ℕ). Some (h, q)) (sym same);
     }
-shared_by_is t k i None is =
-    record { says = λ h n e. absurd (none-some (h, n) e); finds = λ h n c. absurd (none-some n (sym is ∙ c.parent)) }
+shared_by_is t k i None is = grind (arith, none-some)
 
 pub shared_is : (t : Tables) (k : ℕ) (i : Inv) → Finds (shared_fault t k i) (SecondChild t k i)
 shared_is t k i = shared_by_is t k i i.parent refl
@@ -158,20 +96,10 @@ shared_is t k i = shared_by_is t k i i.parent refl
 -- ---- 16, windows and worst cases
 
 more_is : (x y : ℕ) → Finds (unless_more x y) (λ h n. (h ≡ x) × (n ≡ y) × (n < h))
-more_is x y =
-    finds_unless (not (ltb y x)) x y (λ h n. (h ≡ x) × (n ≡ y) × (n < h)) (λ e. (refl, refl, grind (arith, nat_tests)))
-    (λ h n p. (less h n p.0 p.1 p.2, p.0, p.1))
-  where
-    less : (h n : ℕ) → h ≡ x → n ≡ y → n < h → not (ltb y x) ≡ false
-    less h n a b c = grind (arith, nat_tests)
+more_is x y = grind (arith, finds_unless)
 
 less_is : (x y : ℕ) → Finds (unless_less x y) (λ h n. (h ≡ x) × (n ≡ y) × (h < n))
-less_is x y =
-    finds_unless (not (ltb x y)) x y (λ h n. (h ≡ x) × (n ≡ y) × (h < n)) (λ e. (refl, refl, grind (arith, nat_tests)))
-    (λ h n p. (less h n p.0 p.1 p.2, p.0, p.1))
-  where
-    less : (h n : ℕ) → h ≡ x → n ≡ y → h < n → not (ltb x y) ≡ false
-    less h n a b c = grind (arith, nat_tests)
+less_is x y = grind (arith, finds_unless)
 
 no_more : (x y : ℕ) → unless_more x y ≡ None → x ≤ y
 no_more x y e = by (ltb y x) refl e
@@ -181,10 +109,7 @@ no_more x y e = by (ltb y x) refl e
     by false h f = grind (arith, nat_tests)
 
 more_none : (x y : ℕ) → x ≤ y → unless_more x y ≡ None
-more_none x y h = ap (λ b. unless (not b) x y) (not_less x y h)
-  where
-    not_less : (x y : ℕ) → x ≤ y → ltb y x ≡ false
-    not_less x y h = grind (arith, nat_tests)
+more_none x y h = ap (λ b. unless (not b) x y) (le-ltb y x h)
 
 no_less : (x y : ℕ) → unless_less x y ≡ None → y ≤ x
 no_less x y e = by (ltb x y) refl e
@@ -197,9 +122,6 @@ less_none : (x y : ℕ) → y ≤ x → unless_less x y ≡ None
 less_none x y h = ap (λ b. unless (not b) x y) (le-ltb x y h)
 
 module _ (t : Tables) (i y : Inv) where
-  abbrev Later : ℕ → ℕ → Type 0
-  Later h n = (h ≡ release t i) × (n ≡ release t y) × (n < h)
-
   abbrev Sooner : ℕ → ℕ → Type 0
   Sooner h n = (h ≡ window_end t i) × (n ≡ window_end t y) × (h < n)
 
@@ -210,51 +132,18 @@ module _ (t : Tables) (i y : Inv) where
   Rest h n = Sooner h n ⊎ ((window_end t y ≤ window_end t i) × Longer h n)
 
   rest_is : Finds (or_else (unless_less (window_end t i) (window_end t y)) (unless_more (task_worst t i.task) (task_worst t y.task))) Rest
-  rest_is =
-      finds_or_else (unless_less (window_end t i) (window_end t y)) (unless_more (task_worst t i.task) (task_worst t y.task)) Sooner Longer Rest
-      (less_is (window_end t i) (window_end t y)) (more_is (task_worst t i.task) (task_worst t y.task))
-      (λ h n p. inl p) (λ h n e q. inr (no_less (window_end t i) (window_end t y) e, q))
-      (λ h n r. elim r [ inl p ↦ inl p | inr q ↦ inr (less_none (window_end t i) (window_end t y) q.0, q.1) ])
+  rest_is = grind (arith, finds_or_else, less_is, more_is, no_less, less_none)
 
   excess_is : Finds (excess t i y) (AsksMore t i y)
-  excess_is =
-      finds_or_else (unless_more (release t i) (release t y)) _ Later Rest (AsksMore t i y)
-      (more_is (release t i) (release t y)) rest_is
-      (λ h n p. inl p)
-      (λ h n e q. let le = no_more (release t i) (release t y) e in elim q [
-        | inl p ↦ inr (inl (le, p.0, p.1, p.2))
-        | inr p ↦ inr (inr (le, p.0, p.1.0, p.1.1, p.1.2))
-      ])
-      (λ h n r. elim r [
-        | inl p ↦ inl p
-        | inr (inl p) ↦ inr (more_none (release t i) (release t y) p.0, inl (p.1, p.2, p.3))
-        | inr (inr p) ↦ inr (more_none (release t i) (release t y) p.0, inr (p.1, (p.2, p.3, p.4)))
-      ])
+  excess_is = grind (arith, finds_or_else, more_is, rest_is, no_more, more_none)
 
 excess_by_is : (t : Tables) (i : Inv) (o : Option ℕ) → i.parent ≡ o → Finds (excess_by t i o) (Exceeds t i)
 excess_by_is t i (Some p) is = by (slice_get t.invs p) refl
   where
     by : (o : Option Inv) → slice_get t.invs p ≡ o → Finds (excess_at t i o) (Exceeds t i)
-    by (Some y) at =
-        record {
-          says = λ h n e. (p, is, y, at, (excess_is t i y).says h n e);
-          finds = λ h n x.
-              let number : Some x.0 ≡ Some p = sym x.1 ∙ is in
-              let same : x.0 ≡ p = cc in
-              let item : Some x.2 ≡ Some y = sym x.3 ∙ ap (slice_get t.invs) same ∙ at in
-              let inv : x.2 ≡ y = cc in
-              (excess_is t i y).finds h n (subst (λ (z : Inv). AsksMore t i z h n) inv x.4);
-        }
-    by None at =
-        record {
-          says = λ h n e. absurd (none-some (h, n) e);
-          finds = λ h n x.
-              let number : Some x.0 ≡ Some p = sym x.1 ∙ is in
-              let same : x.0 ≡ p = cc in
-              absurd (none-some x.2 (sym at ∙ ap (slice_get t.invs) (sym same) ∙ x.3));
-        }
-excess_by_is t i None is =
-    record { says = λ h n e. absurd (none-some (h, n) e); finds = λ h n x. absurd (none-some x.0 (sym is ∙ x.1)) }
+    by (Some y) at = grind (arith, excess_is)
+    by None at = grind (arith, none-some)
+excess_by_is t i None is = grind (arith, none-some)
 
 pub exceeds_is : (t : Tables) (i : Inv) → Finds (excess_fault t i) (Exceeds t i)
 exceeds_is t i = excess_by_is t i i.parent refl
@@ -265,17 +154,11 @@ parent_found : (t : Tables) (p l a : ℕ) → writers_parent p (slice_get t.invs
 parent_found t p l a e = by (slice_get t.invs l) refl e
   where
     by : (o : Option Inv) → slice_get t.invs l ≡ o → writers_parent p o ≡ Some a → IsWriterOf t p a
-    by (Some x) at f =
-        let two = taken (list_any (is_port p) x.writes) x.parent a f in
-        let o = some_place (is_port p) x.writes two.0 in
-        record { number = l; writer = x; at = at; place = o.0; writes = o.2 ∙ ap (λ (e : End). Some e) (goes p o.1 o.3); parent = two.1 }
+    by (Some x) at f = grind (arith, taken, some_place, goes)
     by None at f = absurd (none-some a f)
 
 writer_found : (t : Tables) (p a : ℕ) (w : IsWriterOf t p a) → writers_parent p (slice_get t.invs w.number) ≡ Some a
-writer_found t p a w =
-    ap (writers_parent p) w.at
-    ∙ ap (λ b. cond b w.writer.parent None) (any_passes_from_place (is_port p) w.writer.writes w.place (E.Port p) w.writes (eq-eqb p p refl))
-    ∙ w.parent
+writer_found t p a w = grind (arith, any_passes_from_place, eq-eqb)
 
 -- where ports have one writer, the parent that is found is the writer's
 pub writer_parent_is : (t : Tables) (last p a : ℕ) → AreInRange t → KeptTo t last → 8 ≤ last → IsWriterOf t p a → writer_parent t p ≡ Some a
@@ -295,8 +178,7 @@ writer_parent_is t last p a range kept few w = by (writer_parent t p) refl
         e ∙ sym v.parent ∙ ap (λ (x : Inv). x.parent) inv ∙ w.parent
 
 pub parent_writer : (t : Tables) (p a : ℕ) → writer_parent t p ≡ Some a → IsWriterOf t p a
-parent_writer t p a e =
-    let g = to_found (λ l. writers_parent p (slice_get t.invs l)) (length t.invs) a e in parent_found t p g.0 a g.2
+parent_writer t p a e = grind (arith, to_found, parent_found)
 
 pub order_is : (t : Tables) (last : ℕ) (i : Inv) (e : End) → AreInRange t → KeptTo t last → 8 ≤ last → Finds (order_fault t i e) (Unordered t i e)
 order_is t last i (E.Comm c n) range kept few = finds_nothing

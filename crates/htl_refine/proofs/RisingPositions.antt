@@ -1,8 +1,7 @@
 -- The positions of a selection of running modes are invocations in rising order.
 use Rattle.std.proofs.Common.{◌≡◌, ◌<◌, ◌≤◌, ℕ, suc, Bool, true, false, cond, List, [], ◌∷◌, ◌++◌, length, get_or, map, Option, Some, None, refl, ◌∙◌, ap, subst, arith, inl, inr}
 use Rattle.htl_refine.proofs.Words.{slice_get, flat_map, get_or-map, length-map, slice_get_within, get_or_from_slice_get, none-some, Inv, Mode, Module, places_from, AreInRange, entry, IsSelection, IsEntry, IsModeOf, is_root, root_modules, inv_of_mode, invs_of, Tables, modes_rise, running_invs, running_positions, eqb-true, cases_lt}
-use Rattle.htl_refine.proofs.Members.{of_joined, of_flat, of_places}
-use Rattle.htl_refine.proofs.Positions.{rootless}
+use Rattle.htl_refine.proofs.{Members.of_joined, Members.of_flat, Members.of_places, Positions.rootless}
 
 -- ---- lists that rise
 
@@ -72,10 +71,7 @@ module _ (t : Tables) (modes : List (Option ℕ)) (range : AreInRange t) (s : Is
     of_mode : inv.mode ≡ mode
 
   root_at : (u : ℕ) → Has (root_modules t) u → (x : Module) × (slice_get t.modules u ≡ Some x) × (x.parent ≡ None)
-  root_at u h =
-      let m = of_places is_root 0 t.modules h.0 u h.1 in
-      let number : m.0 ≡ u = omega (arith, m.2) in
-      (m.1, subst (λ n. slice_get t.modules n ≡ Some m.1) number m.3, rootless m.1 m.4)
+  root_at u h = grind (arith, of_places, rootless)
 
   running_at : (u k : ℕ) → Has (root_modules t) u → Has (running_invs t modes u) k → IsRunningRoot u k
   running_at u k h j = by (entry modes u) refl j
@@ -83,18 +79,16 @@ module _ (t : Tables) (modes : List (Option ℕ)) (range : AreInRange t) (s : Is
       by : (o : Option ℕ) → entry modes u ≡ o → Has (elim o [ Some m ↦ invs_of t m | None ↦ [] ]) k → IsRunningRoot u k
       by (Some m) e i =
           let x = root_at u h in
-          let right : IsEntry t modes u x.0.parent (Some m) = subst (IsEntry t modes u x.0.parent) e (s.each u x.0 x.1) in
           let inv = of_places (inv_of_mode m) 0 t.invs i.0 k i.1 in
-          let place : inv.0 ≡ k = omega (arith, inv.2) in
           record {
             owner = x.0;
             at_owner = x.1;
             root = x.2;
             mode = m;
             runs = e;
-            own = right.0;
+            own = (subst (IsEntry t modes u x.0.parent) e (s.each u x.0 x.1)).0;
             inv = inv.1;
-            at = subst (λ n. slice_get t.invs n ≡ Some inv.1) place inv.3;
+            at = subst (λ n. slice_get t.invs n ≡ Some inv.1) (omega (arith, inv.2)) inv.3;
             of_mode = eqb-true inv.1.mode m inv.4;
           }
       by None e i = absurd (nothing_in k i)

@@ -1,27 +1,14 @@
 -- Each selection of running modes has a root selection.
 use Rattle.std.proofs.Common.{◌≡◌, ◌≤◌, ◌<◌, ℕ, zero, suc, ◌+◌, ◌*◌, ◌/◌, ◌%◌, Bool, true, false, cond, eqb, List, [], ◌∷◌, length, get_or, drop, Option, Some, None, refl, sym, ◌∙◌, ap, subst, arith, add-one}
 use Rattle.htl_refine.proofs.Words.{slice_get, flat_map, Module, AreInRange, no_modules, KeepsLimits, is_root, root_modules, mode_of_module, modes_of, choices_from, selection_count, positions, Tables, running_invs, running_positions, IsOfSelection, place_among, entry_place, selection_from, selection_of, entry, IsSelection, IsEntry, IsModeOf, eq-eqb, eqb-true, none-some}
-use Rattle.htl_refine.proofs.Members.{at_place}
-use Rattle.htl_refine.proofs.MixedRadix.{digits, regroup, digit}
-use Rattle.htl_refine.proofs.Positions.{rootless, root_is, same_positions}
+use Rattle.htl_refine.proofs.{Members.at_place, MixedRadix.digits, MixedRadix.regroup, MixedRadix.digit, Positions.rootless, Positions.root_is, Positions.same_positions}
 
 -- ---- a place in a list
 
 pub place_found : (m : ℕ) (xs : List ℕ) (r : ℕ) → slice_get xs r ≡ Some m → (place_among m xs < length xs) × (get_or xs (place_among m xs) 0 ≡ m)
 place_found m [] r e = absurd (none-some m e)
-place_found m (x ∷ xs) zero e =
-    let same : x ≡ m = cc in
-    here (eqb x m) (eq-eqb x m same) same
-  where
-    here : (b : Bool) → b ≡ true → x ≡ m → (cond b 0 (suc (place_among m xs)) < length (x ∷ xs)) × (get_or (x ∷ xs) (cond b 0 (suc (place_among m xs))) 0 ≡ m)
-    here true p q = (omega arith, q)
-    here false p q = cc
-place_found m (x ∷ xs) (suc r) e = by (eqb x m) refl (place_found m xs r e)
-  where
-    by : (b : Bool) → eqb x m ≡ b → (place_among m xs < length xs) × (get_or xs (place_among m xs) 0 ≡ m)
-        → (cond b 0 (suc (place_among m xs)) < length (x ∷ xs)) × (get_or (x ∷ xs) (cond b 0 (suc (place_among m xs))) 0 ≡ m)
-    by true p later = (omega arith, eqb-true x m p)
-    by false p later = (omega (arith, later.0), later.1)
+place_found m (x ∷ xs) zero e = grind (arith, eq-eqb)
+place_found m (x ∷ xs) (suc r) e = grind (arith, eqb-true, place_found m xs r e)
 
 -- what comes before the last digits of a number
 leading : (b : Bool) (d l c e r : ℕ) → (m : ℕ) × (d * (cond b l 1 * c) + (cond b (e * c) 0 + r) ≡ m * c + r)
@@ -37,9 +24,7 @@ module _ (t : Tables) (modes : List (Option ℕ)) where
   Fits k xs = (j : ℕ) (x : Module) → slice_get xs j ≡ Some x → is_root x ≡ true → entry_place t modes (k + j) < length (modes_of t (k + j))
 
   fits_later : (k : ℕ) (x : Module) (xs : List Module) → Fits k (x ∷ xs) → Fits (suc k) xs
-  fits_later k x xs h j y at root =
-      let next : k + suc j ≡ suc k + j = omega arith in
-      subst (λ n. entry_place t modes n < length (modes_of t n)) next (h (suc j) y at root)
+  fits_later k x xs h j y at root = subst (λ n. entry_place t modes n < length (modes_of t n)) (omega arith) (h (suc j) y at root)
 
   fits_here : (k : ℕ) (x : Module) (xs : List Module) → Fits k (x ∷ xs) → is_root x ≡ true → entry_place t modes k < length (modes_of t k)
   fits_here k x xs h root = let zero_add : k + 0 ≡ k = omega arith in subst (λ n. entry_place t modes n < length (modes_of t n)) zero_add (h 0 x refl root)
@@ -66,18 +51,16 @@ module _ (t : Tables) (modes : List (Option ℕ)) where
   digit_is k d (y ∷ ys) h zero x at root =
       let same : y ≡ x = cc in
       let test : is_root y ≡ true = ap is_root same ∙ root in
-      let zero_add : k ≡ k + 0 = omega arith in
       let l = length (modes_of t k) in
       let c = choices_from t (suc k) ys in
       let e = entry_place t modes k in
       let r = selection_from t modes (suc k) ys in
-      subst (λ n. digit_at (d * choices_from t k (y ∷ ys) + selection_from t modes k (y ∷ ys)) n (y ∷ ys) 0 ≡ entry_place t modes n) zero_add
+      subst (λ n. digit_at (d * choices_from t k (y ∷ ys) + selection_from t modes k (y ∷ ys)) n (y ∷ ys) 0 ≡ entry_place t modes n) (omega arith)
       (ap (λ b. (d * (cond b l 1 * c) + (cond b (e * c) 0 + r)) / c % l) test
       ∙ digit d l c e r (fits_here k y ys h test) (below_choices (suc k) ys (fits_later k y ys h)))
   digit_is k d (y ∷ ys) h (suc j) x at root =
-      let next : suc k + j ≡ k + suc j = omega arith in
       let m = leading (is_root y) d (length (modes_of t k)) (choices_from t (suc k) ys) (entry_place t modes k) (selection_from t modes (suc k) ys) in
-      subst (λ n. digit_at (d * choices_from t k (y ∷ ys) + selection_from t modes k (y ∷ ys)) n (y ∷ ys) (suc j) ≡ entry_place t modes n) next
+      subst (λ n. digit_at (d * choices_from t k (y ∷ ys) + selection_from t modes k (y ∷ ys)) n (y ∷ ys) (suc j) ≡ entry_place t modes n) (omega arith)
       (ap (λ n. digit_at n (suc k + j) ys j) m.1 ∙ digit_is (suc k) m.0 ys (fits_later k y ys h) j x at root)
 
   -- ---- a selection of running modes
@@ -85,13 +68,7 @@ module _ (t : Tables) (modes : List (Option ℕ)) where
   module _ (s : IsSelection t modes) where
     -- the mode of a root module
     pub root_entry : (u : ℕ) (x : Module) → slice_get t.modules u ≡ Some x → x.parent ≡ None → (m : ℕ) × (entry modes u ≡ Some m) × IsModeOf t u m
-    root_entry u x at root = by (entry modes u) refl
-      where
-        by : (o : Option ℕ) → entry modes u ≡ o → (m : ℕ) × (entry modes u ≡ Some m) × IsModeOf t u m
-        by (Some m) e = let right : IsEntry t modes u x.parent (Some m) = subst (IsEntry t modes u x.parent) e (s.each u x at) in (m, e, right.0)
-        by None e =
-            let wrong : IsEntry t modes u None None = subst (λ p. IsEntry t modes u p None) root (subst (IsEntry t modes u x.parent) e (s.each u x at)) in
-            absurd (wrong tt)
+    root_entry u x at root = grind arith
 
     pub root_place : (u : ℕ) (x : Module) → slice_get t.modules u ≡ Some x → x.parent ≡ None
         → (entry_place t modes u < length (modes_of t u)) × (entry modes u ≡ Some (get_or (modes_of t u) (entry_place t modes u) 0))
@@ -106,27 +83,21 @@ module _ (t : Tables) (modes : List (Option ℕ)) where
         )
 
     all_fit : Fits 0 t.modules
-    all_fit j x at root =
-        let zero_add : j ≡ 0 + j = omega arith in
-        subst (λ n. entry_place t modes n < length (modes_of t n)) zero_add (root_place j x at (rootless x root)).0
+    all_fit j x at root = subst (λ n. entry_place t modes n < length (modes_of t n)) (omega arith) (root_place j x at (rootless x root)).0
 
     -- the root modules are in the modes of its root selection
     pub is_of_selection : IsOfSelection t (selection_of t modes) modes
     is_of_selection u x at root =
-        let zero_add : 0 + u ≡ u = omega arith in
-        let plain : 0 * choices_from t 0 t.modules + selection_of t modes ≡ selection_of t modes = omega arith in
         let digit : digit_at (selection_of t modes) u t.modules u ≡ entry_place t modes u =
-        subst (λ n. digit_at (selection_of t modes) n t.modules u ≡ entry_place t modes n) zero_add
-        (subst (λ m. digit_at m (0 + u) t.modules u ≡ entry_place t modes (0 + u)) plain (digit_is 0 0 t.modules all_fit u x at (root_is x root))) in
+        subst (λ n. digit_at (selection_of t modes) n t.modules u ≡ entry_place t modes n) (omega arith)
+        (subst (λ m. digit_at m (0 + u) t.modules u ≡ entry_place t modes (0 + u)) (omega arith) (digit_is 0 0 t.modules all_fit u x at (root_is x root))) in
         (root_place u x at root).1
         ∙ ap (λ (n : ℕ). Some (get_or (modes_of t u) n 0)) (sym digit)
         ∙ ap (λ (n : ℕ). Some (get_or (modes_of t u) (selection_of t modes / choices_from t n (drop n t.modules) % length (modes_of t u)) 0)) (sym (add-one u))
 
     -- which is one, where there is a module
     pub selection_below : (k : ℕ) (ks : List ℕ) → root_modules t ≡ k ∷ ks → selection_of t modes < selection_count t
-    selection_below k ks e =
-        let count : selection_count t ≡ choices_from t 0 t.modules = ap (λ (us : List ℕ). elim us [ [] ↦ 0 | v ∷ vs ↦ choices_from t 0 t.modules ]) e in
-        omega (arith, count, below_choices 0 t.modules all_fit)
+    selection_below k ks e = grind (arith, below_choices, all_fit)
 
     -- there are at most as many positions as in a root selection
     pub few_positions : KeepsLimits t → length (running_positions t modes) ≤ 128

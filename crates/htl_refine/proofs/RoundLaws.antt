@@ -2,11 +2,7 @@
 use Rattle.std.proofs.Common.{◌≡◌, ◌≤◌, ◌<◌, ℕ, ◌+◌, Bool, true, false, ◌&&◌, cond, eqb, leb, List, [], ◌∷◌, length, get_or, map, Option, Some, None, refl, sym, ◌∙◌, ap, subst, arith}
 use Rattle.htl_refine.proofs.Words.{slice_get, flat_map, get_or_from_slice_get, none-some, Event, Inv, Module, Task, chosen, places_from, KeptTo, AreInRange, IsInvInRange, IsTaskInRange, is_root, selection_count, Tables, task_worst, Job, SInstr, abstract_jobs, jobs_standing, placed_job, HaveLengths, AreWithinWorst, ScheduleIsAccepted, Meets, places_of, Place, running_invs, running_positions, concrete_jobs, derived_place, derived_jobs, last_took, inv_worst, took, lengths_of, AreTookWithin, modes_at, round_at, selection_of, all_at, from_map, get_mapped, eqb-true}
 use Rattle.htl_model.specs.declared.event.Event.TheVariants as V
-use Rattle.htl_refine.proofs.FirstRound.{concrete_are}
-use Rattle.htl_refine.proofs.Inherit.{inheritance}
-use Rattle.htl_refine.proofs.PathDerived.{placed_present}
-use Rattle.htl_refine.proofs.RootSelection.{below_count, is_of_selection}
-use Rattle.htl_refine.proofs.StateLaws.{states_are_selections}
+use Rattle.htl_refine.proofs.{FirstRound.concrete_are, Inherit.inheritance, PathDerived.placed_present, RootSelection.below_count, RootSelection.is_of_selection, StateLaws.states_are_selections}
 
 pub took_within : (t : Tables) (i u r x : ℕ) (es : List Event) → AreTookWithin t es → 1 ≤ x → x ≤ inv_worst t i → (1 ≤ last_took i u r x es) × (last_took i u r x es ≤ inv_worst t i)
 took_within t i u r x [] h a b = (a, b)
@@ -25,10 +21,9 @@ took_within t i u r x (V.Took j n ∷ es) h a b = by (eqb i j) (leb r u) refl (�
 pub worst_some : (t : Tables) (k : ℕ) (i : Inv) → AreInRange t → slice_get t.invs k ≡ Some i → (1 ≤ inv_worst t k) × (inv_worst t k ≡ task_worst t i.task)
 worst_some t k i range at =
     let inv = (all_at (IsInvInRange t) t.invs k i range.invs at).task in
-    let worst = (all_at (IsTaskInRange t) t.tasks i.task inv.0 range.tasks inv.1).worst in
     let a : inv_worst t k ≡ task_worst t i.task = ap (λ (o : Option Inv). elim o [ Some x ↦ task_worst t x.task | None ↦ 0 ]) at in
     let b : task_worst t i.task ≡ inv.0.worst = ap (λ (o : Option Task). elim o [ Some x ↦ x.worst | None ↦ 0 ]) inv.1 in
-    (omega (arith, a, b, worst.some), a)
+    (omega (arith, a, b, ((all_at (IsTaskInRange t) t.tasks i.task inv.0 range.tasks inv.1).worst).some), a)
 
 -- what stands at places takes from one tick to its worst case
 module _ (t : Tables) (modes : ℕ → List (Option ℕ)) (es : List Event) (f : ℕ) (range : AreInRange t) (within : AreTookWithin t es) (xs : List Place) where
@@ -39,13 +34,11 @@ module _ (t : Tables) (modes : ℕ → List (Option ℕ)) (es : List Event) (f :
       let js = derived_jobs t modes xs in
       let y = from_map (placed_job t ys) ys p j at in
       let c = placed_present t ys y.0.at y.0.inv j y.2 here in
-      let inv : j.inv ≡ c.0 = sym (ap (λ (z : Job). z.inv) c.4) in
-      let most : j.worst ≡ task_worst t c.1.task = sym (ap (λ (z : Job). z.worst) c.4) in
-      let w = worst_some t j.inv c.1 range (ap (slice_get t.invs) inv ∙ c.3) in
+      let w = worst_some t j.inv c.1 range (ap (slice_get t.invs) (sym (ap (λ (z : Job). z.inv) c.4)) ∙ c.3) in
       let r = took_within t j.inv (f + j.release) 0 (inv_worst t j.inv) es within w.0 (omega arith) in
       let g = λ (z : Job). took t es z.inv (f + z.release) in
       let is : get_or (lengths_of t es f js) p 0 ≡ g j = get_or_from_slice_get (map g js) p (g j) 0 (get_mapped g js p j at) in
-      (omega (arith, is, r.0), omega (arith, is, r.1, w.1, most))
+      (omega (arith, is, r.0), omega (arith, is, r.1, w.1, sym (ap (λ (z : Job). z.worst) c.4)))
 
   pub have_lengths : HaveLengths (derived_jobs t modes xs) (lengths_of t es f (derived_jobs t modes xs))
   have_lengths p j at here = (length_is p j at here).0
@@ -55,9 +48,7 @@ module _ (t : Tables) (modes : ℕ → List (Option ℕ)) (es : List Event) (f :
 
 -- without modules nothing runs
 no_jobs : (t : Tables) (modes : List (Option ℕ)) → t.modules ≡ [] → concrete_jobs t modes ≡ []
-no_jobs t modes none =
-    let positions : running_positions t modes ≡ [] = ap (λ (us : List Module). flat_map (running_invs t modes) (places_from is_root 0 us)) none in
-    ap (λ ps. jobs_standing t (map (chosen t modes) ps)) positions
+no_jobs t modes none = grind arith
 
 none_meet : (jobs : List Job) (ns : List ℕ) (s : List SInstr) → jobs ≡ [] → Meets jobs ns s
 none_meet jobs ns s none p j at here = absurd (none-some j (sym (ap (λ js. slice_get js p) none) ∙ at))
@@ -68,9 +59,7 @@ pub rounds_meet : (t : Tables) (schedules : List (List SInstr)) (es : List Event
 rounds_meet t schedules es start period range kept within accepted = by t.modules refl
   where
     by : (us : List Module) → t.modules ≡ us → let r = round_at t schedules es start in Meets r.jobs r.lengths r.schedule
-    by [] e =
-        let modes = modes_at t es start in
-        none_meet (concrete_jobs t modes) (lengths_of t es start (concrete_jobs t modes)) (get_or schedules (selection_of t modes) []) (no_jobs t modes e)
+    by [] e = grind (arith, none_meet, no_jobs)
     by (u ∷ us) e =
         let modes = modes_at t es start in
         let selection = states_are_selections t range es start in

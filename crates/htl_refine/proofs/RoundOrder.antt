@@ -1,10 +1,7 @@
 -- The starts, rounds and positions of a frame are in order.
 use Rattle.std.proofs.Common.{◌≡◌, ◌<◌, ◌≤◌, ◌⊎◌, ℕ, zero, suc, ◌+◌, ◌%◌, Bool, true, false, cond, eqb, leb, List, [], ◌∷◌, ◌++◌, map, slice_get, Option, Some, refl, sym, ◌∙◌, ap, subst, arith, inl, inr}
 use Rattle.htl_refine.proofs.Words.{flat_map, eqb-true, le-leb, leb-true, leb-false, Place, Round, unit_period, root_periods, frame_of, begins, starts_below, starts, rounds_of, rounds_at, rounds, places_of, known_by, of_bool, places_from, is_root, root_modules, Tables, running_invs, derived_place, place, running_places, frame_places, from_map, same_Some}
-use Rattle.htl_refine.proofs.AlongPath.{known_none}
-use Rattle.htl_refine.proofs.BegunTimes.{start_below}
-use Rattle.htl_refine.proofs.Members.{of_joined, of_flat, of_places}
-use Rattle.htl_refine.proofs.RecordOrder.{not_some}
+use Rattle.htl_refine.proofs.{AlongPath.known_none, BegunTimes.start_below, Members.of_joined, Members.of_flat, Members.of_places, RecordOrder.not_some}
 
 -- ---- lists in order
 
@@ -57,18 +54,12 @@ of_rounds t a (u ∷ us) q r e = by (eqb (a % unit_period t u) 0) refl q e (λ i
     by : (b : Bool) → eqb (a % unit_period t u) 0 ≡ b → (q : ℕ) → slice_get (cond b (record { at = a; unit = u } ∷ rounds_of t a us) (rounds_of t a us)) q ≡ Some r
         → ((i : ℕ) → slice_get (rounds_of t a us) i ≡ Some r → (j : ℕ) × (slice_get us j ≡ Some r.unit) × (r.at ≡ a) × (a % unit_period t r.unit ≡ 0))
         → (j : ℕ) × (slice_get (u ∷ us) j ≡ Some r.unit) × (r.at ≡ a) × (a % unit_period t r.unit ≡ 0)
-    by true f zero g ih =
-        let same : ◌≡◌ {A = Round} (record { at = a; unit = u }) r = same_Some _ _ g in
-        let unit : u ≡ r.unit = ap (λ (z : Round). z.unit) same in
-        (0, ap (λ z. Some z) unit, sym (ap (λ (z : Round). z.at) same), ap (λ z. a % unit_period t z) (sym unit) ∙ eqb-true (a % unit_period t u) 0 f)
+    by true f zero g ih = grind (arith, same_Some, eqb-true)
     by true f (suc i) g ih = let m = ih i g in (suc m.0, m.1, m.2, m.3)
     by false f i g ih = let m = ih i g in (suc m.0, m.1, m.2, m.3)
 
 pub round_of : (t : Tables) (q : ℕ) (r : Round) → slice_get (rounds t) q ≡ Some r → (j : ℕ) × (slice_get (root_modules t) j ≡ Some r.unit) × (r.at % unit_period t r.unit ≡ 0)
-round_of t q r e =
-    let m = of_flat (rounds_at t) (starts t) q r e in
-    let n = of_rounds t m.1 (root_modules t) m.3 r m.4 in
-    (n.0, n.1, ap (λ z. z % unit_period t r.unit) n.2 ∙ n.3)
+round_of t q r e = grind (arith, of_flat, of_rounds)
 
 pub run_of : (t : Tables) (modes : ℕ → List (Option ℕ)) (rs : List Round) (p : ℕ) (x : Place) → slice_get (running_places t modes rs) p ≡ Some x
     → (q : ℕ) × (r : Round) × (slice_get rs q ≡ Some r) × (j k : ℕ) × (slice_get (running_invs t (modes r.at) r.unit) j ≡ Some k) × (x ≡ place k r.at)
@@ -96,8 +87,7 @@ sorted_starts ps (suc h) =
 
     is_it : (b : Bool) (j y : ℕ) → slice_get (cond b (h ∷ []) []) j ≡ Some y → y ≡ h
     is_it true zero y e = sym (same_Some h y e)
-    is_it true (suc j) y e = not_some y e
-    is_it false j y e = not_some y e
+    is_it _ _ y e = not_some y e
 
 unfoldable pub RoundLess : Round → Round → Type 0
 RoundLess r s = (r.at < s.at) ⊎ ((r.at ≡ s.at) × (r.unit < s.unit))
@@ -118,9 +108,7 @@ unfolding Less RoundLess
 sorted_rounds t =
     sorted_flat (rounds_at t) Less RoundLess (starts t) (sorted_starts (root_periods t) (frame_of t)) (λ j a e. sorted_rounds_at t a (root_modules t) (sorted_places is_root 0 t.modules))
     (λ a b l i j r s g h.
-    let left : r.at ≡ a = (of_rounds t a (root_modules t) i r g).2 in
-    let right : s.at ≡ b = (of_rounds t b (root_modules t) j s h).2 in
-    inl (omega (arith, l, left, right)))
+    inl (omega (arith, l, (of_rounds t a (root_modules t) i r g).2, (of_rounds t b (root_modules t) j s h).2)))
 
 -- ---- positions by their rounds' starts
 
@@ -149,9 +137,7 @@ running_by_start t modes (r ∷ rs) s =
     sorted_join ByStart (places_of r.at ks) (running_places t modes rs) (block_by_start r.at ks) (running_by_start t modes rs s.1)
     (λ i j x y g k.
     let w = run_of t modes rs j y k in
-    let first : r.at ≤ w.1.at = least_first r w.1 (s.0 w.0 w.1 w.2) in
-    let at : y.at ≡ w.1.at = ap (λ (z : Place). z.at) w.6 in
-    omega (arith, first, at, block_at r.at ks i x g))
+    omega (arith, least_first r w.1 (s.0 w.0 w.1 w.2), ap (λ (z : Place). z.at) w.6, block_at r.at ks i x g))
 
 pub frame_by_start : (t : Tables) (modes : ℕ → List (Option ℕ)) → Sorted ByStart (frame_places t modes)
 frame_by_start t modes = running_by_start t modes (rounds t) (sorted_rounds t)
@@ -160,10 +146,7 @@ frame_by_start t modes = running_by_start t modes (rounds t) (sorted_rounds t)
 pub standing_by_start : (t : Tables) (modes : ℕ → List (Option ℕ)) (xs : List Place) → Sorted ByStart xs → Sorted ByStart (map (derived_place t modes) xs)
 unfolding Sorted ByStart
 standing_by_start t modes [] s = tt
-standing_by_start t modes (x ∷ xs) s = (λ q y e. by q y (from_map (derived_place t modes) xs q y e), standing_by_start t modes xs s.1)
-  where
-    by : (q : ℕ) (y : Place) → (z : Place) × (slice_get xs q ≡ Some z) × (derived_place t modes z ≡ y) → x.at ≤ y.at
-    by q y m = let at : m.0.at ≡ y.at = ap (λ (w : Place). w.at) m.2 in omega (arith, at, s.0 q m.0 m.1)
+standing_by_start t modes (x ∷ xs) s = grind (arith, from_map, standing_by_start t modes xs s.1)
 
 -- ---- those that have begun
 

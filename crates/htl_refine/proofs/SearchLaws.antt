@@ -2,36 +2,14 @@
 use Rattle.std.proofs.Common.{◌≡◌, ℕ, ◌+◌, ◌≤◌, ◌<◌, ◌⊎◌, Some, None, sym, ◌∙◌, ap, subst, arith, inl, inr}
 use Rattle.htl_refine.proofs.Words.{slice_get, FormFault, Tables, AreInRange, FormRule, number_of, Site, ComesBefore, Broken, KeptTo, site_of, IsFirstBroken, breach, finds_nothing, none_at, found_at, IsFirstAt, Judges, rule_none, rule_first, IsFirstOfRule, refinement_law_of, refinement_rule_number, refinement_rules, tests, refinement_fault_of, first_refinement_fault, Rule}
 use Rattle.htl_refine.specs.declared.rule.Rule.TheVariants as R
-use Rattle.htl_refine.proofs.RefiningLaws.{place_is, parent_is, shared_is, exceeds_is, order_is}
-use Rattle.htl_refine.proofs.RuleOrder.{place_of, number_at}
+use Rattle.htl_refine.proofs.{RefiningLaws.place_is, RefiningLaws.parent_is, RefiningLaws.shared_is, RefiningLaws.exceeds_is, RefiningLaws.order_is, RuleOrder.place_of, RuleOrder.number_at}
 
 -- ---- each rule's tests find exactly what breaks it
 
 pub judges : (t : Tables) → AreInRange t → KeptTo t 12 → (r : Rule) → Judges t (tests t r) (breach t (refinement_law_of r))
-judges t range kept R.AbstractPlaces =
-    record {
-      mode = λ m x at. finds_nothing;
-      inv = λ k i at. place_is t i;
-      input = λ k i j e at read. finds_nothing;
-      output = λ k i j e at out. finds_nothing;
-      test = λ m c. finds_nothing;
-    }
-judges t range kept R.Parents =
-    record {
-      mode = λ m x at. finds_nothing;
-      inv = λ k i at. parent_is t i;
-      input = λ k i j e at read. finds_nothing;
-      output = λ k i j e at out. finds_nothing;
-      test = λ m c. finds_nothing;
-    }
-judges t range kept R.SharedParents =
-    record {
-      mode = λ m x at. finds_nothing;
-      inv = λ k i at. shared_is t k i;
-      input = λ k i j e at read. finds_nothing;
-      output = λ k i j e at out. finds_nothing;
-      test = λ m c. finds_nothing;
-    }
+judges t range kept R.AbstractPlaces = grind (arith, finds_nothing, place_is)
+judges t range kept R.Parents = grind (arith, finds_nothing, parent_is)
+judges t range kept R.SharedParents = grind (arith, finds_nothing, shared_is)
 judges t range kept R.Inheritance =
     record {
       mode = λ m x at. finds_nothing;
@@ -69,8 +47,7 @@ least_of_all t range kept f g first law s h d (inl less) y =
 least_of_all t range kept f g first law s h d (inr same) y =
     let number = number_at g.place g.item g.at in
     let q = place_of law (omega (arith, number.0)) in
-    let place : q.0 ≡ g.place = omega (arith, q.2, number.0) in
-    let item : Some q.1 ≡ Some g.item = sym q.3 ∙ ap (slice_get refinement_rules) place ∙ g.at in
+    let item : Some q.1 ≡ Some g.item = sym q.3 ∙ ap (slice_get refinement_rules) (omega (arith, q.2, number.0)) ∙ g.at in
     let rule : q.1 ≡ g.item = cc in
     first.least s h d same.1 (subst (λ (l : FormRule). Broken t l s h d) (sym q.4 ∙ ap refinement_law_of rule) y)
 

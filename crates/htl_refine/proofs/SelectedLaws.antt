@@ -14,11 +14,7 @@ pub running_is : (t : Tables) (modes : List (Option ℕ)) (m : ℕ) → Decides 
 running_is t modes m = (at_number (entry modes (mode_module t m)) m, number_at (entry modes (mode_module t m)) m)
 
 pub mode_of_is : (t : Tables) (u m : ℕ) → Decides (is_mode_of t u m) (IsModeOf t u m)
-mode_of_is t u m = by (slice_get t.modes m) refl
-  where
-    by : (o : Option Mode) → slice_get t.modes m ≡ o → Decides (elim o [ Some x ↦ eqb x.«module» u | None ↦ false ]) (IsModeOf t u m)
-    by (Some x) e = (λ h. (x, e, eqb-true x.«module» u h), λ y. (let is : Some x ≡ Some y.0 = sym e ∙ y.1 in let same : x ≡ y.0 = cc in eq-eqb x.«module» u (ap (λ (z : Mode). z.«module») same ∙ y.2)))
-    by None e = (λ h. cc, λ y. absurd (let no : ◌≡◌ {A = Option Mode} None (Some y.0) = sym e ∙ y.1 in cc))
+mode_of_is t u m = grind (arith, eqb-true, eq-eqb)
 
 pub active_is : (t : Tables) (modes : List (Option ℕ)) (p : Option ℕ) → Decides (is_active t modes p) (IsActive t modes p)
 active_is t modes None = (λ h. tt, λ h. refl)
@@ -31,13 +27,9 @@ entry_is t modes u p None = Decides-not (is_active t modes p) (active_is t modes
 entries_at : (t : Tables) (modes : List (Option ℕ)) (u : ℕ) (xs : List Module) → are_entries t modes u xs ≡ true → (j : ℕ) (x : Module) → slice_get xs j ≡ Some x
     → is_entry t modes (u + j) x.parent (entry modes (u + j)) ≡ true
 entries_at t modes u [] h j x at = cc
-entries_at t modes u (y ∷ ys) h zero x at =
-    let same : y ≡ x = cc in
-    let zero_add : u ≡ u + 0 = omega arith in
-    subst (λ n. is_entry t modes n x.parent (entry modes n) ≡ true) zero_add (subst (λ (z : Module). is_entry t modes u z.parent (entry modes u) ≡ true) same (and_parts _ _ h).0)
+entries_at t modes u (y ∷ ys) h zero x at = grind (arith, and_parts)
 entries_at t modes u (y ∷ ys) h (suc j) x at =
-    let next : suc u + j ≡ u + suc j = omega arith in
-    subst (λ n. is_entry t modes n x.parent (entry modes n) ≡ true) next (entries_at t modes (suc u) ys (and_parts _ _ h).1 j x at)
+    subst (λ n. is_entry t modes n x.parent (entry modes n) ≡ true) (omega arith) (entries_at t modes (suc u) ys (and_parts _ _ h).1 j x at)
 
 entries_all : (t : Tables) (modes : List (Option ℕ)) (u : ℕ) (xs : List Module)
     → ((j : ℕ) (x : Module) → slice_get xs j ≡ Some x → is_entry t modes (u + j) x.parent (entry modes (u + j)) ≡ true) → are_entries t modes u xs ≡ true
@@ -54,13 +46,11 @@ selection_is t modes = (
       record {
         same = eqb-true (length modes) (length t.modules) parts.0;
         each = λ u x at.
-            let zero_add : 0 + u ≡ u = omega arith in
             (entry_is t modes u x.parent (entry modes u)).0
-            (subst (λ n. is_entry t modes n x.parent (entry modes n) ≡ true) zero_add (entries_at t modes 0 t.modules parts.1 u x at));
+            (subst (λ n. is_entry t modes n x.parent (entry modes n) ≡ true) (omega arith) (entries_at t modes 0 t.modules parts.1 u x at));
       },
   λ s.
       rw (eq-eqb (length modes) (length t.modules) s.same)
       (entries_all t modes 0 t.modules (λ u x at.
-      let zero_add : u ≡ 0 + u = omega arith in
-      subst (λ n. is_entry t modes n x.parent (entry modes n) ≡ true) zero_add ((entry_is t modes u x.parent (entry modes u)).1 (s.each u x at)))),
+      subst (λ n. is_entry t modes n x.parent (entry modes n) ≡ true) (omega arith) ((entry_is t modes u x.parent (entry modes u)).1 (s.each u x at)))),
 )

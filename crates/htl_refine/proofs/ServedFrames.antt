@@ -1,21 +1,12 @@
 -- Lists that are accepted for all paths serve every frame of every run.
 use Rattle.std.proofs.Common.{◌≡◌, ℕ, ◌+◌, ◌*◌, ◌<◌, List, [], ◌∷◌, length, Option, refl, sym, subst, arith}
 use Rattle.htl_refine.proofs.Words.{Event, Place, KeptApart, frame_of, starts, rounds, choices, paths, path_places, AreInRange, root_modules, Tables, SInstr, lists_of, path_jobs, legs_of, legs, AreChained, IsPathAccepted, Refines, path_dominance, legs_follow, derived_jobs, frame_modes, path_of, frame_places, Frame, frame_at, lengths_of, AreTookWithin, IsServing, FramesAreServed, EveryJobInTime}
-use Rattle.htl_refine.proofs.PathDerived.{path_roots, all_refined}
-use Rattle.htl_refine.proofs.PathRead.{paths_read}
-use Rattle.htl_refine.proofs.PathServing.{path_work}
-use Rattle.htl_refine.proofs.RoundLaws.{have_lengths, within_worst}
-use Rattle.htl_refine.proofs.ServedJobs.{frames_serve}
-use Rattle.htl_refine.proofs.StateLaws.{states_are_selections}
+use Rattle.htl_refine.proofs.{PathDerived.path_roots, PathDerived.all_refined, PathRead.paths_read, PathServing.path_work, RoundLaws.have_lengths, RoundLaws.within_worst, ServedJobs.frames_serve, StateLaws.states_are_selections}
 
 -- ---- frames
 
 pub paths_are : (t : Tables) → 0 < length (root_modules t) → paths t ≡ choices t (rounds t)
-paths_are t some = by (root_modules t) some (choices t (rounds t))
-  where
-    by : (us : List ℕ) → 0 < length us → (n : ℕ) → elim us as (λ _. ℕ) [ [] ↦ 0 | v ∷ vs ↦ n ] ≡ n
-    by [] h n = absurd (omega arith)
-    by (u ∷ us) h n = refl
+paths_are t some = grind arith
 
 module _ (t : Tables) (lists : List (List SInstr)) (es : List Event) (f path : ℕ) (modes : ℕ → List (Option ℕ)) (range : AreInRange t) (kept : KeptApart t 16) (within : AreTookWithin t es)
     (some : 0 < length (root_modules t)) (long : 0 < frame_of t) (accepted : IsPathAccepted (path_jobs t path) (legs t path) (lists_of t lists path)) where

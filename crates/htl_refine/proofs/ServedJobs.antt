@@ -2,9 +2,7 @@
 use Rattle.std.proofs.Common.{◌≡◌, ℕ, zero, suc, ◌-◌, ◌*◌, ◌≤◌, ◌<◌, Bool, true, false, cond, ◌&&◌, eqb, is_some, List, [], ◌∷◌, length, take, Option, Some, None, refl, sym, ap, ◌∙◌, arith, inl, inr}
 use Rattle.htl_refine.proofs.Words.{eq-eqb, or_right, Job, SInstr, Leg, walks_from, end_to_end, AreInForm, Point, Left, first_point, is_position, finish, work_present, Frame, walk_of, done_by, IsServing, FramesServe, spent, Finishes, Serves, cases_less_more, same_Some}
 use Rattle.htl_walk.proofs.Joining.{joined, show_joined}
-use Rattle.htl_refine.proofs.FinishingRecords.{finish_record, finishing, finish_more}
-use Rattle.htl_refine.proofs.RecordOrder.{not_some, path_rises, path_within, counted}
-use Rattle.htl_refine.proofs.SliceOrder.{path_apart}
+use Rattle.htl_refine.proofs.{FinishingRecords.finish_record, FinishingRecords.finishing, FinishingRecords.finish_more, RecordOrder.not_some, RecordOrder.path_rises, RecordOrder.path_within, RecordOrder.counted, SliceOrder.path_apart}
 use Rattle.htl_refine.proofs.SliceSums.{spent_is}
 
 -- ---- once
@@ -26,18 +24,14 @@ done_after ls p k f r = finish_more ls k p r.0 r.1 ∙ or_right (done_by ls k p)
   where
     here : (o : Option ℕ) (b : Bool) → o ≡ Some p → b ≡ true → (is_position o p && b) ≡ true
     here None b e f = not_some p e
-    here (Some q) b e f = let same : q ≡ p = same_Some _ _ e in all_true (eqb q p) b (eq-eqb q p same) f
-      where
-        all_true : (a b : Bool) → a ≡ true → b ≡ true → (a && b) ≡ true
-        all_true a b e f = grind arith
+    here (Some q) b e f = grind (arith, same_Some, eq-eqb)
 
 module _ (jobs : List Job) (ss : List (List SInstr)) (gs : List Leg) (x : Point) (f : AreInForm ss gs) (p : ℕ) where
   not_before : (k m d e : ℕ) → k < m → Finishes (end_to_end (walks_from jobs ss gs x)) p k d → Finishes (end_to_end (walks_from jobs ss gs x)) p m e → ⊥
   not_before k m d e h a b =
       let w = end_to_end (walks_from jobs ss gs x) in
       let open_yet : done_by w m p ≡ false = (finishing jobs ss gs x m p b.0 f b.1 b.2 b.3).open_yet in
-      let done : done_by w m p ≡ true = done_stays w (suc k) m p (omega arith) (done_after w p k d a) in
-      let z : true ≡ false = sym done ∙ open_yet in cc
+      let z : true ≡ false = sym (done_stays w (suc k) m p (omega arith) (done_after w p k d a)) ∙ open_yet in cc
 
   pub finish_once : (k m d e : ℕ) → Finishes (end_to_end (walks_from jobs ss gs x)) p k d → Finishes (end_to_end (walks_from jobs ss gs x)) p m e → k ≡ m
   finish_once k m d e a b = elim (cases_less_more k m) [ inl h ↦ absurd (not_before k m d e h a b) | inr (inl h) ↦ absurd (not_before m k e d h b a) | inr (inr z) ↦ z ]

@@ -2,15 +2,12 @@
 use Rattle.std.proofs.Common.{◌≡◌, ℕ, zero, suc, ◌≤◌, true, List, [], ◌∷◌, length, slice_get, take, sym, ap, ◌∙◌, arith}
 use Rattle.htl_refine.proofs.Words.{length-take, Job, Left, job_at, first_point, walk, IsMet, work_some, walk_of, leg_at, FrontServed, ListServed, job_front}
 use Rattle.htl_walk.proofs.Joining.{joined, show_joined}
-use Rattle.htl_refine.proofs.FinishingRecords.{last_is, finish_record, finishing}
-use Rattle.htl_refine.proofs.Fronts.{front_there}
-use Rattle.htl_refine.proofs.RecordOrder.{path_rises}
+use Rattle.htl_refine.proofs.{FinishingRecords.last_is, FinishingRecords.finish_record, FinishingRecords.finishing, Fronts.front_there, RecordOrder.path_rises}
 
 front_present : (n : ℕ) (js : List Job) (p : ℕ) → (job_at (take n js) p).present ≡ true → (job_at js p).present ≡ true
 front_present zero js p e = absurd (let z : ⊥ = cc in z)
-front_present (suc n) [] p e = e
-front_present (suc n) (k ∷ js) zero e = e
 front_present (suc n) (k ∷ js) (suc p) e = front_present n js p e
+front_present (suc n) _ _ e = e
 
 pub met_front : (n : ℕ) (js : List Job) (ls : List Left) (p : ℕ) (j : Job) → IsMet js ls p j → IsMet (take n js) ls p j
 met_front n js ls p j m = record { finishes = m.finishes; within = m.within; after = λ q s b c e. m.after q s b (front_present n js q c) e }
@@ -33,8 +30,7 @@ front_served f h frame n m past serving within known =
           (r.open_yet, ap (λ (z : Job). z.present) (job_front m f.jobs p (omega (arith, few, long))) ∙ work_some f.jobs f.lengths p r.some);
       known = λ k p l at pos fin early.
           let r = finishing f.jobs f.lists f.legs x k p l serving.forms at pos fin in
-          let less : (leg_at f r.place).known ≤ m = known r.place r.there (omega (arith, r.before, early, past)) in
-          omega (arith, r.known, less, long);
+          omega (arith, r.known, known r.place r.there (omega (arith, r.before, early, past)), long);
     }
 
 pub list_served : ListServed

@@ -7,21 +7,7 @@ use Rattle.htl_refine.proofs.RecordOrder.{not_some, times_within}
 
 -- a slice begins no earlier than the walk, and ends with its record
 pub slice_inside : (jobs : List Job) (i : SInstr) (x : Point) (s : ℕ × ℕ) → slice_of jobs i x (next_point jobs i x).time ≡ Some s → (x.time ≤ s.0) × (s.1 ≡ (next_point jobs i x).time)
-slice_inside jobs (Dispatch p h) x s e = by_work (get_or x.left p 0) e
-  where
-    y : Point
-    y = next_point jobs (Dispatch p h) x
-
-    by_work : (w : ℕ) → slice_between (dispatch_begins x.time (job_at jobs p).release h) h w y.time ≡ Some s → (x.time ≤ s.0) × (s.1 ≡ y.time)
-    by_work zero e = not_some s e
-    by_work (suc w) e = by_room (ltb (dispatch_begins x.time (job_at jobs p).release h) h) e
-      where
-        by_room : (b : Bool) → ◌≡◌ {A = Option (ℕ × ℕ)} (elim b [ true ↦ Some (dispatch_begins x.time (job_at jobs p).release h, y.time) | false ↦ None ]) (Some s) → (x.time ≤ s.0) × (s.1 ≡ y.time)
-        by_room false e = not_some s e
-        by_room true e =
-            let same : ◌≡◌ {A = ℕ × ℕ} (dispatch_begins x.time (job_at jobs p).release h, y.time) s = same_Some _ _ e in
-            let first : dispatch_begins x.time (job_at jobs p).release h ≡ s.0 = ap (λ (z : ℕ × ℕ). z.0) same in
-            (omega arith, sym (ap (λ (z : ℕ × ℕ). z.1) same))
+slice_inside jobs (Dispatch p h) x s e = grind (arith, not_some, same_Some)
 slice_inside jobs _ x s e = not_some s e
 
 pub slice_from : (jobs : List Job) (is : List SInstr) (x : Point) (m : ℕ) (b : Left) (u : ℕ × ℕ) → slice_get (walk_from jobs is x) m ≡ Some b → b.slice ≡ Some u → x.time ≤ u.0
@@ -33,9 +19,8 @@ pub slices_apart : (jobs : List Job) (is : List SInstr) (x : Point) → SlicesAr
 slices_apart jobs [] x k m a b s u h e f g d = not_some a e
 slices_apart jobs (i ∷ is) x k zero a b s u h e f g d = absurd (omega arith)
 slices_apart jobs (i ∷ is) x zero (suc m) a b s u h e f g d =
-    let r = slice_inside jobs i x s (ap (λ (z : Left). z.slice) (same_Some _ _ e) ∙ g) in
     let later : (next_point jobs i x).time ≤ u.0 = slice_from jobs is (next_point jobs i x) m b u f d in
-    omega (arith, r.1)
+    omega (arith, (slice_inside jobs i x s (ap (λ (z : Left). z.slice) (same_Some _ _ e) ∙ g)).1)
 slices_apart jobs (i ∷ is) x (suc k) (suc m) a b s u h e f g d = slices_apart jobs is (next_point jobs i x) k m a b s u (omega arith) e f g d
 
 -- a slice ends with its record
@@ -68,8 +53,7 @@ path_from jobs (s ∷ ss) (g ∷ gs) a h n x m b u f c e d = elim (cases_lt m (l
         let ls = walk_from jobs s y in
         let ms = end_to_end (walks_from jobs ss gs (last_point jobs s y)) in
         let q = m - length ls in
-        let is : length ls + q ≡ m = omega (arith, l) in
-        let r : g.to ≤ u.0 = ih q (sym (get_back ls ms q) ∙ ap (slice_get (ls ++ ms)) is ∙ e) in omega (arith, r, c.0, c.1)
+        let r : g.to ≤ u.0 = ih q (sym (get_back ls ms q) ∙ ap (slice_get (ls ++ ms)) (omega (arith, l)) ∙ e) in omega (arith, r, c.0, c.1)
 
 pub path_apart : (jobs : List Job) (ss : List (List SInstr)) (gs : List Leg) (a h n : ℕ) (x : Point) → AreInForm ss gs → AreChained a h n gs → SlicesAreApart (end_to_end (walks_from jobs ss gs x))
 path_apart jobs [] gs a h n x f c k m p q s u l e g d i = not_some p e
@@ -98,10 +82,8 @@ path_apart jobs (t ∷ ss) (v ∷ gs) a h n x f c k m p q s u l e g d z =
         let r = m - length ls in
         let is : length ls + r ≡ m = omega (arith, b) in
         let at : slice_get ls k ≡ Some p = sym (within_front ls ms k b') ∙ e in
-        let ends : s.1 ≡ p.at = slice_to jobs t y k p s at d in
-        let early : p.at ≤ v.to = times_within jobs v.known v.to t y f.0 c.1 k p at in
         let late : v.to ≤ u.0 = path_from jobs ss gs v.to h n (last_point jobs t y) r q u f.1 c.3 (sym (get_back ls ms r) ∙ ap (slice_get (ls ++ ms)) is ∙ g) z in
-        omega (arith, ends, early, late)
+        omega (arith, slice_to jobs t y k p s at d, times_within jobs v.known v.to t y f.0 c.1 k p at, late)
 
     later : length (walk_from jobs t (list_point v.from x)) ≤ k → length (walk_from jobs t (list_point v.from x)) ≤ m
         → ((i j : ℕ) → i < j → slice_get (end_to_end (walks_from jobs ss gs (last_point jobs t (list_point v.from x)))) i ≡ Some p → slice_get (end_to_end (walks_from jobs ss gs (last_point jobs t (list_point v.from x)))) j ≡ Some q → s.1 ≤ u.0)

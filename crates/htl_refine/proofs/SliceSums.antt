@@ -6,12 +6,7 @@ use Rattle.htl_refine.proofs.RecordOrder.{not_some}
 -- what one dispatch does of the work
 one_spent : (now w r until : ℕ) (ss : List (ℕ × ℕ)) → spent (slice_onto (slice_between (dispatch_begins now r until) until w (time_after now w r until)) ss) + work_after now w r until ≡ spent ss + w
 one_spent now zero r until ss = omega arith
-one_spent now (suc w) r until ss = by_room (ltb (dispatch_begins now r until) until) refl
-  where
-    by_room : (b : Bool) → ltb (dispatch_begins now r until) until ≡ b
-        → spent (slice_onto (elim b [ true ↦ Some (dispatch_begins now r until, time_after now (suc w) r until) | false ↦ None ]) ss) + work_after now (suc w) r until ≡ spent ss + suc w
-    by_room true e = let h : dispatch_begins now r until < until = ltb-true _ _ e in omega arith
-    by_room false e = let h : until ≤ dispatch_begins now r until = ltb-false _ _ e in omega arith
+one_spent now (suc w) r until ss = grind (arith, ltb-true, ltb-false)
 
 adds_up : (jobs : List Job) (is : List SInstr) (x : Point) (p : ℕ) → spent (slices (walk_from jobs is x) p) + get_or (last_point jobs is x).left p 0 ≡ get_or x.left p 0
 adds_up jobs [] x p = omega arith
@@ -32,21 +27,15 @@ adds_up jobs (Dispatch q h ∷ is) x p = by_position (cases_eq q p) (adds_up job
         → spent (cond (eqb q p) (slice_onto (slice_between (dispatch_begins x.time r h) h w y.time) (slices (walk_from jobs is y) p)) (slices (walk_from jobs is y) p)) + get_or (last_point jobs is y).left p 0 ≡ get_or x.left p 0
     by_position (inl e) ih =
         let here : get_or y.left p 0 ≡ work_after x.time w r h = ap (λ z. get_or y.left z 0) (sym e) ∙ left_same x.left q x.time r h in
-        let was : get_or x.left p 0 ≡ w = ap (λ z. get_or x.left z 0) (sym e) in
         let cut : spent (cond (eqb q p) (slice_onto (slice_between (dispatch_begins x.time r h) h w y.time) (slices (walk_from jobs is y) p)) (slices (walk_from jobs is y) p))
         ≡ spent (slice_onto (slice_between (dispatch_begins x.time r h) h w (time_after x.time w r h)) (slices (walk_from jobs is y) p)) =
         ap (λ b. spent (cond b (slice_onto (slice_between (dispatch_begins x.time r h) h w y.time) (slices (walk_from jobs is y) p)) (slices (walk_from jobs is y) p))) (eq-eqb q p e) in
-        omega (arith, ih, here, was, cut, one_spent x.time w r h (slices (walk_from jobs is y) p))
+        omega (arith, ih, here, ap (λ z. get_or x.left z 0) (sym e), cut, one_spent x.time w r h (slices (walk_from jobs is y) p))
     by_position (inr n) ih =
-        let same : get_or y.left p 0 ≡ get_or x.left p 0 = left_other x.left q p (work_after x.time w r h) n in
         let cut : spent (cond (eqb q p) (slice_onto (slice_between (dispatch_begins x.time r h) h w y.time) (slices (walk_from jobs is y) p)) (slices (walk_from jobs is y) p)) ≡ spent (slices (walk_from jobs is y) p) =
         ap (λ b. spent (cond b (slice_onto (slice_between (dispatch_begins x.time r h) h w y.time) (slices (walk_from jobs is y) p)) (slices (walk_from jobs is y) p))) (ne_eqb q p n) in
-        omega (arith, ih, same, cut)
+        omega (arith, ih, left_other x.left q p (work_after x.time w r h) n, cut)
 
 -- who finishes did all its work
 pub spent_is : (jobs : List Job) (is : List SInstr) (x : Point) (p f : ℕ) → finish (walk_from jobs is x) p ≡ Some f → spent (slices (walk_from jobs is x) p) ≡ get_or x.left p 0
-spent_is jobs is x p f e = by_left (get_or (last_point jobs is x).left p 0) refl (adds_up jobs is x p)
-  where
-    by_left : (n : ℕ) → get_or (last_point jobs is x).left p 0 ≡ n → spent (slices (walk_from jobs is x) p) + get_or (last_point jobs is x).left p 0 ≡ get_or x.left p 0 → spent (slices (walk_from jobs is x) p) ≡ get_or x.left p 0
-    by_left zero g a = omega (arith, g, a)
-    by_left (suc n) g a = not_some f (sym (no_finish jobs is x p (omega (arith, g))) ∙ e)
+spent_is jobs is x p f e = grind (arith, adds_up, not_some, no_finish)

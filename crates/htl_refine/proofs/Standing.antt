@@ -1,8 +1,7 @@
 -- Where a module is, by where it was: the laws that every instant keeps.
 use Rattle.std.proofs.Common.{◌≡◌, ◌≢◌, ℕ, zero, suc, ◌+◌, ◌≤◌, ◌<◌, Bool, true, false, eqb, List, [], length, slice_get, Option, Some, None, IfSome, ℤ, refl, sym, ap, ◌∙◌, subst, arith, ◌⊎◌, inl, inr}
 use Rattle.htl_refine.proofs.Words.{eqb-true, eqb-false, cases_lt, slice_get_within, slice_get_past, same_Some, Event, Mode, Module, Stay, state, before, stay_of, stays_at, stays_to, next_stay, go_on_or_begin, runs, target, AreInRange, IsModeThat, parent_of, IsModeOf, Tables, mode_period, mode_module, stay_at, length-stays_to}
-use Rattle.htl_refine.proofs.RecordOrder.{not_some}
-use Rattle.htl_refine.proofs.StateLaws.{IsOwn, state_own}
+use Rattle.htl_refine.proofs.{RecordOrder.not_some, StateLaws.IsOwn, StateLaws.state_own}
 
 -- how a module came to where it is, from where it was
 pub data Came (t : Tables) (v : List ℤ) (now : ℕ) (x : Module) (old : Option Stay) (y : Stay) : Type 0 where
@@ -31,17 +30,10 @@ opened o = elim o [ Some x ↦ x | None ↦ None ]
 
 pub known_unit : (t : Tables) (v : List ℤ) (now : ℕ) (old : List (Option Stay)) (k : ℕ) (y : Stay) → stay_of (stays_at t v now old) k ≡ Some y → k < length t.modules
 unfolding opened
-known_unit t v now old k y e = by_length (cases_lt k (length t.modules))
-  where
-    by_length : (k < length t.modules) ⊎ (length t.modules ≤ k) → k < length t.modules
-    by_length (inl h) = h
-    by_length (inr h) =
-        not_some y (sym (ap opened (slice_get_past (stays_at t v now old) k (omega (arith, length-stays_to t v now old (length t.modules))))) ∙ e)
+known_unit t v now old k y e = grind (arith, cases_lt, not_some, opened, slice_get_past, length-stays_to)
 
 pub is_there : (t : Tables) (v : List ℤ) (now : ℕ) (old : List (Option Stay)) (k : ℕ) (y : Stay) → stay_of (stays_at t v now old) k ≡ Some y → IsThere t v now old k y
-is_there t v now old k y e =
-    let h : k < length t.modules = known_unit t v now old k y e in
-    by_unit (slice_get t.modules k) refl (sym (stay_at t v now old (length t.modules) k h) ∙ e)
+is_there t v now old k y e = by_unit (slice_get t.modules k) refl (sym (stay_at t v now old (length t.modules) k (known_unit t v now old k y e)) ∙ e)
   where
     by_parent : (x : Module) → slice_get t.modules k ≡ Some x → (p : Option ℕ) → x.parent ≡ p
         → ◌≡◌ {A = Option Stay} (elim p [ None ↦ go_on_or_begin t v now x (stay_of old k) | Some m ↦ elim (runs t (stays_to t v now old k) m) [ true ↦ go_on_or_begin t v now x (stay_of old k) | false ↦ None ] ]) (Some y) → IsThere t v now old k y

@@ -7,9 +7,8 @@ abbrev pub mode_in : Option Stay → Option ℕ
 mode_in o = option_map (λ (y : Stay). y.mode) o
 
 pub entry_is : (stays : List (Option Stay)) (u : ℕ) → entry (map (λ (o : Option Stay). mode_in o) stays) u ≡ mode_in (stay_of stays u)
-entry_is [] u = refl
-entry_is (x ∷ xs) zero = refl
 entry_is (x ∷ xs) (suc u) = entry_is xs u
+entry_is _ _ = refl
 
 module _ (t : Tables) (range : AreInRange t) where
   -- the mode of a stay is one of the module
@@ -24,10 +23,9 @@ module _ (t : Tables) (range : AreInRange t) where
     where
       by : (b : Bool) → (eqb w.mode m && switch_holds t v k w) ≡ b → IsModeOf t u (target_from t v m (suc k) ws) → IsModeOf t u (cond b w.target (target_from t v m (suc k) ws))
       by true e later =
-          let here : w.mode ≡ m = eqb-true w.mode m (and_parts (eqb w.mode m) (switch_holds t v k w) e).0 in
           let that : IsModeThat t (λ owner. owner ≡ mode_module t w.mode) w.target = (each 0 w refl).target in
           let owner : mode_module t m ≡ own.0.«module» = ap (λ (o : Option Mode). elim o [ Some y ↦ y.«module» | None ↦ 0 ]) own.1 in
-          (that.0, that.1, that.2 ∙ ap (mode_module t) here ∙ owner ∙ own.2)
+          (that.0, that.1, that.2 ∙ ap (mode_module t) (eqb-true w.mode m (and_parts (eqb w.mode m) (switch_holds t v k w) e).0) ∙ owner ∙ own.2)
       by false e later = later
 
   -- where an active module goes on or begins
@@ -46,11 +44,7 @@ module _ (t : Tables) (range : AreInRange t) where
     IsRight p o = IsOwn u o × IsEntry t modes u p (mode_in o)
 
     active : (p : Option ℕ) (o : Option Stay) → is_active t modes p ≡ true → (y : Stay) × (o ≡ Some y) × IsModeOf t u y.mode → IsRight p o
-    active p (Some z) e h =
-        let some : Some z ≡ Some h.0 = h.1 in
-        let same : z ≡ h.0 = cc in
-        let own : IsModeOf t u z.mode = subst (λ (w : Stay). IsModeOf t u w.mode) (sym same) h.2 in
-        (own, (own, (active_is t modes p).0 e))
+    active p (Some z) e h = grind (arith, active_is)
     active p None e h = absurd (none-some h.0 h.1)
 
     inactive : (p : Option ℕ) → is_active t modes p ≡ false → IsRight p None
@@ -70,11 +64,7 @@ module _ (t : Tables) (range : AreInRange t) where
             subst (λ b. IsRight (Some m) (elim b as (λ _. Option Stay) [ true ↦ go_on_or_begin t v now x old | false ↦ None ])) (sym (agree m e)) (by_runs m (is_running t modes m) refl)
 
   running_same : (stays : List (Option Stay)) (m : ℕ) → runs t stays m ≡ is_running t (map (λ (o : Option Stay). mode_in o) stays) m
-  running_same stays m = by (stay_of stays (mode_module t m)) ∙ ap (λ o. is_at o m) (sym (entry_is stays (mode_module t m)))
-    where
-      by : (o : Option Stay) → elim o as (λ _. Bool) [ Some y ↦ eqb y.mode m | None ↦ false ] ≡ is_at (mode_in o) m
-      by (Some y) = refl
-      by None = refl
+  running_same stays m = grind (arith, entry_is)
 
   -- the stays of an instant, by those of the instant before
   module _ (v : List ℤ) (now : ℕ) (old : List (Option Stay)) (own : (u : ℕ) → u < length t.modules → IsOwn u (stay_of old u)) where
@@ -110,10 +100,7 @@ module _ (t : Tables) (range : AreInRange t) where
 
     selection : IsSelection t (map (λ (o : Option Stay). mode_in o) stays)
     unfolding stays
-    selection = record {
-      same = length-map stays (λ (o : Option Stay). mode_in o) ∙ length-stays_to t v now old (length t.modules);
-      each = λ u x at. subst (IsEntry t (map (λ (o : Option Stay). mode_in o) stays) u x.parent) (sym (entry_is stays u)) (stay_right u x at).1;
-    }
+    selection = grind (arith, length-map, stays, length-stays_to, entry_is, stay_right)
 
   -- at each instant
   pub state_own : (es : List Event) (now u : ℕ) → u < length t.modules → IsOwn u (module_stay t es u now)

@@ -1,9 +1,7 @@
 -- Where the modes of two runs agree so far, and the jobs take the same, so do the records of their lists.
 use Rattle.std.proofs.Common.{◌≡◌, ◌+◌, get_or, map, take, refl, sym, ◌∙◌, ap, ap₂, arith}
 use Rattle.htl_refine.proofs.Words.{get_or_from_slice_get, frame_of, starts, known_by, Job, walks_from, job_at, first_point, work, locality, take_walks, take_forms, FrontsAlike, WalksAgree, frame_modes, frame_places, frame_jobs, frame_at, took, lengths_of, get_taken, map_same, known_rises, job_front, take-map}
-use Rattle.htl_refine.proofs.AlongPath.{legs_within}
-use Rattle.htl_refine.proofs.FramesAgree.{frames_agree}
-use Rattle.htl_refine.proofs.Fronts.{front_there, take_work}
+use Rattle.htl_refine.proofs.{AlongPath.legs_within, FramesAgree.frames_agree, Fronts.front_there, Fronts.take_work}
 
 -- ---- the first lists
 
@@ -21,11 +19,10 @@ fronts_alike f g k n jobs point forms within lists legs =
 pub walks_agree : WalksAgree
 walks_agree t lists es fs f d k range alike form takes =
     let one = frame_modes t es f in
-    let two = frame_modes t fs f in
     let xs = frame_places t one in
     let m = known_by d xs in
     let ps = frame_jobs t one in
-    let qs = frame_jobs t two in
+    let qs = frame_jobs t (frame_modes t fs f) in
     let is = frames_agree t lists es fs f d k range alike in
     let lengths : take m (lengths_of t es f ps) ≡ take m (lengths_of t fs f qs) =
     take-map (λ (j : Job). took t es j.inv (f + j.release)) m ps

@@ -1,10 +1,7 @@
 -- Who has no work left is done by a record so far.
 use Rattle.std.proofs.Common.{◌≡◌, ℕ, zero, suc, ◌+◌, ◌≤◌, ◌<◌, ◌⊎◌, Bool, true, false, cond, ◌&&◌, is_some, List, [], ◌∷◌, ◌++◌, length, get_or, slice_get, take, Option, Some, None, refl, sym, ap, ◌∙◌, arith, inl, inr, append_assoc}
 use Rattle.htl_refine.proofs.Words.{Job, SInstr, Leg, list_point, walks_from, end_to_end, AreInForm, path_point, Point, Left, next_point, left_by, walk_from, last_point, first_point, is_position, finish, ends, finish_now, finish_later, walks_of, WorkDone, leg_at, list_start, list_plan, list_walk, records_before, done_by, get_taken, same_Some, walk_take}
-use Rattle.htl_refine.proofs.FinishingRecords.{done_past}
-use Rattle.htl_refine.proofs.ListCounts.{done_front}
-use Rattle.htl_refine.proofs.ListWalks.{list_walks}
-use Rattle.htl_refine.proofs.RecordOrder.{not_some}
+use Rattle.htl_refine.proofs.{FinishingRecords.done_past, ListCounts.done_front, ListWalks.list_walks, RecordOrder.not_some}
 
 -- ---- one list
 
@@ -26,9 +23,7 @@ done_there jobs (i ∷ is) x p some none =
 split_at : (ws : List (List Left)) (j : ℕ) (x : List Left) → slice_get ws j ≡ Some x → (b : List Left) × (end_to_end ws ≡ end_to_end (take j ws) ++ (x ++ b))
 split_at [] j x e = not_some x e
 split_at (w ∷ ws) zero x e = (end_to_end ws, ap (λ z. z ++ end_to_end ws) (same_Some _ _ e))
-split_at (w ∷ ws) (suc j) x e =
-    let r = split_at ws j x e in
-    (r.0, ap (λ z. w ++ z) r.1 ∙ sym (append_assoc w (end_to_end (take j ws)) (x ++ r.0)))
+split_at (w ∷ ws) (suc j) x e = grind (arith, append_assoc, split_at ws j x e)
 
 take_in : (xs ys : List Left) (k : ℕ) → k ≤ length xs → take k (xs ++ ys) ≡ take k xs
 take_in xs ys zero h = refl
@@ -63,8 +58,6 @@ amount n = grind arith
 path_done : (jobs : List Job) (ss : List (List SInstr)) (gs : List Leg) (j p : ℕ) (x : Point) → AreInForm ss gs → j < length gs → 0 < get_or x.left p 0 → get_or (path_point jobs ss gs j 0 x).left p 0 ≡ 0
     → (g : ℕ) × (finish (end_to_end (take j (walks_from jobs ss gs x))) p ≡ Some g)
 path_done jobs [] [] j p x f l some none = absurd (omega arith)
-path_done jobs [] (g ∷ gs) j p x f l some none = absurd f
-path_done jobs (s ∷ ss) [] j p x f l some none = absurd f
 path_done jobs (s ∷ ss) (g ∷ gs) zero p x f l some none = absurd (omega (arith, some, none))
 path_done jobs (s ∷ ss) (g ∷ gs) (suc j) p x f l some none =
     by (amount (get_or (last_point jobs s (list_point g.from x)).left p 0)) (λ more. path_done jobs ss gs j p (last_point jobs s (list_point g.from x)) f.1 (omega arith) more none)
@@ -79,6 +72,7 @@ path_done jobs (s ∷ ss) (g ∷ gs) (suc j) p x f l some none =
         let y = list_point g.from x in
         let r = done_there jobs s y p some e in
         join_some (walk_from jobs s y) (end_to_end (take j (walks_from jobs ss gs (last_point jobs s y)))) p r.0 r.1
+path_done jobs _ _ j p x f l some none = absurd f
 
 -- ---- the law
 
@@ -91,21 +85,10 @@ work_done f h j k p serving l few long some none =
 
     -- in the list
     own : 0 < get_or (list_plan f j).first.left p 0 → (g : ℕ) × (finish (take k (list_walk (list_plan f j))) p ≡ Some g)
-    own more =
-        let q = list_plan f j in
-        let r = done_there q.jobs (take k q.schedule) q.first p more none in
-        (r.0, ap (λ ls. finish ls p) (walk_take q.jobs q.schedule q.first k) ∙ r.1)
+    own more = grind (arith, done_there, walk_take)
 
     by : (0 < get_or (list_plan f j).first.left p 0) ⊎ (get_or (list_plan f j).first.left p 0 ≡ 0) → (o : Option ℕ) → finish (end_to_end (take j (walks_of f))) p ≡ o
         → done_by (end_to_end (take j (walks_of f)) ++ (list_walk (list_plan f j) ++ cut.0)) (length (end_to_end (take j (walks_of f))) + k) p ≡ true
     by m (Some g) e = done_front (end_to_end (take j (walks_of f))) (list_walk (list_plan f j) ++ cut.0) k p g e
-    by (inl more) None e =
-        let ls = list_walk (list_plan f j) in
-        let r = own more in
-        done_past (end_to_end (take j (walks_of f))) (ls ++ cut.0) k p e
-        ∙ ap (λ zs. is_some (finish zs p)) (take_in ls cut.0 k (omega (arith, long, length-walk (list_plan f j).jobs (list_plan f j).schedule (list_plan f j).first)))
-        ∙ ap is_some r.1
-    by (inr zero_left) None e =
-        let before : get_or (list_start f j).left p 0 ≡ 0 = sym (get_taken (leg_at f j).known (list_start f j).left p few) ∙ zero_left in
-        let r = path_done f.jobs f.lists f.legs j p (first_point f.jobs f.lengths) serving.forms l some before in
-        not_some r.0 (sym e ∙ r.1)
+    by (inl more) None e = grind (arith, done_past, cut, is_some, take_in, length-walk, own)
+    by (inr zero_left) None e = grind (arith, get_taken, path_done, not_some)

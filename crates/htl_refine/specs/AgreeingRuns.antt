@@ -1,9 +1,7 @@
 -- Frames of two runs that agree so far.
 use Rattle.std.specs.Prelude.{◌≡◌, ℕ, ◌+◌, ◌≤◌, ◌<◌, List, get_or, slice_get, take, Some}
-use Rattle.htl_refine.specs.Common.{Event, starts, known_by, AreInRange, Tables, Job, SInstr}
-use Rattle.htl_walk.specs.Paths.{AreInForm, AgreeOn, AgreeAt, AreWithin}
-use Rattle.htl_walk.specs.Walk.{first_point}
-use Rattle.htl_refine.specs.FrameRuns.{frame_modes, frame_places, Frame, frame_at, walks_of}
+use Rattle.htl_refine.specs.{Common.Event, Common.starts, Common.known_by, Common.AreInRange, Common.Tables, Common.Job, Common.SInstr, FrameRuns.frame_modes, FrameRuns.frame_places, FrameRuns.Frame, FrameRuns.frame_at, FrameRuns.walks_of}
+use Rattle.htl_walk.specs.{Paths.AreInForm, Paths.AgreeOn, Paths.AgreeAt, Paths.AreWithin, Walk.first_point}
 use Rattle.htl_refine.specs.Records.{took}
 
 -- frames that agree on the first n positions, and in k lists that know these alone, have the same records of those lists

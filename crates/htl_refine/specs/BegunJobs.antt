@@ -1,9 +1,7 @@
 -- The jobs of the rounds that begin at one start of a frame, behind the positions before them.
 use Rattle.std.specs.Prelude.{ℕ, ◌+◌, ◌*◌, List, ◌++◌, drop, map, replicate, Option, None}
-use Rattle.htl_refine.specs.Common.{Place, root_modules, Tables, Job, placed_jobs}
+use Rattle.htl_refine.specs.{Common.Place, Common.root_modules, Common.Tables, Common.Job, Common.placed_jobs, DerivedPaths.start_places, DerivedPaths.standing_place, FrameRuns.path_in, FrameRuns.choice_at}
 use Rattle.htl_model.specs.Frames.{rounds_of, choices}
-use Rattle.htl_refine.specs.DerivedPaths.{start_places, standing_place}
-use Rattle.htl_refine.specs.FrameRuns.{path_in, choice_at}
 
 -- where nobody stands
 abbrev pub nowhere : Place

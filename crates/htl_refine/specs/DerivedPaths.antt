@@ -2,11 +2,8 @@
 use Rattle.std.specs.Prelude.{ℕ, ◌≡◌, ◌%◌, cond, eqb, List, [], ◌∷◌, ◌++◌, length, take, map, get_or, slice_get, Option, Some, None}
 use Rattle.htl_refine.specs.Common.{flat_map, Tables, KeptApart, AreInRange, Job, SInstr, HaveLengths, AreWithinWorst, Place, entry, root_modules, invs_of}
 use Rattle.htl_refine.specs.declared.selection.Selection.{Selection}
-use Rattle.htl_model.specs.Chosen.{followed, chosen}
-use Rattle.htl_model.specs.Frames.{path_places, frame_of, unit_period, places_of, starts, path_mode}
-use Rattle.htl_walk.specs.Paths.{IsPathAccepted, AreChained, AreWithin}
-use Rattle.htl_walk.specs.PathJobs.{placed_jobs, path_jobs, legs}
-use Rattle.htl_walk.specs.PathLaws.{RefinesFront, IsInherited}
+use Rattle.htl_model.specs.{Chosen.followed, Chosen.chosen, Frames.path_places, Frames.frame_of, Frames.unit_period, Frames.places_of, Frames.starts, Frames.path_mode}
+use Rattle.htl_walk.specs.{Paths.IsPathAccepted, Paths.AreChained, Paths.AreWithin, PathJobs.placed_jobs, PathJobs.path_jobs, PathJobs.legs, PathLaws.RefinesFront, PathLaws.IsInherited}
 
 -- what stands at a position: `modes a` has the modes that run at a
 abbrev pub derived_place : Tables → (ℕ → List (Option ℕ)) → Place → Place

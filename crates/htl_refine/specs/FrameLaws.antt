@@ -2,8 +2,7 @@
 use Rattle.std.specs.Prelude.{◌≡◌, ◌<◌, ◌≤◌, ℕ, suc, ◌+◌, ◌*◌, List, length, drop, get_or, Option, Some}
 use Rattle.htl_refine.specs.Common.{Event, starts, rounds, choices, node, path_places, AreInRange, IsSelection, root_period, Tables, SInstr}
 use Rattle.htl_walk.specs.EqualPeriods.{HasOnePeriod}
-use Rattle.htl_refine.specs.FrameRecords.{old_records, new_records}
-use Rattle.htl_refine.specs.FrameRuns.{path_of, frame_places, choice_at, nodes_below, node_read}
+use Rattle.htl_refine.specs.{FrameRecords.old_records, FrameRecords.new_records, FrameRuns.path_of, FrameRuns.frame_places, FrameRuns.choice_at, FrameRuns.nodes_below, FrameRuns.node_read}
 use Rattle.htl_refine.specs.Records as by_rounds
 
 -- where all root modules have one period, the records at an instant are those of the rounds

@@ -1,8 +1,6 @@
 -- The positions of a frame of a run, with what stands at each.
 use Rattle.std.specs.Prelude.{◌≡◌, ℕ, ◌≤◌, ◌<◌, List, map, slice_get, Some}
-use Rattle.htl_refine.specs.Common.{Event, Place, KeptApart, known_by, AreInRange, Tables}
-use Rattle.htl_refine.specs.DerivedPaths.{derived_place}
-use Rattle.htl_refine.specs.FrameRuns.{frame_modes, frame_places}
+use Rattle.htl_refine.specs.{Common.Event, Common.Place, Common.KeptApart, Common.known_by, Common.AreInRange, Common.Tables, DerivedPaths.derived_place, FrameRuns.frame_modes, FrameRuns.frame_places}
 
 -- invocation i, in the round that begins at a
 abbrev pub place : ℕ → ℕ → Place

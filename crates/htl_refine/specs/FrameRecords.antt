@@ -1,10 +1,7 @@
 -- The records of a run over frames: those that the lists of its frames leave at an instant.
 use Rattle.std.specs.Prelude.{ℕ, suc, ◌+◌, ◌*◌, ◌/◌, Bool, eqb, ltb, List, [], ◌∷◌, ◌++◌, map, Option, Some, None}
-use Rattle.htl_refine.specs.Common.{filter, Event, Tables, SInstr, Leg, Left}
-use Rattle.htl_model.specs.Frames.{hyper, node}
-use Rattle.htl_model.specs.Lists.{joined, numbered, up_to}
-use Rattle.htl_refine.specs.FrameRuns.{frame_modes, path_of, frame_at, walks_of}
-use Rattle.htl_refine.specs.Records.{rounds_before, shifted}
+use Rattle.htl_refine.specs.{Common.filter, Common.Event, Common.Tables, Common.SInstr, Common.Leg, Common.Left, FrameRuns.frame_modes, FrameRuns.path_of, FrameRuns.frame_at, FrameRuns.walks_of, Records.rounds_before, Records.shifted}
+use Rattle.htl_model.specs.{Frames.hyper, Frames.node, Lists.joined, Lists.numbered, Lists.up_to}
 
 -- ---- the lists as they run
 

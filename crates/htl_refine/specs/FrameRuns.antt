@@ -1,15 +1,8 @@
 -- A frame of a run: its path, its jobs with how long each takes, and the lists of its nodes with their legs.
 use Rattle.std.specs.Prelude.{ℕ, zero, suc, ◌+◌, ◌*◌, List, [], ◌∷◌, ◌++◌, map, Option}
-use Rattle.htl_refine.specs.Common.{Event, Place, Tables, Job, SInstr, Left}
-use Rattle.htl_model.specs.declared.frame.Round.{Round}
-use Rattle.htl_model.specs.Frames.{frame_of, starts, rounds_at, rounds, choices, nodes_of, places_of}
-use Rattle.htl_walk.specs.Feasible.{lists_of}
-use Rattle.htl_walk.specs.PathJobs.{legs_of}
-use Rattle.htl_walk.specs.Paths.{Leg, walk_path, end_to_end}
-use Rattle.htl_refine.specs.ConcreteJobs.{running_invs}
-use Rattle.htl_refine.specs.DerivedPaths.{derived_jobs}
-use Rattle.htl_refine.specs.Records.{lengths_of, modes_at}
-use Rattle.htl_refine.specs.Roots.{entry_place}
+use Rattle.htl_refine.specs.{Common.Event, Common.Place, Common.Tables, Common.Job, Common.SInstr, Common.Left, ConcreteJobs.running_invs, DerivedPaths.derived_jobs, Records.lengths_of, Records.modes_at, Roots.entry_place}
+use Rattle.htl_model.specs.{declared.frame.Round.Round, Frames.frame_of, Frames.starts, Frames.rounds_at, Frames.rounds, Frames.choices, Frames.nodes_of, Frames.places_of}
+use Rattle.htl_walk.specs.{Feasible.lists_of, PathJobs.legs_of, Paths.Leg, Paths.walk_path, Paths.end_to_end}
 
 -- ---- the path, by the modes in which the modules are at each start
 

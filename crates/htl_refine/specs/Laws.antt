@@ -1,16 +1,9 @@
 -- The laws of refinement.
 use Rattle.std.specs.Prelude.{◌≡◌, ◌<◌, ℕ, List, [], Option, length, get_or}
-use Rattle.htl_refine.specs.Common.{Event, FormFault, AreInRange, Tables, SInstr, IsSelection}
-use Rattle.htl_model.specs.Broken.{KeptTo, Formed, IsFirstBroken}
-use Rattle.htl_model.specs.Chosen.{IsChosen, chosen}
-use Rattle.htl_model.specs.Selections.{selection_count}
-use Rattle.htl_walk.specs.Jobs.{abstract_jobs}
-use Rattle.htl_walk.specs.Laws.{IsDominated}
-use Rattle.htl_walk.specs.Refinement.{Refines, HaveLengths, AreWithinWorst}
-use Rattle.htl_walk.specs.Walk.{ScheduleIsAccepted, Meets}
-use Rattle.htl_refine.specs.ConcreteJobs.{concrete_jobs, IsOfSelection}
+use Rattle.htl_refine.specs.{Common.Event, Common.FormFault, Common.AreInRange, Common.Tables, Common.SInstr, Common.IsSelection, ConcreteJobs.concrete_jobs, ConcreteJobs.IsOfSelection, Roots.selection_of}
+use Rattle.htl_model.specs.{Broken.KeptTo, Broken.Formed, Broken.IsFirstBroken, Chosen.IsChosen, Chosen.chosen, Selections.selection_count}
+use Rattle.htl_walk.specs.{Jobs.abstract_jobs, Laws.IsDominated, Refinement.Refines, Refinement.HaveLengths, Refinement.AreWithinWorst, Walk.ScheduleIsAccepted, Walk.Meets}
 use Rattle.htl_refine.specs.Records.{AreTookWithin, round_at, modes_at}
-use Rattle.htl_refine.specs.Roots.{selection_of}
 
 -- keeping the rules up to 16 is keeping all
 abbrev pub AllRules : Type 0

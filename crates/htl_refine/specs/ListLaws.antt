@@ -1,12 +1,8 @@
 -- The laws of the lists of a frame.
 use Rattle.std.specs.Prelude.{◌≡◌, ℕ, suc, ◌+◌, ◌≤◌, ◌<◌, true, List, [], length, take, get_or, slice_get, Some}
-use Rattle.htl_refine.specs.Common.{Event, starts, Tables, Job, SInstr, AreInForm, AreChained, HaveLengths}
-use Rattle.htl_walk.specs.Laws.{AgreeBefore}
-use Rattle.htl_walk.specs.Walk.{last_point, work, earlier}
-use Rattle.htl_refine.specs.FrameRuns.{Frame, frame_at, walks_of, walk_of}
-use Rattle.htl_refine.specs.ListPlans.{leg_at, list_plan, list_walk, records_before}
-use Rattle.htl_refine.specs.RecordCounts.{count_left_before, done_by}
-use Rattle.htl_refine.specs.ServedFrames.{IsServing, IsFeasibleRun}
+use Rattle.htl_refine.specs.{Common.Event, Common.starts, Common.Tables, Common.Job, Common.SInstr, Common.AreInForm, Common.AreChained, Common.HaveLengths, FrameRuns.Frame, FrameRuns.frame_at, FrameRuns.walks_of, FrameRuns.walk_of}
+use Rattle.htl_walk.specs.{Laws.AgreeBefore, Walk.last_point, Walk.work, Walk.earlier}
+use Rattle.htl_refine.specs.{ListPlans.leg_at, ListPlans.list_plan, ListPlans.list_walk, ListPlans.records_before, RecordCounts.count_left_before, RecordCounts.done_by, ServedFrames.IsServing, ServedFrames.IsFeasibleRun}
 
 -- the walk of a list over the positions so far is what the walk of the frame tells of it
 abbrev pub ListWalks : Type 0

@@ -1,8 +1,6 @@
 -- One list of a frame: the positions so far, and the point at which the list begins.
-use Rattle.htl_refine.specs.Common.{ℕ, List, [], length, take, get_or, Job, SInstr}
-use Rattle.htl_walk.specs.Paths.{Leg, no_leg, end_to_end, path_point_at}
-use Rattle.htl_walk.specs.Walk.{Point, Left, walk_from}
-use Rattle.htl_refine.specs.FrameRuns.{Frame, walks_of}
+use Rattle.htl_refine.specs.{Common.ℕ, Common.List, Common.[], Common.length, Common.take, Common.get_or, Common.Job, Common.SInstr, FrameRuns.Frame, FrameRuns.walks_of}
+use Rattle.htl_walk.specs.{Paths.Leg, Paths.no_leg, Paths.end_to_end, Paths.path_point_at, Walk.Point, Walk.Left, Walk.walk_from}
 
 -- the leg of list j
 abbrev pub leg_at : Frame → ℕ → Leg

@@ -1,9 +1,7 @@
 -- What is noted once before the inputs are judged: what precedes what by ports, and the parents of the ports' writers.
 use Rattle.std.specs.Prelude.{◌≡◌, ◌<◌, ◌≤◌, ℕ, ◌+◌, List, get_or, slice_get, Option, Some, None}
-use Rattle.htl_refine.specs.Common.{Inv, Tables}
+use Rattle.htl_refine.specs.{Common.Inv, Common.Tables, declared.order.Order.Order, Refining.inv_precedes, Refining.writer_parent}
 use Rattle.htl_model.specs.Bits.{has_bit}
-use Rattle.htl_refine.specs.declared.order.Order.{Order}
-use Rattle.htl_refine.specs.Refining.{inv_precedes, writer_parent}
 
 -- of each invocation in a mode below m the row has a bit for each invocation of its mode that precedes it, by place
 abbrev pub AreRowsBelow : Tables → ℕ → List ℕ → List ℕ → Type 0

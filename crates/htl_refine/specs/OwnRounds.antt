@@ -1,9 +1,7 @@
 -- When the rounds of a module begin and how long they stand: each module has the period of its root module.
 use Rattle.std.specs.Prelude.{◌≡◌, ℕ, suc, ◌+◌, ◌*◌, ◌/◌, ◌<◌, true, List, Option, Some}
 use Rattle.htl_refine.specs.Common.{Event, Stay, KeptApart, AreInRange}
-use Rattle.htl_model.specs.Frames.{root_periods, begins}
-use Rattle.htl_model.specs.Meaning.{state, stay_of}
-use Rattle.htl_model.specs.Tables.{Tables, mode_period}
+use Rattle.htl_model.specs.{Frames.root_periods, Frames.begins, Meaning.state, Meaning.stay_of, Tables.Tables, Tables.mode_period}
 
 -- every round that stands began with the last whole period of its module
 abbrev pub OwnStarts : Type 0

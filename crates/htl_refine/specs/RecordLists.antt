@@ -1,10 +1,7 @@
 -- The records of an instant are those of the list that ran up to it, and of the list that begins at it.
 use Rattle.std.specs.Prelude.{◌≡◌, ◌≢◌, ℕ, ◌+◌, ◌*◌, ◌/◌, ◌≤◌, ◌<◌, List, [], length, get_or, slice_get, Some}
-use Rattle.htl_refine.specs.Common.{Event, frame_of, starts, node, Tables, SInstr}
-use Rattle.htl_refine.specs.FrameRecords.{RunningList, lists_at, left_in, old_records, new_records}
-use Rattle.htl_refine.specs.FrameRuns.{frame_modes, path_of, frame_at}
-use Rattle.htl_refine.specs.ListPlans.{leg_at, list_plan, list_walk}
-use Rattle.htl_refine.specs.ServedFrames.{IsFeasibleRun}
+use Rattle.htl_refine.specs.{Common.Event, Common.frame_of, Common.starts, Common.node, Common.Tables, Common.SInstr, FrameRecords.RunningList, FrameRecords.lists_at, FrameRecords.left_in, FrameRecords.old_records, FrameRecords.new_records}
+use Rattle.htl_refine.specs.{FrameRuns.frame_modes, FrameRuns.path_of, FrameRuns.frame_at, ListPlans.leg_at, ListPlans.list_plan, ListPlans.list_walk, ServedFrames.IsFeasibleRun}
 
 -- list j of the frame from f, as it runs
 abbrev pub list_at : Tables → List (List SInstr) → List Event → ℕ → ℕ → RunningList

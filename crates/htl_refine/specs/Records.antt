@@ -1,9 +1,8 @@
 -- What the processor does round by round: the jobs, how long each takes, and the records that the walk leaves.
 use Rattle.std.specs.Prelude.{◌≤◌, ℕ, ◌+◌, ◌-◌, ◌*◌, ◌/◌, ◌%◌, cond, ◌&&◌, eqb, leb, List, [], ◌∷◌, ◌++◌, get_or, slice_get, map, Option, Some, None, option_map}
-use Rattle.htl_refine.specs.Common.{filter, Event, Stay, numbered, up_to, state, root_period, Tables, task_worst, Job, SInstr}
+use Rattle.htl_refine.specs.{Common.filter, Common.Event, Common.Stay, Common.numbered, Common.up_to, Common.state, Common.root_period, Common.Tables, Common.task_worst, Common.Job, Common.SInstr, ConcreteJobs.concrete_jobs}
 use Rattle.htl_model.specs.declared.event.Event.TheVariants as V
 use Rattle.htl_walk.specs.Walk.{Left, walk}
-use Rattle.htl_refine.specs.ConcreteJobs.{concrete_jobs}
 use Rattle.htl_refine.specs.Roots.{selection_of}
 
 -- ---- lengths

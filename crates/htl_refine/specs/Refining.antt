@@ -2,15 +2,9 @@
 use Rattle.std.specs.Prelude.{ℕ, Bool, false, not, ◌&&◌, ◌||◌, cond, eqb, ltb, length, slice_get, Option, Some, None}
 use Rattle.std.specs.List.{list_any}
 use Rattle.htl_refine.specs.Common.{Inv, Module}
-use Rattle.htl_model.specs.declared.parts.End.{End}
+use Rattle.htl_model.specs.{declared.parts.End.End, PortOrder.leads_below, PortOrder.feeds, PortWriters.is_port, SecondWriters.parent_mode, First.or_else, First.first_from, First.first_to, Found.Found, Found.unless, Selected.is_at}
 use Rattle.htl_model.specs.declared.parts.End.TheVariants as E
-use Rattle.htl_model.specs.PortOrder.{leads_below, feeds}
-use Rattle.htl_model.specs.PortWriters.{is_port}
-use Rattle.htl_model.specs.SecondWriters.{parent_mode}
 use Rattle.htl_model.specs.Tables.{Tables, mode_module, is_concrete, task_worst, release, window_end}
-use Rattle.htl_model.specs.First.{or_else, first_from, first_to}
-use Rattle.htl_model.specs.Found.{Found, unless}
-use Rattle.htl_model.specs.Selected.{is_at}
 
 -- ---- 13
 

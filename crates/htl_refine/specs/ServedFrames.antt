@@ -1,11 +1,7 @@
 -- Lists that are accepted for all paths serve every frame of every run.
 use Rattle.std.specs.Prelude.{ℕ, ◌*◌, ◌<◌, List, length}
-use Rattle.htl_refine.specs.Common.{Event, KeptApart, frame_of, AreInRange, root_modules, Tables, SInstr}
-use Rattle.htl_walk.specs.Feasible.{AreFeasible}
-use Rattle.htl_walk.specs.Paths.{AreInForm, AreChained, PathMeets}
-use Rattle.htl_refine.specs.FrameRuns.{Frame, frame_at}
-use Rattle.htl_refine.specs.Records.{AreTookWithin}
-use Rattle.htl_refine.specs.ServedJobs.{AllServed}
+use Rattle.htl_refine.specs.{Common.Event, Common.KeptApart, Common.frame_of, Common.AreInRange, Common.root_modules, Common.Tables, Common.SInstr, FrameRuns.Frame, FrameRuns.frame_at, Records.AreTookWithin, ServedJobs.AllServed}
+use Rattle.htl_walk.specs.{Feasible.AreFeasible, Paths.AreInForm, Paths.AreChained, Paths.PathMeets}
 
 -- the lists of a frame are in form, follow one another over its h ticks, and meet
 pub record IsServing (f : Frame) (h : ℕ) : Type 0 where

@@ -1,10 +1,7 @@
 -- What the records of a frame show: each job done once, in its window, in slices that are its own.
 use Rattle.std.specs.Prelude.{◌≡◌, ℕ, suc, ◌+◌, ◌-◌, ◌*◌, ◌≤◌, ◌<◌, true, List, [], ◌∷◌, slice_get, get_or, Some}
-use Rattle.htl_walk.specs.declared.job.Job.{Job}
-use Rattle.htl_walk.specs.Jobs.{precedes}
-use Rattle.htl_walk.specs.Walk.{Left, job_at, slices, AllWithin, DoneBy}
-use Rattle.htl_refine.specs.FrameRuns.{Frame, walk_of}
-use Rattle.htl_refine.specs.RecordCounts.{count_left_before}
+use Rattle.htl_walk.specs.{declared.job.Job.Job, Jobs.precedes, Walk.Left, Walk.job_at, Walk.slices, Walk.AllWithin, Walk.DoneBy}
+use Rattle.htl_refine.specs.{FrameRuns.Frame, FrameRuns.walk_of, RecordCounts.count_left_before}
 
 -- the ticks of slices
 abbrev pub spent : List (ℕ × ℕ) → ℕ

@@ -1,11 +1,7 @@
 -- The records of a frame serve the jobs that it has so far.
 use Rattle.std.specs.Prelude.{◌≡◌, ℕ, suc, ◌+◌, ◌-◌, ◌≤◌, ◌<◌, true, false, List, length, slice_get, take, Some}
-use Rattle.htl_walk.specs.declared.job.Job.{Job}
-use Rattle.htl_walk.specs.Walk.{Left, job_at, finish, slices, IsMet}
-use Rattle.htl_refine.specs.FrameRuns.{Frame, walk_of}
-use Rattle.htl_refine.specs.ListPlans.{leg_at, list_plan}
-use Rattle.htl_refine.specs.RecordCounts.{Rises, done_by}
-use Rattle.htl_refine.specs.ServedFrames.{IsServing}
+use Rattle.htl_walk.specs.{declared.job.Job.Job, Walk.Left, Walk.job_at, Walk.finish, Walk.slices, Walk.IsMet}
+use Rattle.htl_refine.specs.{FrameRuns.Frame, FrameRuns.walk_of, ListPlans.leg_at, ListPlans.list_plan, RecordCounts.Rises, RecordCounts.done_by, ServedFrames.IsServing}
 
 -- the records of the frame from `frame`, by the jobs whose rounds have begun by n
 pub record IsServedSoFar (jobs : List Job) (ls : List Left) (frame n : ℕ) : Type 0 where

@@ -1,5 +1,5 @@
 -- The token at a place, as it is kept, and what begins there.
-use Rattle.std.proofs.Common.{◌+◌, ◌^◌, ◌≡◌, ◌<◌, ℕ, ℤ, pos, zero, suc, Bool, true, false, cond, List, [], ◌∷◌, length, drop, Option, None, Some, refl, ap, sym, subst, ◌∙◌}
+use Rattle.std.proofs.Common.{arith, ◌+◌, ◌^◌, ◌≡◌, ◌<◌, ℕ, ℤ, pos, zero, suc, Bool, true, false, cond, List, [], ◌∷◌, length, drop, Option, None, Some, refl, ap, sym, subst, ◌∙◌}
 use Rattle.htl_text.proofs.Words.{slice_get, nat_lt, option_map, digits_value, slice_get-map, slice_get_within, is_name, text_in, spelled, token_in, tokens_in, kind_at, IsKept, kind_of, FirstIs, is_numeral, number_of, word_of, sign_of, token_of, or_else, Entry, Kind, ASign, Token, AWord}
 use native.Mathlib.Numerals.{unary_clauses}
 use Rattle.htl_text.proofs.Spellable.{spellable}
@@ -10,13 +10,7 @@ use Rattle.htl_text.specs.declared.token.Token.TheVariants as token
 pub drop-at : (ts : List Token) (place : ℕ) (t : Token) → slice_get ts place ≡ Some t → drop place ts ≡ t ∷ drop (place + 1) ts
 drop-at [] place t e = absurd cc
 drop-at (u ∷ ts) zero t e = let same : u ≡ t = cc in ap (λ (x : Token). x ∷ ts) same
-drop-at (u ∷ ts) (suc place) t e = later ts place t (drop-at ts place t e)
-  where
-    next : (ts : List Token) (place : ℕ) → drop (suc place + 1) (u ∷ ts) ≡ drop (place + 1) ts
-    next ts place = simp unary_clauses
-
-    later : (ts : List Token) (place : ℕ) (t : Token) → drop place ts ≡ t ∷ drop (place + 1) ts → drop (suc place) (u ∷ ts) ≡ t ∷ drop (suc place + 1) (u ∷ ts)
-    later ts place t e = subst (λ (xs : List Token). drop place ts ≡ t ∷ xs) (sym (next ts place)) e
+drop-at (u ∷ ts) (suc place) t e = grind (arith, drop-at ts place t e)
 
 drop-past : (ts : List Token) (place : ℕ) → slice_get ts place ≡ None → drop place ts ≡ []
 drop-past [] zero e = refl
@@ -26,14 +20,7 @@ drop-past (u ∷ ts) (suc place) e = drop-past ts place e
 
 pub first-at : (ts : List Token) (place : ℕ) (k : Option Kind) → k ≡ option_map kind_of (slice_get ts place)
     → FirstIs k (drop place ts) (drop (place + 1) ts)
-first-at ts place k e = subst (λ (k : Option Kind). FirstIs k (drop place ts) (drop (place + 1) ts)) (sym e) (by (slice_get ts place) refl)
-  where
-    by : (t : Option Token) → slice_get ts place ≡ t → FirstIs (option_map kind_of t) (drop place ts) (drop (place + 1) ts)
-    by None e = drop-past ts place e
-    by (Some (token.Ident n)) e = (n, drop-at ts place (token.Ident n) e)
-    by (Some (token.Number x)) e = (x, drop-at ts place (token.Number x) e)
-    by (Some (token.Word w)) e = drop-at ts place (token.Word w) e
-    by (Some (token.Sign s)) e = drop-at ts place (token.Sign s) e
+first-at ts place k e = grind (arith, drop-past, drop-at)
 
 -- a token that is spelled is of its kind, and what is spelled of a kind is that token
 kind_of-spelled : (k : Kind) (text : List ℕ) → kind_of (spelled k text) ≡ k
@@ -87,25 +74,15 @@ kept-number source entry kept e =
 
 module _ (source : List ℕ) (entries : List Entry) (place : ℕ) where
   pub kinds-at : option_map kind_of (slice_get (tokens_in source entries) place) ≡ kind_at entries place
-  kinds-at = ap (option_map kind_of) (slice_get-map (token_in source) entries place) ∙ by (slice_get entries place)
-    where
-      by : (o : Option Entry) → option_map kind_of (option_map (token_in source) o) ≡ option_map (λ (entry : Entry). entry.kind) o
-      by None = refl
-      by (Some entry) = ap (λ (k : Kind). Some k) (kind_of-spelled entry.kind (text_in source entry))
+  kinds-at = grind (arith, slice_get-map, kind_of-spelled)
 
   pub token-at : (entry : Entry) → slice_get entries place ≡ Some entry → slice_get (tokens_in source entries) place ≡ Some (token_in source entry)
   token-at entry e = slice_get-map (token_in source) entries place ∙ ap (option_map (token_in source)) e
 
   pub entry-below : (k : Kind) → option_map kind_of (slice_get (tokens_in source entries) place) ≡ Some k → place < length entries
-  entry-below k e = by (slice_get entries place) refl (sym kinds-at ∙ e)
-    where
-      by : (o : Option Entry) → slice_get entries place ≡ o → option_map (λ (entry : Entry). entry.kind) o ≡ Some k → place < length entries
-      by None f e = absurd cc
-      by (Some entry) f e = slice_get_within entries place entry f
+  entry-below k e = grind (arith, kinds-at, slice_get_within)
 
   pub entry-kind : (k : Kind) (entry : Entry) → slice_get entries place ≡ Some entry → option_map kind_of (slice_get (tokens_in source entries) place) ≡ Some k → entry.kind ≡ k
-  entry-kind k entry f e =
-      let both : ◌≡◌ {A = Option Kind} (Some entry.kind) (Some k) = sym (ap (option_map (λ (entry : Entry). entry.kind)) f) ∙ sym kinds-at ∙ e in
-      cc
+  entry-kind k entry f e = grind (arith, kinds-at)
 
 pub ruleset at_places = (drop-at)

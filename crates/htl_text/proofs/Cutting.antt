@@ -2,9 +2,7 @@
 use Rattle.std.proofs.Common.{arith, ◌+◌, ◌-◌, ◌^◌, ◌≡◌, ◌≢◌, ◌≤◌, ◌<◌, ℕ, pos, zero, suc, Bool, true, false, cond, not, ◌&&◌, ◌||◌, List, [], ◌∷◌, ◌++◌, length, map, take, drop, Option, None, Some, refl, sym, subst, ap, ◌∙◌, inl, inr, append-nil, length-append, length-take-le, length-drop}
 use Rattle.std.specs.Prelude.{◌⊎◌, ◌==◌, nat_lt, is_some, find}
 use Rattle.htl_text.proofs.Words.{list_any, zip, option_map, bytes_eq, digits_value, take-append-drop, bytes_eq-Decides, length-zip, nat_tests, is_identifier, is_reserved, is_name, words, look_up, is_token, is_numeral, token_of, word_of, sign_of, or_else, number_of, Gap, IsSpan, Item, Cuts, IsCut, Tokens, IsFault, Faults, AreHeld, skip, token_len, Token, Ident, Number, Word, Sign, ASign, LexFault}
-use Rattle.htl_text.proofs.Lengths.{token-most, token_len-fits}
-use Rattle.htl_text.proofs.Skipping.{IsSolid, Skipped, skipped, IsSpan-front, Cuts-push}
-use Rattle.htl_text.proofs.Spellable.{cuts-spellable}
+use Rattle.htl_text.proofs.{Lengths.token-most, Lengths.token_len-fits, Skipping.IsSolid, Skipping.Skipped, Skipping.skipped, Skipping.IsSpan-front, Skipping.Cuts-push, Spellable.cuts-spellable}
 use Rattle.htl_text.specs.declared.lexer.LexFault.TheVariants as fault
 
 pub look_up-none : {T : Type 0} (es : List (List ℕ × T)) (text : List ℕ) → look_up es text ≡ None → list_any (bytes_eq text) (map (λ (e : List ℕ × T). e.0) es) ≡ false
@@ -182,17 +180,10 @@ not_empty xs e none_left = let z : (length xs == 0) ≡ true = ap (λ (ys : List
 
 pub is_empty : (xs : List ℕ) → (length xs == 0) ≡ true → xs ≡ []
 is_empty [] e = refl
-is_empty (x ∷ xs) e = absurd (by (length xs) e)
-  where
-    by : (n : ℕ) → (suc n == 0) ≡ true → ⊥
-    by n f = grind (arith, nat_tests, f)
+is_empty (x ∷ xs) e = grind arith
 
 pub cut-shorter : (rest here : List ℕ) (n : ℕ) → here ≡ skip false rest → 0 < n → n ≤ length here → length (drop n here) < length rest
-cut-shorter rest here n e some fits =
-    let m = skip-fits rest in
-    let l = length-drop n here in
-    let h = ap length e in
-    omega (arith, m, l, h, some, fits)
+cut-shorter rest here n e some fits = grind (arith, skip-fits, length-drop)
 
 zip-push : {A B : Type 0} (xs : List A) (ys : List B) (x : A) (y : B) → length ys ≡ length xs → zip (xs ++ x ∷ []) (ys ++ y ∷ []) ≡ zip xs ys ++ (x, y) ∷ []
 zip-push [] [] x y e = refl

@@ -4,8 +4,7 @@ use Rattle.htl_text.proofs.Words.{codes, decimal, tree_nodes, names_of, tree_siz
 use Rattle.htl_base.specs.declared.Ty.TheVariants as ty
 use Rattle.htl_base.specs.declared.operator.UnOp.TheVariants as un
 use Rattle.htl_base.specs.declared.operator.BinOp.TheVariants as bin
-use Rattle.htl_text.specs.Expressions.{Expr, Number, Flag, Variable, Prefix, Infix, Choice}
-use Rattle.htl_text.specs.PrintedBytes.{printed_bytes}
+use Rattle.htl_text.specs.{Expressions.Expr, Expressions.Number, Expressions.Flag, Expressions.Variable, Expressions.Prefix, Expressions.Infix, Expressions.Choice, PrintedBytes.printed_bytes}
 use Rattle.htl_text.specs.declared.tree.ConstNode.TheVariants as const
 use Rattle.htl_text.specs.declared.tree.EndNode.TheVariants as end
 

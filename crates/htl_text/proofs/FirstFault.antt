@@ -2,8 +2,7 @@
 use Rattle.std.proofs.Common.{arith, ◌+◌, ◌^◌, ◌≡◌, ◌≤◌, ◌<◌, ℕ, zero, suc, pos, Bool, true, false, cond, not, ◌&&◌, List, [], ◌∷◌, ◌++◌, length, take, Option, None, Some, Result, Ok, Err, refl, sym, subst, ap, ◌∙◌, inl, inr, append-nil, length-append}
 use Rattle.std.specs.Prelude.{◌==◌, nat_lt, is_some, slice_index}
 use Rattle.htl_text.proofs.Words.{is_ascii_digit, list_all, zip, option_map, digits_value, take-append_seam, nat_tests, Decides-eqb, is_letter, is_word_byte, is_identifier, is_name, is_reserved, IsLexed, TellsTokens, TellsFault, is_token, is_numeral, token_of, word_of, sign_of, number_of, or_else, TokenList, Gap, IsSpan, Item, Cuts, Tokens, IsFault, Faults, is_blank, skip, token_len, Token, Ident, Number, Word, Sign, AWord, ASign, LexFault}
-use Rattle.htl_text.proofs.Lengths.{token-taken, token_len-fits, sign-short, word-short}
-use Rattle.htl_text.proofs.Skipping.{IsSolid}
+use Rattle.htl_text.proofs.{Lengths.token-taken, Lengths.token_len-fits, Lengths.sign-short, Lengths.word-short, Skipping.IsSolid}
 use Rattle.htl_text.proofs.OneCut.{gap-skip, skip-solid, span-solid, span-len, Found, found, gap-nothing, span-some, Tokens-unique}
 use Rattle.htl_text.specs.declared.lexer.LexFault.TheVariants as fault
 use Rattle.htl_base.proofs.Tests.{and_none}
@@ -37,16 +36,13 @@ no_token-solid b bs visible all = (visible, by (b == 47) refl)
         absurd cc
 
 fault-char : (at : ℕ) (rest : List ℕ) → token_len rest ≡ 0 → fault_at at rest ≡ fault.Char at
-fault-char at rest e =
-    ap (λ (n : ℕ). cond (n == 0) (fault.Char at) (cond (is_numeral (take (token_len rest) rest)) (fault.Number at) (fault.NameLong at))) e
+fault-char at rest e = grind arith
 
 positive : (n : ℕ) → 0 < n → (n == 0) ≡ false
 positive n some = grind (arith, nat_tests)
 
 fault-long : (at : ℕ) (rest : List ℕ) (b : Bool) → 0 < token_len rest → is_numeral (take (token_len rest) rest) ≡ b → fault_at at rest ≡ cond b (fault.Number at) (fault.NameLong at)
-fault-long at rest b some e =
-    ap (λ (t : Bool). cond t (fault.Char at) (cond (is_numeral (take (token_len rest) rest)) (fault.Number at) (fault.NameLong at))) (positive (token_len rest) some)
-    ∙ ap (λ (t : Bool). cond t (fault.Number at) (fault.NameLong at)) e
+fault-long at rest b some e = grind (arith, positive)
 
 -- the span at the front is the text of the longest token
 record Front (rest text : List ℕ) : Type 0 where
@@ -77,12 +73,7 @@ letter-digit b e = grind (arith, nat_tests, e)
 
 pub identifier-number : (text : List ℕ) → is_identifier text ≡ true → is_numeral text ≡ false
 identifier-number [] e = refl
-identifier-number (b ∷ bs) e = by (is_letter b) refl e
-  where
-    by : (t : Bool) → is_letter b ≡ t → (t && list_all is_word_byte (b ∷ bs)) ≡ true → is_numeral (b ∷ bs) ≡ false
-    by true f all =
-        ap (λ (t : Bool). nat_lt 0 (length (b ∷ bs)) && (t && list_all is_ascii_digit bs)) (letter-digit b f) ∙ and_none (nat_lt 0 (length (b ∷ bs)))
-    by false f all = absurd cc
+identifier-number (b ∷ bs) e = grind (arith, letter-digit, and_none)
 
 unknown : {T : Type 0} (o : Option T) (n m : ℕ) → m < n → (is_some o ≡ true → n ≤ m) → o ≡ None
 unknown None n m more most = refl
@@ -157,8 +148,7 @@ cuts-sound : (at at2 : ℕ) (bytes : List ℕ) (xs ys : List Item) (end end2 : �
     → Cuts at bytes xs end rest → Gap false c rest → Cuts at2 bytes ys end2 (gap2 ++ rest2) → Gap false false gap2 → AtFault place rest2 f → ⊥
 cuts-sound at at2 bytes [] [] end end2 rest c gap2 rest2 place f p g q h a =
     gap-sound c bytes gap2 rest2 place f (subst (λ (bs : List ℕ). Gap false c bs) p.1 g) q.1 h a
-cuts-sound at at2 bytes [] (y ∷ ys) end end2 rest c gap2 rest2 place f p g q h a =
-    gap-nothing c bytes q.0 q.1 q.2 (subst (λ (bs : List ℕ). Gap false c bs) p.1 g) (found bytes q.0 q.1 q.2 q.3 q.4 q.5) (span-some q.1 q.2 q.5)
+cuts-sound at at2 bytes [] (y ∷ ys) end end2 rest c gap2 rest2 place f p g q h a = grind (arith, gap-nothing, found, span-some)
 cuts-sound at at2 bytes (x ∷ xs) [] end end2 rest c gap2 rest2 place f p g q h a =
     value-sound bytes gap2 rest2 place f p.0 p.1 p.2 x.0 q.1 h a (found bytes p.0 p.1 p.2 p.3 p.4 p.5) p.5 p.6
 cuts-sound at at2 bytes (x ∷ xs) (y ∷ ys) end end2 rest c gap2 rest2 place f p g q h a =

@@ -1,12 +1,9 @@
 -- The token with which a text begins, by its first byte.
 use Rattle.std.proofs.Common.{arith, ◌≡◌, ◌≤◌, ◌<◌, ℕ, ℤ, zero, suc, ◌+◌, Bool, true, false, cond, not, ◌&&◌, List, [], ◌∷◌, length, take, Option, None, Some, is_some, refl, sym, subst, ap, ◌∙◌}
 use Rattle.htl_text.proofs.Words.{slice_index, nat_lt, find, is_ascii_digit, prefix_len, list_all, option_map, bytes_eq, length-prefix_len, bytes_eq-Decides, nat_tests, is_letter, is_word_byte, is_identifier, is_reserved, is_name, kind_of, look_up, or_else, words, word_of, signs, sign_of, is_numeral, number_of, token_of, name_len, number_len, sign_len, token_len, IsFront, IsFrontSign, ASign, Token, Ident, Number, Word, Sign, AWord}
-use Rattle.htl_text.proofs.Cutting.{look_up-none}
-use Rattle.htl_text.proofs.Lengths.{name-taken, number-taken}
-use Rattle.htl_text.proofs.Numbers.{number_of-short}
+use Rattle.htl_text.proofs.{Cutting.look_up-none, Lengths.name-taken, Lengths.number-taken, Numbers.number_of-short, FirstFault.letter-digit}
 use Rattle.htl_text.specs.declared.scan.Front.TheVariants as front
 use Rattle.htl_text.specs.declared.token.Kind.TheVariants as kind
-use Rattle.htl_text.proofs.FirstFault.{letter-digit}
 
 -- a table has no text that passes a test which no spelling passes
 pub look_up-unlike : {T : Type 0} (q : List ℕ → Bool) (text : List ℕ) → q text ≡ true → (es : List (List ℕ × T)) → list_all (λ (e : List ℕ × T). not (q e.0)) es ≡ true → look_up es text ≡ None
@@ -22,9 +19,7 @@ look_up-unlike {T} q text is (e ∷ es) all = by (bytes_eq e.0 text) refl (q e.0
         → option_map (λ (x : List ℕ × T). x.1) (cond c (Some e) (find (λ (x : List ℕ × T). bytes_eq x.0 text) es)) ≡ None
     by false unequal false f rest later = later rest
     by false unequal true f rest later = absurd cc
-    by true same d f rest later =
-        let equal : e.0 ≡ text = (bytes_eq-Decides e.0 text).0 same in
-        absurd (clash d (list_all (λ (x : List ℕ × T). not (q x.0)) es) (sym f ∙ ap q equal ∙ is) rest)
+    by true same d f rest later = grind (arith, bytes_eq-Decides, clash)
 
 abbrev begins_with_letter : List ℕ → Bool
 begins_with_letter text = is_letter (slice_index text 0)
@@ -39,9 +34,7 @@ digit-no-letter : (b : ℕ) → is_ascii_digit b ≡ true → is_letter b ≡ fa
 digit-no-letter b e = grind (arith, nat_tests, e)
 
 sign_len-none : (text : List ℕ) → sign_of (take 2 text) ≡ None → sign_of (take 1 text) ≡ None → sign_len text ≡ 0
-sign_len-none text two one =
-    ap (λ (o : Option ASign). cond (is_some o) (length (take 2 text)) (cond (is_some (sign_of (take 1 text))) (length (take 1 text)) 0)) two
-    ∙ ap (λ (o : Option ASign). cond (is_some o) (length (take 1 text)) 0) one
+sign_len-none text two one = grind (arith, is_some)
 
 first-taken : (text : List ℕ) (n : ℕ) → 0 < n → slice_index (take n text) 0 ≡ slice_index text 0
 first-taken text zero some = absurd (omega (arith, some))
@@ -50,12 +43,7 @@ first-taken (b ∷ bs) (suc n) some = refl
 
 no-numeral : (w : List ℕ) → is_ascii_digit (slice_index w 0) ≡ false → is_numeral w ≡ false
 no-numeral [] e = refl
-no-numeral (c ∷ cs) e = both (nat_lt 0 (length (c ∷ cs))) (is_ascii_digit c) e
-  where
-    both : (x y : Bool) → y ≡ false → (x && (y && list_all is_ascii_digit cs)) ≡ false
-    both true false e = refl
-    both false y e = refl
-    both true true e = absurd cc
+no-numeral (c ∷ cs) e = grind (arith, nat_lt)
 
 -- a text that begins with a letter begins with a name or a reserved word
 pub record IsWordFront (text : List ℕ) (len : ℕ) : Type 0 where
@@ -96,10 +84,7 @@ pub token-word : (w : List ℕ) (x : AWord) → is_numeral w ≡ false → word_
 token-word w x e f = unnumbered w e ∙ ap (λ (o : Option AWord). other o w) f
 
 unsigned : (w : List ℕ) (b : Bool) → is_numeral w ≡ false → word_of w ≡ None → sign_of w ≡ None → is_name w ≡ b → token_of w ≡ cond b (Some (Ident w)) None
-unsigned w b e f g h =
-    unnumbered w e ∙ ap (λ (o : Option AWord). other o w) f
-    ∙ ap (λ (o : Option ASign). or_else (option_map Sign o) (cond (is_name w) (Some (Ident w)) None)) g
-    ∙ ap (λ (c : Bool). cond c (Some (Ident w)) None) h
+unsigned w b e f g h = grind (arith, unnumbered)
 
 pub token-name : (w : List ℕ) → is_numeral w ≡ false → word_of w ≡ None → sign_of w ≡ None → is_identifier w ≡ true → length w ≤ 48 → token_of w ≡ Some (Ident w)
 token-name w e f g is short = unsigned w true e f g (by (nat_lt (length w) 49) refl (is_identifier w) is (is_reserved w) (look_up-none words w f) short)
@@ -180,16 +165,13 @@ module _ (text w : List ℕ) (len : ℕ) (letter : is_letter (slice_index text 0
   some = let f = (word-front text letter).some in omega (arith, f, n)
 
   fault : token_of w ≡ None → IsFront text front.LongName
-  fault none =
-      let same : w ≡ take (token_len text) text = is ∙ ap (λ (k : ℕ). take k text) (sym longest) in
-      (omega (arith, some, longest), subst (λ (t : List ℕ). is_numeral t ≡ false) same no_number, subst (λ (t : List ℕ). token_of t ≡ None) same none)
+  fault none = grind (arith, longest, some, no_number)
 
   pub front-word : (x : AWord) → word_of w ≡ Some x → IsFront text (front.Token (kind.Word x) len)
   front-word x e = (some, sym longest, ap (λ (t : List ℕ). option_map kind_of (token_of t)) (sym is) ∙ ap (option_map kind_of) (token-word w x no_number e))
 
   pub front-name : word_of w ≡ None → len ≤ 48 → IsFront text (front.Token kind.Ident len)
-  front-name e short =
-      (some, sym longest, ap (λ (t : List ℕ). option_map kind_of (token_of t)) (sym is) ∙ ap (option_map kind_of) (token-name w no_number e no_sign identifier (omega (arith, long, short))))
+  front-name e short = grind (arith, some, longest, token-name, no_number, no_sign, identifier, long)
 
   pub front-long : word_of w ≡ None → 48 < len → IsFront text front.LongName
   front-long e more = fault (token-long w no_number e no_sign (omega (arith, long, more)))
@@ -202,20 +184,13 @@ module _ (text w : List ℕ) (len : ℕ) (digit : is_ascii_digit (slice_index te
   front-digits = subst (λ (t : List ℕ). is_numeral t ≡ true) (sym at-digits) (number-front text digit).numeral
 
   pub front-number : is_some (number_of w) ≡ true → IsFront text (front.Token kind.Number len)
-  front-number e =
-      let f = number-front text digit in
-      (omega (arith, f.some, n), n ∙ sym f.longest, ap (λ (t : List ℕ). option_map kind_of (token_of t)) (sym is) ∙ number-kind w front-digits e)
+  front-number e = grind (arith, number-front, some, longest, number-kind, front-digits)
 
   pub front-short : len ≤ 18 → IsFront text (front.Token kind.Number len)
-  front-short short =
-      let long = ap length at-digits ∙ (number-front text digit).long in
-      front-number (number_of-short w front-digits (omega (arith, long, n, short)))
+  front-short short = grind (arith, at-digits, number-front, front-number, number_of-short, front-digits)
 
   pub front-large : is_some (number_of w) ≡ false → IsFront text front.LargeNumber
-  front-large e =
-      let f = number-front text digit in
-      let same : w ≡ take (token_len text) text = at-digits ∙ ap (λ (k : ℕ). take k text) (sym f.longest) in
-      (omega (arith, f.some, f.longest), subst (λ (t : List ℕ). is_numeral t ≡ true) same front-digits, subst (λ (t : List ℕ). token_of t ≡ None) same (number-none w front-digits e))
+  front-large e = grind (arith, number-front, at-digits, longest, some, front-digits, number-none)
 
 -- a text that begins with no letter and no digit begins with a sign or with no token
 module _ (text : List ℕ) (letter : is_letter (slice_index text 0) ≡ false) (digit : is_ascii_digit (slice_index text 0) ≡ false) where
@@ -223,14 +198,7 @@ module _ (text : List ℕ) (letter : is_letter (slice_index text 0) ≡ false) (
   begins_with_no_letter t = not (begins_with_letter t)
 
   longest-sign : token_len text ≡ sign_len text
-  longest-sign =
-      let name : name_len text ≡ 0 = ap (λ (c : Bool). cond c (prefix_len is_word_byte text) 0) letter in
-      let number : number_len text ≡ 0 = no-digits text digit in
-      omega (arith, name, number)
-    where
-      no-digits : (bs : List ℕ) → is_ascii_digit (slice_index bs 0) ≡ false → prefix_len is_ascii_digit bs ≡ 0
-      no-digits [] e = refl
-      no-digits (b ∷ bs) e = ap (λ (c : Bool). cond c (1 + prefix_len is_ascii_digit bs) 0) e
+  longest-sign = grind arith
 
   pub front-sign : (s : ASign) (len : ℕ) → IsFrontSign text (Some (s, len)) → IsFront text (front.Token (kind.Sign s) len)
   front-sign s len found =

@@ -1,10 +1,7 @@
 -- The entries that were kept so far, and what is left of the source.
 use Rattle.std.proofs.Common.{arith, ◌-◌, ◌≡◌, ◌≢◌, ◌≤◌, ℕ, zero, suc, false, List, [], ◌∷◌, ◌++◌, length, take, drop, Some, refl, sym, subst, ap, ◌∙◌, append_assoc, length-append}
 use Rattle.htl_text.proofs.Words.{slice_get, zip, option_map, kind_of, drop-append_seam, map-append, take-append-drop, AreAll, text_in, token_in, tokens_in, offsets_of, IsKept, skip, token_len, IsFront, token_of, Entry, Token}
-use Rattle.htl_text.proofs.AtPlaces.{token_of-kind}
-use Rattle.htl_text.proofs.Cutting.{IsCutting, AreFound, AreFound-held, AreFound-end, AreFound-push, cut-more}
-use Rattle.htl_text.proofs.Lengths.{token_len-fits}
-use Rattle.htl_text.proofs.Skipping.{skipped}
+use Rattle.htl_text.proofs.{AtPlaces.token_of-kind, Cutting.IsCutting, Cutting.AreFound, Cutting.AreFound-held, Cutting.AreFound-end, Cutting.AreFound-push, Cutting.cut-more, Lengths.token_len-fits, Skipping.skipped}
 use Rattle.htl_text.specs.declared.scan.Front.TheVariants as front
 
 pub record AreKeeping (bytes rest : List ℕ) (entries : List Entry) : Type 0 where

@@ -16,9 +16,7 @@ prefix-all p [] = refl
 prefix-all p (b ∷ bs) = by (prefix-all p bs) (p b) refl
   where
     by : list_all p (take (prefix_len p bs) bs) ≡ true → (c : Bool) → p b ≡ c → list_all p (take (cond c (1 + prefix_len p bs) 0) (b ∷ bs)) ≡ true
-    by rest true e =
-        subst (λ (n : ℕ). list_all p (take n (b ∷ bs)) ≡ true) (sym (one-add (prefix_len p bs)))
-        (subst (λ (c : Bool). (c && list_all p (take (prefix_len p bs) bs)) ≡ true) (sym e) rest)
+    by rest true e = grind (arith, one-add)
     by rest false e = refl
 
 -- no text of a table is longer than its longest spelling
@@ -29,10 +27,7 @@ look_up-short {T} n (e ∷ es) text all found = by (bytes_eq e.0 text) refl (λ 
   where
     by : (c : Bool) → bytes_eq e.0 text ≡ c → (is_some (look_up es text) ≡ true → length text ≤ n)
         → is_some (option_map (λ (x : List ℕ × T). x.1) (cond c (Some e) (find (λ (x : List ℕ × T). bytes_eq x.0 text) es))) ≡ true → length text ≤ n
-    by true same later f =
-        let is : e.0 ≡ text = (bytes_eq-Decides e.0 text).0 same in
-        let short : nat_le (length e.0) n ≡ true = (and_parts (nat_le (length e.0) n) (list_all (λ (x : List ℕ × T). nat_le (length x.0) n) es) all).0 in
-        subst (λ (t : List ℕ). length t ≤ n) is (grind (arith, nat_tests, short))
+    by true same later f = grind (arith, bytes_eq-Decides, and_parts)
     by false same later f = later f
 
 pub sign-short : (text : List ℕ) → is_some (sign_of text) ≡ true → length text ≤ 2
@@ -45,10 +40,7 @@ word-short text found = look_up-short 12 words text refl found
 name-most : (k : ℕ) (bs : List ℕ) → k ≤ length bs → is_identifier (take k bs) ≡ true → k ≤ name_len bs
 name-most zero bs fits is = omega arith
 name-most (suc k) [] fits is = absurd (omega (arith, fits))
-name-most (suc k) (b ∷ bs) fits is =
-    let parts = and_parts (is_letter b) (list_all is_word_byte (take (suc k) (b ∷ bs))) is in
-    let most = prefix-most is_word_byte (suc k) (b ∷ bs) fits parts.1 in
-    subst (λ (c : Bool). suc k ≤ cond c (prefix_len is_word_byte (b ∷ bs)) 0) (sym parts.0) most
+name-most (suc k) (b ∷ bs) fits is = grind (arith, and_parts, prefix-most)
 
 number-most : (k : ℕ) (bs : List ℕ) → k ≤ length bs → is_numeral (take k bs) ≡ true → k ≤ number_len bs
 number-most k bs fits is = prefix-most is_ascii_digit k bs fits (and_parts _ _ is).1
@@ -108,11 +100,7 @@ name-taken (b ∷ bs) some = by (is_letter b) refl some
     by false e some = absurd (omega (arith, some))
 
 pub number-taken : (bs : List ℕ) → 0 < number_len bs → is_numeral (take (number_len bs) bs) ≡ true
-number-taken bs some =
-    let all = prefix-all is_ascii_digit bs in
-    let len = length-prefix_len is_ascii_digit bs in
-    let long : nat_lt 0 (length (take (prefix_len is_ascii_digit bs) bs)) ≡ true = grind (arith, nat_tests, len, some) in
-    subst (λ (c : Bool). (c && list_all is_ascii_digit (take (prefix_len is_ascii_digit bs) bs)) ≡ true) (sym long) all
+number-taken bs some = grind (arith, prefix-all, length-prefix_len)
 
 take-length_take : (n : ℕ) (bs : List ℕ) → take (length (take n bs)) bs ≡ take n bs
 take-length_take zero bs = refl
@@ -152,11 +140,7 @@ token-taken bs some = by (max-cases (name_len bs) (max (number_len bs) (sign_len
     by (inr h) = second h.0 (max-cases (number_len bs) (sign_len bs))
 
 name_len-fits : (bs : List ℕ) → name_len bs ≤ length bs
-name_len-fits bs = by (is_letter (slice_index bs 0))
-  where
-    by : (c : Bool) → cond c (prefix_len is_word_byte bs) 0 ≤ length bs
-    by true = prefix_len-le-length is_word_byte bs
-    by false = omega arith
+name_len-fits bs = grind (arith, prefix_len-le-length)
 
 sign_len-fits : (bs : List ℕ) → sign_len bs ≤ length bs
 sign_len-fits bs = by (is_some (sign_of (take 2 bs))) (is_some (sign_of (take 1 bs)))
@@ -167,8 +151,4 @@ sign_len-fits bs = by (is_some (sign_of (take 2 bs))) (is_some (sign_of (take 1 
     by false false = omega arith
 
 pub token_len-fits : (bs : List ℕ) → token_len bs ≤ length bs
-token_len-fits bs =
-    let a = name_len-fits bs in
-    let b : number_len bs ≤ length bs = prefix_len-le-length is_ascii_digit bs in
-    let c = sign_len-fits bs in
-    omega (arith, a, b, c)
+token_len-fits bs = grind (arith, name_len-fits, prefix_len-le-length, sign_len-fits)

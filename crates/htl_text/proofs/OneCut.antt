@@ -2,42 +2,24 @@
 use Rattle.std.proofs.Common.{arith, ◌+◌, ◌≡◌, ◌≤◌, ◌<◌, ℕ, Bool, true, false, cond, ◌&&◌, ◌||◌, List, [], ◌∷◌, ◌++◌, length, map, take, drop, Option, Some, refl, sym, subst, ap, ◌∙◌, inl, inr, length-append, append-nil}
 use Rattle.std.specs.Prelude.{◌⊎◌, ◌==◌, slice_index, is_some, nat_lt}
 use Rattle.htl_text.proofs.Words.{is_ascii_digit, list_all, zip, take-append_seam, drop-append_seam, firsts-zip, seconds-zip, nat_tests, Decides-eqb, is_identifier, is_token, is_numeral, sign_of, token_of, Gap, none, blank, begin, inside, feed, is_blank, IsSpan, Item, Cuts, IsCut, Tokens, TokenList, skip, token_len, Token, cases_le}
-use Rattle.htl_text.proofs.Lengths.{token-most, token-taken, token_len-fits}
-use Rattle.htl_text.proofs.Skipping.{IsSolid}
+use Rattle.htl_text.proofs.{Lengths.token-most, Lengths.token-taken, Lengths.token_len-fits, Skipping.IsSolid}
 use Rattle.htl_base.proofs.Tests.{and_none}
 
 -- a gap is passed whole
 pub gap-skip : {from to : Bool} {gap : List ℕ} → Gap from to gap → (rest : List ℕ) → skip from (gap ++ rest) ≡ skip to rest
 gap-skip none rest = refl
-gap-skip (blank {c} {b} {bs} e g) rest =
-    ap (λ (t : Bool). cond t (skip false (bs ++ rest)) (cond ((b == 47) && (slice_index (bs ++ rest) 0 == 47)) (skip true (bs ++ rest)) (b ∷ (bs ++ rest)))) e
-    ∙ gap-skip g rest
+gap-skip (blank {c} {b} {bs} e g) rest = grind (arith, gap-skip g rest)
 gap-skip (begin g) rest = gap-skip g rest
 gap-skip (inside {c} {b} {bs} e g) rest = ap (λ (t : Bool). cond t (skip false (bs ++ rest)) (skip true (bs ++ rest))) e ∙ gap-skip g rest
 gap-skip (feed g) rest = gap-skip g rest
 
 pub skip-solid : (bs : List ℕ) → IsSolid bs → skip false bs ≡ bs
 skip-solid [] solid = absurd solid
-skip-solid (b ∷ bs) solid =
-    ap (λ (t : Bool). cond t (skip false bs) (cond ((b == 47) && (slice_index bs 0 == 47)) (skip true bs) (b ∷ bs))) solid.0
-    ∙ ap (λ (t : Bool). cond t (skip true bs) (b ∷ bs)) solid.1
+skip-solid (b ∷ bs) solid = grind arith
 
 -- no token begins with a blank
 no_token : (b : ℕ) (bs : List ℕ) → is_identifier (b ∷ bs) ≡ false → (is_ascii_digit b) ≡ false → is_some (sign_of (b ∷ bs)) ≡ false → is_token (b ∷ bs) ≡ false
-no_token b bs i d s = by (is_identifier (b ∷ bs)) (is_numeral (b ∷ bs)) (is_some (sign_of (b ∷ bs))) i (number d) s
-  where
-    digits : (c : Bool) → c ≡ false → (c && list_all is_ascii_digit bs) ≡ false
-    digits true e = absurd cc
-    digits false e = refl
-
-    number : is_ascii_digit b ≡ false → is_numeral (b ∷ bs) ≡ false
-    number e = ap (λ (t : Bool). nat_lt 0 (length (b ∷ bs)) && t) (digits (is_ascii_digit b) e) ∙ and_none (nat_lt 0 (length (b ∷ bs)))
-
-    by : (x y z : Bool) → x ≡ false → y ≡ false → z ≡ false → (x || y || z) ≡ false
-    by false false false e f g = refl
-    by true y z e f g = absurd cc
-    by false true z e f g = absurd cc
-    by false false true e f g = absurd cc
+no_token b bs i d s = grind (arith, and_none)
 
 blank-no_token : (b : ℕ) (bs : List ℕ) → is_blank b ≡ true → is_token (b ∷ bs) ≡ false
 blank-no_token b bs e = by (which b e)
@@ -67,19 +49,8 @@ span-solid (b ∷ bs) left s = (visible (is_blank b) refl, comment bs s)
     slash d ds = no_token 47 (d ∷ ds) refl refl refl
 
     comment : (bs : List ℕ) → IsSpan (b ∷ bs) left → ((b == 47) && (slice_index (bs ++ left) 0 == 47)) ≡ false
-    comment [] s = by (b == 47) refl
-      where
-        by : (t : Bool) → (b == 47) ≡ t → (t && (slice_index left 0 == 47)) ≡ false
-        by true e = s.no_comment (ap (λ (x : ℕ). x ∷ []) ((Decides-eqb b 47).0 e))
-        by false e = refl
-    comment (d ∷ ds) s = by (b == 47) refl
-      where
-        by : (t : Bool) → (b == 47) ≡ t → (t && (d == 47)) ≡ false
-        by true e =
-            let f = slash d ds in
-            let g : is_token (47 ∷ d ∷ ds) ≡ true = subst (λ (x : ℕ). is_token (x ∷ d ∷ ds) ≡ true) ((Decides-eqb b 47).0 e) s.token in
-            absurd cc
-        by false e = refl
+    comment [] s = grind (arith, Decides-eqb)
+    comment (d ∷ ds) s = grind (arith, slash, Decides-eqb)
 
 -- its length is that of the longest token
 pub span-len : (text left : List ℕ) → IsSpan text left → token_len (text ++ left) ≡ length text

@@ -59,23 +59,8 @@ choice_same k c d a x b y one two three = ap₂ (λ (e f : Expr). Choice k e f b
 
 ends_own : (e : Expr) → Ends (last_of e) (before_of e) e
 ends_own (Prefix k op e) = (is_expr e (nodes_of e) refl, ap (Prefix k op) (expr_in-nodes_of e))
-ends_own (Infix k op l r) =
-    let f = front_of (nodes_of l) (nodes_of r) in
-    let b = back_of (nodes_of l) (nodes_of r) in
-    (within (nodes_of l) (nodes_of r), is_expr r _ b, is_expr l _ f, ap₂ (λ (x y : Expr). Infix k op x y) (in_expr l _ f) (in_expr r _ b))
-ends_own (Choice k c a b) =
-    let both : List Node = nodes_of c ++ nodes_of a in
-    let rest = front_of both (nodes_of b) in
-    let last = back_of both (nodes_of b) in
-    let second = ap (back (length (nodes_of a))) rest ∙ back_of (nodes_of c) (nodes_of a) in
-    let first = ap (front (length (nodes_of a))) rest ∙ front_of (nodes_of c) (nodes_of a) in (
-      within both (nodes_of b),
-      is_expr b _ last,
-      subst (λ (l : List Node). length (nodes_of a) ≤ length l) (sym rest) (within (nodes_of c) (nodes_of a)),
-      is_expr a _ second,
-      is_expr c _ first,
-      choice_same k _ c _ a _ b (in_expr c _ first) (in_expr a _ second) (in_expr b _ last),
-    )
+ends_own (Infix k op l r) = grind (arith, front_of, back_of, within, is_expr, in_expr)
+ends_own (Choice k c a b) = grind (arith, front_of, back_of, within, is_expr, choice_same, in_expr)
 ends_own _ = refl
 
 abbrev tail_of : List Node → List Node
@@ -86,24 +71,13 @@ snoc_same : (xs ys : List Node) (x y : Node) → xs ++ x ∷ [] ≡ ys ++ y ∷ 
 snoc_same [] [] x y same = (refl, cc)
 snoc_same [] (z ∷ ys) x y same = let long = length-append ys (y ∷ []) in let e = ap length same in absurd (omega (arith, long, e))
 snoc_same (w ∷ xs) [] x y same = let long = length-append xs (x ∷ []) in let e = ap length same in absurd (omega (arith, long, e))
-snoc_same (w ∷ xs) (z ∷ ys) x y same =
-    let more = snoc_same xs ys x y (ap tail_of same) in
-    let rest = more.0 in
-    let first : w ≡ z = cc in
-    (ap₂ (λ (n : Node) (l : List Node). n ∷ l) first rest, more.1)
+snoc_same (w ∷ xs) (z ∷ ys) x y same = grind (arith, snoc_same xs ys x y (ap tail_of same))
 
 pub ends : (before : List Node) (n : Node) → IsExpr (before ++ n ∷ []) → Ends n before (expr_in (before ++ n ∷ []))
-ends before n is =
-    let e : Expr = expr_in (before ++ n ∷ []) in
-    let same = snoc_same (before_of e) before (last_of e) n (sym (split_of e) ∙ is) in
-    subst (λ (m : Node). Ends m before e) same.1 (subst (λ (l : List Node). Ends (last_of e) l e) same.0 (ends_own e))
+ends before n is = grind (arith, snoc_same, split_of, ends_own)
 
 pub some_node : (ns : List Node) → IsExpr ns → length ns ≡ 0 → ⊥
-some_node ns is none =
-    let e : Expr = expr_in ns in
-    let long = length-append (before_of e) (last_of e ∷ []) in
-    let same = ap length (sym (split_of e) ∙ is) in
-    absurd (omega (arith, long, same, none))
+some_node ns is none = grind (arith, length-append, split_of)
 
 pub ends_as : (before : List Node) (n m : Node) → n ≡ m → IsExpr (before ++ n ∷ []) → Ends m before (expr_in (before ++ n ∷ []))
 ends_as before n m same is = subst (λ (l : Node). Ends l before (expr_in (before ++ n ∷ []))) same (ends before n is)
@@ -124,9 +98,7 @@ names_in-last xs n ids none same = names_in-append xs (n ∷ []) ∙ ap (λ (is 
 -- the names stand in the order of the expression
 pub names_in-nodes_of : (e : Expr) → names_in (nodes_of e) ≡ names_of e
 names_in-nodes_of (Prefix k op e) = names_in-last (nodes_of e) _ (names_of e) refl (names_in-nodes_of e)
-names_in-nodes_of (Infix k op l r) =
-    names_in-last (nodes_of l ++ nodes_of r) _ (names_of l ++ names_of r) refl
-    (names_in-append (nodes_of l) (nodes_of r) ∙ ap₂ ◌++◌ (names_in-nodes_of l) (names_in-nodes_of r))
+names_in-nodes_of (Infix k op l r) = grind (arith, names_in-last, names_in-append, names_in-nodes_of l, names_in-nodes_of r)
 names_in-nodes_of (Choice k c a b) =
     names_in-last ((nodes_of c ++ nodes_of a) ++ nodes_of b) _ (names_of c ++ (names_of a ++ names_of b)) refl
     (names_in-append (nodes_of c ++ nodes_of a) (nodes_of b) ∙ ap (λ (ids : List Id). ids ++ names_in (nodes_of b)) (names_in-append (nodes_of c) (nodes_of a))

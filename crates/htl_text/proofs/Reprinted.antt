@@ -2,9 +2,7 @@
 use Rattle.std.proofs.Common.{arith, ◌+◌, ◌^◌, ◌≡◌, ◌<◌, ℕ, ℤ, pos, zero, suc, Bool, true, false, cond, not, ◌&&◌, ◌||◌, List, [], ◌∷◌, ◌++◌, length, map, take, Option, None, Some, refl, sym, subst, ap, ◌∙◌, append-nil, append_assoc}
 use Rattle.std.specs.Prelude.{◌==◌, nat_lt, is_some, find}
 use Rattle.htl_text.proofs.Words.{is_ascii_digit, decimal, list_all, list_any, zip, option_map, bytes_eq, decimal_is_IsNumeral, nat_tests, bytes_eq-Decides, is_word_byte, is_identifier, is_name, is_reserved, IsSpellable, AreSpellable, word_text, sign_text, token_text, separator, printed_bytes, is_token, is_numeral, token_of, words, word_of, signs, sign_of, number_of, or_else, look_up, Gap, none, blank, IsSpan, Cuts, Tokens, is_blank, Token, Ident, Number, Word, Sign, AWord, ASign, and_parts, not-true}
-use Rattle.htl_text.proofs.FirstFault.{identifier-number}
-use Rattle.htl_text.proofs.Numbers.{own, digits_of_number}
-use Rattle.htl_text.proofs.Writing.{printed_bytes-cons, printed_bytes-nil}
+use Rattle.htl_text.proofs.{FirstFault.identifier-number, Numbers.own, Numbers.digits_of_number, Writing.printed_bytes-cons, Writing.printed_bytes-nil}
 use Rattle.htl_text.specs.declared.token.Word.TheVariants as word
 use Rattle.htl_text.specs.declared.token.Sign.TheVariants as sign
 use Rattle.htl_base.proofs.Tests.{and_none}
@@ -63,9 +61,7 @@ blank-ends xs more b k e long = by (is_token (take k (xs ++ b ∷ more))) refl
     cut [] zero long = absurd (omega (arith, long))
     cut [] (suc k) long = (take k more, refl)
     cut (x ∷ xs) zero long = absurd (omega (arith, long))
-    cut (x ∷ xs) (suc k) long =
-        let rest = cut xs k (omega (arith, long)) in
-        (rest.0, ap (λ (bs : List ℕ). x ∷ bs) rest.1)
+    cut (x ∷ xs) (suc k) long = grind (arith, cut xs k (omega (arith, long)))
 
     by : (t : Bool) → is_token (take k (xs ++ b ∷ more)) ≡ t → t ≡ false
     by false is = refl

@@ -15,9 +15,7 @@ printed_bytes-nil = refl
 
 -- the first i items, and the next one
 take-next : {X : Type 0} (items : List X) (i : ℕ) (x : X) → i < length items → x ≡ get_or items i x → take (i + 1) items ≡ take i items ++ x ∷ []
-take-next {X} items i x below is =
-    let one : i + 1 ≡ suc i = omega arith in
-    ap (λ (n : ℕ). take n items) one ∙ take-suc items i x below ∙ ap (λ (y : X). take i items ++ y ∷ []) (sym is)
+take-next {X} items i x below is = grind (arith, take-suc)
 
 each-push : {X : Type 0} (item : Spelling X) (xs : List X) (x : X) (more : List Token) → each item (xs ++ x ∷ []) more ≡ each item xs (item x more)
 each-push item [] x more = refl
@@ -77,8 +75,7 @@ commas-map view item (x ∷ xs) more = ap (λ (ts : List Token). token.Sign sign
 brackets-map : {X Y : Type 0} (view : X → Y) (item : Spelling Y) (xs : List X) (more : List Token)
     → in_brackets (λ x. item (view x)) xs more ≡ in_brackets item (map view xs) more
 brackets-map view item [] more = refl
-brackets-map view item (x ∷ xs) more =
-    ap (λ (ts : List Token). token.Sign sign.OpenParen ∷ item (view x) ts) (commas-map view item xs (token.Sign sign.CloseParen ∷ more))
+brackets-map view item (x ∷ xs) more = grind (arith, commas-map)
 
 -- items were written, each by its plain image
 pub Adds-each_of : {X Y : Type 0} (view : X → Y) (item : Spelling Y) (xs : List X) (old new : Option (List ℕ)) → Adds (each (λ x. item (view x)) xs) old new

@@ -1,10 +1,6 @@
 -- What the calls of this crate answer.
 use Rattle.std.specs.Prelude.{ℕ, ◌≡◌, ◌⊎◌, Result, Ok, Err, List}
-use Rattle.htl_text.specs.TokenLists.{TokenList}
-use Rattle.htl_text.specs.Spans.{Tokens, Faults}
-use Rattle.htl_text.specs.Entries.{AreKept, list_in}
-use Rattle.htl_text.specs.declared.entry.Entry.{Entry}
-use Rattle.htl_text.specs.declared.lexer.LexFault.{LexFault}
+use Rattle.htl_text.specs.{TokenLists.TokenList, Spans.Tokens, Spans.Faults, Entries.AreKept, Entries.list_in, declared.entry.Entry.Entry, declared.lexer.LexFault.LexFault}
 use Rattle.htl_text.specs.declared.lexer.LexFault.TheVariants as fault
 
 -- the tokens of the text, or its first fault

@@ -2,16 +2,11 @@
 -- 1,048,576 tokens of a text, of which at most 512 stand in a row without `;`, `{` and `}`, is bounded.
 use Rattle.std.specs.Prelude.{ℕ, ◌+◌, ◌≡◌, ◌≤◌, ◌<◌, ◌^◌, ℤ, pos, List, [], ◌∷◌, ◌++◌, length, map}
 use Rattle.std.specs.List.{All, flat_map, sum_by}
-use Rattle.htl_text.specs.Expressions.{Expr, Number, Variable, Prefix, Infix, Choice}
-use Rattle.htl_text.specs.Nodes.{PlainOut, PlainOuts, Concrete, Abstract, PlainTask, PlainSwitch, PlainMode, PlainModule, PlainProgram}
-use Rattle.htl_text.specs.declared.tree.Id.{Id}
-use Rattle.htl_text.specs.declared.tree.ParamNode.{ParamNode}
-use Rattle.htl_text.specs.declared.tree.ConstNode.{ConstNode}
+use Rattle.htl_text.specs.{Expressions.Expr, Expressions.Number, Expressions.Variable, Expressions.Prefix, Expressions.Infix, Expressions.Choice, declared.tree.Id.Id, declared.tree.ParamNode.ParamNode, declared.tree.ConstNode.ConstNode}
+use Rattle.htl_text.specs.{Nodes.PlainOut, Nodes.PlainOuts, Nodes.Concrete, Nodes.Abstract, Nodes.PlainTask, Nodes.PlainSwitch, Nodes.PlainMode, Nodes.PlainModule, Nodes.PlainProgram, declared.tree.CommNode.CommNode}
 use Rattle.htl_text.specs.declared.tree.ConstNode.TheVariants as const
-use Rattle.htl_text.specs.declared.tree.CommNode.{CommNode}
-use Rattle.htl_text.specs.declared.tree.EndNode.{EndNode}
+use Rattle.htl_text.specs.{declared.tree.EndNode.EndNode, declared.tree.InvokeNode.InvokeNode}
 use Rattle.htl_text.specs.declared.tree.EndNode.TheVariants as end
-use Rattle.htl_text.specs.declared.tree.InvokeNode.{InvokeNode}
 
 -- Expressions.
 

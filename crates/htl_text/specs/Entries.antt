@@ -1,13 +1,8 @@
 -- Tokens as they are kept, over the source that has their texts.
 use Rattle.std.specs.Prelude.{ℕ, pos, ◌+◌, ◌≤◌, ◌≡◌, Option, Some, List, length, map, take, drop, slice_get}
-use Rattle.std.specs.Option.{option_map}
-use Rattle.std.specs.Str.Parse.{digits_value}
-use Rattle.htl_text.specs.Texts.{token_of}
-use Rattle.htl_text.specs.TokenLists.{AreHeld, TokenList}
-use Rattle.htl_text.specs.declared.entry.Entry.{Entry}
-use Rattle.htl_text.specs.declared.token.Kind.{Kind}
+use Rattle.std.specs.{Option.option_map, Str.Parse.digits_value}
+use Rattle.htl_text.specs.{Texts.token_of, TokenLists.AreHeld, TokenLists.TokenList, declared.entry.Entry.Entry, declared.token.Kind.Kind, declared.token.Token.Token}
 use Rattle.htl_text.specs.declared.token.Kind.TheVariants as kind
-use Rattle.htl_text.specs.declared.token.Token.{Token}
 use Rattle.htl_text.specs.declared.token.Token.TheVariants as token
 
 -- the text of a token

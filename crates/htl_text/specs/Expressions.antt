@@ -1,7 +1,6 @@
 -- Expressions. Brackets leave no mark in them, and repeated operators group to the left.
 use Rattle.std.specs.Prelude.{ℕ, ℤ, Bool}
-use Rattle.htl_base.specs.declared.operator.UnOp.{UnOp}
-use Rattle.htl_base.specs.declared.operator.BinOp.{BinOp}
+use Rattle.htl_base.specs.{declared.operator.UnOp.UnOp, declared.operator.BinOp.BinOp}
 use Rattle.htl_text.specs.declared.tree.Id.{Id}
 
 -- token is the number of the literal, the operator or the word `if`

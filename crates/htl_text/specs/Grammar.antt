@@ -1,14 +1,11 @@
 -- The grammar of expressions: one case for each production. `Spells level ts e rest`: the tokens ts
 -- begin with a spelling of e on this level, and rest is what follows it.
 use Rattle.std.specs.Prelude.{ℕ, ℤ, true, false, ◌≡◌, Option, Some, None, List, ◌∷◌}
-use Rattle.htl_base.specs.declared.operator.UnOp.{UnOp}
+use Rattle.htl_base.specs.{declared.operator.UnOp.UnOp, declared.operator.BinOp.BinOp}
 use Rattle.htl_base.specs.declared.operator.UnOp.TheVariants as un
-use Rattle.htl_base.specs.declared.operator.BinOp.{BinOp}
 use Rattle.htl_base.specs.declared.operator.BinOp.TheVariants as bin
-use Rattle.htl_text.specs.Placed.{Placed, Put}
-use Rattle.htl_text.specs.Expressions.{Expr, Number, Flag, Variable, Prefix, Infix, Choice}
+use Rattle.htl_text.specs.{Placed.Placed, Placed.Put, Expressions.Expr, Expressions.Number, Expressions.Flag, Expressions.Variable, Expressions.Prefix, Expressions.Infix, Expressions.Choice, declared.token.Sign.Sign}
 use Rattle.htl_text.specs.declared.token.Token.TheVariants as token
-use Rattle.htl_text.specs.declared.token.Sign.{Sign}
 use Rattle.htl_text.specs.declared.token.Sign.TheVariants as sign
 use Rattle.htl_text.specs.declared.token.Word.TheVariants as word
 

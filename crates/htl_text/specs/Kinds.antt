@@ -1,8 +1,7 @@
 -- What a token is, without the bytes of a name or the value of a number.
 use Rattle.std.specs.Prelude.{◌≡◌, ℤ, ℕ, Option, None, Some, List, [], ◌∷◌}
-use Rattle.htl_text.specs.declared.token.Kind.{Kind}
+use Rattle.htl_text.specs.{declared.token.Kind.Kind, declared.token.Token.Token}
 use Rattle.htl_text.specs.declared.token.Kind.TheVariants as kind
-use Rattle.htl_text.specs.declared.token.Token.{Token}
 use Rattle.htl_text.specs.declared.token.Token.TheVariants as token
 
 abbrev pub kind_of : Token → Kind

@@ -1,11 +1,6 @@
 -- Laws over all texts.
 use Rattle.std.specs.Prelude.{ℕ, ◌≡◌, List, length}
-use Rattle.htl_text.specs.PrintedBytes.{printed_bytes}
-use Rattle.htl_text.specs.Spans.{Tokens, Faults}
-use Rattle.htl_text.specs.Spellable.{AreSpellable}
-use Rattle.htl_text.specs.TokenLists.{TokenList}
-use Rattle.htl_text.specs.declared.lexer.LexFault.{LexFault}
-use Rattle.htl_text.specs.declared.token.Token.{Token}
+use Rattle.htl_text.specs.{PrintedBytes.printed_bytes, Spans.Tokens, Spans.Faults, Spellable.AreSpellable, TokenLists.TokenList, declared.lexer.LexFault.LexFault, declared.token.Token.Token}
 
 -- a text has one list of tokens
 abbrev pub OneTokenList : Type 0

@@ -1,20 +1,9 @@
 -- The tree as plain records. Each has the fields of the node of that name; parameters, communicators and
 -- invocations hold no expression and stand as they are.
 use Rattle.std.specs.Prelude.{ℕ, Option, List, map}
-use Rattle.htl_text.specs.Expressions.{Expr}
-use Rattle.htl_text.specs.declared.tree.Id.{Id}
-use Rattle.htl_text.specs.declared.tree.Num.{Num}
-use Rattle.htl_text.specs.declared.tree.Tree.{Tree}
-use Rattle.htl_text.specs.declared.tree.ProgramNode.{ProgramNode}
-use Rattle.htl_text.specs.declared.tree.CommNode.{CommNode}
-use Rattle.htl_text.specs.declared.tree.ModuleNode.{ModuleNode}
-use Rattle.htl_text.specs.declared.tree.TaskNode.{TaskNode}
-use Rattle.htl_text.specs.declared.tree.ParamNode.{ParamNode}
-use Rattle.htl_text.specs.declared.tree.OutNodes.{OutNodes}
+use Rattle.htl_text.specs.{Expressions.Expr, declared.tree.Id.Id, declared.tree.Num.Num, declared.tree.Tree.Tree, declared.tree.ProgramNode.ProgramNode, declared.tree.CommNode.CommNode, declared.tree.ModuleNode.ModuleNode}
+use Rattle.htl_text.specs.{declared.tree.TaskNode.TaskNode, declared.tree.ParamNode.ParamNode, declared.tree.OutNodes.OutNodes, declared.tree.OutNode.OutNode, declared.tree.ModeNode.ModeNode, declared.tree.InvokeNode.InvokeNode}
 use Rattle.htl_text.specs.declared.tree.OutNodes.TheVariants as outs
-use Rattle.htl_text.specs.declared.tree.OutNode.{OutNode}
-use Rattle.htl_text.specs.declared.tree.ModeNode.{ModeNode}
-use Rattle.htl_text.specs.declared.tree.InvokeNode.{InvokeNode}
 use Rattle.htl_text.specs.declared.tree.SwitchNode.{SwitchNode}
 
 -- an output with its expression

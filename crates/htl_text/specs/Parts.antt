@@ -1,6 +1,5 @@
 -- What an expression is, with its operands.
-use Rattle.htl_text.specs.Expressions.{Expr, Number, Flag, Variable, Prefix, Infix, Choice}
-use Rattle.htl_text.specs.declared.expression.Part.{Part}
+use Rattle.htl_text.specs.{Expressions.Expr, Expressions.Number, Expressions.Flag, Expressions.Variable, Expressions.Prefix, Expressions.Infix, Expressions.Choice, declared.expression.Part.Part}
 use Rattle.htl_text.specs.declared.expression.Part.TheVariants as part
 
 abbrev pub whole_of : Part → Expr

@@ -1,13 +1,9 @@
 -- The bytes of printed tokens.
 use Rattle.std.specs.Prelude.{◌≡◌, ℕ, Option, Some, List, [], ◌∷◌, ◌++◌, codes}
-use Rattle.std.specs.Fmt.{signed_decimal}
-use Rattle.std.specs.Io.KnownBytes.{append_known}
-use Rattle.std.specs.List.{flat_map}
-use Rattle.htl_text.specs.declared.token.Token.{Token}
+use Rattle.std.specs.{Fmt.signed_decimal, Io.KnownBytes.append_known, List.flat_map}
+use Rattle.htl_text.specs.{declared.token.Token.Token, declared.token.Sign.Sign, declared.token.Word.Word}
 use Rattle.htl_text.specs.declared.token.Token.TheVariants as token
-use Rattle.htl_text.specs.declared.token.Sign.{Sign}
 use Rattle.htl_text.specs.declared.token.Sign.TheVariants as sign
-use Rattle.htl_text.specs.declared.token.Word.{Word}
 use Rattle.htl_text.specs.declared.token.Word.TheVariants as word
 
 abbrev pub word_text : Word → List ℕ

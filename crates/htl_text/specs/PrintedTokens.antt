@@ -1,28 +1,18 @@
 -- The tokens of the printed form, in order, and other tokens behind them. Each operation stands in brackets
 -- of its own.
 use Rattle.std.specs.Prelude.{ℤ, Bool, true, false, Option, Some, None, List, [], ◌∷◌}
-use Rattle.htl_base.specs.declared.Ty.{Ty}
+use Rattle.htl_base.specs.{declared.Ty.Ty, declared.operator.UnOp.UnOp, declared.operator.BinOp.BinOp}
 use Rattle.htl_base.specs.declared.Ty.TheVariants as ty
-use Rattle.htl_base.specs.declared.operator.UnOp.{UnOp}
 use Rattle.htl_base.specs.declared.operator.UnOp.TheVariants as un
-use Rattle.htl_base.specs.declared.operator.BinOp.{BinOp}
 use Rattle.htl_base.specs.declared.operator.BinOp.TheVariants as bin
-use Rattle.htl_text.specs.Expressions.{Expr, Number, Flag, Variable, Prefix, Infix, Choice}
-use Rattle.htl_text.specs.Nodes.{PlainOut, PlainOuts, Concrete, Abstract, PlainTask, PlainSwitch, PlainMode, PlainModule, PlainProgram}
-use Rattle.htl_text.specs.declared.token.Token.{Token}
+use Rattle.htl_text.specs.{Expressions.Expr, Expressions.Number, Expressions.Flag, Expressions.Variable, Expressions.Prefix, Expressions.Infix, Expressions.Choice, declared.token.Token.Token, declared.token.Sign.Sign, declared.tree.Id.Id}
+use Rattle.htl_text.specs.{Nodes.PlainOut, Nodes.PlainOuts, Nodes.Concrete, Nodes.Abstract, Nodes.PlainTask, Nodes.PlainSwitch, Nodes.PlainMode, Nodes.PlainModule, Nodes.PlainProgram, declared.token.Word.Word, declared.tree.EndNode.EndNode}
 use Rattle.htl_text.specs.declared.token.Token.TheVariants as token
-use Rattle.htl_text.specs.declared.token.Sign.{Sign}
 use Rattle.htl_text.specs.declared.token.Sign.TheVariants as sign
-use Rattle.htl_text.specs.declared.token.Word.{Word}
 use Rattle.htl_text.specs.declared.token.Word.TheVariants as word
-use Rattle.htl_text.specs.declared.tree.Id.{Id}
-use Rattle.htl_text.specs.declared.tree.ParamNode.{ParamNode}
-use Rattle.htl_text.specs.declared.tree.ConstNode.{ConstNode}
+use Rattle.htl_text.specs.{declared.tree.ParamNode.ParamNode, declared.tree.ConstNode.ConstNode, declared.tree.CommNode.CommNode, declared.tree.InvokeNode.InvokeNode}
 use Rattle.htl_text.specs.declared.tree.ConstNode.TheVariants as const
-use Rattle.htl_text.specs.declared.tree.CommNode.{CommNode}
-use Rattle.htl_text.specs.declared.tree.EndNode.{EndNode}
 use Rattle.htl_text.specs.declared.tree.EndNode.TheVariants as end
-use Rattle.htl_text.specs.declared.tree.InvokeNode.{InvokeNode}
 
 -- what tokens an item has, and others behind them
 abbrev pub Spelling : Type 0 → Type 0

@@ -1,15 +1,9 @@
 -- What stands at one place of a text.
 use Rattle.std.specs.Prelude.{ℕ, ◌≡◌, ◌<◌, Bool, true, false, ◌&&◌, ◌==◌, cond, max, Option, None, Some, List, [], ◌∷◌, length, take, slice_index, is_some}
-use Rattle.std.specs.Char.{is_ascii_digit}
-use Rattle.std.specs.List.{prefix_len}
-use Rattle.std.specs.Option.{option_map}
+use Rattle.std.specs.{Char.is_ascii_digit, List.prefix_len, Option.option_map}
 use Rattle.htl_base.specs.Names.{is_letter, is_word_byte}
-use Rattle.htl_text.specs.Spans.{is_blank}
-use Rattle.htl_text.specs.Kinds.{kind_of}
-use Rattle.htl_text.specs.Texts.{sign_of, token_of, is_numeral}
-use Rattle.htl_text.specs.declared.scan.Front.{Front}
+use Rattle.htl_text.specs.{Spans.is_blank, Kinds.kind_of, Texts.sign_of, Texts.token_of, Texts.is_numeral, declared.scan.Front.Front, declared.token.Sign.Sign}
 use Rattle.htl_text.specs.declared.scan.Front.TheVariants as front
-use Rattle.htl_text.specs.declared.token.Sign.{Sign}
 
 -- what follows blanks and comments; the text begins within a comment, or not
 abbrev pub skip : Bool → List ℕ → List ℕ

@@ -1,13 +1,9 @@
 -- The tokens of a text. Each is judged by itself: it is a token, no longer text at its place is one, it
 -- isn't the beginning of a comment, and between tokens stand blanks and comments alone.
 use Rattle.std.specs.Prelude.{ℕ, ◌+◌, ◌≡◌, ◌≤◌, ◌<◌, Bool, true, false, ◌||◌, ◌==◌, ◌^◌, Some, List, [], ◌∷◌, ◌++◌, length, take, slice_index}
-use Rattle.std.specs.List.{zip}
-use Rattle.std.specs.Str.Parse.{digits_value}
+use Rattle.std.specs.{List.zip, Str.Parse.digits_value}
 use Rattle.htl_base.specs.Names.{is_identifier}
-use Rattle.htl_text.specs.Texts.{is_token, is_numeral, token_of}
-use Rattle.htl_text.specs.TokenLists.{TokenList}
-use Rattle.htl_text.specs.declared.token.Token.{Token}
-use Rattle.htl_text.specs.declared.lexer.LexFault.{LexFault}
+use Rattle.htl_text.specs.{Texts.is_token, Texts.is_numeral, Texts.token_of, TokenLists.TokenList, declared.token.Token.Token, declared.lexer.LexFault.LexFault}
 use Rattle.htl_text.specs.declared.lexer.LexFault.TheVariants as fault
 
 -- a space, a tab, a carriage return or a line feed

@@ -1,16 +1,10 @@
 -- The token that a text spells.
 use Rattle.std.specs.Prelude.{ℕ, ℤ, pos, Bool, ◌&&◌, ◌||◌, ◌^◌, nat_lt, cond, Option, None, Some, List, [], ◌∷◌, length, codes, find, is_some}
-use Rattle.std.specs.Char.{is_ascii_digit}
-use Rattle.std.specs.List.{list_all}
-use Rattle.std.specs.Option.{option_map}
-use Rattle.std.specs.Str.{bytes_eq}
-use Rattle.std.specs.Str.Parse.{digits_value}
+use Rattle.std.specs.{Char.is_ascii_digit, List.list_all, Option.option_map, Str.bytes_eq, Str.Parse.digits_value}
 use Rattle.htl_base.specs.Names.{is_identifier, is_name}
-use Rattle.htl_text.specs.declared.token.Word.{Word as AWord}
+use Rattle.htl_text.specs.{declared.token.Word.Word as AWord, declared.token.Sign.Sign as ASign, declared.token.Token.Token}
 use Rattle.htl_text.specs.declared.token.Word.TheVariants as word
-use Rattle.htl_text.specs.declared.token.Sign.{Sign as ASign}
 use Rattle.htl_text.specs.declared.token.Sign.TheVariants as sign
-use Rattle.htl_text.specs.declared.token.Token.{Token}
 use Rattle.htl_text.specs.declared.token.Token.TheVariants.{Ident, Number, Word, Sign}
 
 -- the reserved words

@@ -1,7 +1,6 @@
 -- The tokens of a text with their places.
 use Rattle.std.specs.Prelude.{ℕ, ◌≡◌, ◌≤◌, List, length}
-use Rattle.htl_text.specs.Spellable.{AreSpellable}
-use Rattle.htl_text.specs.declared.token.Token.{Token}
+use Rattle.htl_text.specs.{Spellable.AreSpellable, declared.token.Token.Token}
 
 -- offsets has the place of each token's first byte, and end is the length of the text
 pub record TokenList : Type 0 where

@@ -2,34 +2,17 @@
 use Rattle.std.proofs.Common.{◌≡◌, ℕ, zero, suc, ◌-◌, ◌≤◌, ◌<◌, true, List, [], ◌∷◌, length, get_or, slice_get, take, Option, Some, None, refl, sym, ap, ◌∙◌, subst, arith, ◌⊎◌, inl, inr, add-one}
 use Rattle.htl_walk.proofs.Words.{All, slice_get_within, slice_get_past, same_Some, take_all, Job, Miss, SInstr, Dispatch, Idle, End, precedes, Point, job_at, next_point, last_point, walk_from, walk, work, first_point, finish, DoneBy, InOrder, AreDone, InForm, ScheduleIsAccepted, worst_cases, DepartsBy, DepartsAt, IsFirstDeparture, worst_point, IsCleanBefore, IsFirstMiss, HasWork, each_at, cases_lt}
 use Rattle.htl_walk.specs.declared.miss.Miss.TheVariants as miss
-use Rattle.htl_walk.proofs.Steps.{left_falls}
-use Rattle.htl_walk.proofs.Finishes.{finish_now, finish_later}
-use Rattle.htl_walk.proofs.Work.{job_there, work_present, work_some, worst_at}
-use Rattle.htl_walk.proofs.Predecessors.{meets_by_finishes}
+use Rattle.htl_walk.proofs.{Steps.left_falls, Finishes.finish_now, Finishes.finish_later, Work.job_there, Work.work_present, Work.work_some, Work.worst_at, Predecessors.meets_by_finishes}
 
 -- ---- the form
 
 module _ (count period : ℕ) where
   -- a place behind the first one departs where it does in the rest
   departs_shifted : (i : SInstr) (is : List SInstr) (k : ℕ) → k < length is → DepartsAt count period is k → DepartsAt count period (i ∷ is) (suc k)
-  departs_shifted i is k h d = by_instruction (slice_get is k) d
-    where
-      by_instruction : (o : Option SInstr) → DepartsBy count period is k o → DepartsBy count period (i ∷ is) (suc k) o
-      by_instruction (Some End) d = omega arith
-      by_instruction None d = absurd (omega (arith, d.0))
-      by_instruction _ d = d
+  departs_shifted i is k h d = grind arith
 
   departs_back : (i : SInstr) (is : List SInstr) (k : ℕ) → 0 < length is → DepartsAt count period (i ∷ is) (suc k) → DepartsAt count period is k
-  departs_back i is k h d = by_instruction (slice_get is k) d
-    where
-      last : (k : ℕ) → k ≡ length is → (slice_get (i ∷ is) k ≡ Some End → ⊥) → slice_get is (k - 1) ≡ Some End → ⊥
-      last zero e n f = absurd (omega arith)
-      last (suc m) e n f = let back : suc m - 1 ≡ m = omega arith in n (ap (slice_get is) (sym back) ∙ f)
-
-      by_instruction : (o : Option SInstr) → DepartsBy count period (i ∷ is) (suc k) o → DepartsBy count period is k o
-      by_instruction (Some End) d = omega arith
-      by_instruction None d = (omega (arith, d.0), last k (omega (arith, d.0)) (λ e. let back : suc k - 1 ≡ k = omega arith in d.1 (ap (slice_get (i ∷ is)) back ∙ e)))
-      by_instruction _ d = d
+  departs_back i is k h d = grind arith
 
   form_some : (s : List SInstr) → InForm count period s → 0 < length s
   form_some [] f = absurd f
@@ -47,10 +30,7 @@ module _ (count period : ℕ) where
   departs_nowhere (Idle until ∷ is) (suc k) f d = departs_nowhere is k f.1 (departs_back (Idle until) is k (form_some is f.1) d)
 
   is_step_dispatch : (p until : ℕ) → ((count ≤ p) ⊎ (period < until) → ⊥) → (p < count) × (until ≤ period)
-  is_step_dispatch p until n = (
-    elim (cases_lt p count) [ inl a ↦ a | inr a ↦ absurd (n (inl a)) ],
-    elim (cases_lt period until) [ inl a ↦ absurd (n (inr a)) | inr a ↦ a ],
-  )
+  is_step_dispatch p until n = grind (arith, cases_lt)
 
   is_step_idle : (until : ℕ) → (period < until → ⊥) → until ≤ period
   is_step_idle until n = elim (cases_lt period until) [ inl a ↦ absurd (n a) | inr a ↦ a ]
@@ -71,11 +51,7 @@ module _ (count period : ℕ) where
 -- a list without departures that doesn't end in `End` departs at its length
 pub departs_at_length : (count period : ℕ) (s : List SInstr) → ((k : ℕ) → k < length s → DepartsAt count period s k → ⊥)
     → (slice_get s (length s - 1) ≡ Some End → ⊥) → IsFirstDeparture count period s (length s)
-departs_at_length count period s none open_end =
-    record {
-      here = subst (DepartsBy count period s (length s)) (sym (slice_get_past s (length s) (omega arith))) (refl, open_end);
-      first = λ m h. none m h;
-    }
+departs_at_length count period s none open_end = grind (arith, slice_get_past)
 
 -- ---- the walk from a point
 
@@ -89,10 +65,7 @@ point_step jobs (j ∷ is) (suc k) x i e = point_step jobs is k (next_point jobs
 -- the work left falls along the walk
 pub left_falls_to : (jobs : List Job) (s : List SInstr) (x : Point) (q : ℕ) → get_or (last_point jobs s x).left q 0 ≤ get_or x.left q 0
 left_falls_to jobs [] x q = omega arith
-left_falls_to jobs (i ∷ is) x q =
-    let rest : get_or (last_point jobs is (next_point jobs i x)).left q 0 ≤ get_or (next_point jobs i x).left q 0 = left_falls_to jobs is (next_point jobs i x) q in
-    let first : get_or (next_point jobs i x).left q 0 ≤ get_or x.left q 0 = left_falls jobs i x q in
-    omega arith
+left_falls_to jobs (i ∷ is) x q = grind (arith, left_falls, left_falls_to jobs is (next_point jobs i x) q)
 
 -- where the predecessors are done at each dispatch, the list is in order
 pub in_order : (jobs : List Job) (s : List SInstr) (x : Point)
@@ -104,13 +77,11 @@ in_order jobs (Idle until ∷ is) x n = in_order jobs is (next_point jobs (Idle 
 in_order jobs (End ∷ is) x n = in_order jobs is (next_point jobs End x) (λ k p until' q e. n (suc k) p until' q e)
 
 pub done_in_order : (jobs : List Job) (s : List SInstr) (x : Point) (k p until : ℕ) → InOrder jobs s x → slice_get s k ≡ Some (Dispatch p until) → AreDone jobs (job_at jobs p) (last_point jobs (take k s) x)
-done_in_order jobs [] x k p until o e = cc
-done_in_order jobs (Dispatch r h ∷ is) x zero p until o e =
-    let same : r ≡ p = cc in subst (λ r. AreDone jobs (job_at jobs r) x) same o.0
+done_in_order jobs (Dispatch r h ∷ is) x zero p until o e = grind arith
 done_in_order jobs (Dispatch r h ∷ is) x (suc k) p until o e = done_in_order jobs is (next_point jobs (Dispatch r h) x) k p until o.1 e
 done_in_order jobs (Idle h ∷ is) x (suc k) p until o e = done_in_order jobs is (next_point jobs (Idle h) x) k p until o e
 done_in_order jobs (End ∷ is) x (suc k) p until o e = done_in_order jobs is (next_point jobs End x) k p until o e
-done_in_order jobs _ x zero p until o e = cc
+done_in_order jobs _ x _ p until o e = cc
 
 -- the instruction that does the last work of a position tells when it finishes
 pub finish_at : (jobs : List Job) (s : List SInstr) (x : Point) (k p : ℕ) (i : SInstr) → slice_get s k ≡ Some i
@@ -118,26 +89,19 @@ pub finish_at : (jobs : List Job) (s : List SInstr) (x : Point) (k p : ℕ) (i :
     → finish (walk_from jobs s x) p ≡ Some (last_point jobs (take (suc k) s) x).time
 finish_at jobs [] x k p i at some none = cc
 finish_at jobs (j ∷ is) x zero p i at some none = finish_now jobs j is x p some none
-finish_at jobs (j ∷ is) x (suc k) p i at some none =
-    let fall : get_or (last_point jobs (take k is) (next_point jobs j x)).left p 0 ≤ get_or (next_point jobs j x).left p 0 = left_falls_to jobs (take k is) (next_point jobs j x) p in
-    finish_later jobs j is x p (inr (omega arith)) ∙ finish_at jobs is (next_point jobs j x) k p i at some none
+finish_at jobs (j ∷ is) x (suc k) p i at some none = grind (arith, left_falls_to, finish_later, finish_at jobs is (next_point jobs j x) k p i at some none)
 
 -- where work is left at the end, the position doesn't finish
 pub no_finish : (jobs : List Job) (s : List SInstr) (x : Point) (p : ℕ) → 0 < get_or (last_point jobs s x).left p 0 → finish (walk_from jobs s x) p ≡ None
 no_finish jobs [] x p some = refl
-no_finish jobs (i ∷ is) x p some =
-    let fall : get_or (last_point jobs is (next_point jobs i x)).left p 0 ≤ get_or (next_point jobs i x).left p 0 = left_falls_to jobs is (next_point jobs i x) p in
-    finish_later jobs i is x p (inr (omega arith)) ∙ no_finish jobs is (next_point jobs i x) p some
+no_finish jobs (i ∷ is) x p some = grind (arith, left_falls_to, finish_later, no_finish jobs is (next_point jobs i x) p some)
 
 -- ---- accepted, or a first miss
 
 -- a schedule with a first miss is not accepted
 pub refused : (jobs : List Job) (period : ℕ) (s : List SInstr) (m : Miss) → IsFirstMiss jobs period s m → ScheduleIsAccepted jobs period s → ⊥
 refused jobs period s (miss.Order k) f a = departs_nowhere (length jobs) period s k a.form f.here
-refused jobs period s (miss.Before p q k) f a =
-    let early = f.1.here in
-    let done : get_or (worst_point jobs s k).left q 0 ≡ 0 = done_in_order jobs s (first_point jobs (worst_cases jobs)) k p early.dispatches.0 a.order early.dispatches.1 q early.waits in
-    omega (arith, early.left)
+refused jobs period s (miss.Before p q k) f a = grind (arith, done_in_order)
 refused jobs period s (miss.Late p f w) h a =
     let x = first_point jobs (worst_cases jobs) in
     let late = h.1.here in
@@ -150,13 +114,7 @@ refused jobs period s (miss.Late p f w) h a =
     let same : met.finishes.0 ≡ (last_point jobs (take (suc k) s) x).time = same_Some _ _ (sym met.finishes.1 ∙ told) in
     let at : f ≡ (last_point jobs (take (suc k) s) x).time = subst (λ n. f ≡ (worst_point jobs s n).time) (add-one k) late.at in
     omega (arith, met.finishes.2, late.late)
-refused jobs period s (miss.Unfinished p left) h a =
-    let x = first_point jobs (worst_cases jobs) in
-    let some : 0 < get_or (last_point jobs s x).left p 0 = subst (λ is. 0 < get_or (last_point jobs is x).left p 0) (take_all (length s) s (omega arith)) (subst (λ n. 0 < n) h.1.is h.1.some) in
-    let fall : get_or (last_point jobs s x).left p 0 ≤ get_or x.left p 0 = left_falls_to jobs s x p in
-    let here : (job_at jobs p).present ≡ true = work_some jobs (worst_cases jobs) p (omega arith) in
-    let met = a.meets p (job_at jobs p) (job_there jobs p here) here in
-    cc (met.finishes.1, no_finish jobs s x p some)
+refused jobs period s (miss.Unfinished p left) h a = grind (arith, take_all, left_falls_to, work_some, job_there, no_finish)
 
 -- a schedule that is walked to its end without a miss is accepted
 pub accepted : (jobs : List Job) (period : ℕ) (s : List SInstr) → All HasWork jobs → InForm (length jobs) period s → IsCleanBefore jobs s (length s)
@@ -174,8 +132,7 @@ accepted jobs period s all form clean done =
       meets = meets_by_finishes jobs (worst_cases jobs) s order
           (λ p here.
           let there : slice_get jobs p ≡ Some (job_at jobs p) = job_there jobs p here in
-          let w = each_at HasWork jobs all p (job_at jobs p) there in
           let e : get_or (work jobs (worst_cases jobs)) p 0 ≡ get_or (worst_cases jobs) p 0 = work_present jobs (worst_cases jobs) p (job_at jobs p) there here in
-          omega (arith, e, worst_at jobs p (job_at jobs p) there, w.worst))
+          omega (arith, e, worst_at jobs p (job_at jobs p) there, (each_at HasWork jobs all p (job_at jobs p) there).worst))
           (λ p here. done p (slice_get_within jobs p (job_at jobs p) (job_there jobs p here)));
     }

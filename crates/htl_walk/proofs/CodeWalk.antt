@@ -1,9 +1,7 @@
 -- The walk of all paths in the terms of the code.
 use Rattle.std.proofs.Common.{◌≡◌, ℕ, zero, suc, ◌+◌, ◌-◌, ◌≤◌, ◌<◌, List, [], ◌∷◌, ◌++◌, length, take, drop, set, get_or, add-one, refl, sym, ap, ◌∙◌, subst, arith, inl, inr}
 use Rattle.htl_walk.proofs.Words.{cases_lt, get_or-map, length-map, Frame, Place, IsFrame, frame_of, starts, paths, node, path_places, known_by, Tables, Job, Miss, SInstr, Schedule, absent_job, Point, last_point, worst_cases, work, list_point, path_jobs, placed_job, next_of, IsListClean, IsListMiss, list_at, reached, IsCleanAt, IsNodeMissAt, AreCleanTo, AreSaved, AreResumed, ShareNodes, AreWalkable, MissesAt, IsFirstFailing, instrs_of, start_at, AreFeasible, same_number_lists, get_taken}
-use Rattle.htl_walk.proofs.Starts.{known_few}
-use Rattle.htl_walk.proofs.GoingOn.{same_length}
-use Rattle.htl_walk.proofs.NodeWalks.{unwalked, shared_clean, shared_saved, first_failing}
+use Rattle.htl_walk.proofs.{Starts.known_few, GoingOn.same_length, NodeWalks.unwalked, NodeWalks.shared_clean, NodeWalks.shared_saved, NodeWalks.first_failing}
 
 -- ---- reading the starts
 
@@ -24,13 +22,10 @@ next_front (x ∷ y ∷ xs) h zero l = refl
 next_front (x ∷ xs) h (suc j) l = next_front xs h j (omega (arith, l))
 
 pub start_read : (t : Tables) (f : Frame) (j : ℕ) → IsFrame t f → j < length (starts t) → get_or f.starts j 0 ≡ get_or (starts t) j 0
-start_read t f j s l =
-    sym (get_taken (f.count + 1) f.starts j (omega (arith, s.count, l))) ∙ ap (λ xs. get_or xs j 0) s.starts ∙ start_front (starts t) (frame_of t) j l
+start_read t f j s l = grind (arith, get_taken, start_front)
 
 pub end_read : (t : Tables) (f : Frame) (j : ℕ) → IsFrame t f → j < length (starts t) → get_or f.starts (j + 1) 0 ≡ next_of (frame_of t) (drop (suc j) (starts t))
-end_read t f j s l =
-    sym (get_taken (f.count + 1) f.starts (j + 1) (omega (arith, s.count, l))) ∙ ap (λ xs. get_or xs (j + 1) 0) s.starts ∙ ap (λ n. get_or (starts t ++ frame_of t ∷ []) n 0) (add-one j)
-    ∙ next_front (starts t) (frame_of t) j l
+end_read t f j s l = grind (arith, get_taken, add-one, next_front)
 
 pub list_read : (lists : List Schedule) (d : Schedule) (n : ℕ) → n < length lists → (get_or lists n d).instrs ≡ get_or (instrs_of lists) n []
 list_read lists d n l = sym (get_or-map (λ (s : Schedule). s.instrs) lists n d [] l)
@@ -39,8 +34,7 @@ list_read lists d n l = sym (get_or-map (λ (s : Schedule). s.instrs) lists n d 
 
 carry : (Q : ℕ → ℕ → List Job → List SInstr → ℕ → List ℕ → Type 0) (a a' b b' : ℕ) (c c' : List Job) (d d' : List SInstr) (e e' : ℕ) (f f' : List ℕ)
     → a ≡ a' → b ≡ b' → c ≡ c' → d ≡ d' → e ≡ e' → f ≡ f' → Q a b c d e f → Q a' b' c' d' e' f'
-carry Q a a' b b' c c' d d' e e' f f' ea eb ec ed ee ef q =
-    subst (λ z. Q a' b' c' d' e' z) ef (subst (λ z. Q a' b' c' d' z f) ee (subst (λ z. Q a' b' c' z e f) ed (subst (λ z. Q a' b' z d e f) ec (subst (λ z. Q a' z c d e f) eb (subst (λ z. Q z b c d e f) ea q)))))
+carry Q a a' b b' c c' d d' e e' f f' ea eb ec ed ee ef q = grind arith
 
 point_is : (x y : Point) → x ≡ y → x.left ≡ y.left
 point_is x y e = ap (λ (z : Point). z.left) e
@@ -90,14 +84,7 @@ set_same (x ∷ xs) (suc j) y l = set_same xs j y (omega (arith, l))
 pub saved_more : (t : Tables) (lists : List (List SInstr)) (path j : ℕ) (states : List (List ℕ)) (row left : List ℕ) → j < length states → AreSaved t lists path j states
     → ((k : ℕ) → k < length left → get_or row k 0 ≡ get_or left k 0) → left ≡ (reached t lists path (suc j)).left → known_by (get_or (starts t) j 0) (path_places t path) ≤ length left
     → AreSaved t lists path (j + 1) (set states j row)
-saved_more t lists path j states row left room saved rows is few i p l b = elim (cases_lt i j) [
-  | inl k ↦ ap (λ xs. get_or xs p 0) (set_other states j i row k) ∙ saved i p k b
-  | inr k ↦
-      let e : j ≡ i = omega (arith, l, k) in
-      let b' : p < known_by (get_or (starts t) j 0) (path_places t path) = subst (λ n. p < known_by (get_or (starts t) n 0) (path_places t path)) (sym e) b in
-      subst (λ n. get_or (get_or (set states j row) n []) p 0 ≡ get_or (reached t lists path (suc n)).left p 0) e
-      (ap (λ xs. get_or xs p 0) (set_same states j row room) ∙ rows p (omega (arith, b', few)) ∙ ap (λ xs. get_or xs p 0) is)
-]
+saved_more t lists path j states row left room saved rows is few i p l b = grind (arith, cases_lt, set_other, set, set_same)
 
 -- ---- the lengths of what is left
 
@@ -108,8 +95,7 @@ work_length (j ∷ js) (n ∷ ns) = ap suc (work_length js ns)
 
 pub reached_length : (t : Tables) (lists : List (List SInstr)) (path j : ℕ) → length (reached t lists path j).left ≡ length (path_jobs t path)
 reached_length t lists path zero = work_length (path_jobs t path) (worst_cases (path_jobs t path))
-reached_length t lists path (suc j) =
-    same_length (path_jobs t path) (list_at t lists path j) (list_point (get_or (starts t) j 0) (reached t lists path j)) ∙ reached_length t lists path j
+reached_length t lists path (suc j) = grind (arith, same_length, reached_length t lists path j)
 
 -- ---- resuming
 

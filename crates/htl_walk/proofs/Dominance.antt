@@ -1,12 +1,8 @@
 -- Dominance: an accepted schedule serves all jobs that refine those for which it was accepted.
 use Rattle.std.proofs.Common.{◌≡◌, ℕ, ◌≤◌, ◌<◌, true, false, List, [], ◌∷◌, get_or, slice_get, take, Some, sym, ap, ◌∙◌, subst, arith, inl, inr}
 use Rattle.htl_walk.proofs.Words.{All, Job, SInstr, Dispatch, Idle, End, precedes, Point, job_at, next_point, point_at, walk_from, walk, work, work_after, first_point, slices, DoneBy, InOrder, AreDone, IsMet, Meets, ScheduleIsAccepted, worst_cases, direct, through, LeadsTo, RefinesJob, Refines, HasWork, HaveLengths, AreWithinWorst, Dominance, each_at, cases_eq, cases_lt}
-use Rattle.htl_walk.proofs.Steps.{left_falls, left_other}
-use Rattle.htl_walk.proofs.Ahead.{Ahead, ahead_next, ahead_last}
-use Rattle.htl_walk.proofs.Finishes.{finish_ahead}
-use Rattle.htl_walk.proofs.Slices.{slices_start, slices_other, slices_within}
-use Rattle.htl_walk.proofs.Work.{job_there, job_is, job_cases, absent_precedes, worst_at, work_present, work_some}
-use Rattle.htl_walk.proofs.Predecessors.{Settled, settled_back}
+use Rattle.htl_walk.proofs.{Steps.left_falls, Steps.left_other, Ahead.Ahead, Ahead.ahead_next, Ahead.ahead_last, Finishes.finish_ahead, Slices.slices_start, Slices.slices_other, Slices.slices_within}
+use Rattle.htl_walk.proofs.{Work.job_there, Work.job_is, Work.job_cases, Work.absent_precedes, Work.worst_at, Work.work_present, Work.work_some, Predecessors.Settled, Predecessors.settled_back}
 
 -- where some work of a position is done, its predecessors are done
 abbrev pub IsOrderly : List Job → Point → Type 0
@@ -100,9 +96,7 @@ module _ (js ks : List Job) (ns : List ℕ) (all : All HasWork ks) (refined : Re
   full_at : (p : ℕ) → (job_at ks p).worst ≤ get_or (work ks (worst_cases ks)) p 0
   full_at p = elim (job_cases ks p) [
     | inl h ↦
-        let w = each_at HasWork ks all p (job_at ks p) h in
-        let e : get_or (work ks (worst_cases ks)) p 0 ≡ get_or (worst_cases ks) p 0 = work_present ks (worst_cases ks) p (job_at ks p) h w.present in
-        omega (arith, e, worst_at ks p (job_at ks p) h)
+        omega (arith, work_present ks (worst_cases ks) p (job_at ks p) h (each_at HasWork ks all p (job_at ks p) h).present, worst_at ks p (job_at ks p) h)
     | inr h ↦ omega (arith, ap (λ j. j.worst) h)
   ]
 
@@ -110,26 +104,16 @@ module _ (js ks : List Job) (ns : List ℕ) (all : All HasWork ks) (refined : Re
   refined_at p e = refined.each p (job_at js p) (job_there js p e) e
 
   lengths_at : (p : ℕ) → get_or (work js ns) p 0 ≤ get_or (work ks (worst_cases ks)) p 0
-  lengths_at p = elim (cases_lt 0 (get_or (work js ns) p 0)) [
-    | inl h ↦
-        let e : (job_at js p).present ≡ true = work_some js ns p h in
-        let r = refined_at p e in
-        let n : get_or (work js ns) p 0 ≡ get_or ns p 0 = work_present js ns p (job_at js p) (job_there js p e) e in
-        let is_k : job_at ks p ≡ r.0 = job_is ks p r.0 r.1 in
-        omega (arith, n, most p (job_at js p) (job_there js p e) e, r.2.worst, ap (λ j. j.worst) is_k, full_at p)
-    | inr h ↦ omega arith
-  ]
+  lengths_at p = grind (arith, cases_lt, work_some, refined_at, work_present, job_there, job_is, full_at)
 
   asks_less : AsksLess js ks ns
   asks_less = record {
     lengths = lengths_at;
     release = λ p h.
-        let e : (job_at js p).present ≡ true = work_some js ns p h in
-        let r = refined_at p e in
+        let r = refined_at p (work_some js ns p h) in
         omega (arith, r.2.release, ap (λ j. j.release) (job_is ks p r.0 r.1));
     some = λ p e.
-        let n : get_or (work js ns) p 0 ≡ get_or ns p 0 = work_present js ns p (job_at js p) (job_there js p e) e in
-        omega (arith, n, least p (job_at js p) (job_there js p e) e);
+        omega (arith, work_present js ns p (job_at js p) (job_there js p e) e, least p (job_at js p) (job_there js p e) e);
     known = λ p e. let r = refined_at p e in ap (λ j. j.present) (job_is ks p r.0 r.1) ∙ r.2.present;
     end = λ p e. let r = refined_at p e in omega (arith, r.2.end, ap (λ j. j.end) (job_is ks p r.0 r.1));
     preds = λ p q e f. let r = refined_at p e in r.2.preds q f;

@@ -34,9 +34,7 @@ decided t (u ∷ us) result roots some is = (one, back)
     one e = (unit_period t u, subst (AllHave t (unit_period t u)) roots (all_from_list t (unit_period t u) (u ∷ us) (sym is ∙ e)))
 
     back : RootsHaveOnePeriod t → result ≡ true
-    back h =
-        let all : AllHave t h.0 (u ∷ us) = subst (AllHave t h.0) (sym roots) h.1 in
-        is ∙ list_from_all t (unit_period t u) (u ∷ us) (subst (λ (q : ℕ). AllHave t q (u ∷ us)) (sym all.0) all)
+    back h = grind (arith, list_from_all)
 
 -- ---- the round
 
@@ -53,25 +51,14 @@ module _ (t : Tables) (r : AreInRange t) (kept : KeptApart t 12) where
       let first : m ≡ f.0 = get_or_from_slice_get (modes_of t u) 0 f.0 0 f.2 in
       let is : Some (mode_period t m) ≡ root_period t = root_period_is t u (mode_period t m) r e refl in
       let round : round_length t ≡ mode_period t f.0 = sym (ap (λ (o : Option ℕ). elim o as (λ _. ℕ) [ Some q ↦ q | None ↦ 0 ]) is) ∙ ap (mode_period t) first in
-      let unit = as_unit t u f.0 f.1 r kept root f.3 f.4 in
       let span = (each_at (IsModeInRange t) t.modes r.modes f.0 f.1 f.3).period in
       let period = period_at t f.0 f.1 f.3 in
-      (round ∙ unit, omega (arith, round, period, span.some), omega (arith, round, period, span.most))
+      (round ∙ (as_unit t u f.0 f.1 r kept root f.3 f.4), omega (arith, round, period, span.some), omega (arith, round, period, span.most))
 
   -- where they have one period, each has that of the round
   module _ (one : RootsHaveOnePeriod t) where
     pub unit_round : (j u : ℕ) → slice_get (root_modules t) j ≡ Some u → unit_period t u ≡ round_length t
-    unit_round j u e =
-        let f = some_first (root_modules t) j u e in
-        have_at t one.0 (root_modules t) one.1 j u e ∙ sym (have_at t one.0 (root_modules t) one.1 0 f.0 f.1) ∙ sym (first_round f.0 f.1).0
-      where
-        some_first : (xs : List ℕ) (j x : ℕ) → slice_get xs j ≡ Some x → (y : ℕ) × (slice_get xs 0 ≡ Some y)
-        some_first [] j x e = cc
-        some_first (y ∷ ys) j x e = (y, refl)
+    unit_round j u e = grind (arith, have_at, one, first_round)
 
     pub one_round : 0 < length (root_modules t) → HasOnePeriod t (round_length t)
-    one_round some =
-        let u : ℕ = get_or (root_modules t) 0 0 in
-        let e : slice_get (root_modules t) 0 ≡ Some u = slice_get-get_or (root_modules t) 0 0 some in
-        let same : one.0 ≡ round_length t = sym (have_at t one.0 (root_modules t) one.1 0 u e) ∙ unit_round 0 u e in
-        record { some = some; positive = (first_round u e).1; each = subst (λ (q : ℕ). AllHave t q (root_modules t)) same one.1 }
+    one_round some = grind (arith, slice_get-get_or, one, have_at, unit_round, first_round)

@@ -1,13 +1,11 @@
 -- One item more of a list, in the table of where the items of each owner stand.
 use Rattle.std.proofs.Common.{◌≡◌, ◌<◌, ◌+◌, ◌-◌, ℕ, zero, suc, Bool, true, false, cond, eqb, List, [], ◌∷◌, length, drop, drop-cons, get_or, add-one, refl, sym, ap, ◌∙◌, subst, set, replicate, arith}
-use Rattle.std.proofs.lemmas.Bool.{eqb-false, eqb-true}
-use Rattle.std.proofs.lemmas.List.{get_or-set_other, get_or-set_same}
+use Rattle.std.proofs.{lemmas.Bool.eqb-false, lemmas.Bool.eqb-true, lemmas.List.get_or-set_other, lemmas.List.get_or-set_same}
 use Rattle.htl_walk.proofs.Words.{places_from, Stand, no_items, widened, Extent, Extents, AreExtents, Tables, modes_of, mode_of_module}
 
 none_stand : (size n : ℕ) → get_or (replicate size no_items) n no_items ≡ no_items
-none_stand zero n = refl
-none_stand (suc size) zero = refl
 none_stand (suc size) (suc n) = none_stand size n
+none_stand _ _ = refl
 
 stand_first : {X : Type 0} (test : X → Bool) (items : List X) → Stand test 0 (places_from test 0 items) no_items items
 stand_first test items = record { first = refl; end = refl; count = omega arith; few = omega arith; order = omega arith; within = omega arith }
@@ -23,56 +21,24 @@ module _ {X : Type 0} (test : X → Bool) (items : List X) (k : ℕ) (x : X) (be
   cut = ap (places_from test k) (drop-cons items k x below_end ∙ ap (λ z. z ∷ drop (suc k) items) (sym at))
 
   pub stands_here : test x ≡ true → places_from test k (drop k items) ≡ k ∷ places_from test (k + 1) (drop (k + 1) items)
-  stands_here e = cut ∙ ap (λ (b : Bool). cond b (k ∷ places_from test (suc k) (drop (suc k) items)) (places_from test (suc k) (drop (suc k) items))) e
-      ∙ ap (λ n. k ∷ places_from test n (drop n items)) (sym (add-one k))
+  stands_here e = grind (arith, cut, test, add-one)
 
   pub stands_later : test x ≡ false → places_from test k (drop k items) ≡ places_from test (k + 1) (drop (k + 1) items)
-  stands_later e = cut ∙ ap (λ (b : Bool). cond b (k ∷ places_from test (suc k) (drop (suc k) items)) (places_from test (suc k) (drop (suc k) items))) e
-      ∙ ap (λ n. places_from test n (drop n items)) (sym (add-one k))
+  stands_later e = grind (arith, cut, test, add-one)
 
   pub place_here : (left : ℕ) → test x ≡ true → (left ≡ 0 → ⊥) → get_or (places_from test (k + 1) (drop (k + 1) items)) (left - 1) 0 ≡ get_or (places_from test k (drop k items)) left 0
   place_here zero h some = absurd (some refl)
-  place_here (suc n) h some =
-      ap (λ m. get_or (places_from test (k + 1) (drop (k + 1) items)) m 0) (let e : suc n - 1 ≡ n = omega arith in e)
-      ∙ sym (ap (λ (ks : List ℕ). get_or ks (suc n) 0) (stands_here h))
+  place_here (suc n) h some = grind (arith, test, stands_here)
 
   pub place_later : (left : ℕ) → test x ≡ false → get_or (places_from test (k + 1) (drop (k + 1) items)) left 0 ≡ get_or (places_from test k (drop k items)) left 0
   place_later left h = ap (λ (ks : List ℕ). get_or ks left 0) (sym (stands_later h))
 
   module _ (e : Extent) (s : Stand test k (places_from test k (drop k items)) e items) where
     stand_with : test x ≡ true → Stand test (k + 1) (places_from test (k + 1) (drop (k + 1) items)) (widened k e) items
-    stand_with h = by (eqb e.end 0) refl
-      where
-        more : places_from test k (drop k items) ≡ k ∷ places_from test (k + 1) (drop (k + 1) items)
-        more = stands_here h
-
-        by : (b : Bool) → eqb e.end 0 ≡ b → Stand test (k + 1) (places_from test (k + 1) (drop (k + 1) items)) (record { first = cond b k e.first; end = k + 1; count = e.count + 1 }) items
-        by true z = record {
-          first = sym s.end ∙ ap (λ n. places_from test n (drop n items)) (eqb-true e.end 0 z);
-          end = refl;
-          count = omega (arith, s.count, ap length more);
-          few = omega (arith, s.few);
-          order = omega arith;
-          within = omega arith;
-        }
-        by false z = record {
-          first = s.first;
-          end = refl;
-          count = omega (arith, s.count, ap length more);
-          few = omega (arith, s.few);
-          order = omega (arith, s.order, s.within);
-          within = omega arith;
-        }
+    stand_with h = grind (arith, test, stands_here, eqb-true)
 
     stand_without : test x ≡ false → Stand test (k + 1) (places_from test (k + 1) (drop (k + 1) items)) e items
-    stand_without h = record {
-      first = s.first;
-      end = s.end ∙ stands_later h;
-      count = ap (λ (ks : List ℕ). e.count + length ks) (sym (stands_later h)) ∙ s.count;
-      few = omega (arith, s.few);
-      order = s.order;
-      within = omega (arith, s.within);
-    }
+    stand_without h = grind (arith, stands_later)
 
 -- the table with one item more
 pub stand_next : {X : Type 0} (owner : X → ℕ) (items : List X) (k : ℕ) (x : X) (table : List Extent) (e : Extent) → k < length items → x ≡ get_or items k x → owner x < length table → e ≡ widened k (get_or table (owner x) no_items)
@@ -84,14 +50,8 @@ stand_next {X} owner items k x table e below at room is s n = by (eqb (owner x) 
     test y = eqb (owner y) n
 
     by : (b : Bool) → eqb (owner x) n ≡ b → Stand test (k + 1) (places_from test (k + 1) (drop (k + 1) items)) (get_or (set table (owner x) e) n no_items) items
-    by true h =
-        let same = eqb-true (owner x) n h in
-        let found : widened k (get_or table n no_items) ≡ get_or (set table (owner x) e) n no_items =
-        ap (λ m. widened k (get_or table m no_items)) (sym same) ∙ sym is ∙ sym (get_or-set_same table (owner x) e no_items room) ∙ ap (λ m. get_or (set table (owner x) e) m no_items) same in
-        subst (λ d. Stand test (k + 1) (places_from test (k + 1) (drop (k + 1) items)) d items) found (stand_with test items k x below at (get_or table n no_items) (s n) h)
-    by false h =
-        let other : get_or table n no_items ≡ get_or (set table (owner x) e) n no_items = sym (get_or-set_other table (owner x) n e no_items (λ d. eqb-false (owner x) n h (sym d))) in
-        subst (λ d. Stand test (k + 1) (places_from test (k + 1) (drop (k + 1) items)) d items) other (stand_without test items k x below at (get_or table n no_items) (s n) h)
+    by true h = grind (arith, eqb-true, set, get_or-set_same, test, stand_with)
+    by false h = grind (arith, set, get_or-set_other, eqb-false, test, stand_without)
 
 -- the modes of a module by its extent
 pub found : (t : Tables) (x : Extents) (u : ℕ) (e : Extent) → AreExtents t x → e ≡ get_or x.modes u no_items → e.count ≡ length (modes_of t u)

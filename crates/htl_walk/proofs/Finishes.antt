@@ -1,8 +1,7 @@
 -- When a position finishes.
 use Rattle.std.proofs.Common.{◌≡◌, ℕ, zero, suc, ◌≤◌, ◌<◌, true, false, cond, ◌&&◌, eqb, List, [], ◌∷◌, get_or, Some, refl, sym, ap, ◌∙◌, subst, arith, ◌⊎◌, inl, inr}
 use Rattle.htl_walk.proofs.Words.{eq-eqb, ne_eqb, and_from, and_left, and_right, cases_eq, Job, SInstr, Dispatch, Point, job_at, finishes_by, work_after, next_point, walk_from, finish, DoneBy, same_Some}
-use Rattle.htl_walk.proofs.Steps.{left_other, time_rises}
-use Rattle.htl_walk.proofs.Ahead.{Ahead, ahead_next}
+use Rattle.htl_walk.proofs.{Steps.left_other, Steps.time_rises, Ahead.Ahead, Ahead.ahead_next}
 
 finishes_yes : (a b : ℕ) → 0 < a → b ≡ 0 → finishes_by a b ≡ true
 finishes_yes (suc a) zero h e = refl
@@ -19,30 +18,12 @@ ends (suc a) (suc b) = inr (inr (omega arith))
 
 pub finish_now : (jobs : List Job) (i : SInstr) (is : List SInstr) (x : Point) (p : ℕ) →
     0 < get_or x.left p 0 → get_or (next_point jobs i x).left p 0 ≡ 0 → finish (walk_from jobs (i ∷ is) x) p ≡ Some (next_point jobs i x).time
-finish_now jobs (Dispatch r h) is x p a e =
-    elim (cases_eq r p) [
-      | inl q ↦
-          let y = next_point jobs (Dispatch r h) x in
-          let rest = finish (walk_from jobs is y) p in
-          ap (λ b. cond b (Some y.time) rest)
-          (and_from (eqb r p) (finishes_by (get_or x.left r 0) (get_or y.left r 0)) (eq-eqb r p q)
-          (subst (λ z. finishes_by (get_or x.left z 0) (get_or y.left z 0) ≡ true) (sym q) (finishes_yes _ _ a e)))
-      | inr n ↦ absurd (omega (arith, left_other x.left r p (work_after x.time (get_or x.left r 0) (job_at jobs r).release h) n))
-    ]
+finish_now jobs (Dispatch r h) is x p a e = grind (arith, cases_eq, and_from, eq-eqb, finishes_yes, left_other)
 finish_now jobs _ is x p a e = absurd (omega arith)
 
 pub finish_later : (jobs : List Job) (i : SInstr) (is : List SInstr) (x : Point) (p : ℕ) →
     (get_or x.left p 0 ≡ 0) ⊎ (0 < get_or (next_point jobs i x).left p 0) → finish (walk_from jobs (i ∷ is) x) p ≡ finish (walk_from jobs is (next_point jobs i x)) p
-finish_later jobs (Dispatch r h) is x p c =
-    let y = next_point jobs (Dispatch r h) x in
-    let rest = finish (walk_from jobs is y) p in
-    let test = finishes_by (get_or x.left r 0) (get_or y.left r 0) in
-    let fact : (eqb r p && test) ≡ false =
-    elim (cases_eq r p) [
-      | inl q ↦ and_right (eqb r p) test (subst (λ z. finishes_by (get_or x.left z 0) (get_or y.left z 0) ≡ false) (sym q) (finishes_no _ _ c))
-      | inr n ↦ and_left (eqb r p) test (ne_eqb r p n)
-    ] in
-    ap (λ b. cond b (Some y.time) rest) fact
+finish_later jobs (Dispatch r h) is x p c = grind (arith, cases_eq, and_right, finishes_no, and_left, ne_eqb)
 finish_later jobs _ is x p c = refl
 
 pub finish_after : (jobs : List Job) (is : List SInstr) (x : Point) (p f : ℕ) → finish (walk_from jobs is x) p ≡ Some f → x.time ≤ f
@@ -72,9 +53,8 @@ finish_ahead js ks (i ∷ is) x y p t a w d =
           let ahead : x'.time ≤ y'.time = n.time in
           (x'.time, finish_now js i is x p q.0 q.1, omega (arith, d.2))
       | inr c ↦
-          let more : 0 < get_or x'.left p 0 = omega arith in
           let less : get_or x'.left p 0 ≤ get_or y'.left p 0 = n.left p in
           let rest : DoneBy (walk_from js is x') p t =
-          finish_ahead js ks is x' y' p t n more (d.0, sym (finish_later ks i is y p (inr (omega arith))) ∙ d.1, d.2) in
+          finish_ahead js ks is x' y' p t n (omega arith) (d.0, sym (finish_later ks i is y p (inr (omega arith))) ∙ d.1, d.2) in
           (rest.0, finish_later js i is x p c ∙ rest.1, rest.2)
     ]

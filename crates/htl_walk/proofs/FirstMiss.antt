@@ -6,8 +6,7 @@ use Rattle.htl_walk.proofs.Acceptance.{departs_nowhere}
 
 module _ (jobs : List Job) (s : List SInstr) where
   same_position : (k l p q : ℕ) → k ≡ l → DispatchesAt s k p → DispatchesAt s l q → p ≡ q
-  same_position k l p q e d f =
-      let same : ◌≡◌ {A = SInstr} (Dispatch p d.0) (Dispatch q f.0) = cc (sym d.1 ∙ ap (slice_get s) e ∙ f.1) in cc same
+  same_position k l p q e d f = grind arith
 
   within : (k p : ℕ) → DispatchesAt s k p → k < length s
   within k p d = slice_get_within s k (Dispatch p d.0) d.1
@@ -16,18 +15,12 @@ module _ (jobs : List Job) (s : List SInstr) where
   early_at k l p q r e f h = subst (λ m. IsTooEarly jobs s m q r) e (subst (λ n. IsTooEarly jobs s k n r) f h)
 
   before_before : (p q k p' q' k' : ℕ) → IsFirstBefore jobs s p q k → IsFirstBefore jobs s p' q' k' → ◌≡◌ {A = Miss} (miss.Before p q k) (miss.Before p' q' k')
-  before_before p q k p' q' k' a b =
-      let place : k ≡ k' = same_from_neither k k' (λ h. b.clean.early k p q h a.here) (λ h. a.clean.early k' p' q' h b.here) in
-      let position : p ≡ p' = same_position k k' p p' place a.here.dispatches b.here.dispatches in
-      let lowest : q ≡ q' =
-      same_from_neither q q' (λ h. b.lowest q h (early_at k k' p p' q place position a.here)) (λ h. a.lowest q' h (early_at k' k p' p q' (sym place) (sym position) b.here)) in
-      cc
+  before_before p q k p' q' k' a b = grind (arith, same_from_neither, same_position, early_at)
 
   before_late : (p q k p' f w : ℕ) → IsFirstBefore jobs s p q k → IsFirstLate jobs s p' f w → ⊥
   before_late p q k p' f w a b =
       let place : k ≡ b.place = same_from_neither k b.place (λ h. b.clean.early k p q h a.here) (λ h. a.clean.late b.place p' f h b.here) in
-      let position : p ≡ p' = same_position k b.place p p' place a.here.dispatches b.here.dispatches in
-      b.ready q (early_at k b.place p p' q place position a.here)
+      b.ready q (early_at k b.place p p' q place (same_position k b.place p p' place a.here.dispatches b.here.dispatches) a.here)
 
   late_late : (p f w p' f' w' : ℕ) → IsFirstLate jobs s p f w → IsFirstLate jobs s p' f' w' → ◌≡◌ {A = Miss} (miss.Late p f w) (miss.Late p' f' w')
   late_late p f w p' f' w' a b =
@@ -38,10 +31,7 @@ module _ (jobs : List Job) (s : List SInstr) where
       cc
 
   unfinished_unfinished : (p n p' n' : ℕ) → IsFirstUnfinished jobs s p n → IsFirstUnfinished jobs s p' n' → ◌≡◌ {A = Miss} (miss.Unfinished p n) (miss.Unfinished p' n')
-  unfinished_unfinished p n p' n' a b =
-      let position : p ≡ p' = same_from_neither p p' (λ h. let z = b.lowest p h in omega (arith, a.is, a.some)) (λ h. let z = a.lowest p' h in omega (arith, b.is, b.some)) in
-      let left : n ≡ n' = a.is ∙ ap (λ p. get_or (worst_point jobs s (length s)).left p 0) position ∙ sym b.is in
-      cc
+  unfinished_unfinished p n p' n' a b = grind (arith, same_from_neither)
 
 pub one_first_miss : OneFirstMiss
 one_first_miss jobs period s m n a b = cases m n a b
@@ -51,16 +41,14 @@ one_first_miss jobs period s m n a b = cases m n a b
 
     cases : (m n : Miss) → IsFirstMiss jobs period s m → IsFirstMiss jobs period s n → m ≡ n
     cases (miss.Order k) (miss.Order l) a b = let same : k ≡ l = same_from_neither k l (λ h. b.first k h a.here) (λ h. a.first l h b.here) in ap miss.Order same
-    cases (miss.Before p q k) (miss.Order l) a b = absurd (in_form l a.0 b)
     cases (miss.Before p q k) (miss.Before p' q' l) a b = before_before jobs s p q k p' q' l a.1 b.1
     cases (miss.Before p q k) (miss.Late p' f w) a b = absurd (before_late jobs s p q k p' f w a.1 b.1)
     cases (miss.Before p q k) (miss.Unfinished p' n) a b = absurd (b.1.clean.early k p q (within jobs s k p a.1.here.dispatches) a.1.here)
-    cases (miss.Late p f w) (miss.Order l) a b = absurd (in_form l a.0 b)
     cases (miss.Late p f w) (miss.Before p' q k) a b = absurd (before_late jobs s p' q k p f w b.1 a.1)
     cases (miss.Late p f w) (miss.Late p' f' w') a b = late_late jobs s p f w p' f' w' a.1 b.1
     cases (miss.Late p f w) (miss.Unfinished p' n) a b = absurd (b.1.clean.late a.1.place p f (within jobs s a.1.place p a.1.here.dispatches) a.1.here)
-    cases (miss.Unfinished p n) (miss.Order l) a b = absurd (in_form l a.0 b)
     cases (miss.Unfinished p n) (miss.Before p' q k) a b = absurd (a.1.clean.early k p' q (within jobs s k p' b.1.here.dispatches) b.1.here)
     cases (miss.Unfinished p n) (miss.Late p' f w) a b = absurd (a.1.clean.late b.1.place p' f (within jobs s b.1.place p' b.1.here.dispatches) b.1.here)
     cases (miss.Unfinished p n) (miss.Unfinished p' n') a b = unfinished_unfinished jobs s p n p' n' a.1 b.1
     cases (miss.Order k) _ a b = absurd (in_form k b.0 a)
+    cases _ (miss.Order l) a b = absurd (in_form l a.0 b)

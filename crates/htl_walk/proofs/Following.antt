@@ -2,13 +2,9 @@
 use Rattle.std.proofs.Common.{◌≡◌, ℕ, zero, suc, ◌≤◌, ◌<◌, List, [], ◌∷◌, length, get_or, slice_get, Some, refl, sym, ap, ◌∙◌, subst, arith, inl, inr}
 use Rattle.htl_walk.proofs.Words.{All, slice_get-get_or, same_Some, ext_get_or, Job, Miss, SInstr, Dispatch, Idle, End, Point, job_at, next_point, walk, work, work_after, first_point, finish, InForm, ScheduleIsAccepted, worst_cases, worst_point, IsCleanBefore, IsFirstMiss, IsKnown, IsInTime, IsFollowed, IsMissAt, HasWork, each_at, cases_eq, cases_lt}
 use Rattle.htl_walk.specs.declared.miss.Miss.TheVariants as miss
-use Rattle.htl_walk.proofs.Steps.{left_other}
-use Rattle.htl_walk.proofs.Work.{work_present, worst_at}
-use Rattle.htl_walk.proofs.Acceptance.{point_step, finish_at, accepted}
-use Rattle.htl_walk.proofs.ListMiss.{clean_to, clean_of, before_to, late_miss_to}
+use Rattle.htl_walk.proofs.{Steps.left_other, Work.work_present, Work.worst_at, Acceptance.point_step, Acceptance.finish_at, Acceptance.accepted, ListMiss.clean_to, ListMiss.clean_of, ListMiss.before_to, ListMiss.late_miss_to}
 use Rattle.htl_walk.proofs.Walked as walked
-use Rattle.htl_walk.proofs.Walked.{IsWalked, walked_more}
-use Rattle.htl_walk.proofs.CodeWalk.{work_length}
+use Rattle.htl_walk.proofs.{Walked.IsWalked, Walked.walked_more, CodeWalk.work_length}
 
 -- the walk was followed up to instruction k, to this point and these finish offsets
 pub record IsFollowedTo (jobs : List Job) (s : List SInstr) (k : ℕ) (x : Point) (finishes : List ℕ) : Type 0 where
@@ -45,9 +41,7 @@ module _ (jobs : List Job) (s : List SInstr) (k : ℕ) (i : SInstr) (at : slice_
 
   finished_now : (x y : Point) → x ≡ worst_point jobs s k → y ≡ worst_point jobs s (suc k) → (p : ℕ) → 0 < get_or x.left p 0 → get_or y.left p 0 ≡ 0
       → finish (walk jobs (worst_cases jobs) s) p ≡ Some y.time
-  finished_now x y e f p some none =
-      finish_at jobs s (first_point jobs (worst_cases jobs)) k p i at (subst (λ z. 0 < get_or z.left p 0) e some) (subst (λ z. get_or z.left p 0 ≡ 0) f none)
-      ∙ ap (λ z. Some z.time) (sym f)
+  finished_now x y e f p some none = grind (arith, finish_at)
 
   pub followed_more : (x y : Point) (fs gs : List ℕ) → IsFollowedTo jobs s k x fs → IsFollowed jobs i x y fs gs → IsFollowedTo jobs s (suc k) y gs
   followed_more x y fs gs f d =
@@ -80,8 +74,7 @@ module _ (jobs : List Job) (s : List SInstr) (k : ℕ) (i : SInstr) (at : slice_
 
   -- the miss of instruction k, where nothing went wrong before it, is the first
   pub missed_here : (period : ℕ) (x : Point) (fs : List ℕ) (m : Miss) → InForm (length jobs) period s → IsFollowedTo jobs s k x fs → IsMissAt jobs i k x m → IsFirstMiss jobs period s m
-  missed_here period x fs (miss.Before p q place) form f d =
-      before_to jobs s period p q place (walked.missed_here jobs s (first_point jobs (worst_cases jobs)) k i at (length jobs) period x (miss.Before p q place) form (as_walked x fs f) d)
+  missed_here period x fs (miss.Before p q place) form f d = grind (arith, before_to, as_walked)
   missed_here period x fs (miss.Late p g window_end) form f d =
       late_miss_to jobs s period p g window_end (walked.missed_here jobs s (first_point jobs (worst_cases jobs)) k i at (length jobs) period x (miss.Late p g window_end) form (as_walked x fs f) d)
   missed_here period x fs _ form f d = absurd d

@@ -7,23 +7,16 @@ pub worst_some : (t : Tables) (i : Inv) (k : ℕ) → AreInRange t → slice_get
 worst_some t i k r at =
     let inv : IsInvInRange t i = each_at (IsInvInRange t) t.invs r.invs k i at in
     let task : Task = inv.task.0 in
-    let range : IsTaskInRange t task = each_at (IsTaskInRange t) t.tasks r.tasks i.task task inv.task.1 in
     let worst : task_worst t i.task ≡ task.worst = ap (λ (o : Option Task). elim o [ Some x ↦ x.worst | None ↦ 0 ]) inv.task.1 in
-    omega (arith, range.worst.some)
+    omega (arith, (each_at (IsTaskInRange t) t.tasks r.tasks i.task task inv.task.1).worst.some)
 
 -- the job of an invocation that is there
 job_there : (t : Tables) (standing : List (Option ℕ)) (k : ℕ) (i : Inv) → Job
-job_there t standing k i =
-    record { present = true; inv = k; release = release t i; end = window_end t i; worst = task_worst t i.task; preds = mask (map (is_fed_by t k) standing) }
+job_there t standing k i = grind arith
 
 job_work : (t : Tables) (standing : List (Option ℕ)) (k : ℕ) → AreInRange t → k < length t.invs → HasWork (job_of t standing (Some k))
 unfolding job_there
-job_work t standing k r h = elim (slice_get_cases t.invs k).1 [
-  | inl c ↦
-      let is : job_of t standing (Some k) ≡ job_there t standing k c.0 = ap (λ (o : Option Inv). elim o [ None ↦ absent_job | Some i ↦ job_there t standing k i ]) c.2 in
-      record { present = ap (λ (j : Job). j.present) is; worst = omega (arith, ap (λ (j : Job). j.worst) is, worst_some t c.0 k r c.2) }
-  | inr c ↦ absurd (omega (arith, c.0))
-]
+job_work t standing k r h = grind (arith, slice_get_cases, job_there, worst_some)
 
 pub abstract_jobs_work : (t : Tables) (sel : ℕ) → AreInRange t → All HasWork (abstract_jobs t sel)
 abstract_jobs_work t sel r =
@@ -36,6 +29,4 @@ abstract_jobs_work t sel r =
 
 pub preds_of : (t : Tables) (standing : List (Option ℕ)) (k : ℕ) (i : Inv) → slice_get t.invs k ≡ Some i → (q : ℕ) → precedes q (job_of t standing (Some k)) ≡ is_fed_by t k (get_or standing q None)
 unfolding job_there
-preds_of t standing k i at q =
-    ap (λ (o : Option Inv). precedes q (elim o [ None ↦ absent_job | Some i ↦ job_there t standing k i ])) at
-    ∙ mask_bit (map (is_fed_by t k) standing) q ∙ get_mapped (is_fed_by t k) standing None q refl
+preds_of t standing k i at q = grind (arith, job_there, mask_bit, get_mapped)

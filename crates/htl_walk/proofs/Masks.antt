@@ -17,34 +17,23 @@ pub mask_bit : (bs : List Bool) (q : ℕ) → has_bit (mask bs) q ≡ get_or bs 
 mask_bit [] zero = has_no_bit 0
 mask_bit [] (suc q) = has_no_bit (suc q)
 mask_bit (b ∷ bs) zero = ap (λ n. eqb n 1) (bit_at_lowest (of_bool b + 2 * mask bs)) ∙ low_bit b (mask bs)
-mask_bit (b ∷ bs) (suc q) =
-    ap (λ n. eqb n 1) (bit_at-suc (of_bool b + 2 * mask bs) q ∙ ap (λ n. bit_at n q) (halved b (mask bs))) ∙ mask_bit bs q
+mask_bit (b ∷ bs) (suc q) = grind (arith, bit_at-suc, halved, mask_bit bs q)
 
 pub mask_is : (row : ℕ) (bs : List Bool) → ((q : ℕ) → has_bit row q ≡ get_or bs q false) → row ≡ mask bs
 mask_is row bs h = same_row row (mask bs) (λ q. h q ∙ sym (mask_bit bs q))
 
 -- what is mapped at a place, where the default is mapped to the default
 pub get_mapped : {A : Type 0} (f : A → Bool) (xs : List A) (d : A) (q : ℕ) → f d ≡ false → get_or (map f xs) q false ≡ f (get_or xs q d)
-get_mapped f [] d zero e = sym e
-get_mapped f [] d (suc q) e = sym e
 get_mapped f (x ∷ xs) d zero e = refl
 get_mapped f (x ∷ xs) d (suc q) e = get_mapped f xs d q e
+get_mapped f [] d _ e = sym e
 
 -- ---- the job of a position
 
 -- all positions were noted
 pub writers_all : (t : Tables) (standing : List (Option ℕ)) (n : ℕ) (table : List ℕ) → n ≡ length standing
     → ((p r : ℕ) → p < length table → cell table p r ≡ (ltb r n && writes_to (inv_of t (get_or standing r None)) p)) → AreWriters t standing table
-writers_all t standing n table is says p r within = says p r within ∙ elim (cases_lt r n) [
-  | inl less ↦ here (ltb r n) (writes_to (inv_of t (get_or standing r None)) p) (grind (arith, nat_tests))
-  | inr past ↦
-      let none : get_or standing r None ≡ None = get_or_past standing r None (omega arith) in
-      ap (λ o. ltb r n && writes_to (inv_of t o) p) none ∙ and_none (ltb r n) ∙ sym (ap (λ o. writes_to (inv_of t o) p) none)
-]
-  where
-    here : (a b : Bool) → a ≡ true → (a && b) ≡ b
-    here true b e = refl
-    here false b e = cc
+writers_all t standing n table is says p r within = grind (arith, cases_lt, get_or_past, and_none)
 
 abbrev made : Tables → ℕ → Inv → ℕ → Job
 made t k i preds = record { present = true; inv = k; release = release t i; end = window_end t i; worst = task_worst t i.task; preds = preds }

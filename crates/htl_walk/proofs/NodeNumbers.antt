@@ -10,14 +10,12 @@ pub depth_same : (cs : List ℕ) (p q j i : ℕ) → 0 < ways cs → j < length 
 depth_same [] p q j i h l k e = absurd (omega (arith, l))
 depth_same (c ∷ cs) p q zero zero h l k e = refl
 depth_same (c ∷ cs) p q zero (suc i) h l k e =
-    let some = product_parts c (ways cs) h in
     let n = suc (nodes_of cs) in
-    let inner : suc (node_of cs q i) < n = omega (arith, node_below cs q i some.1 (omega (arith, k))) in
+    let inner : suc (node_of cs q i) < n = omega (arith, node_below cs q i (product_parts c (ways cs) h).1 (omega (arith, k))) in
     absurd (omega (arith, (places_same (p / ways cs % c) (q / ways cs % c) n 0 (suc (node_of cs q i)) (omega arith) inner (omega (arith, e))).1))
 depth_same (c ∷ cs) p q (suc j) zero h l k e =
-    let some = product_parts c (ways cs) h in
     let n = suc (nodes_of cs) in
-    let inner : suc (node_of cs p j) < n = omega (arith, node_below cs p j some.1 (omega (arith, l))) in
+    let inner : suc (node_of cs p j) < n = omega (arith, node_below cs p j (product_parts c (ways cs) h).1 (omega (arith, l))) in
     absurd (omega (arith, (places_same (p / ways cs % c) (q / ways cs % c) n (suc (node_of cs p j)) 0 inner (omega arith) (omega (arith, e))).1))
 depth_same (c ∷ cs) p q (suc j) (suc i) h l k e =
     let some = product_parts c (ways cs) h in
@@ -41,27 +39,16 @@ floor_again x zero = omega arith
 floor_again x (suc p) = let e : x / suc p * suc p + 0 ≡ x / suc p * suc p = omega arith in ap (λ n. n / suc p * suc p) (sym e) ∙ ap (λ n. n * suc p) (div-mul-add (x / suc p) (suc p) 0 (omega arith))
 
 pub modes_stay : ModesStay
-modes_stay t path i j u e =
-    let p = unit_period t u in
-    ap (λ a. mode_from t path u a (rounds t)) (sym (floor_again (start_at t j) p) ∙ ap (λ x. x / p * p) (sym e))
+modes_stay t path i j u e = grind (arith, floor_again)
 
 -- no round behind begins at a
 none_from : (t : Tables) (ps : List ℕ) (path u a z : ℕ) (rs : List Round) → a < z → LaterRounds ps z rs → mode_from t path u a rs ≡ 0
 none_from t ps path u a z [] h l = refl
-none_from t ps path u a z (r ∷ rs) h l =
-    let off : eqb r.at a ≡ false = ne_eqb r.at a (λ e. omega (arith, e, h, l.0)) in
-    ap (λ (c : Bool). cond (eqb r.unit u && c) (mode_in t path r rs) (mode_from t path u a rs)) off ∙ passed (eqb r.unit u) (mode_in t path r rs) (mode_from t path u a rs)
-    ∙ none_from t ps path u a r.at rs (omega (arith, h, l.0)) l.2
-  where
-    passed : (c : Bool) (x y : ℕ) → cond (c && false) x y ≡ y
-    passed true x y = refl
-    passed false x y = refl
+none_from t ps path u a z (r ∷ rs) h l = grind (arith, ne_eqb, none_from t ps path u a r.at rs (omega (arith, h, l.0)) l.2)
 
 mode_from_append : (t : Tables) (path u a : ℕ) (rs ss : List Round) → mode_from t path u a ss ≡ 0 → mode_from t path u a (rs ++ ss) ≡ mode_from t (path / choices t ss) u a rs
 mode_from_append t path u a [] ss none = none
-mode_from_append t path u a (r ∷ rs) ss none =
-    ap (λ n. cond (eqb r.unit u && eqb r.at a) n (mode_from t path u a (rs ++ ss))) (mode_append t path r rs ss)
-    ∙ ap (λ n. cond (eqb r.unit u && eqb r.at a) (mode_in t (path / choices t ss) r rs) n) (mode_from_append t path u a rs ss none)
+mode_from_append t path u a (r ∷ rs) ss none = grind (arith, mode_append, mode_from_append t path u a rs ss none)
 
 starts_in_order : (ps : List ℕ) (h k i : ℕ) (xs : List ℕ) → Rises ps h xs → k ≤ i → i < length xs → get_or xs k 0 ≤ get_or xs i 0
 starts_in_order ps h zero zero (x ∷ xs) r l b = omega arith
@@ -91,9 +78,7 @@ module _ (t : Tables) (i : ℕ) (within : i < length (starts t)) where
       mode_so_far p u a early ∙ ap (λ n. mode_from t n u a (rounds_to t i)) (same_choices t p q i hp hq within e) ∙ sym (mode_so_far q u a early)
 
 pub nodes_differ : NodesDiffer
-nodes_differ t p q i j hp hq li lj e =
-    let start : i ≡ j = node_depth t p q i j hp li lj e in
-    record { start = start; modes = same_modes t i li p q hp hq (e ∙ ap (node t q) (sym start)) }
+nodes_differ t p q i j hp hq li lj e = grind (arith, node_depth, same_modes)
 
 -- ---- the node of a number
 
@@ -113,13 +98,11 @@ node_low (c ∷ cs) d x j h = by j (λ i. node_low cs (d * c) x i some.1)
 
     digit : (d * (c * w) + x) / w % c ≡ x / w % c
     digit =
-        let turn : d * c + x / w ≡ x / w + d * c = omega arith in
-        ap (λ n. n / w % c) moved ∙ ap (λ n. n % c) (mul-add-div_right some.1 (d * c) x) ∙ ap (λ n. n % c) turn ∙ add-mul-mod_self_right (x / w) d c
+        ap (λ n. n / w % c) moved ∙ ap (λ n. n % c) (mul-add-div_right some.1 (d * c) x) ∙ ap (λ n. n % c) (omega arith) ∙ add-mul-mod_self_right (x / w) d c
 
     by : (j : ℕ) → ((i : ℕ) → node_of cs (d * c * w + x) i ≡ node_of cs x i) → node_of (c ∷ cs) (d * (c * w) + x) j ≡ node_of (c ∷ cs) x j
     by zero later = ap (λ n. n * suc (nodes_of cs)) digit
-    by (suc j) later =
-        ap (λ n. n * suc (nodes_of cs) + suc (node_of cs (d * (c * w) + x) j)) digit ∙ ap (λ n. x / w % c * suc (nodes_of cs) + suc n) (ap (λ n. node_of cs n j) moved ∙ later j)
+    by (suc j) later = grind (arith, d, w, digit, moved)
 
 node_found : (cs : List ℕ) (n : ℕ) → 0 < ways cs → n < nodes_of cs → (path : ℕ) × (j : ℕ) × (path < ways cs) × (j < length cs) × (node_of cs path j ≡ n)
 node_found [] n h l = absurd (omega (arith, l))
@@ -141,10 +124,7 @@ node_found (c ∷ cs) n h l = by (n % m) refl (λ k b. node_found cs k some.1 b)
     whole = omega (arith, div-add-mod n m, mul_comm m (n / m))
 
     high : d < c
-    high = few d c (n % m) (omega (arith, whole, l))
-      where
-        few : (d c e : ℕ) → d * m + e < c * m → d < c
-        few d c e h = elim (cases_lt d c) [ inl less ↦ less | inr more ↦ absurd (omega (arith, h, mul-le-mul_right m more)) ]
+    high = grind (arith, d, m, whole, cases_lt, mul-le-mul_right)
 
     -- the first place of the path
     place : (x : ℕ) → x < w → (d * w + x) / w % c ≡ d

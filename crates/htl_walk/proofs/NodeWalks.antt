@@ -1,14 +1,8 @@
 -- The walk of all paths: what its first nodes tell of further paths, and what the lists of a path tell of it.
 use Rattle.std.proofs.Common.{◌≡◌, ℕ, zero, suc, ◌+◌, ◌≤◌, ◌<◌, ◌⊎◌, true, false, leb, leb-true, le-leb, eqb, ◌&&◌, List, [], ◌∷◌, ◌++◌, length, drop, map, get_or, refl, sym, ap, ◌∙◌, subst, arith, inl, inr}
 use Rattle.htl_walk.proofs.Words.{cases_lt, cases_Bool, get_or_past, length-map, list_to, of_bool, Tables, Place, starts, paths, node, path_places, known_by, frame_of, root_periods, Job, Miss, SInstr, absent_job, precedes, is_fed_by, Point, job_at, last_point, first_point, worst_cases, AreWellFormed, list_point, IsPathAccepted, AreChained, AgreeOn, AgreeAt, IsListClean, IsListMiss, AreClean, IsPathMiss, counted, WaitWithin, path_jobs, placed_jobs, placed_job, legs_of, legs, next_of, start_at, start_end_at, lists_of, AreFeasible, ShareFront, IsRoundFront, reach, ListIsClean, IsMissIn, count_to, list_at, reached, IsCleanAt, IsNodeMissAt, AreCleanTo, AreSaved, ShareNodes, AreWalkable, IsFirstFailing, marked_within}
-use Rattle.htl_walk.proofs.Fine.{job_at_is, first_left}
-use Rattle.htl_walk.proofs.Clean.{accepting}
-use Rattle.htl_walk.proofs.Work.{absent_precedes}
-use Rattle.htl_walk.proofs.CleanAlike.{clean_alike}
-use Rattle.htl_walk.proofs.GoingOn.{untouched}
-use Rattle.htl_walk.proofs.OneMiss.{path_refused}
+use Rattle.htl_walk.proofs.{Fine.job_at_is, Fine.first_left, Clean.accepting, Work.absent_precedes, CleanAlike.clean_alike, GoingOn.untouched, OneMiss.path_refused, Nodes.nodes_share, Nodes.some_root}
 use Rattle.htl_walk.proofs.Starts.{Rises, starts_rise, LaterPlaces, Stands, no_place, path_later, later_stands, job_is, placed_is, mask_bit, legs_follow}
-use Rattle.htl_walk.proofs.Nodes.{nodes_share, some_root}
 
 -- ---- lists by place
 
@@ -27,8 +21,7 @@ count_behind f (suc j) = omega (arith, count_behind f j)
 
 clean_behind : (js : List Job) (h : ℕ) (xs : List Place) (a : ℕ) (later : List ℕ) (f : ℕ → List SInstr) (x : Point) (j : ℕ) → ListIsClean js h xs (a ∷ later) f x (suc j)
     → ListIsClean js h xs later (λ k. f (suc k)) (last_point js (f 0) (list_point a x)) j
-clean_behind js h xs a later f x j c =
-    subst (λ y. IsListClean (known_by (get_or later j 0) xs) (next_of h (drop (suc j) later)) js (f (suc j)) (list_point (get_or later j 0) y)) (reach_behind js a later f x j) c
+clean_behind js h xs a later f x j c = grind (arith, reach_behind)
 
 -- where each list is clean from the point that is reached, the path's lists are
 clean_lists : (js : List Job) (h : ℕ) (xs : List Place) (as' : List ℕ) (f : ℕ → List SInstr) (x : Point) → ((j : ℕ) → j < length as' → ListIsClean js h xs as' f x j)
@@ -42,18 +35,15 @@ clean_lists js h xs (a ∷ later) f x c =
 miss_lists : (js : List Job) (h : ℕ) (xs : List Place) (as' : List ℕ) (f : ℕ → List SInstr) (x : Point) (n j : ℕ) (m : Miss) → j < length as' → ((i : ℕ) → i < j → ListIsClean js h xs as' f x i)
     → IsMissIn js h xs as' f x j m → IsPathMiss js (list_to f (length as')) (legs_of h xs as') n x (counted (n + count_to f j) m)
 miss_lists js h xs [] f x n j m l c e = absurd (omega arith)
-miss_lists js h xs (a ∷ later) f x n zero m l c e =
-    let same : n + 0 ≡ n = omega arith in
-    subst (λ ss. IsPathMiss js ss (legs_of h xs (a ∷ later)) n x (counted (n + 0) m)) (sym (list_front f (length later))) (inl (m, ap (λ k. counted k m) same, e))
+miss_lists js h xs (a ∷ later) f x n zero m l c e = grind (arith, list_front)
 miss_lists js h xs (a ∷ later) f x n (suc j) m l c e =
     let y = last_point js (f 0) (list_point a x) in
     let g : ℕ → List SInstr = λ k. f (suc k) in
-    let same : n + length (f 0) + count_to g j ≡ n + count_to f (suc j) = omega (arith, count_behind f j) in
     let here : IsMissIn js h xs later g y j m = subst (λ z. IsListMiss (known_by (get_or later j 0) xs) (next_of h (drop (suc j) later)) js (f (suc j)) (list_point (get_or later j 0) z) m) (reach_behind js a later f x j) e in
     subst (λ ss. IsPathMiss js ss (legs_of h xs (a ∷ later)) n x (counted (n + count_to f (suc j)) m)) (sym (list_front f (length later)))
     (inr (
       c 0 (omega arith),
-      subst (λ k. IsPathMiss js (list_to g (length later)) (legs_of h xs later) (n + length (f 0)) y (counted k m)) same
+      subst (λ k. IsPathMiss js (list_to g (length later)) (legs_of h xs later) (n + length (f 0)) y (counted k m)) (omega (arith, count_behind f j))
           (miss_lists js h xs later g y (n + length (f 0)) j m (omega (arith, l)) (λ i b. clean_behind js h xs a later f x i (c (suc i) (omega (arith, b)))) here),
     ))
 
@@ -69,10 +59,7 @@ untouched_to js h xs as' f x (suc j) p c k =
 -- ---- what has begun by an instant has begun later
 
 bit_rises : (x a b : ℕ) → a ≤ b → of_bool (leb x a) ≤ of_bool (leb x b)
-bit_rises x a b l = elim (cases_Bool (leb x a)) [
-  | inl e ↦ omega (arith, ap of_bool e, ap of_bool (le-leb x b (omega (arith, leb-true x a e, l))))
-  | inr e ↦ omega (arith, ap of_bool e)
-]
+bit_rises x a b l = grind (arith, cases_Bool, le-leb, leb-true)
 
 pub known_rises : (a b : ℕ) (xs : List Place) → a ≤ b → known_by a xs ≤ known_by b xs
 known_rises a b [] l = omega arith
@@ -103,8 +90,7 @@ waits_for t xs p q l e = elim (cases_lt p (length xs)) [
       sym (mask_bit (map test xs) q) ∙ sym (ap (precedes q) (job_is t (root_periods t) 0 xs l p k ∙ placed_is t xs (get_or xs p no_place) s)) ∙ e in
       (omega (arith, marked_within (map test xs) q bit, length-map xs test), k)
   | inr k ↦
-      let past : get_or (placed_jobs t xs) p absent_job ≡ absent_job = get_or_past (placed_jobs t xs) p absent_job (omega (arith, k, length-map xs (placed_job t xs))) in
-      absurd (absent_waits q (sym (ap (precedes q) past) ∙ e))
+      absurd (absent_waits q (sym (ap (precedes q) (get_or_past (placed_jobs t xs) p absent_job (omega (arith, k, length-map xs (placed_job t xs))))) ∙ e))
 ]
 
 -- ---- paths with the same first nodes
@@ -137,30 +123,10 @@ module _ (t : Tables) (lists : List (List SInstr)) (ready : AreWalkable t) where
       → ((k : ℕ) → suc k ≡ i → AgreeTo p q k × (known_by (start_at t k) (path_places t q) ≡ known_by (start_at t k) (path_places t p)))
       → ShareFront (path_jobs t q) (path_jobs t p) (known_by (start_at t i) (path_places t q)) (start_end_at t i)
       → AgreeAt (known_by (start_at t i) (path_places t q)) (list_point (start_at t i) (reached t lists q i)) (list_point (start_at t i) (reached t lists p i))
-  begin_alike p q i hp hq l cq cp before share = record { time = refl; left = λ k b. at i (omega (arith, l)) cq cp before k (share.same k b) }
-    where
-      fresh : (i : ℕ) → i ≤ length (starts t) → AreCleanTo t lists q i → AreCleanTo t lists p i → (k : ℕ) → get_or (path_jobs t q) k absent_job ≡ get_or (path_jobs t p) k absent_job
-          → ((m : ℕ) → suc m ≡ i → known_by (start_at t m) (path_places t q) ≤ k) → ((m : ℕ) → suc m ≡ i → known_by (start_at t m) (path_places t p) ≤ k)
-          → get_or (reached t lists q i).left k 0 ≡ get_or (reached t lists p i).left k 0
-      fresh i l cq cp k same a b = unwalked q i k hq l cq a ∙ ap (λ (j : Job). j.worst) same ∙ sym (unwalked p i k hp l cp b)
-
-      at : (i : ℕ) → i ≤ length (starts t) → AreCleanTo t lists q i → AreCleanTo t lists p i
-          → ((k : ℕ) → suc k ≡ i → AgreeTo p q k × (known_by (start_at t k) (path_places t q) ≡ known_by (start_at t k) (path_places t p)))
-          → (k : ℕ) → get_or (path_jobs t q) k absent_job ≡ get_or (path_jobs t p) k absent_job → get_or (reached t lists q i).left k 0 ≡ get_or (reached t lists p i).left k 0
-      at zero l cq cp before k same = fresh zero l cq cp k same (λ m e. absurd (omega (arith, e))) (λ m e. absurd (omega (arith, e)))
-      at (suc i) l cq cp before k same = elim (cases_lt k (known_by (start_at t i) (path_places t q))) [
-        | inl b ↦ (before i refl).0.left k b
-        | inr b ↦
-            fresh (suc i) l cq cp k same (λ m e. let s : m ≡ i = omega (arith, e) in omega (arith, b, ap (λ z. known_by (start_at t z) (path_places t q)) s))
-            (λ m e. let s : m ≡ i = omega (arith, e) in omega (arith, b, (before i refl).1, ap (λ z. known_by (start_at t z) (path_places t p)) s))
-      ]
+  begin_alike p q i hp hq l cq cp before share = grind (arith, unwalked, cases_lt)
 
   front_waits : (p n b : ℕ) → p < paths t → IsRoundFront (path_jobs t p) n b → WaitWithin n (path_jobs t p)
-  front_waits p n b h front x y l e =
-      let e' : precedes y (get_or (path_jobs t p) x absent_job) ≡ true = sym (ap (precedes y) (job_at_is (path_jobs t p) x)) ∙ e in
-      let w = waits_for t (path_places t p) x y (path_later t p) e' in
-      let same = length-map (path_places t p) (placed_job t (path_places t p)) in
-      (front.alone y x (omega (arith, w.0, same)) (omega (arith, w.1, same)) e').0 l
+  front_waits p n b h front x y l e = grind (arith, job_at_is, waits_for, path_later, length-map)
 
   -- a list that is clean in one path is clean in every path through its node
   node_alike : (p q i : ℕ) → p < paths t → q < paths t → i < length (starts t) → node t q i ≡ node t p i → AreCleanTo t lists q i → AreCleanTo t lists p i
@@ -196,16 +162,14 @@ module _ (t : Tables) (lists : List (List SInstr)) (ready : AreWalkable t) where
     where
       all : (i : ℕ) → i < d → (m : ℕ) → m ≤ i → IsCleanAt t lists p m × AgreeTo p q m
       all zero e m f =
-          let z : 0 ≡ m = omega (arith, f) in
-          subst (λ k. IsCleanAt t lists p k × AgreeTo p q k) z
+          subst (λ k. IsCleanAt t lists p k × AgreeTo p q k) (omega (arith, f))
           (node_alike p q 0 hp hq (omega (arith, l, e)) (same 0 e) (λ k h. absurd (omega (arith, h))) (λ k h. absurd (omega (arith, h))) (λ k h. absurd (omega (arith, h))) (c 0 e))
       all (suc i) e m f =
           let before = all i (omega (arith, e)) in
           elim (cases_lt m (suc i)) [
             | inl g ↦ before m (omega (arith, g))
             | inr g ↦
-                let z : suc i ≡ m = omega (arith, f, g) in
-                subst (λ k. IsCleanAt t lists p k × AgreeTo p q k) z
+                subst (λ k. IsCleanAt t lists p k × AgreeTo p q k) (omega (arith, f, g))
                 (node_alike p q (suc i) hp hq (omega (arith, l, e)) (same (suc i) e) (λ k h. c k (omega (arith, e, h))) (λ k h. (before k (omega (arith, h))).0)
                 (λ k h.
                 let s : k ≡ i = omega (arith, h) in
@@ -218,8 +182,7 @@ module _ (t : Tables) (lists : List (List SInstr)) (ready : AreWalkable t) where
 
   pub shared_saved : (p q d : ℕ) (states : List (List ℕ)) → p < paths t → q < paths t → d ≤ length (starts t) → ShareNodes t q p d → AreCleanTo t lists q d → AreSaved t lists q d states → AreSaved t lists p d states
   shared_saved p q d states hp hq l same c saved i k e b =
-      let known = (nodes_share t q p i hq hp (omega (arith, l, e)) (same i e)).0 in
-      let b' : k < known_by (start_at t i) (path_places t q) = omega (arith, b, known) in
+      let b' : k < known_by (start_at t i) (path_places t q) = omega (arith, b, (nodes_share t q p i hq hp (omega (arith, l, e)) (same i e)).0) in
       saved i k e b' ∙ (alike_to p q d hp hq l same c i e).1.left k b'
 
   -- ---- what the lists of a path tell of it
@@ -238,8 +201,7 @@ module _ (t : Tables) (lists : List (List SInstr)) (ready : AreWalkable t) where
       let js = path_jobs t path in
       let x = first_point js (worst_cases js) in
       let miss : IsPathMiss js (lists_of t lists path) (legs t path) 0 x (counted (count_to (list_at t lists path) j) m) =
-      let none : 0 + count_to (list_at t lists path) j ≡ count_to (list_at t lists path) j = omega arith in
-      subst (λ n. IsPathMiss js (list_to (list_at t lists path) (length (starts t))) (legs t path) 0 x (counted n m)) none
+      subst (λ n. IsPathMiss js (list_to (list_at t lists path) (length (starts t))) (legs t path) 0 x (counted n m)) (omega arith)
       (miss_lists js (frame_of t) (path_places t path) (starts t) (list_at t lists path) x 0 j m l c e) in
       record {
         within = h;

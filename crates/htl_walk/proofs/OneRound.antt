@@ -1,23 +1,16 @@
 -- Where all root modules have one period no limit of frames is exceeded, and a path is accepted exactly where its root selection is.
 use Rattle.std.proofs.Common.{◌≡◌, ℕ, ◌+◌, ◌*◌, ◌≤◌, ◌<◌, ◌⊎◌, min, Bool, false, cond, ltb, List, [], ◌∷◌, length, map, get_or, slice_get, Option, Some, None, option_map, refl, sym, ap, ◌∙◌, subst, arith, inl, inr}
 use Rattle.htl_walk.proofs.Words.{nat_tests, length-map, slice_get-get_or, one_divides, rounds_have, kept_apart, not_exceeded, rest_is, limit_none, limit_rest, KeptTo, KeepsLimits, common_multiple, multiple_of, unit_period, starts_below, starts, rounds, rounds_at, choices, paths, nodes, node, nodes_of, path_places, most_positions, too_long, frame_limit, other_limit, list_to, AreInRange, root_modules, choices_from, selection_count, positions, round_length, Tables, Place, AllHave, RootsHaveOnePeriod, HasOnePeriod, AreRounds, AreFeasible, lists_of, abstract_jobs, path_jobs, legs, whole, Leg, IsPathAccepted, ScheduleIsAccepted, Job, SInstr}
-use Rattle.htl_walk.proofs.Accepted.{one_list_accepted}
-use Rattle.htl_walk.proofs.EqualPeriods.{first_round, one_round as round_period}
-use Rattle.htl_walk.proofs.OnePeriod.{same_multiple, one_period}
-use Rattle.htl_walk.proofs.WidestPath.{widest_path}
+use Rattle.htl_walk.proofs.{Accepted.one_list_accepted, EqualPeriods.first_round, EqualPeriods.one_round as round_period, OnePeriod.same_multiple, OnePeriod.one_period, WidestPath.widest_path}
 
 -- ---- without modules
 
 no_nodes : (t : Tables) (us : List ℕ) → root_modules t ≡ us → length us ≡ 0 → nodes t ≡ selection_count t
-no_nodes t [] is none =
-    let no_starts : starts t ≡ [] = ap (λ (vs : List ℕ). starts_below (map (unit_period t) vs) (elim (elim (map (unit_period t) vs) as (λ _. Option ℕ) [ [] ↦ None | p ∷ ps ↦ Some (multiple_of p ps) ]) as (λ _. ℕ) [ Some h ↦ h | None ↦ 0 ])) is in
-    ap (λ (xs : List ℕ). nodes_of (map (λ a. choices t (rounds_at t a)) xs)) no_starts
-    ∙ sym (ap (λ (vs : List ℕ). elim vs as (λ _. ℕ) [ [] ↦ 0 | k ∷ ks ↦ choices_from t 0 t.modules ]) is)
+no_nodes t [] is none = grind arith
 no_nodes t (u ∷ us) is none = absurd (omega (arith, none))
 
 pub no_selection : (t : Tables) (us : List ℕ) → root_modules t ≡ us → length us ≡ 0 → (sel : ℕ) → sel < selection_count t → ⊥
-no_selection t [] is none sel below =
-    let z : selection_count t ≡ 0 = ap (λ (vs : List ℕ). elim vs as (λ _. ℕ) [ [] ↦ 0 | k ∷ ks ↦ choices_from t 0 t.modules ]) is in omega (arith, z, below)
+no_selection t [] is none sel below = grind arith
 no_selection t (u ∷ us) is none sel below = absurd (omega (arith, none))
 
 no_paths : (t : Tables) (us : List ℕ) → root_modules t ≡ us → length us ≡ 0 → (path : ℕ) → path < paths t → ⊥
@@ -42,8 +35,7 @@ module _ (t : Tables) (r : AreInRange t) (kept : KeptTo t 12) (one : RootsHaveOn
     none_long [] m e a = refl
     none_long (u ∷ us) m e a =
         let p : ℕ = round_length t in
-        let is : common_multiple m (unit_period t u) ≡ p = ap (common_multiple m) a.0 ∙ e in
-        ap (λ (n : ℕ). cond (ltb 1000000 n) (Some (u, n)) (too_long t n us)) is
+        ap (λ (n : ℕ). cond (ltb 1000000 n) (Some (u, n)) (too_long t n us)) (ap (common_multiple m) a.0 ∙ e)
         ∙ ap (λ (b : Bool). cond b (Some (u, p)) (too_long t p us)) (small p (first_round t r (kept_apart t 12 kept) (get_or (root_modules t) 0 0) first_root).2)
         ∙ none_long us p (same_multiple p one_round.positive) a.1
       where
@@ -60,15 +52,13 @@ module _ (t : Tables) (r : AreInRange t) (kept : KeptTo t 12) (one : RootsHaveOn
         let ways : choices t (rounds t) ≡ selection_count t = sym (chosen (root_modules t) (choices t (rounds t)) some) ∙ are_rounds.paths in
         let begins : length (starts t) ≡ 1 = ap length are_rounds.one_start in
         let w = widest_path t (rounds t) (rounds_have t r) in
-        let below : w.0 < selection_count t = omega (arith, w.1.0, ways) in
         let most = w.1.1 w.0 0 (let z : w.0 ≡ 0 * choices t (rounds t) + w.0 = omega arith in z) in
         let here : length (path_places t w.0) ≡ length (positions t w.0) =
         ap (λ (xs : List Place). length xs) (are_rounds.positions w.0) ∙ length-map (positions t w.0) (λ (k : ℕ). let x : Place = record { inv = Some k; at = 0 } in x) in
-        let few : most_positions t (rounds t) ≤ 128 = omega (arith, most, here, limits.positions w.0 below) in
+        let few : most_positions t (rounds t) ≤ 128 = omega (arith, most, here, limits.positions w.0 (omega (arith, w.1.0, ways))) in
         let least : min (choices t (rounds t)) 4294967295 ≤ 1024 = omega (arith, ways, limits.selections) in
         let other : other_limit t ≡ None = rest_is t (omega (arith, begins)) least ∙ not_exceeded (most_positions t (rounds t)) 128 few in
-        let long : too_long t 1 (root_modules t) ≡ None = none_long (root_modules t) 1 (one_divides (round_length t)) one_round.each in
-        limit_rest t (root_modules t) refl some long ∙ ap (option_map _) other
+        limit_rest t (root_modules t) refl some (none_long (root_modules t) 1 (one_divides (round_length t)) one_round.each) ∙ ap (option_map _) other
 
   pub none_or_some : (n : ℕ) → (n ≡ 0) ⊎ (0 < n)
   none_or_some n = grind arith
@@ -84,26 +74,10 @@ module _ (t : Tables) (r : AreInRange t) (kept : KeptTo t 12) (one : RootsHaveOn
   module _ (lists : List (List SInstr)) where
     -- the one list of a path
     one_of : AreRounds t (round_length t) → (path : ℕ) → path < selection_count t → lists_of t lists path ≡ get_or lists path [] ∷ []
-    one_of a path inside =
-        ap (λ (xs : List ℕ). list_to (λ j. get_or lists (node t path j) []) (length xs)) a.one_start
-        ∙ ap (λ (n : ℕ). get_or lists n [] ∷ []) (a.node path inside)
+    one_of a path inside = grind arith
 
     pub feasible : ((sel : ℕ) → sel < selection_count t → ScheduleIsAccepted (abstract_jobs t sel) (round_length t) (get_or lists sel [])) → AreFeasible t lists
-    feasible each path below = elim (none_or_some (length (root_modules t))) [
-      | inl none ↦ absurd (no_paths t (root_modules t) refl none path below)
-      | inr some ↦
-          let rounds_are = are_rounds some in
-          let inside : path < selection_count t = omega (arith, below, rounds_are.paths) in
-          let one = (one_list_accepted (abstract_jobs t path) (round_length t) (get_or lists path [])).1 (each path inside) in
-          path_of_round rounds_are path inside one
-    ]
-      where
-        path_of_round : AreRounds t (round_length t) → (path : ℕ) → path < selection_count t
-            → IsPathAccepted (abstract_jobs t path) (whole (round_length t) (length (abstract_jobs t path)) ∷ []) (get_or lists path [] ∷ []) → IsPathAccepted (path_jobs t path) (legs t path) (lists_of t lists path)
-        path_of_round a path inside h =
-            subst (λ (js : List Job). IsPathAccepted js (legs t path) (lists_of t lists path)) (sym (a.jobs path))
-            (subst (λ (gs : List Leg). IsPathAccepted (abstract_jobs t path) gs (lists_of t lists path)) (sym (a.legs path))
-            (subst (λ (ss : List (List SInstr)). IsPathAccepted (abstract_jobs t path) (whole (round_length t) (length (abstract_jobs t path)) ∷ []) ss) (sym (one_of a path inside)) h))
+    feasible each path below = grind (arith, none_or_some, no_paths, are_rounds, one_list_accepted, one_of)
 
     pub each_round : AreFeasible t lists → (sel : ℕ) → sel < selection_count t → ScheduleIsAccepted (abstract_jobs t sel) (round_length t) (get_or lists sel [])
     each_round all sel inside = elim (none_or_some (length (root_modules t))) [

@@ -11,9 +11,8 @@ walk_take jobs (i ∷ is) x (suc k) = ap (λ (ls : List Left). left_by jobs i x 
 -- the job at one of the first positions
 pub job_front : (n : ℕ) (js : List Job) (p : ℕ) → p < n → job_at (take n js) p ≡ job_at js p
 job_front zero js p h = absurd (omega arith)
-job_front (suc n) [] p h = refl
-job_front (suc n) (j ∷ js) zero h = refl
 job_front (suc n) (j ∷ js) (suc p) h = job_front n js p (omega arith)
+job_front (suc n) _ _ h = refl
 
 pub form_at : (ss : List (List SInstr)) (gs : List Leg) (j : ℕ) → AreInForm ss gs → j < length gs → InForm (get_or gs j no_leg).known (get_or gs j no_leg).to (get_or ss j [])
 form_at [] [] j f h = absurd (omega arith)

@@ -3,8 +3,7 @@ use Rattle.std.proofs.Common.{◌≡◌, ℕ, zero, suc, ◌+◌, ◌*◌, ◌%�
 use Rattle.htl_walk.proofs.Words.{flat_map, mul-le-mul_right, div-add-mod, cases_lt, cases_eq, length-map, slice_get_cases, slice_get-get_or, Place, Round, Mode, Module, Inv, Task, ModulePeriod, Windows, Offsets, Itself, Output, Site, Part, KeptApart, unit_start, unit_period, frame_of, root_periods, starts, rounds_of, rounds_at, rounds, choices, mode_in, places_of, places_in, path_places, frame_limit, first_mode, asked_period, AreInRange, IsInvInRange, IsModeInRange, IsTaskInRange, IsSpan, parent_of, is_root, root_modules, modes_of, mode_of_module, inv_of_mode, invs_of, Tables, mode_period, comm_period, task_worst, release, window_end, offsets, least_or, frame_some, limits_kept, frame_divided, modes_some, place_passes_0, Job, placed_job, path_jobs, IsWellFormed, AreWalkable, each_at, mode_there}
 use Rattle.htl_model.specs.declared.parts.End.{End}
 use Rattle.htl_model.specs.declared.parts.End.TheVariants as E
-use Rattle.htl_walk.proofs.Nodes.{some_root}
-use Rattle.htl_walk.proofs.Starts.{Rises, starts_rise, no_place, Stands, placed_is, get_map}
+use Rattle.htl_walk.proofs.{Nodes.some_root, Starts.Rises, Starts.starts_rise, Starts.no_place, Starts.Stands, Starts.placed_is, Starts.get_map}
 
 -- ---- windows
 
@@ -47,16 +46,14 @@ window_within t k i r kept at = least_within t (mode_period t i.mode) i.writes (
 pub window_small : (t : Tables) (k : ℕ) (i : Inv) → AreInRange t → KeptApart t 12 → slice_get t.invs k ≡ Some i → (release t i < window_end t i) × (window_end t i ≤ 1000000)
 window_small t k i r kept at =
     let x = mode_there t k i r at in
-    let range : IsModeInRange t x.0 = each_at (IsModeInRange t) t.modes r.modes i.mode x.0 x.1 in
     let is : mode_period t i.mode ≡ x.0.period = ap (λ (o : Option Mode). elim o as (λ _. ℕ) [ Some y ↦ y.period | None ↦ 0 ]) x.1 in
-    (window_some t k i r kept at, omega (arith, window_within t k i r kept at, is, range.period.most))
+    (window_some t k i r kept at, omega (arith, window_within t k i r kept at, is, (each_at (IsModeInRange t) t.modes r.modes i.mode x.0 x.1).period.most))
 
 pub worst_span : (t : Tables) (k : ℕ) (i : Inv) → AreInRange t → slice_get t.invs k ≡ Some i → IsSpan (task_worst t i.task)
 worst_span t k i r at =
     let inv : IsInvInRange t i = each_at (IsInvInRange t) t.invs r.invs k i at in
-    let range : IsTaskInRange t inv.task.0 = each_at (IsTaskInRange t) t.tasks r.tasks i.task inv.task.0 inv.task.1 in
     let is : task_worst t i.task ≡ inv.task.0.worst = ap (λ (o : Option Task). elim o [ Some y ↦ y.worst | None ↦ 0 ]) inv.task.1 in
-    subst IsSpan (sym is) range.worst
+    subst IsSpan (sym is) (each_at (IsTaskInRange t) t.tasks r.tasks i.task inv.task.0 inv.task.1).worst
 
 -- ---- the modes of a root module
 
@@ -119,23 +116,7 @@ EachRoot t (u ∷ us) = IsRootAt t u × (frame_of t % unit_period t u ≡ 0) × 
 
 -- a multiple of a number below another multiple is at least that number below it
 room_for_round : (a h p : ℕ) → a % p ≡ 0 → h % p ≡ 0 → a < h → a + p ≤ h
-room_for_round a h p e f l =
-    let m = div-add-mod a p in
-    let n = div-add-mod h p in
-    elim (cases_lt (a / p) (h / p)) [
-      | inl k ↦
-          let more : (a / p + 1) * p ≤ h / p * p = mul-le-mul_right p (omega (arith, k)) in
-          omega (arith, more, spread (a / p) p, swap p (a / p), swap p (h / p), m, n, e, f)
-      | inr k ↦
-          let less : h / p * p ≤ a / p * p = mul-le-mul_right p k in
-          absurd (omega (arith, less, swap p (a / p), swap p (h / p), m, n, e, f, l))
-    ]
-  where
-    spread : (x p : ℕ) → (x + 1) * p ≡ x * p + p
-    spread x p = grind arith
-
-    swap : (x y : ℕ) → x * y ≡ y * x
-    swap x y = grind arith
+room_for_round a h p e f l = grind (arith, div-add-mod, cases_lt, mul-le-mul_right)
 
 rounds_in_start : (t : Tables) (a : ℕ) (us : List ℕ) → a < frame_of t → EachRoot t us → AllIn t (rounds_of t a us)
 rounds_in_start t a [] l h = tt
@@ -158,8 +139,7 @@ roots_are : (t : Tables) → EachRoot t (root_modules t)
 roots_are t =
     each_root t (root_modules t)
     (λ j l.
-    let u = get_or (root_modules t) j 0 in
-    let h = place_passes_0 is_root j u t.modules (slice_get-get_or (root_modules t) j 0 l) in
+    let h = place_passes_0 is_root j (get_or (root_modules t) j 0) t.modules (slice_get-get_or (root_modules t) j 0 l) in
     (record { owner = h.0; at = h.1; root = h.2 }, frame_divided t j l))
 
 start_within : (ps : List ℕ) (h j : ℕ) (xs : List ℕ) → Rises ps h xs → j < length xs → get_or xs j 0 < h
@@ -196,16 +176,13 @@ placed_each t a (k ∷ ks) h = let f = h 0 k refl in (record { number = k; inv =
 round_placed : (t : Tables) (path : ℕ) (r : Round) (rs : List Round) → AreInRange t → KeptApart t 12 → IsRoundIn t r → AllPlaced t (places_of r.at (invs_of t (mode_in t path r rs)))
 round_placed t path r rs range kept h =
     let m = mode_in t path r rs in
-    let few : 0 < length (modes_of t r.unit) = modes_some t r.unit range (module_below t r.unit h.root) in
     let place = path / choices t rs % length (modes_of t r.unit) in
-    let within : place < length (modes_of t r.unit) = omega (arith, few) in
+    let within : place < length (modes_of t r.unit) = omega (arith, modes_some t r.unit range (module_below t r.unit h.root)) in
     let x = place_passes_0 (mode_of_module r.unit) place m t.modes (slice_get-get_or (modes_of t r.unit) place 0 within) in
-    let own : eqb x.0.«module» r.unit ≡ true = x.2 in
-    let period : mode_period t m ≡ unit_period t r.unit = as_unit t r.unit m x.0 range kept h.root x.1 (eqb-true x.0.«module» r.unit own) in
+    let period : mode_period t m ≡ unit_period t r.unit = as_unit t r.unit m x.0 range kept h.root x.1 (eqb-true x.0.«module» r.unit x.2) in
     placed_each t r.at (invs_of t m) (λ j k e.
     let i = place_passes_0 (inv_of_mode m) j k t.invs e in
-    let same : i.0.mode ≡ m = eqb-true i.0.mode m i.2 in
-    (i.0, i.1, omega (arith, ap (mode_period t) same, period, h.within)))
+    (i.0, i.1, omega (arith, ap (mode_period t) (eqb-true i.0.mode m i.2), period, h.within)))
 
 all_placed : (t : Tables) (path : ℕ) (rs : List Round) → AreInRange t → KeptApart t 12 → AllIn t rs → AllPlaced t (places_in t path rs)
 all_placed t path [] range kept h = tt
@@ -225,22 +202,17 @@ record IsFit (t : Tables) (j : Job) : Type 0 where
 
 job_fit : (t : Tables) (all : List Place) (x : Place) → AreInRange t → KeptApart t 12 → frame_of t ≤ 1000000 → IsPlaced t x → IsFit t (placed_job t all x)
 job_fit t all x range kept small h =
-    let s : Stands t x = (h.number, h.inv, h.is, h.at) in
     let some = window_some t h.number h.inv range kept h.at in
     let within = window_within t h.number h.inv range kept h.at in
     let worst = worst_span t h.number h.inv range h.at in
-    subst (IsFit t) (sym (placed_is t all x s))
+    subst (IsFit t) (sym (placed_is t all x (h.number, h.inv, h.is, h.at)))
     (record {
       well = record { present = refl; window = omega (arith, some); small = omega (arith, within, h.within, small); some = worst.some; most = worst.most };
       end = omega (arith, within, h.within);
     })
 
 fits_at : (t : Tables) (path q : ℕ) (d : Job) → AreInRange t → KeptApart t 12 → frame_limit t ≡ None → q < length (path_jobs t path) → IsFit t (get_or (path_jobs t path) q d)
-fits_at t path q d range kept limit l =
-    let xs = path_places t path in
-    let within : q < length xs = omega (arith, l, length-map xs (placed_job t xs)) in
-    subst (IsFit t) (sym (get_map (placed_job t xs) xs q d within))
-    (job_fit t xs (get_or xs q no_place) range kept (limits_kept t range limit).frame (placed_at t xs q (all_placed t path (rounds t) range kept (path_rounds_in t)) within))
+fits_at t path q d range kept limit l = grind (arith, length-map, get_map, job_fit, limits_kept, placed_at, all_placed, path_rounds_in)
 
 pub walkable : (t : Tables) → AreInRange t → KeptApart t 12 → frame_limit t ≡ None → AreWalkable t
 walkable t range kept limit = record {

@@ -1,8 +1,7 @@
 -- The row of the positions with work left.
 use Rattle.std.proofs.Common.{◌≡◌, ◌≢◌, ℕ, ◌*◌, ◌%◌, ◌^◌, ◌<◌, Bool, true, false, cond, ◌&&◌, eqb, ltb, List, length, get_or, min, refl, sym, ap, ◌∙◌, arith, inl, inr}
 use Rattle.htl_walk.proofs.Words.{bit_at, bit_not, w128, bit_and, All, lt-ltb, le-ltb, cases_lt, nat_tests, get_or_past, and_le_r, bit_at_and, bit_at_above, bit_at_clear_same, bit_at_clear_other, has_bit, Job, ArePending, HasWork, work, worst_cases}
-use Rattle.htl_walk.proofs.Following.{work_at}
-use Rattle.htl_walk.proofs.Placing.{has_bit_and}
+use Rattle.htl_walk.proofs.{Following.work_at, Placing.has_bit_and}
 
 -- ---- the lowest bit of has_bit_and
 
@@ -36,39 +35,21 @@ cleared row p q room most = by (eqb q p) refl
         let is : q ≡ p = grind (arith, nat_tests) in
         ap (λ x. has_bit (bit_and row (bit_not w128 (1 * 2 ^ p % 2 ^ 128))) x) is ∙ ap (λ x. eqb x 1) (bit_at_clear_same w128 row p room)
     by false e =
-        let apart : q ≢ p = grind (arith, nat_tests) in
         elim (cases_lt q 128) [
-          | inl h ↦ ap (λ x. eqb x 1) (bit_at_clear_other w128 row p room q h apart)
+          | inl h ↦ ap (λ x. eqb x 1) (bit_at_clear_other w128 row p room q h (grind (arith, nat_tests)))
           | inr h ↦
               ap (λ x. eqb x 1) (bit_at_and row (bit_not w128 (1 * 2 ^ p % 2 ^ 128)) q ∙ ap (λ x. min x (bit_at (bit_not w128 (1 * 2 ^ p % 2 ^ 128)) q)) (bit_at_above row 128 q most h) ∙ none _)
               ∙ sym (ap (λ x. eqb x 1) (bit_at_above row 128 q most h))
         ]
 
 pub kept_pending : (row p q left : ℕ) → 0 < left → has_bit row q ≡ cond (eqb q p) (has_bit row p && ltb 0 left) (has_bit row q)
-kept_pending row p q left some = by (eqb q p) refl
-  where
-    with_true : (a : Bool) → a ≡ (a && true)
-    with_true true = refl
-    with_true false = refl
-
-    by : (b : Bool) → eqb q p ≡ b → has_bit row q ≡ cond b (has_bit row p && ltb 0 left) (has_bit row q)
-    by true e = let is : q ≡ p = grind (arith, nat_tests) in ap (has_bit row) is ∙ with_true (has_bit row p) ∙ ap (λ b. has_bit row p && b) (sym (lt-ltb 0 left some))
-    by false e = refl
+kept_pending row p q left some = grind (arith, lt-ltb)
 
 pub not_kept : (row p q left new : ℕ) → left ≡ 0 → has_bit new q ≡ cond (eqb q p) false (has_bit row q) → has_bit new q ≡ cond (eqb q p) (has_bit row p && ltb 0 left) (has_bit row q)
-not_kept row p q left new none e = e ∙ ap (λ b. cond (eqb q p) b (has_bit row q)) (with_false (has_bit row p) ∙ ap (λ b. has_bit row p && b) (sym (le-ltb 0 left (omega arith))))
-  where
-    with_false : (a : Bool) → false ≡ (a && false)
-    with_false true = refl
-    with_false false = refl
+not_kept row p q left new none e = grind (arith, le-ltb)
 
 -- ---- after a dispatch, and at the start
 
 pub pending_first : (jobs : List Job) (row n : ℕ) (left : List ℕ) → All HasWork jobs → left ≡ work jobs (worst_cases jobs) → length left ≡ length jobs → n ≡ length jobs
     → ((q : ℕ) → has_bit row q ≡ ltb q n) → ArePending row left
-pending_first jobs row n left all is len count bits q = elim (cases_lt q n) [
-  | inl h ↦
-      let some = work_at jobs all q (omega arith) in
-      bits q ∙ lt-ltb q n h ∙ sym (lt-ltb 0 (get_or left q 0) (omega (arith, some, ap (λ (z : List ℕ). get_or z q 0) is)))
-  | inr h ↦ bits q ∙ le-ltb q n h ∙ sym (le-ltb 0 (get_or left q 0) (omega (arith, get_or_past left q 0 (omega (arith, len, count)))))
-]
+pending_first jobs row n left all is len count bits q = grind (arith, cases_lt, lt-ltb, work_at, le-ltb, get_or_past)

@@ -1,8 +1,7 @@
 -- The jobs of a path from those of its positions.
 use Rattle.std.proofs.Common.{◌≡◌, ℕ, zero, suc, ◌+◌, ◌≤◌, ◌<◌, ◌^◌, Bool, true, false, cond, ◌&&◌, eqb, min, List, [], ◌∷◌, ◌++◌, length, map, take, set, get_or, add-one, Option, Some, None, refl, sym, ap, ◌∙◌, arith}
 use Rattle.htl_walk.proofs.Words.{All, bit_at, bit_and, take-suc, bit_at_and, All-from_get_or, take_more_set, map-append, get_or-map, length-map, Place, Inv, has_bit, Tables, task_worst, release, window_end, same_row, has_no_bit, Job, absent_job, mask, is_fed_by, job_of, jobs_standing, job_in, placed, placed_job, placed_jobs, standing_of, begins_with, moved, HasTimes, AreWellFormed, slice_get}
-use Rattle.htl_walk.proofs.Masks.{mask_bit}
-use Rattle.htl_walk.proofs.Starts.{no_place, get_map}
+use Rattle.htl_walk.proofs.{Masks.mask_bit, Starts.no_place, Starts.get_map}
 
 -- ---- bits
 
@@ -16,16 +15,9 @@ has_bit_and a b q = ap (λ n. eqb n 1) (bit_at_and a b q) ∙ both_bits (bit_at 
 
 tests : (f : Option ℕ → Bool) (a : ℕ) (xs : List Place) (q : ℕ)
     → (get_or (map f (standing_of xs)) q false && begins_with a xs q) ≡ get_or (map (λ (y : Place). eqb y.at a && f y.inv) xs) q false
-tests f a [] zero = refl
-tests f a [] (suc q) = refl
-tests f a (x ∷ xs) zero = turned (f x.inv) (eqb x.at a)
-  where
-    turned : (a b : Bool) → (a && b) ≡ (b && a)
-    turned true true = refl
-    turned true false = refl
-    turned false true = refl
-    turned false false = refl
+tests f a (x ∷ xs) zero = grind arith
 tests f a (x ∷ xs) (suc q) = tests f a xs q
+tests f a [] _ = refl
 
 same_preds : (f : Option ℕ → Bool) (a row : ℕ) (xs : List Place) → ((q : ℕ) → has_bit row q ≡ begins_with a xs q)
     → bit_and (mask (map f (standing_of xs))) row ≡ mask (map (λ (y : Place). eqb y.at a && f y.inv) xs)
@@ -71,8 +63,7 @@ module _ (t : Tables) (xs : List Place) where
 
 -- the fields of the job before it is moved
 pub fields_small : (a row : ℕ) (j : Job) (k : Job) → moved a row j ≡ k → HasTimes k → j.present ≡ true → (a + j.release < 2 ^ 64) × (a + j.end < 2 ^ 64)
-fields_small a row j k e times here =
-    (omega (arith, ap (λ b. cond b (a + j.release) 0) here, ap (λ (z : Job). z.release) e, times.0), omega (arith, ap (λ b. cond b (a + j.end) 0) here, ap (λ (z : Job). z.end) e, times.1))
+fields_small a row j k e times here = grind arith
 
 -- one position more is filled
 pub front_next : (f : Place → Job) (out : List Job) (xs : List Place) (p : ℕ) (j : Job) → p < length out → p < length xs → take p out ≡ map f (take p xs) → j ≡ f (get_or xs p no_place)

@@ -1,10 +1,7 @@
 -- Predecessors are done before a position runs.
 use Rattle.std.proofs.Common.{◌≡◌, ℕ, ◌≤◌, ◌<◌, true, List, [], ◌∷◌, get_or, slice_get, Some, sym, ap, ◌∙◌, subst, arith, ◌⊎◌, inl, inr}
 use Rattle.htl_walk.proofs.Words.{Job, SInstr, Dispatch, Idle, End, precedes, Point, job_at, IsMet, Meets, next_point, walk_from, walk, work, first_point, slices, DoneBy, InOrder, cases_eq}
-use Rattle.htl_walk.proofs.Ahead.{Ahead, ahead_next}
-use Rattle.htl_walk.proofs.Finishes.{ends, finish_now, finish_later}
-use Rattle.htl_walk.proofs.Slices.{slices_other, slices_start, slices_within}
-use Rattle.htl_walk.proofs.Work.{job_is}
+use Rattle.htl_walk.proofs.{Ahead.Ahead, Ahead.ahead_next, Finishes.ends, Finishes.finish_now, Finishes.finish_later, Slices.slices_other, Slices.slices_start, Slices.slices_within, Work.job_is}
 
 -- q has nothing left, or finishes by the time s.0
 abbrev pub Settled : List Job → List SInstr → Point → ℕ → ℕ → Type 0

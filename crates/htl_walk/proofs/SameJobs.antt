@@ -1,5 +1,5 @@
 -- Tables have the same jobs, whatever functions they have.
-use Rattle.std.proofs.Common.{◌≡◌, ℕ, Bool, true, List, map, slice_get, Option, Some, None, refl, ◌∙◌, ap}
+use Rattle.std.proofs.Common.{arith, ◌≡◌, ℕ, Bool, true, List, map, slice_get, Option, Some, None, refl, ◌∙◌, ap}
 use mathlib.Core.Path.{fun_ext}
 use Rattle.htl_walk.proofs.Words.{with_functions, positions, Tables, Fun, task_worst, release, window_end, Inv, positions_same, release_same, window_end_same, Job, absent_job, job_of, jobs_standing, abstract_jobs, mask, is_fed_by, FunctionsDecideNoJob}
 
@@ -13,25 +13,18 @@ module _ (t : Tables) (fs : List Fun) where
 
   made_same : (standing : List (Option ℕ)) (k : ℕ) (i : Inv) → made t standing k i ≡ made (with_functions t fs) standing k i
   unfolding made
-  made_same standing k i =
-      let make : ℕ → ℕ → (Option ℕ → Bool) → Job = λ r e f. record { present = true; inv = k; release = r; end = e; worst = task_worst t i.task; preds = mask (map f standing) } in
-      ap (λ (r : ℕ). make r (window_end t i) (is_fed_by t k)) (release_same t t.functions fs i)
-      ∙ ap (λ (e : ℕ). make (release (with_functions t fs) i) e (is_fed_by t k)) (window_end_same t t.functions fs i)
-      ∙ ap (make (release (with_functions t fs) i) (window_end (with_functions t fs) i)) (fun_ext (fed_same k))
+  made_same standing k i = grind (arith, release_same, window_end_same, fed_same)
 
   pub job_same : (standing : List (Option ℕ)) (o : Option ℕ) → job_of t standing o ≡ job_of (with_functions t fs) standing o
   unfolding made
   job_same standing None = refl
-  job_same standing (Some k) =
-      ap (λ (f : Inv → Job). elim (slice_get t.invs k) as (λ _. Job) [ None ↦ absent_job | Some i ↦ f i ]) (fun_ext (made_same standing k))
+  job_same standing (Some k) = grind (arith, made_same)
 
   pub jobs_same : (standing : List (Option ℕ)) → jobs_standing t standing ≡ jobs_standing (with_functions t fs) standing
   jobs_same standing = ap (λ (f : Option ℕ → Job). map f standing) (fun_ext (job_same standing))
 
   pub abstract_jobs_same : (sel : ℕ) → abstract_jobs t sel ≡ abstract_jobs (with_functions t fs) sel
-  abstract_jobs_same sel =
-      jobs_same (map (λ (k : ℕ). Some k) (positions t sel))
-      ∙ ap (λ (ps : List ℕ). jobs_standing (with_functions t fs) (map (λ (k : ℕ). Some k) ps)) (positions_same t fs sel)
+  abstract_jobs_same sel = grind (arith, jobs_same, positions_same)
 
 pub functions_decide_no_job : FunctionsDecideNoJob
 functions_decide_no_job t fs = record { jobs = jobs_same t fs; selections = abstract_jobs_same t fs }

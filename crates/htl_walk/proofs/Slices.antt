@@ -1,16 +1,11 @@
 -- The slices in which a position runs.
 use Rattle.std.proofs.Common.{◌≡◌, ◌≢◌, ℕ, zero, suc, ◌≤◌, ◌<◌, max, Bool, true, false, cond, ltb, List, [], ◌∷◌, get_or, slice_get, Some, None, refl, sym, ap, ◌∙◌, subst, arith, inl, inr}
 use Rattle.htl_walk.proofs.Words.{eq-eqb, ne_eqb, ltb-true, cases_eq, Job, SInstr, Dispatch, Idle, End, Point, job_at, dispatch_begins, slice_between, slice_onto, AllWithin, next_point, walk_from, finish, slices, DoneBy, same_Some}
-use Rattle.htl_walk.proofs.Steps.{left_falls, time_rises}
-use Rattle.htl_walk.proofs.Finishes.{ends, finish_now, finish_later, finish_after}
+use Rattle.htl_walk.proofs.{Steps.left_falls, Steps.time_rises, Finishes.ends, Finishes.finish_now, Finishes.finish_later, Finishes.finish_after}
 
 slice_fits : (from until w to r t : ℕ) (ss : List (ℕ × ℕ)) → (from < until → r ≤ from) → to ≤ t → AllWithin r t ss → AllWithin r t (slice_onto (slice_between from until w to) ss)
 slice_fits from until zero to r t ss a b h = h
-slice_fits from until (suc w) to r t ss a b h = go (ltb from until) refl
-  where
-    go : (c : Bool) → ltb from until ≡ c → AllWithin r t (slice_onto (elim c [ true ↦ Some (from, to) | false ↦ None ]) ss)
-    go true e = (a (ltb-true from until e), b, h)
-    go false e = h
+slice_fits from until (suc w) to r t ss a b h = grind (arith, ltb-true)
 
 no_slices : (jobs : List Job) (is : List SInstr) (x : Point) (p : ℕ) → get_or x.left p 0 ≡ 0 → slices (walk_from jobs is x) p ≡ []
 no_slices jobs [] x p e = refl
@@ -34,15 +29,11 @@ no_slices jobs (End ∷ is) x p e = no_slices jobs is x p e
 slices_dispatch : (jobs : List Job) (r h : ℕ) (is : List SInstr) (x : Point) (p : ℕ) → r ≡ p →
     slices (walk_from jobs (Dispatch r h ∷ is) x) p
     ≡ slice_onto (slice_between (dispatch_begins x.time (job_at jobs r).release h) h (get_or x.left r 0) (next_point jobs (Dispatch r h) x).time) (slices (walk_from jobs is (next_point jobs (Dispatch r h) x)) p)
-slices_dispatch jobs r h is x p q =
-    let y = next_point jobs (Dispatch r h) x in
-    ap (λ b. cond b (slice_onto (slice_between (dispatch_begins x.time (job_at jobs r).release h) h (get_or x.left r 0) y.time) (slices (walk_from jobs is y) p)) (slices (walk_from jobs is y) p)) (eq-eqb r p q)
+slices_dispatch jobs r h is x p q = grind (arith, eq-eqb)
 
 pub slices_other : (jobs : List Job) (r h : ℕ) (is : List SInstr) (x : Point) (p : ℕ) → r ≢ p →
     slices (walk_from jobs (Dispatch r h ∷ is) x) p ≡ slices (walk_from jobs is (next_point jobs (Dispatch r h) x)) p
-slices_other jobs r h is x p q =
-    let y = next_point jobs (Dispatch r h) x in
-    ap (λ b. cond b (slice_onto (slice_between (dispatch_begins x.time (job_at jobs r).release h) h (get_or x.left r 0) y.time) (slices (walk_from jobs is y) p)) (slices (walk_from jobs is y) p)) (ne_eqb r p q)
+slices_other jobs r h is x p q = grind (arith, ne_eqb)
 
 begins_released : (now r h : ℕ) → dispatch_begins now r h < h → r ≤ dispatch_begins now r h
 begins_released now r h e = omega arith
@@ -63,25 +54,14 @@ slices_within jobs (i ∷ is) x p t d =
     ]
   where
     onto : (k : SInstr) → k ≡ i → (next_point jobs k x).time ≤ t → AllWithin (job_at jobs p).release t (slices (walk_from jobs is (next_point jobs k x)) p) → AllWithin (job_at jobs p).release t (slices (walk_from jobs (k ∷ is) x) p)
-    onto (Dispatch r h) e b s =
-        elim (cases_eq r p) [
-          | inl q ↦
-              rw (slices_dispatch jobs r h is x p q)
-              (slice_fits (dispatch_begins x.time (job_at jobs r).release h) h (get_or x.left r 0) (next_point jobs (Dispatch r h) x).time (job_at jobs p).release t _
-              (λ z. subst (λ k. (job_at jobs k).release ≤ dispatch_begins x.time (job_at jobs r).release h) q (begins_released x.time (job_at jobs r).release h z)) b s)
-          | inr n ↦ rw (slices_other jobs r h is x p n) s
-        ]
+    onto (Dispatch r h) e b s = grind (arith, cases_eq, slices_dispatch, slice_fits, begins_released, slices_other)
     onto (Idle h) e b s = s
     onto End e b s = s
 
 -- no slice begins before the walk does
 head_onto : (from until w to : ℕ) (ss : List (ℕ × ℕ)) (s : ℕ × ℕ) (a : ℕ) → a ≤ from → (slice_get ss 0 ≡ Some s → a ≤ s.0) → slice_get (slice_onto (slice_between from until w to) ss) 0 ≡ Some s → a ≤ s.0
 head_onto from until zero to ss s a h k e = k e
-head_onto from until (suc w) to ss s a h k e = go (ltb from until) e
-  where
-    go : (c : Bool) → slice_get (slice_onto (elim c [ true ↦ Some (from, to) | false ↦ None ]) ss) 0 ≡ Some s → a ≤ s.0
-    go true e = let q : from ≡ s.0 = ap (λ z. z.0) (same_Some _ _ e) in omega arith
-    go false e = k e
+head_onto from until (suc w) to ss s a h k e = grind (arith, same_Some)
 
 pub slices_start : (jobs : List Job) (is : List SInstr) (x : Point) (p : ℕ) (s : ℕ × ℕ) → slice_get (slices (walk_from jobs is x) p) 0 ≡ Some s → x.time ≤ s.0
 slices_start jobs [] x p s e = cc
@@ -95,6 +75,5 @@ slices_start jobs (Dispatch r h ∷ is) x p s e =
           (sym (ap (λ l. slice_get l 0) (slices_dispatch jobs r h is x p q)) ∙ e)
       | inr n ↦ let u : y.time ≤ s.0 = slices_start jobs is y p s (sym (ap (λ l. slice_get l 0) (slices_other jobs r h is x p n)) ∙ e) in omega arith
     ]
-slices_start jobs (Idle h ∷ is) x p s e =
-    let u : max x.time h ≤ s.0 = slices_start jobs is (next_point jobs (Idle h) x) p s e in omega arith
+slices_start jobs (Idle h ∷ is) x p s e = grind (arith, slices_start jobs is (next_point jobs (Idle h) x) p s e)
 slices_start jobs (End ∷ is) x p s e = slices_start jobs is x p s e

@@ -25,26 +25,14 @@ zero-sub : (n : ℕ) → 0 - n ≡ 0
 zero-sub n = omega arith
 
 pub left_same : (l : List ℕ) (p now r h : ℕ) → get_or (set l p (work_after now (get_or l p 0) r h)) p 0 ≡ work_after now (get_or l p 0) r h
-left_same l p now r h =
-    elim (cases_lt p (length l)) [
-      | inl q ↦ get_or-set_same l p (work_after now (get_or l p 0) r h) 0 q
-      | inr q ↦
-          get_or_past (set l p (work_after now (get_or l p 0) r h)) p 0 (simp length-set q)
-          ∙ sym (ap (λ w. w - (h - dispatch_begins now r h)) (get_or_past l p 0 q) ∙ zero-sub (h - dispatch_begins now r h))
-    ]
+left_same l p now r h = grind (arith, cases_lt, get_or-set_same, get_or_past, set, length-set, zero-sub)
 
 pub left_other : (l : List ℕ) (p q v : ℕ) → p ≢ q → get_or (set l p v) q 0 ≡ get_or l q 0
 left_other l p q v n = get_or-set_other l p q v 0 (λ e. n (sym e))
 
 -- the work left of q after an instruction is no more than before
 pub left_falls : (jobs : List Job) (i : SInstr) (x : Point) (q : ℕ) → get_or (next_point jobs i x).left q 0 ≤ get_or x.left q 0
-left_falls jobs (Dispatch p h) x q =
-    elim (cases_eq p q) [
-      | inl e ↦
-          subst (λ z. get_or (next_point jobs (Dispatch p h) x).left z 0 ≤ get_or x.left z 0) e
-          (omega (arith, left_same x.left p x.time (job_at jobs p).release h))
-      | inr n ↦ omega (arith, left_other x.left p q (work_after x.time (get_or x.left p 0) (job_at jobs p).release h) n)
-    ]
+left_falls jobs (Dispatch p h) x q = grind (arith, cases_eq, left_same, left_other)
 left_falls jobs _ x q = omega arith
 
 pub time_rises : (jobs : List Job) (i : SInstr) (x : Point) → x.time ≤ (next_point jobs i x).time

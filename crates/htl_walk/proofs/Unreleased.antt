@@ -1,8 +1,7 @@
 -- Records before t do not depend on the lengths of jobs that are released at t or later.
 use Rattle.std.proofs.Common.{◌≡◌, ◌≢◌, ℕ, zero, suc, ◌≤◌, ◌<◌, max, true, false, cond, ltb, List, [], ◌∷◌, get_or, None, refl, sym, ap, ap₂, ◌∙◌, subst, arith, ◌⊎◌, inl, inr}
 use Rattle.htl_walk.proofs.Words.{le-ltb, cases_eq, cases_lt, Job, SInstr, Dispatch, Idle, End, Point, job_at, dispatch_begins, time_after, work_after, next_point, left_by, walk_from, work, first_point, earlier, HaveLengths, AgreeBefore, UnreleasedLengths}
-use Rattle.htl_walk.proofs.Work.{job_there, work_present, present_or_idle}
-use Rattle.htl_walk.proofs.Steps.{left_same, left_other, left_falls, time_rises}
+use Rattle.htl_walk.proofs.{Work.job_there, Work.work_present, Work.present_or_idle, Steps.left_same, Steps.left_other, Steps.left_falls, Steps.time_rises}
 use Rattle.htl_walk.proofs.Waiting.{told_same, waited, told_waits, time_waits, work_waits}
 
 -- the same for what is released before t, and for what isn't no more than whether anything is left
@@ -139,25 +138,10 @@ module _ (jobs : List Job) (ns ms : List ℕ) (t : ℕ) (some_ns : HaveLengths j
   present_work ls q e = work_present jobs ls q (job_at jobs q) (job_there jobs q e) e
 
   same_released : (q : ℕ) → (job_at jobs q).release < t → get_or (work jobs ns) q 0 ≡ get_or (work jobs ms) q 0
-  same_released q h = elim (present_or_idle jobs ns q) [
-    | inl e ↦ present_work ns q e ∙ agree q (job_at jobs q) (job_there jobs q e) e h ∙ sym (present_work ms q e)
-    | inr z ↦ elim (present_or_idle jobs ms q) [
-      | inl e ↦ present_work ns q e ∙ agree q (job_at jobs q) (job_there jobs q e) e h ∙ sym (present_work ms q e)
-      | inr y ↦ z ∙ sym y
-    ]
-  ]
+  same_released q h = grind (arith, present_or_idle, present_work, job_there)
 
   both_some : (q : ℕ) → ((get_or (work jobs ns) q 0 ≡ 0) × (get_or (work jobs ms) q 0 ≡ 0)) ⊎ ((0 < get_or (work jobs ns) q 0) × (0 < get_or (work jobs ms) q 0))
-  both_some q =
-      let some : (job_at jobs q).present ≡ true → (0 < get_or (work jobs ns) q 0) × (0 < get_or (work jobs ms) q 0) =
-      λ e. (
-        omega (arith, present_work ns q e, some_ns q (job_at jobs q) (job_there jobs q e) e),
-        omega (arith, present_work ms q e, some_ms q (job_at jobs q) (job_there jobs q e) e),
-      ) in
-      elim (present_or_idle jobs ns q) [
-        | inl e ↦ inr (some e)
-        | inr z ↦ elim (present_or_idle jobs ms q) [ inl e ↦ inr (some e) | inr y ↦ inl (z, y) ]
-      ]
+  both_some q = grind (arith, present_work, job_there, present_or_idle)
 
   alike_first : Alike jobs t (first_point jobs ns) (first_point jobs ms)
   alike_first = record { time = refl; released = same_released; unreleased = λ q _. both_some q }

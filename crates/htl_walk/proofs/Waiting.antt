@@ -1,8 +1,7 @@
 -- A dispatch that waits until it is over, and how the time goes on.
 use Rattle.std.proofs.Common.{◌≡◌, ℕ, zero, suc, ◌+◌, ◌-◌, ◌≤◌, ◌<◌, min, Bool, true, false, ltb, List, [], ◌∷◌, Some, None, ap, ◌∙◌, arith, inr}
 use Rattle.htl_walk.proofs.Words.{le-ltb, Job, SInstr, Point, Left, dispatch_begins, finishes_by, slice_between, time_after, work_after, next_point, last_point}
-use Rattle.htl_walk.proofs.Steps.{time_rises}
-use Rattle.htl_walk.proofs.Finishes.{finishes_no}
+use Rattle.htl_walk.proofs.{Steps.time_rises, Finishes.finishes_no}
 
 -- what is told of a dispatch, by the work before and after it
 abbrev pub told_by : ℕ → ℕ → ℕ → ℕ → ℕ → ℕ → Left
@@ -10,8 +9,7 @@ told_by p now r h w v =
     record { at = time_after now w r h; position = Some p; slice = slice_between (dispatch_begins now r h) h w (time_after now w r h); finished = finishes_by w v }
 
 pub told_same : (p r h now now' w w' v v' : ℕ) → now ≡ now' → w ≡ w' → v ≡ v' → told_by p now r h w v ≡ told_by p now' r h w' v'
-told_same p r h now now' w w' v v' e f g =
-    ap (λ n. told_by p n r h w v) e ∙ ap (λ n. told_by p now' r h n v) f ∙ ap (λ n. told_by p now' r h w' n) g
+told_same p r h now now' w w' v v' e f g = grind arith
 
 -- a dispatch that waits till it is over runs nothing
 abbrev pub waited : ℕ → ℕ → Left
@@ -19,13 +17,7 @@ waited p at = record { at = at; position = Some p; slice = None; finished = fals
 
 pub told_waits : (p r h now w v : ℕ) → 0 < w → 0 < v → h ≤ dispatch_begins now r h → told_by p now r h w v ≡ waited p (dispatch_begins now r h)
 told_waits p r h now zero v a b c = absurd (omega arith)
-told_waits p r h now (suc w) v a b c =
-    let slice : ltb (dispatch_begins now r h) h ≡ false = le-ltb (dispatch_begins now r h) h c in
-    let time : dispatch_begins now r h + min (suc w) (h - dispatch_begins now r h) ≡ dispatch_begins now r h = omega arith in
-    let P : Bool → ℕ → Bool → Left =
-    λ s n f. record { at = n; position = Some p; slice = elim s [ true ↦ Some (dispatch_begins now r h, n) | false ↦ None ]; finished = f } in
-    ap (λ s. P s (dispatch_begins now r h + min (suc w) (h - dispatch_begins now r h)) (finishes_by (suc w) v)) slice
-    ∙ ap (λ n. P false n (finishes_by (suc w) v)) time ∙ ap (λ f. P false (dispatch_begins now r h) f) (finishes_no (suc w) v (inr b))
+told_waits p r h now (suc w) v a b c = grind (arith, le-ltb, finishes_no)
 
 pub time_waits : (now w r h : ℕ) → h ≤ dispatch_begins now r h → 0 < w → time_after now w r h ≡ dispatch_begins now r h
 time_waits now zero r h a b = absurd (omega arith)

@@ -46,12 +46,11 @@ module _ (t : Tables) where
       here p s path high inside less most later is =
           let moved : path ≡ (high * n + p) * c + s = is ∙ shift high p s in
           let m : ℕ = mode_in t path r rs in
-          let same : length (invs_of t m) ≡ length (invs_of t (get_or (modes_of t r.unit) p 0)) = ap (λ (k : ℕ). length (invs_of t k)) (chosen path high p s inside less moved) in
           omega (
             arith,
             length-append (places_of r.at (invs_of t m)) (places_in t path rs),
             length-map (invs_of t m) (λ (k : ℕ). let x : Place = record { inv = Some k; at = r.at } in x),
-            same,
+            ap (λ (k : ℕ). length (invs_of t k)) (chosen path high p s inside less moved),
             most,
             later path (high * n + p) moved,
           )

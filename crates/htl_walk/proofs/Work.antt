@@ -31,21 +31,13 @@ work_present (k ∷ js) (n ∷ ns) (suc p) j e f = work_present js ns p j e f
 
 -- who has work is present
 pub work_some : (js : List Job) (ns : List ℕ) (p : ℕ) → 0 < get_or (work js ns) p 0 → (job_at js p).present ≡ true
-work_some [] ns p h = absurd (omega arith)
-work_some (k ∷ js) [] zero h = absurd (omega arith)
 work_some (k ∷ js) [] (suc p) h = work_some js [] p h
-work_some (k ∷ js) (n ∷ ns) zero h = go k.present refl
-  where
-    go : (b : Bool) → k.present ≡ b → k.present ≡ true
-    go true e = e
-    go false e = absurd (let z : cond k.present n 0 ≡ 0 = ap (λ b. cond b n 0) e in omega arith)
+work_some (k ∷ js) (n ∷ ns) zero h = grind arith
 work_some (k ∷ js) (n ∷ ns) (suc p) h = work_some js ns p h
+work_some _ _ _ h = absurd (omega arith)
 
 pub present_or_idle : (js : List Job) (ns : List ℕ) (p : ℕ) → ((job_at js p).present ≡ true) ⊎ (get_or (work js ns) p 0 ≡ 0)
-present_or_idle js ns p = elim (cases_lt 0 (get_or (work js ns) p 0)) [
-  | inl h ↦ inl (work_some js ns p h)
-  | inr h ↦ inr (omega arith)
-]
+present_or_idle js ns p = grind (arith, cases_lt, work_some)
 
 pub worst_at : (ks : List Job) (p : ℕ) (k : Job) → slice_get ks p ≡ Some k → get_or (worst_cases ks) p 0 ≡ k.worst
 worst_at [] p k e = cc

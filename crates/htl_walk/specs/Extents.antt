@@ -1,10 +1,7 @@
 -- Where the items that pass a test stand in a list.
 use Rattle.std.specs.Prelude.{◌≡◌, ◌≤◌, ℕ, ◌+◌, Bool, cond, eqb, List, [], length, drop, get_or}
-use Rattle.htl_model.specs.Lists.{places_from}
-use Rattle.htl_model.specs.Selections.{mode_of_module, inv_of_mode}
-use Rattle.htl_model.specs.Tables.{Tables}
-use Rattle.htl_walk.specs.declared.extents.Extent.{Extent}
-use Rattle.htl_walk.specs.declared.extents.Extents.{Extents}
+use Rattle.htl_model.specs.{Lists.places_from, Selections.mode_of_module, Selections.inv_of_mode, Tables.Tables}
+use Rattle.htl_walk.specs.{declared.extents.Extent.Extent, declared.extents.Extents.Extents}
 
 -- those of the first k items stand there, and behind them are these places
 pub record Stand {X : Type 0} (test : X → Bool) (k : ℕ) (left : List ℕ) (e : Extent) (items : List X) : Type 0 where

@@ -1,11 +1,7 @@
 -- Lists by nodes, and what they are accepted for.
 use Rattle.std.specs.Prelude.{ℕ, ◌<◌, List, [], length, get_or}
-use Rattle.htl_model.specs.Tables.{Tables}
-use Rattle.htl_model.specs.Lists.{list_to}
-use Rattle.htl_walk.specs.declared.schedule.SInstr.{SInstr}
-use Rattle.htl_model.specs.Frames.{starts, paths, node}
-use Rattle.htl_walk.specs.Paths.{IsPathAccepted}
-use Rattle.htl_walk.specs.PathJobs.{path_jobs, legs}
+use Rattle.htl_model.specs.{Tables.Tables, Lists.list_to, Frames.starts, Frames.paths, Frames.node}
+use Rattle.htl_walk.specs.{declared.schedule.SInstr.SInstr, Paths.IsPathAccepted, PathJobs.path_jobs, PathJobs.legs}
 
 -- the lists of the nodes of a path
 abbrev pub lists_of : Tables → List (List SInstr) → ℕ → List (List SInstr)

@@ -1,13 +1,8 @@
 -- What one instruction of the worst-case walk does, as it is followed.
 use Rattle.std.specs.Prelude.{◌≡◌, ℕ, ◌≤◌, ◌<◌, ◌⊎◌, true, ltb, List, length, get_or}
 use Rattle.htl_model.specs.Bits.{has_bit}
-use Rattle.htl_walk.specs.declared.job.Job.{Job}
-use Rattle.htl_walk.specs.declared.miss.Miss.{Miss}
+use Rattle.htl_walk.specs.{declared.job.Job.Job, declared.miss.Miss.Miss, declared.schedule.SInstr.SInstr, declared.schedule.SInstr.TheVariants.Dispatch, Jobs.precedes, Walk.Point, Walk.job_at, Walk.next_point, Walk.AreDone}
 use Rattle.htl_walk.specs.declared.miss.Miss.TheVariants as miss
-use Rattle.htl_walk.specs.declared.schedule.SInstr.{SInstr}
-use Rattle.htl_walk.specs.declared.schedule.SInstr.TheVariants.{Dispatch}
-use Rattle.htl_walk.specs.Jobs.{precedes}
-use Rattle.htl_walk.specs.Walk.{Point, job_at, next_point, AreDone}
 
 -- the row has a bit for each position with work left
 abbrev pub ArePending : ℕ → List ℕ → Type 0

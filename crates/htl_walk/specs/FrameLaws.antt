@@ -1,12 +1,7 @@
 -- The laws of frames.
 use Rattle.std.specs.Prelude.{◌≡◌, ℕ, suc, ◌*◌, ◌/◌, ◌≤◌, ◌<◌, List, [], ◌∷◌, drop, get_or, length}
-use Rattle.htl_model.specs.Tables.{Tables}
-use Rattle.htl_model.specs.Selections.{root_modules}
-use Rattle.htl_walk.specs.declared.job.Job.{Job}
-use Rattle.htl_model.specs.Frames.{unit_period, frame_of, starts, paths, path_mode, nodes, node, known_by, path_places}
-use Rattle.htl_walk.specs.Paths.{Leg, AreChained}
-use Rattle.htl_walk.specs.Fronts.{KnowReleased, IsRoundFront, ShareFront}
-use Rattle.htl_walk.specs.PathJobs.{path_jobs, legs, next_of}
+use Rattle.htl_model.specs.{Tables.Tables, Selections.root_modules, Frames.unit_period, Frames.frame_of, Frames.starts, Frames.paths, Frames.path_mode, Frames.nodes, Frames.node, Frames.known_by, Frames.path_places}
+use Rattle.htl_walk.specs.{declared.job.Job.Job, Paths.Leg, Paths.AreChained, Fronts.KnowReleased, Fronts.IsRoundFront, Fronts.ShareFront, PathJobs.path_jobs, PathJobs.legs, PathJobs.next_of}
 
 -- what is known in each leg is a front of whole rounds, and what isn't is released at the leg's end or later
 abbrev pub AreFronts : List Job → List Leg → Type 0

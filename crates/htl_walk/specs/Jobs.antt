@@ -1,12 +1,7 @@
 -- The jobs of a round.
 use Rattle.std.specs.Prelude.{ℕ, ◌+◌, ◌*◌, Bool, true, false, List, [], ◌∷◌, slice_get, map, Option, Some, None}
-use Rattle.htl_model.specs.Bits.{has_bit}
-use Rattle.htl_model.specs.PortOrder.{feeds}
-use Rattle.htl_model.specs.declared.parts.Inv.{Inv}
+use Rattle.htl_model.specs.{Bits.has_bit, PortOrder.feeds, declared.parts.Inv.Inv, Functions.of_bool, Selections.positions, Tables.Tables, Tables.task_worst, Tables.release, Tables.window_end}
 use Rattle.htl_walk.specs.declared.job.Job.{Job}
-use Rattle.htl_model.specs.Functions.{of_bool}
-use Rattle.htl_model.specs.Selections.{positions}
-use Rattle.htl_model.specs.Tables.{Tables, task_worst, release, window_end}
 
 -- ---- predecessors
 

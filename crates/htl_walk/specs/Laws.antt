@@ -1,14 +1,8 @@
 -- The laws of the walk.
 use Rattle.std.specs.Prelude.{◌≡◌, ℕ, ◌≤◌, ◌<◌, true, List, get_or, slice_get, All, Option, Some}
-use Rattle.htl_model.specs.Exchanged.{with_functions}
-use Rattle.htl_model.specs.Tables.{Tables, Fun}
-use Rattle.htl_walk.specs.declared.job.Job.{Job}
-use Rattle.htl_walk.specs.Jobs.{jobs_standing, abstract_jobs}
-use Rattle.htl_walk.specs.declared.schedule.SInstr.{SInstr}
-use Rattle.htl_walk.specs.Walk.{point_at, walk, earlier, worst_cases, Meets, ScheduleIsAccepted}
-use Rattle.htl_walk.specs.declared.miss.Miss.{Miss}
-use Rattle.htl_walk.specs.Misses.{IsFirstMiss}
-use Rattle.htl_walk.specs.Refinement.{Refines, HasWork, HaveLengths, AreWithinWorst}
+use Rattle.htl_model.specs.{Exchanged.with_functions, Tables.Tables, Tables.Fun}
+use Rattle.htl_walk.specs.{declared.job.Job.Job, Jobs.jobs_standing, Jobs.abstract_jobs, declared.schedule.SInstr.SInstr, Walk.point_at, Walk.walk, Walk.earlier, Walk.worst_cases, Walk.Meets, Walk.ScheduleIsAccepted, Misses.IsFirstMiss}
+use Rattle.htl_walk.specs.{declared.miss.Miss.Miss, Refinement.Refines, Refinement.HasWork, Refinement.HaveLengths, Refinement.AreWithinWorst}
 
 -- the lengths of the present jobs that are released before t agree
 abbrev pub AgreeBefore : ℕ → List Job → List ℕ → List ℕ → Type 0

@@ -1,12 +1,8 @@
 -- The first miss of a schedule: where its form is left, or else what goes wrong first in the worst-case walk.
 use Rattle.std.specs.Prelude.{◌≡◌, ℕ, ◌+◌, ◌-◌, ◌≤◌, ◌<◌, ◌⊎◌, true, List, length, get_or, slice_get, Option, Some, None}
-use Rattle.htl_walk.specs.declared.job.Job.{Job}
-use Rattle.htl_walk.specs.declared.miss.Miss.{Miss}
+use Rattle.htl_walk.specs.{declared.job.Job.Job, declared.miss.Miss.Miss, declared.schedule.SInstr.SInstr, declared.schedule.SInstr.TheVariants.Dispatch, declared.schedule.SInstr.TheVariants.Idle, declared.schedule.SInstr.TheVariants.End}
 use Rattle.htl_walk.specs.declared.miss.Miss.TheVariants as miss
-use Rattle.htl_walk.specs.declared.schedule.SInstr.{SInstr}
-use Rattle.htl_walk.specs.declared.schedule.SInstr.TheVariants.{Dispatch, Idle, End}
-use Rattle.htl_walk.specs.Jobs.{precedes}
-use Rattle.htl_walk.specs.Walk.{Point, job_at, point_at, worst_cases, InForm}
+use Rattle.htl_walk.specs.{Jobs.precedes, Walk.Point, Walk.job_at, Walk.point_at, Walk.worst_cases, Walk.InForm}
 
 -- ---- the form
 

@@ -1,16 +1,10 @@
 -- The laws of the walk of a path.
 use Rattle.std.specs.Prelude.{◌≡◌, ℕ, ◌-◌, ◌≤◌, ◌<◌, ◌⊎◌, ◌↔◌, true, List, [], ◌∷◌, ◌++◌, take, replicate, length, get_or, slice_get, Some}
 use Rattle.std.specs.List.{All}
-use Rattle.htl_walk.specs.declared.job.Job.{Job}
-use Rattle.htl_walk.specs.declared.schedule.SInstr.{SInstr}
-use Rattle.htl_walk.specs.declared.miss.Miss.{Miss}
-use Rattle.htl_walk.specs.Jobs.{absent_job, precedes}
-use Rattle.htl_walk.specs.Walk.{Point, job_at, last_point, walk, first_point, worst_cases, ScheduleIsAccepted}
-use Rattle.htl_walk.specs.Misses.{IsFirstMiss}
-use Rattle.htl_walk.specs.WellFormed.{AreWellFormed, EndWithin}
+use Rattle.htl_walk.specs.{declared.job.Job.Job, declared.schedule.SInstr.SInstr, declared.miss.Miss.Miss, Jobs.absent_job, Jobs.precedes, Misses.IsFirstMiss, WellFormed.AreWellFormed, WellFormed.EndWithin}
+use Rattle.htl_walk.specs.{Walk.Point, Walk.job_at, Walk.last_point, Walk.walk, Walk.first_point, Walk.worst_cases, Walk.ScheduleIsAccepted, PathMisses.IsPathMiss, PathMisses.IsListClean, PathMisses.AreClean}
 use Rattle.htl_walk.specs.Refinement.{Refines, RefinesJob, HasWork, HaveLengths, AreWithinWorst}
 use Rattle.htl_walk.specs.Paths.{Leg, walks_from, walk_path, path_point_at, PathMeets, AreInForm, IsPathAccepted, AreChained, AgreeOn, AgreeAt, AreWithin}
-use Rattle.htl_walk.specs.PathMisses.{IsPathMiss, IsListClean, AreClean}
 
 -- the one leg of a frame with one start
 abbrev pub whole : ℕ → ℕ → Leg

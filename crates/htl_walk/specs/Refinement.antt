@@ -1,9 +1,7 @@
 -- Jobs that refine others: what an accepted schedule carries over to.
 use Rattle.std.specs.Prelude.{◌≡◌, ℕ, ◌≤◌, true, List, length, get_or, slice_get, Some}
 use Rattle.htl_model.specs.PortOrder.{Leads}
-use Rattle.htl_walk.specs.declared.job.Job.{Job}
-use Rattle.htl_walk.specs.Jobs.{precedes}
-use Rattle.htl_walk.specs.Walk.{job_at}
+use Rattle.htl_walk.specs.{declared.job.Job.Job, Jobs.precedes, Walk.job_at}
 
 -- position q precedes position p, directly or through further positions
 abbrev pub LeadsTo : List Job → ℕ → ℕ → Type 0

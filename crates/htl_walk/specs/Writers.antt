@@ -1,14 +1,7 @@
 -- What the invocations at the positions write, as the code collects it.
 use Rattle.std.specs.Prelude.{◌≡◌, ◌<◌, ℕ, Bool, true, List, [], length, get_or, slice_get, Option, Some, None}
-use Rattle.htl_model.specs.declared.parts.Inv.{Inv}
-use Rattle.htl_model.specs.declared.parts.End.{End}
-use Rattle.htl_model.specs.Bits.{cell}
-use Rattle.htl_model.specs.Lists.{places_from}
-use Rattle.htl_model.specs.PortTable.{writes_to}
-use Rattle.htl_model.specs.Selected.{is_running}
-use Rattle.htl_model.specs.Tables.{Tables, task_worst, release, window_end}
-use Rattle.htl_walk.specs.declared.job.Job.{Job}
-use Rattle.htl_walk.specs.Jobs.{absent_job}
+use Rattle.htl_model.specs.{declared.parts.Inv.Inv, declared.parts.End.End, Bits.cell, Lists.places_from, PortTable.writes_to, Selected.is_running, Tables.Tables, Tables.task_worst, Tables.release, Tables.window_end}
+use Rattle.htl_walk.specs.{declared.job.Job.Job, Jobs.absent_job}
 
 -- the invocation that stands, if one does
 abbrev pub inv_of : Tables → Option ℕ → Option Inv

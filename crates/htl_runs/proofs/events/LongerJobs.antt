@@ -4,15 +4,10 @@ use mathlib.Core.Path.{fun_ext}
 use Rattle.htl_runs.proofs.Words.{eq-eqb, ne_eqb, le-leb, ltb-true, ltb-false, cases_lt, nat_tests, get_or-set_same, get_or-set_other, length-set, length-take, slice_get_within, same_Some, Event, State, Stay, frame_of, starts, node, Tables, Job, SInstr, lists_of, AgreeBefore, legs_of, end_to_end, HaveLengths, Point, Left, job_at, work, first_point, job_there, work_present, job_is, Round, state_of, state_by, absent_idle, Frame, frame_modes, frame_places, frame_jobs, frame_at, path_of, walks_of, leg_at, list_start, list_plan, count_left_before, lengths_of, took, IsTookWithin, AreTookWithin, IsServing, IsFeasibleRun, point_long, job_front, later_time, later_released, later_unreleased, later_walks, lengths_later, walk_rises, have_lengths, frame_start, reading_of, SMachineAt, SMachineStands, with_length, set_pending, s_machine_taking, Turn, turn_walk, list_number, list_turn, position_from, get_taken, work_length, same_number_lists}
 use Rattle.htl_model.specs.declared.event.Event.TheVariants as V
 use Rattle.htl_smach.specs.Rounds as rounds
-use Rattle.htl_runs.proofs.frames.JobWindows.{get_map, position_some, position_none}
-use Rattle.htl_runs.proofs.records.SMachineInstants.{s_machine_opens}
-use Rattle.htl_runs.proofs.events.SameSensors.{state_same, sense_took, took_took, front_is, length-front}
-use Rattle.htl_runs.proofs.events.NextReading.{within_more}
-use Rattle.htl_runs.proofs.instants.SMachineSteps.{windows}
-use Rattle.htl_runs.proofs.events.SameRecords.{AreSoFar}
+use Rattle.htl_runs.proofs.{frames.JobWindows.get_map, frames.JobWindows.position_some, frames.JobWindows.position_none, records.SMachineInstants.s_machine_opens, events.NextReading.within_more, instants.SMachineSteps.windows}
+use Rattle.htl_runs.proofs.{events.SameSensors.state_same, events.SameSensors.sense_took, events.SameSensors.took_took, events.SameSensors.front_is, events.SameSensors.length-front, events.SameRecords.AreSoFar}
 use Rattle.htl_runs.proofs.lists.RunLists.{past, serving, stands, there, from_is, few, length-jobs, are_turns, are_listed}
-use Rattle.htl_runs.proofs.records.InstantRecords.{none_before}
-use Rattle.htl_runs.proofs.instants.ToldReleases.{done_late}
+use Rattle.htl_runs.proofs.{records.InstantRecords.none_before, instants.ToldReleases.done_late}
 
 module _ (t : Tables) (lists : List (List SInstr)) (es : List Event) (run : IsFeasibleRun t lists es) (i n : ℕ) (fits : IsTookWithin t (V.Took i n)) (now : ℕ) (reading : now ≡ reading_of 0 es) where
   abbrev fs : List Event
@@ -35,9 +30,7 @@ module _ (t : Tables) (lists : List (List SInstr)) (es : List Event) (run : IsFe
 
   -- the modes are the same at all times
   modes_same : (f : ℕ) → frame_modes t es f ≡ frame_modes t fs f
-  modes_same f =
-      fun_ext (λ a.
-      ap (λ (z : State). map (λ (o : Option Stay). option_map (λ y. y.mode) o) z.stays) (state_same t es fs (suc (f + a)) (f + a) (λ c u h. sym (sense_took t es i n c u)) (omega arith)))
+  modes_same f = grind (arith, state_same, sense_took)
 
   -- ---- the list that stands at m
 
@@ -99,10 +92,7 @@ module _ (t : Tables) (lists : List (List SInstr)) (es : List Event) (run : IsFe
     more = have_lengths t (frame_modes t es f) fs f run.range within' (frame_places t (frame_modes t es f))
 
     agree : (e : ℕ) → f + e ≤ now → AgreeBefore e p.jobs p.lengths ms
-    agree e early r k at present h =
-        get_map (λ z. took t es z.inv (f + z.release)) p.jobs r k 0 at
-        ∙ sym (early_took k.inv (f + k.release) (omega (arith, h, early)))
-        ∙ sym (get_map (λ z. took t fs z.inv (f + z.release)) p.jobs r k 0 at)
+    agree e early r k at present h = grind (arith, get_map, early_took)
 
     down : f ≤ m
     down = past t lists es run m
@@ -317,8 +307,7 @@ module _ (t : Tables) (lists : List (List SInstr)) (es : List Event) (run : IsFe
                 | inl before ↦ before
                 | inr late ↦
                     let same : q ≡ d = only next d q last less present mine late in
-                    let one : (job_at p.jobs q).release ≡ k.release = ap (λ z. (job_at p.jobs z).release) same ∙ ap (λ (z : Job). z.release) (job_of d k at).1 in
-                    omega (arith, early, one)
+                    omega (arith, early, ap (λ z. (job_at p.jobs z).release) same ∙ ap (λ (z : Job). z.release) (job_of d k at).1)
               ]
 
               second : (a b : Bool) → (a && b) ≡ true → b ≡ true

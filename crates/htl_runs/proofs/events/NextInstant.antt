@@ -1,9 +1,7 @@
 -- The values, buffers, modes and triggers before the first instant, and over an instant.
 use Rattle.std.proofs.Common.{◌≡◌, ℕ, suc, ◌+◌, ◌-◌, ◌^◌, min, ◌<◌, List, [], length, map, refl, sym, ap, ◌∙◌, subst, arith}
 use Rattle.htl_runs.proofs.Words.{Event, Comm, Tables, SInstr, ECode, Spells, e_path, spells_or_departs, ModeReads, spelled_reads, Standing, first_standing, StandsSafely, IsShaped, phase_path, sound, reads_follows, first_follows, AreTookWithin, Content, ValuesFollow, next_world, turn_at, finished_before, IsLoaded, IsValued, Passed, not_some}
-use Rattle.htl_runs.proofs.instants.BothMachines.{next_is}
-use Rattle.htl_runs.proofs.events.NextReading.{instant_values}
-use Rattle.htl_runs.proofs.lines.LoadedRecords.{e_more}
+use Rattle.htl_runs.proofs.{instants.BothMachines.next_is, events.NextReading.instant_values, lines.LoadedRecords.e_more}
 
 -- each mode's reads are where its blocks are spelled
 pub modes_read : (t : Tables) (code : ECode) → Spells t code → (m : ℕ) → m < length t.modes → ModeReads t code m

@@ -3,10 +3,7 @@ use Rattle.std.proofs.Common.{◌≡◌, ℕ, zero, suc, ◌<◌, List, [], ◌�
 use Rattle.htl_runs.proofs.Words.{Event, hyper, Tables, SInstr, Round, IsTookWithin, AreTookWithin, reading_of, SMachineStands, SMachineFollows, IsLoaded, s_machine_taking, turn_by, turn_at, list_turn}
 use Rattle.htl_model.specs.declared.event.Event.TheVariants as V
 use Rattle.htl_smach.specs.Rounds as rounds
-use Rattle.htl_runs.proofs.events.SameSensors.{Alike, sense_took}
-use Rattle.htl_runs.proofs.events.LongerJobs.{took_so_far, took_s_machine}
-use Rattle.htl_runs.proofs.events.SameRecords.{AreSoFar, one_so_far}
-use Rattle.htl_runs.proofs.lists.LoadedLists.{loaded_run}
+use Rattle.htl_runs.proofs.{events.SameSensors.Alike, events.SameSensors.sense_took, events.LongerJobs.took_so_far, events.LongerJobs.took_s_machine, events.SameRecords.AreSoFar, events.SameRecords.one_so_far, lists.LoadedLists.loaded_run}
 
 module _ (t : Tables) (schedules : List (List SInstr)) (loaded : IsLoaded t schedules) (es : List Event) (within : AreTookWithin t es) (i n : ℕ) (fits : IsTookWithin t (V.Took i n)) (now : ℕ) (reading : now ≡ reading_of 0 es) where
   abbrev fs : List Event

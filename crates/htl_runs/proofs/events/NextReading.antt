@@ -1,11 +1,7 @@
 -- One event more: the lists that stand before it, and what who is finished has read.
 use Rattle.std.proofs.Common.{◌≡◌, ℕ, zero, suc, ◌≤◌, ◌<◌, true, List, [], ◌∷◌, ◌++◌, Option, Some, None, refl, subst, arith}
 use Rattle.htl_runs.proofs.Words.{Event, Inv, hyper, Tables, before, SInstr, Round, Content, InvStands, HasReadInputs, IsShaped, ValuesFollow, took, IsTookWithin, AreTookWithin, finished_before, next_world, SMachineStands, SMachineFollows, IsLoaded, Turn, turn_by, turn_at}
-use Rattle.htl_runs.proofs.values.WorldShapes.{has_places}
-use Rattle.htl_runs.proofs.lists.ListValues.{read_before, values_carried}
-use Rattle.htl_runs.proofs.lists.LoadedLists.{loaded_run, loaded_turns}
-use Rattle.htl_runs.proofs.events.SameSensors.{Alike}
-use Rattle.htl_runs.proofs.events.SameLists.{list_same}
+use Rattle.htl_runs.proofs.{values.WorldShapes.has_places, lists.ListValues.read_before, lists.ListValues.values_carried, lists.LoadedLists.loaded_run, lists.LoadedLists.loaded_turns, events.SameSensors.Alike, events.SameLists.list_same}
 
 pub within_more : (t : Tables) (es : List Event) (e : Event) → AreTookWithin t es → IsTookWithin t e → AreTookWithin t (es ++ e ∷ [])
 within_more t [] e a b = (b, tt)
@@ -15,11 +11,7 @@ within_more t (x ∷ es) e a b = (a.0, within_more t es e a.1 b)
 module _ (t : Tables) (schedules : List (List SInstr)) (es fs : List Event) (now : ℕ) (alike : Alike t es fs now) (loaded : IsLoaded t schedules) (within : AreTookWithin t es)
     (tooks : (i u : ℕ) → took t es i u ≡ took t fs i u) where
   pub turn_same : (n : ℕ) → n < now → turn_at t schedules es n ≡ turn_at t schedules fs n
-  turn_same n h = by (hyper t) refl
-    where
-      by : (o : Option ℕ) → hyper t ≡ o → turn_by o t schedules es n ≡ turn_by o t schedules fs n
-      by None e = refl
-      by (Some p) e = list_same t schedules es fs now (loaded_run t schedules loaded es within p e) alike n h tooks
+  turn_same n h = grind (arith, list_same, loaded_run)
 
   pub s_machine_alike : (root : Option ℕ) (n : ℕ) (r : Round) → n ≤ now → SMachineFollows (turn_at t schedules es) root n r → SMachineFollows (turn_at t schedules fs) root n r
   s_machine_alike None n r h f = f

@@ -5,10 +5,7 @@ use Rattle.htl_model.specs.declared.event.Event.TheVariants as V
 use Rattle.htl_smach.specs.declared.left.Left.{Left}
 use Rattle.htl_runs.proofs.events.SameSensors.{Alike, values_alike, state_same, before_same, sense_at, sense_end, sense_sense, took_at, took_end, took_sense}
 use Rattle.htl_runs.proofs.events.SameRecords.{AreSoFar, one_so_far, finished_so_far, between_so_far, new_so_far, shown_so_far}
-use Rattle.htl_runs.proofs.events.SameTriggers.{triggers_alike}
-use Rattle.htl_runs.proofs.events.NextReading.{within_more, turn_same, all_read}
-use Rattle.htl_runs.proofs.events.NextLength.{alike, so_far}
-use Rattle.htl_runs.proofs.lists.LoadedLists.{loaded_turns}
+use Rattle.htl_runs.proofs.{events.SameTriggers.triggers_alike, events.NextReading.within_more, events.NextReading.turn_same, events.NextReading.all_read, events.NextLength.alike, events.NextLength.so_far, lists.LoadedLists.loaded_turns}
 use Rattle.htl_runs.proofs.lines.LoadedRecords.{loaded_old, loaded_new}
 
 -- the same sensors before an instant, and lists that have left the same

@@ -2,8 +2,7 @@
 use Rattle.std.proofs.Common.{◌≡◌, ℕ, suc, ◌+◌, ◌-◌, ◌≤◌, ◌<◌, List, length, get_or, map, take, Option, sym, ap, ap₂, ◌∙◌, arith, option_map}
 use mathlib.Core.Path.{fun_ext}
 use Rattle.htl_runs.proofs.Words.{get_or_from_slice_get, Event, State, Stay, frame_of, starts, node, root_periods, Tables, Job, SInstr, Leg, AreWithin, end_to_end, Left, AreAlike, AreSameSoFar, begun_by_offset, Frame, frame_modes, frame_places, frame_at, path_of, walks_of, ListPlan, leg_at, list_plan, took, IsFeasibleRun, legs_within, frames_agree, leg_same, front_plan, front_walks, take-map, nodes_read, nodes_agree, states_are_selections, frame_start, Turn, list_number, list_turn, known_rises, starts_order}
-use Rattle.htl_runs.proofs.events.SameSensors.{Alike, state_same}
-use Rattle.htl_runs.proofs.lists.RunLists.{rise, past, serving, stands, known_is, few}
+use Rattle.htl_runs.proofs.{events.SameSensors.Alike, events.SameSensors.state_same, lists.RunLists.rise, lists.RunLists.past, lists.RunLists.serving, lists.RunLists.stands, lists.RunLists.known_is, lists.RunLists.few}
 
 module _ (t : Tables) (lists : List (List SInstr)) (es fs : List Event) (now : ℕ) (run : IsFeasibleRun t lists es) (alike : Alike t es fs now) (n : ℕ) (early : n < now) where
   abbrev f : ℕ
@@ -19,14 +18,12 @@ module _ (t : Tables) (lists : List (List SInstr)) (es fs : List Event) (now : �
   q = frame_at t lists fs (frame_start t n)
 
   modes_same : (a : ℕ) → a ≤ n - frame_start t n → frame_modes t es (frame_start t n) a ≡ frame_modes t fs (frame_start t n) a
-  modes_same a less =
-      ap (λ (z : State). map (λ (o : Option Stay). option_map (λ y. y.mode) o) z.stays) (state_same t es fs now (frame_start t n + a) alike (let down = past t lists es run n in omega (arith, less, early, down)))
+  modes_same a less = grind (arith, state_same, past)
 
   starts_before : (i : ℕ) → i ≤ list_number (n - frame_start t n) (starts t) → get_or (starts t) i 0 ≤ n - frame_start t n
   starts_before i less =
       let s = stands t lists es run n in
-      let up = starts_order (root_periods t) (frame_of t) (starts t) i j (rise t lists es run) less s.there in
-      omega (arith, up, s.begun)
+      omega (arith, starts_order (root_periods t) (frame_of t) (starts t) i j (rise t lists es run) less s.there, s.begun)
 
   frames_alike : AreAlike t es fs (frame_start t n) (n - frame_start t n) (suc (list_number (n - frame_start t n) (starts t)))
   frames_alike = record { modes = modes_same; lists = λ i less. starts_before i (omega (arith, less)) }
@@ -61,9 +58,7 @@ module _ (t : Tables) (lists : List (List SInstr)) (es fs : List Event) (now : �
         let known : (leg_at p j).known ≡ m = known_is t lists es run n in
         let forms = (serving t lists es run n).forms in
         let all : m ≤ length p.jobs = let less = few t lists es run n in omega (arith, less, known) in
-        let leg : leg_at p j ≡ leg_at q j = leg_same p q j m known so_far lengths_same forms known_within all in
         let plan : list_plan p j ≡ list_plan q j = front_plan p q j m known so_far lengths_same forms known_within all in
-        let walks : end_to_end (take j (walks_of p)) ≡ end_to_end (take j (walks_of q)) = front_walks p q j m known so_far lengths_same forms known_within all in
         let make : Leg → ℕ → ListPlan → List Left → Turn = λ g k l ls. record { frame = f; list = j; from = g.from; to = g.to; node = k; plan = l; earlier = ls } in
-        ap₂ (λ g k. make g k (list_plan p j) (end_to_end (take j (walks_of p)))) leg node_same
-        ∙ ap₂ (make (leg_at q j) (node t (path_of t (frame_modes t fs f)) j)) plan walks
+        ap₂ (λ g k. make g k (list_plan p j) (end_to_end (take j (walks_of p)))) (leg_same p q j m known so_far lengths_same forms known_within all) node_same
+        ∙ ap₂ (make (leg_at q j) (node t (path_of t (frame_modes t fs f)) j)) plan (front_walks p q j m known so_far lengths_same forms known_within all)

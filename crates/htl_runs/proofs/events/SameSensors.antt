@@ -74,11 +74,7 @@ pub val_same : (t : Tables) (es fs : List Event) (now c u : ℕ) → Alike t es 
 val_same t es fs now c u a h = ap (λ (z : State). get_or z.values c (pos 0)) (state_same t es fs now u a h)
 
 seen_same : (t : Tables) (es fs : List Event) (now : ℕ) → Alike t es fs now → seen_before t es now ≡ seen_before t fs now
-seen_same t es fs now a = fun_ext (λ c. fun_ext (λ u. by_test c u (ltb u now) refl))
-  where
-    by_test : (c u : ℕ) (b : Bool) → ltb u now ≡ b → cond b (val t es c u) (pos 0) ≡ cond b (val t fs c u) (pos 0)
-    by_test c u true e = val_same t es fs now c u a (ltb-true u now e)
-    by_test c u false e = refl
+seen_same t es fs now a = grind (arith, pos, val_same, ltb-true)
 
 -- the world follows on with other events that agree before the instant
 pub values_alike : (t : Tables) (range : AreInRange t) (kept : KeptApart t 12) (es fs : List Event) (now : ℕ) (finished : ℕ → Bool) (w : Content) → Alike t es fs now
@@ -108,8 +104,7 @@ front_is a e (l ∷ ls) r = by_test (ltb l.at e) refl (front_is l.at e ls r.1)
   where
     none_later : (a : ℕ) (ms : List Left) → Rises a ms → e ≤ a → earlier e ms ≡ []
     none_later a [] r h = refl
-    none_later a (m ∷ ms) r h =
-        ap (λ b. cond b (m ∷ earlier e ms) (earlier e ms)) (let z : ltb m.at e ≡ false = le-ltb m.at e (omega (arith, r.0)) in z) ∙ none_later m.at ms r.1 (omega (arith, r.0))
+    none_later a (m ∷ ms) r h = grind (arith, le-ltb, none_later m.at ms r.1 (omega (arith, r.0)))
 
     by_test : (b : Bool) → ltb l.at e ≡ b → take (count_left_before e ls) ls ≡ earlier e ls → take (cond b (suc (count_left_before e ls)) 0) (l ∷ ls) ≡ cond b (l ∷ earlier e ls) (earlier e ls)
     by_test true g ih = ap (λ z. l ∷ z) ih
@@ -117,8 +112,4 @@ front_is a e (l ∷ ls) r = by_test (ltb l.at e) refl (front_is l.at e ls r.1)
 
 pub length-front : (e : ℕ) (ls : List Left) → length (take (count_left_before e ls) ls) ≡ count_left_before e ls
 length-front e [] = refl
-length-front e (l ∷ ls) = by_test (ltb l.at e) (length-front e ls)
-  where
-    by_test : (b : Bool) → length (take (count_left_before e ls) ls) ≡ count_left_before e ls → length (take (cond b (suc (count_left_before e ls)) 0) (l ∷ ls)) ≡ cond b (suc (count_left_before e ls)) 0
-    by_test true ih = ap suc ih
-    by_test false ih = refl
+length-front e (l ∷ ls) = grind (arith, length-front e ls)

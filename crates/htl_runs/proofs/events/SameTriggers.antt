@@ -21,14 +21,7 @@ module _ (t : Tables) (range : AreInRange t) (now : ℕ) where
 
     turning_same : (j : ℕ) (x : Module) → slice_get t.modules j ≡ Some x → (o : Option Stay) → old_stay t es now j ≡ o → turning t code now 0 j o (new_stay t es now j) ≡ turning t code now 0 j o (new_stay t fs now j)
     turning_same j x at (Some y) e = refl
-    turning_same j x at None e = by_parent x.parent refl
-      where
-        by_parent : (p : Option ℕ) → x.parent ≡ p → cond (is_called t 0 j) (entering code now (new_stay t es now j)) None ≡ cond (is_called t 0 j) (entering code now (new_stay t fs now j)) None
-        by_parent None root =
-            ap (λ z. cond (is_called t 0 j) (entering code now z) None) (root_begins es j x at root e ∙ sym (root_begins fs j x at root (sym (old_same j) ∙ e)))
-        by_parent (Some q) child =
-            let off : is_called t 0 j ≡ false = child_waits j q (parent_at t j x at ∙ child) in
-            ap (λ b. cond b (entering code now (new_stay t es now j)) None) off ∙ sym (ap (λ b. cond b (entering code now (new_stay t fs now j)) None) off)
+    turning_same j x at None e = grind (arith, root_begins, old_same, child_waits, parent_at)
 
     opening_same : (j : ℕ) (x : Module) → slice_get t.modules j ≡ Some x → opening t code now j (old_stay t es now j) (new_stay t es now j) ≡ opening t code now j (old_stay t fs now j) (new_stay t fs now j)
     opening_same j x at =

@@ -10,8 +10,7 @@ no_lines t (x ∷ xs) = no_lines t xs
 
 module _ (t : Tables) (code : ECode) (schedules : List (List SInstr)) (es : List Event) where
   value_lines_alone : (now : ℕ) → lines t code schedules es Values now ≡ lines_text t (value_lines t es now)
-  value_lines_alone now =
-      ap₂ (λ xs ys. xs ++ [] ++ lines_text t (value_lines t es now) ++ ys) (no_lines t (old_records t schedules es (hyper t) now)) (no_lines t (new_records t schedules es (hyper t) now)) ∙ append-nil (lines_text t (value_lines t es now))
+  value_lines_alone now = grind (arith, no_lines, append-nil)
 
   pub values_are_the_meaning : (now : ℕ) → text_before t code schedules es Values now ≡ up_to (λ n. lines_text t (value_lines t es n)) now
   values_are_the_meaning now = up_to_same (lines t code schedules es Values) (λ n. lines_text t (value_lines t es n)) now (λ n h. value_lines_alone n)

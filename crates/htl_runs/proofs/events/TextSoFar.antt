@@ -2,8 +2,7 @@
 use Rattle.std.proofs.Common.{◌≡◌, ◌<◌, ℕ, List, [], ◌∷◌, ◌++◌, refl, sym, ap, ◌∙◌, subst, arith}
 use Rattle.htl_runs.proofs.Words.{append_assoc, append-nil, Event, Tables, up_to_same, SInstr, ECode, IsTookWithin, AreTookWithin, Shown, reading_of, IsLoaded, AreReadFrom, lines, text_before}
 use Rattle.htl_model.specs.declared.event.Event.TheVariants as V
-use Rattle.htl_runs.proofs.events.SameSensors.{reading_more}
-use Rattle.htl_runs.proofs.events.SameBefore.{same_at, same_end, same_sense, same_took, lines_stay}
+use Rattle.htl_runs.proofs.{events.SameSensors.reading_more, events.SameBefore.same_at, events.SameBefore.same_end, events.SameBefore.same_sense, events.SameBefore.same_took, events.SameBefore.lines_stay}
 
 front_within : (t : Tables) (es later : List Event) → AreTookWithin t (es ++ later) → AreTookWithin t es
 front_within t [] later h = tt

@@ -8,17 +8,7 @@ use Rattle.htl_runs.proofs.events.NextReading.{within_more}
 module _ (t : Tables) (es : List Event) (m : RunState) (k : IsKept t es m) where
   -- a reading
   pub reading_kept : (to : ℕ) → m.reading ≤ to → IsKept t (es ++ V.At to ∷ []) (at_reading to m)
-  reading_kept to later =
-      let reading : reading_of 0 (es ++ V.At to ∷ []) ≡ to = reading_more 0 es (V.At to) in
-      record {
-        fresh = k.fresh;
-        reading = sym reading;
-        within = within_more t es (V.At to) k.within tt;
-        fits = k.fits;
-        shows = λ c u less h. sense_at t es to c u ∙ k.shows c u less (omega (arith, reading, later, k.reading));
-        takes = λ i u less h. took_at t es to i u ∙ k.takes i u less (omega (arith, reading, later, k.reading));
-        count = k.count;
-      }
+  reading_kept to later = grind (arith, reading_more, within_more, sense_at, took_at)
 
   -- a sensor that shows another value from now on
   pub sense_kept : (d : ℕ) (y : ℤ) → d < length t.comms → IfSome (slice_get t.comms d) (λ x. FitsType x.ty y) → IsKept t (es ++ V.Sense d y ∷ []) (shown_as d y m)
@@ -43,9 +33,8 @@ module _ (t : Tables) (es : List Event) (m : RunState) (k : IsKept t es m) where
 
       by_test : (c u : ℕ) → c < length t.comms → reading_of 0 es ≤ u → (b : Bool) → eqb c d ≡ b → cond (b && leb (reading_of 0 es) u) y (sense t es c u) ≡ get_or (set m.shows d y) c (pos 0)
       by_test c u less h true is =
-          let e : c ≡ d = eqb-true c d is in
           ap (λ b. cond b y (sense t es c u)) (le-leb (reading_of 0 es) u h)
-          ∙ sym (ap (λ i. get_or (set m.shows d y) i (pos 0)) e ∙ get_or-set_same m.shows d y (pos 0) (omega (arith, k.fits.count)))
+          ∙ sym (ap (λ i. get_or (set m.shows d y) i (pos 0)) (eqb-true c d is) ∙ get_or-set_same m.shows d y (pos 0) (omega (arith, k.fits.count)))
       by_test c u less h false is = k.shows c u less h ∙ sym (get_or-set_other m.shows d c y (pos 0) (eqb-false c d is))
 
   -- from the reading on the jobs of an invocation take so long

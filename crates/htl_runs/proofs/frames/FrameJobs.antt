@@ -1,7 +1,6 @@
 -- At each instant the jobs of the frame are those so far.
 use Rattle.std.proofs.Common.{◌≡◌, ◌+◌, ◌-◌, ◌*◌, ◌/◌, ◌%◌, ◌<◌, arith}
-use Rattle.htl_runs.proofs.Words.{div-add-mod, mod-lt, frame_of, state, standing_places, places_ordered, begun_by, FrameJobsStand}
-use Rattle.htl_runs.proofs.frames.PlacedStays.{placed_by_modes}
+use Rattle.htl_runs.proofs.{Words.div-add-mod, Words.mod-lt, Words.frame_of, Words.state, Words.standing_places, Words.places_ordered, Words.begun_by, Words.FrameJobsStand, frames.PlacedStays.placed_by_modes}
 use Rattle.htl_runs.proofs.frames.PlacedJobs.{jobs_of_placing}
 
 pub frame_jobs_so_far : FrameJobsStand

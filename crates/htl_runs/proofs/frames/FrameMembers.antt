@@ -19,10 +19,7 @@ below_start ps (suc h) a l e = by (cases_below a h l) (λ less. below_start ps h
 
 in_rounds : (t : Tables) (a : ℕ) (us : List ℕ) (j u : ℕ) → slice_get us j ≡ Some u → a % unit_period t u ≡ 0 → (q : ℕ) × (slice_get (rounds_of t a us) q ≡ Some (record { at = a; unit = u }))
 in_rounds t a [] j u e g = not_some u e
-in_rounds t a (v ∷ us) zero u e g =
-    let same : v ≡ u = same_Some v u e in
-    let test : eqb (a % unit_period t v) 0 ≡ true = eq-eqb (a % unit_period t v) 0 (ap (λ z. a % unit_period t z) same ∙ g) in
-    (0, ap (λ b. slice_get (cond b (record { at = a; unit = v } ∷ rounds_of t a us) (rounds_of t a us)) 0) test ∙ ap (λ z. let r : Round = record { at = a; unit = z } in Some r) same)
+in_rounds t a (v ∷ us) zero u e g = grind (arith, same_Some, eq-eqb)
 in_rounds t a (v ∷ us) (suc j) u e g = by (eqb (a % unit_period t v) 0) (in_rounds t a us j u e g)
   where
     by : (b : Bool) → (q : ℕ) × (slice_get (rounds_of t a us) q ≡ Some (record { at = a; unit = u }))

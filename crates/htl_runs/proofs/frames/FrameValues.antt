@@ -2,22 +2,13 @@
 use Rattle.std.proofs.Common.{◌≡◌, ℕ, zero, suc, ◌+◌, ◌-◌, ◌≤◌, ◌<◌, Bool, true, false, cond, ◌&&◌, ◌||◌, ltb, List, [], ◌∷◌, slice_get, Option, Some, None, refl, sym, ap, ◌∙◌, subst, arith, inl, inr}
 use mathlib.Core.Path.{fun_ext}
 use Rattle.htl_runs.proofs.Words.{ltb-true, lt-ltb, and_right, cases_lt, Event, Inv, Tables, AreInRange, KeptApart, state, before, Job, Left, job_at, is_position, Content, completed, Rises, count_left_before, done_by, counted, not_some, Now, present_finished, finished_at, AreFrames, frame_records, next_by_frames, complete_at, complete_by, run_records, finished_in, InvStands, ValuesFollow, HasPlaces, HasReadInputs, Ready, and_also, finish_more, job_is}
-use Rattle.htl_runs.proofs.values.InstantWorlds.{follows_on, after_shape}
-use Rattle.htl_runs.proofs.records.SMachineInstants.{record_there, count_within}
-use Rattle.htl_runs.proofs.values.FinishedOutputs.{finish_follows, completed_shape}
-use Rattle.htl_runs.proofs.frames.FrameSteps.{finished_carried}
-use Rattle.htl_runs.proofs.frames.OwedJobs.{is_ready, reads_to, completes}
-use Rattle.htl_runs.proofs.records.DoneBefore.{before_count}
+use Rattle.htl_runs.proofs.{values.InstantWorlds.follows_on, values.InstantWorlds.after_shape, records.SMachineInstants.record_there, records.SMachineInstants.count_within, frames.FrameSteps.finished_carried}
+use Rattle.htl_runs.proofs.{values.FinishedOutputs.finish_follows, values.FinishedOutputs.completed_shape, frames.OwedJobs.is_ready, frames.OwedJobs.reads_to, frames.OwedJobs.completes, records.DoneBefore.before_count}
 
 -- a later offset has more records before it
 pub count_grows : (d e : ℕ) (ls : List Left) → d ≤ e → count_left_before d ls ≤ count_left_before e ls
 count_grows d e [] h = omega arith
-count_grows d e (l ∷ ls) h = by_test (ltb l.at d) (ltb l.at e) refl refl (count_grows d e ls h)
-  where
-    by_test : (a b : Bool) → ltb l.at d ≡ a → ltb l.at e ≡ b → count_left_before d ls ≤ count_left_before e ls → cond a (suc (count_left_before d ls)) 0 ≤ cond b (suc (count_left_before e ls)) 0
-    by_test true true f g ih = omega arith
-    by_test true false f g ih = absurd (let z : ltb l.at e ≡ true = lt-ltb l.at e (omega (arith, ltb-true l.at d f)) in let y : ⊥ = cc in y)
-    by_test false b f g ih = omega arith
+count_grows d e (l ∷ ls) h = grind (arith, lt-ltb, ltb-true, count_grows d e ls h)
 
 -- the records that aren't left before an offset are left then or later
 from_count : (e : ℕ) (ls : List Left) (k : ℕ) (l : Left) → Rises 0 ls → count_left_before e ls ≤ k → slice_get ls k ≡ Some l → e ≤ l.at
@@ -99,11 +90,7 @@ module _ (t : Tables) (range : AreInRange t) (kept : KeptApart t 12) (es : List 
       reads_to t range kept (state t es n).stays f.frame n f.jobs f.walk (frames.jobs_so_far n) (frames.runs n) (suc n - f.frame) (suc n) i x s (omega (arith, frames.past n)) st fin
 
   pub all_ready : (n : ℕ) → Ready t es n (finished_at now n)
-  all_ready zero =
-      record {
-        in_time = λ i k c d. not_some (record { mode = d.inv.mode; start = d.start }) d.stands.in_round;
-        after_reads = λ i x s st fin. not_some (record { mode = x.mode; start = s }) st.in_round;
-      }
+  all_ready zero = grind (arith, not_some)
   all_ready (suc n) =
       let f = now n in
       let r = is_ready t range kept (state t es n).stays f.frame n f.jobs f.walk (frames.jobs_so_far n) (frames.runs n) es (suc n) refl (omega (arith, frames.past n)) in

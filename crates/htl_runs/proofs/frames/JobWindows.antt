@@ -20,12 +20,7 @@ pub reads_before_release : (t : Tables) (a : ℕ) (ends : List End) (k c n : ℕ
 reads_before_release t a [] k c n e = not_some (E.Comm c n) e
 reads_before_release t a (E.Port p ∷ ends) zero c n e = let z : E.Port p ≡ E.Comm c n = same_Some _ _ e in cc
 reads_before_release t a (E.Port p ∷ ends) (suc k) c n e = reads_before_release t a ends k c n e
-reads_before_release t a (E.Comm d m ∷ ends) zero c n e =
-    let z : E.Comm d m ≡ E.Comm c n = same_Some _ _ e in
-    let f : d ≡ c = cc in
-    let g : m ≡ n = cc in
-    let at : n * comm_period t c ≡ m * comm_period t d = sym (ap (λ q. q * comm_period t d) g ∙ ap (λ q. n * comm_period t q) f) in
-    omega (arith, at, greatest_is (max a (m * comm_period t d)) (offsets t ends))
+reads_before_release t a (E.Comm d m ∷ ends) zero c n e = grind (arith, same_Some, greatest_is)
 reads_before_release t a (E.Comm d m ∷ ends) (suc k) c n e = reads_before_release t (max a (m * comm_period t d)) ends k c n e
 
 least_first : (d y : ℕ) (ys : List ℕ) → least_or d (y ∷ ys) ≤ y
@@ -40,12 +35,7 @@ pub end_before_writes : (t : Tables) (d : ℕ) (ends : List End) (k c n : ℕ) �
 end_before_writes t d [] k c n e = not_some (E.Comm c n) e
 end_before_writes t d (E.Port p ∷ ends) zero c n e = let z : E.Port p ≡ E.Comm c n = same_Some _ _ e in cc
 end_before_writes t d (E.Port p ∷ ends) (suc k) c n e = end_before_writes t d ends k c n e
-end_before_writes t d (E.Comm b m ∷ ends) zero c n e =
-    let z : E.Comm b m ≡ E.Comm c n = same_Some _ _ e in
-    let f : b ≡ c = cc in
-    let g : m ≡ n = cc in
-    let at : n * comm_period t c ≡ m * comm_period t b = sym (ap (λ q. q * comm_period t b) g ∙ ap (λ q. n * comm_period t q) f) in
-    omega (arith, at, least_first d (m * comm_period t b) (offsets t ends))
+end_before_writes t d (E.Comm b m ∷ ends) zero c n e = grind (arith, same_Some, least_first)
 end_before_writes t d (E.Comm b m ∷ ends) (suc k) c n e = by_rest (offsets t ends) (end_before_writes t d ends k c n e) (some_rest ends k c n e)
   where
     some_rest : (ends : List End) (k c n : ℕ) → slice_get ends k ≡ Some (E.Comm c n) → 0 < length (offsets t ends)
@@ -81,9 +71,7 @@ position_none q (k ∷ js) i d j e at here is = by_rest (position_from (suc q) j
   where
     by_test : (b : Bool) → (k.present && eqb k.inv i) ≡ b → ◌≡◌ {A = Option ℕ} (cond b (Some q) None) None → slice_get (k ∷ js) 0 ≡ Some j → ⊥
     by_test true b g at = not_some q (sym g)
-    by_test false b g at =
-        let same : k ≡ j = same_Some _ _ at in
-        let z : true ≡ false = sym (and_from k.present (eqb k.inv i) (ap (λ (z : Job). z.present) same ∙ here) (eq-eqb k.inv i (ap (λ (z : Job). z.inv) same ∙ is))) ∙ b in cc
+    by_test false b g at = grind (arith, same_Some, and_from, eq-eqb)
 
     by_rest : (o : Option ℕ) → position_from (suc q) js i ≡ o → later_or o (cond (k.present && eqb k.inv i) (Some q) None) ≡ None → (d : ℕ) → slice_get (k ∷ js) d ≡ Some j
         → (position_from (suc q) js i ≡ None → (m : ℕ) → slice_get js m ≡ Some j → ⊥) → ⊥
@@ -93,11 +81,7 @@ position_none q (k ∷ js) i d j e at here is = by_rest (position_from (suc q) j
 
 -- a finished invocation's last position is done
 pub finished_is : (jobs : List Job) (done : ℕ → Bool) (i : ℕ) → finished_in jobs done i ≡ true → (p : ℕ) × (position_from 0 jobs i ≡ Some p) × (done p ≡ true)
-finished_is jobs done i e = by_place (position_from 0 jobs i) refl e
-  where
-    by_place : (o : Option ℕ) → position_from 0 jobs i ≡ o → last_position_done done o ≡ true → (p : ℕ) × (position_from 0 jobs i ≡ Some p) × (done p ≡ true)
-    by_place None f g = absurd (let z : ⊥ = cc in z)
-    by_place (Some p) f g = (p, f, g)
+finished_is jobs done i e = grind arith
 
 pub is_finished : (jobs : List Job) (done : ℕ → Bool) (i p : ℕ) → position_from 0 jobs i ≡ Some p → done p ≡ true → finished_in jobs done i ≡ true
 is_finished jobs done i p at h = ap (last_position_done done) at ∙ h

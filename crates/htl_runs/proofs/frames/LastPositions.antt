@@ -4,15 +4,7 @@ use Rattle.htl_runs.proofs.Words.{take_more, length-take-le, Job, later_or, posi
 
 last_one : (q : ℕ) (xs : List Job) (x : Job) (i : ℕ) → position_from q (xs ++ x ∷ []) i ≡ cond (x.present && eqb x.inv i) (Some (q + length xs)) (position_from q xs i)
 last_one q [] x i = ap (λ n. cond (x.present && eqb x.inv i) (Some n) None) (let e : q ≡ q + 0 = omega arith in e)
-last_one q (y ∷ ys) x i =
-    ap (λ o. later_or o here) (last_one (suc q) ys x i) ∙ by_test (x.present && eqb x.inv i)
-  where
-    here : Option ℕ
-    here = cond (y.present && eqb y.inv i) (Some q) None
-
-    by_test : (b : Bool) → later_or (cond b (Some (suc q + length ys)) (position_from (suc q) ys i)) here ≡ cond b (Some (q + length (y ∷ ys))) (later_or (position_from (suc q) ys i) here)
-    by_test true = ap (λ n. Some n) (let e : suc q + length ys ≡ q + suc (length ys) = omega arith in e)
-    by_test false = refl
+last_one q (y ∷ ys) x i = grind (arith, last_one (suc q) ys x i)
 
 -- the job before a place is of the invocation, or the position stands before it
 one_less : (jobs : List Job) (p i : ℕ) (d : Job) → p < length jobs
@@ -26,7 +18,4 @@ one_less jobs p i d below =
 -- one step of the search
 pub one_step : (jobs : List Job) (p i : ℕ) (d : Job) (b : Bool) → position_from 0 jobs i ≡ position_from 0 (take p jobs) i → 0 < p → p ≤ length jobs
     → b ≡ ((get_or jobs (p - 1) d).present && eqb (get_or jobs (p - 1) d).inv i) → position_from 0 jobs i ≡ cond b (Some (p - 1)) (position_from 0 (take (p - 1) jobs) i)
-one_step jobs p i d b so_far some within test =
-    so_far ∙ ap (λ n. position_from 0 (take n jobs) i) (let e : p ≡ p - 1 + 1 = omega (arith, some) in e)
-    ∙ one_less jobs (p - 1) i d (omega (arith, some, within))
-    ∙ ap (λ c. cond c (Some (p - 1)) (position_from 0 (take (p - 1) jobs) i)) (sym test)
+one_step jobs p i d b so_far some within test = grind (arith, one_less)

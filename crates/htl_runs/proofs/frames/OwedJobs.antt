@@ -3,16 +3,13 @@ use Rattle.std.proofs.Common.{◌≡◌, ℕ, zero, suc, ◌+◌, ◌-◌, ◌�
 use mathlib.Core.Path.{fun_ext}
 use Rattle.htl_runs.proofs.Words.{eqb-true, eq-eqb, ne_eqb, and_from, slice_get_within, same_Some, Event, Inv, End, Stay, Tables, mode_period, mode_module, release, AreInRange, KeptApart, before, stay_of, writer_from, Job, precedes, Left, job_at, is_position, finish, slices, DoneBy, job_there, job_is, InvStands, IsDue, IsPast, HasReadInputs, Ready, Orders, and_also, count_left_before, done_by, IsServedSoFar, done_is, position_from, last_position_done, finished_in, IsJob, AreJobsSoFar, finish_or, rank_at, rank, not_some, finish_more}
 use Rattle.htl_model.specs.declared.parts.End.TheVariants as E
-use Rattle.htl_runs.proofs.values.JobOutputs.{writer_is, writer_stands}
-use Rattle.htl_runs.proofs.records.DoneBefore.{done_early, done_exactly}
+use Rattle.htl_runs.proofs.{values.JobOutputs.writer_is, values.JobOutputs.writer_stands, records.DoneBefore.done_early, records.DoneBefore.done_exactly}
 use Rattle.htl_runs.proofs.frames.JobWindows.{reads_before_release, end_before_writes, position_some, finished_is, is_finished}
 
 -- the first record that finishes a position tells when it does
 finish_first : (ls : List Left) (k p : ℕ) (l : Left) → slice_get ls k ≡ Some l → (is_position l.position p && l.finished) ≡ true → done_by ls k p ≡ false → finish ls p ≡ Some l.at
 finish_first [] k p l at last open_yet = not_some l at
-finish_first (m ∷ ls) zero p l at last open_yet =
-    let e : m ≡ l = same_Some _ _ at in
-    ap (λ b. cond b (Some m.at) (finish ls p)) (ap (λ (z : Left). is_position z.position p && z.finished) e ∙ last) ∙ ap (λ (z : Left). Some z.at) e
+finish_first (m ∷ ls) zero p l at last open_yet = grind (arith, same_Some)
 finish_first (m ∷ ls) (suc k) p l at last open_yet = by_test (is_position m.position p && m.finished) open_yet (λ g. finish_first ls k p l at last g)
   where
     by_test : (b : Bool) → is_some (cond b (Some m.at) (finish (take k ls) p)) ≡ false → (done_by ls k p ≡ false → finish ls p ≡ Some l.at) → cond b (Some m.at) (finish ls p) ≡ Some l.at
@@ -52,8 +49,7 @@ module _ (t : Tables) (range : AreInRange t) (kept : KeptApart t 12) (stays : Li
       by_port : (k a w o : ℕ) → slice_get x.reads k ≡ Some (E.Port a) → writer_from x.mode a 0 t.invs ≡ Some (w, o) → finished w ≡ true
       by_port k a w o at wr =
           let d = writer_is t x.mode a w o wr in
-          let sw = writer_stands t range kept stays i s x k a w o st at d in
-          let q = jobs_so_far.has w d.inv s sw in
+          let q = jobs_so_far.has w d.inv s (writer_stands t range kept stays i s x k a w o st at d) in
           let g = pred_early p q.0 f job.job q.1.job job.at job.present q.1.at q.1.present (jobs_so_far.preds p q.0 i w o k a s x d.inv job q.1 st.known d.known at wr) e in
           done q.0 w g.0 d.inv q.1 q.2 g.1 g.2
 
@@ -100,9 +96,8 @@ module _ (t : Tables) (range : AreInRange t) (kept : KeptApart t 12) (stays : Li
       by_test true g =
           let p = jobs_so_far.has i x s st in
           let d = finished_is jobs (done_by ls (count_left_before e ls)) i g in
-          let place : d.0 ≡ p.0 = same_Some _ _ (sym d.1 ∙ p.2) in
           let f = done_is e ls d.0 d.2 in
-          let l = finish_late p.0 f.0 (slice_get_within jobs p.0 p.1.job p.1.at) (subst (λ z. finish ls z ≡ Some f.0) place f.1) in
+          let l = finish_late p.0 f.0 (slice_get_within jobs p.0 p.1.job p.1.at) (subst (λ z. finish ls z ≡ Some f.0) (same_Some _ _ (sym d.1 ∙ p.2)) f.1) in
           absurd (omega (arith, l.0, ap (λ (z : Job). z.release) (job_is jobs p.0 p.1.job p.1.at), p.1.release, f.2, early))
 
   -- ---- one record that finishes a job
@@ -131,9 +126,8 @@ module _ (t : Tables) (range : AreInRange t) (kept : KeptApart t 12) (stays : Li
       } in
       let wr' : writer_from x.mode a 0 t.invs ≡ Some (w, o) = ap (λ z. writer_from z a 0 t.invs) mode ∙ wr in
       let d = writer_is t x.mode a w o wr' in
-      let sw = writer_stands t range kept stays i s x k a w o st at d in
       let p = jobs_so_far.has i x s st in
-      let q = jobs_so_far.has w d.inv s sw in
+      let q = jobs_so_far.has w d.inv s (writer_stands t range kept stays i s x k a w o st at d) in
       let met = run.meets p.0 p.1.job p.1.at p.1.present in
       let g = pred_early p.0 q.0 met.finishes.0 p.1.job q.1.job p.1.at p.1.present q.1.at q.1.present (jobs_so_far.preds p.0 q.0 i w o k a s x d.inv p.1 q.1 known d.known at wr') met.finishes.1 in
       omega (arith, rank_is p.0 i met.finishes.0 p.2 met.finishes.1, rank_is q.0 w g.0 q.2 g.1, g.2)
@@ -145,8 +139,7 @@ module _ (t : Tables) (range : AreInRange t) (kept : KeptApart t 12) (stays : Li
   -- a record of this instant
   pub completes : (k p : ℕ) (l : Left) → slice_get ls k ≡ Some l → l.position ≡ Some p → l.finished ≡ true → n < frame + l.at → frame + l.at ≤ suc n → IsCompletion k p
   completes k p l at pos fin fresh late =
-      let known : p < length jobs = run.known k p l at pos fin late in
-      let last = run.open_yet k p l at pos fin known in
+      let last = run.open_yet k p l at pos fin (run.known k p l at pos fin late) in
       let jat : slice_get jobs p ≡ Some (job_at jobs p) = job_there jobs p last.1 in
       let i = (job_at jobs p).inv in
       let done : finish ls p ≡ Some l.at = finish_first ls k p l at (is_last p l.position l.finished pos fin) last.0 in
@@ -154,8 +147,7 @@ module _ (t : Tables) (range : AreInRange t) (kept : KeptApart t 12) (stays : Li
       let within : l.at ≤ (job_at jobs p).end = omega (arith, met.finishes.2, same_Some _ _ (sym met.finishes.1 ∙ done)) in
       let st = jobs_so_far.stands p (job_at jobs p) jat last.1 (omega (arith, within, fresh)) in
       let h = jobs_so_far.has i st.0 st.1 st.2 in
-      let place : h.0 ≡ p = jobs_so_far.once h.0 p i st.1 st.0 h.1 st.3 in
-      let here : position_from 0 jobs i ≡ Some p = h.2 ∙ ap (λ z. Some z) place in
+      let here : position_from 0 jobs i ≡ Some p = h.2 ∙ ap (λ z. Some z) (jobs_so_far.once h.0 p i st.1 st.0 h.1 st.3) in
       record {
         number = i;
         inv = st.0;
@@ -198,19 +190,16 @@ module _ (t : Tables) (range : AreInRange t) (kept : KeptApart t 12) (stays : Li
           inv_of : (d : ℕ) → position_from 0 jobs m ≡ Some d → (job_at jobs d).inv ≡ m
           inv_of d f =
               let w = position_some 0 jobs m d f in
-              let place : d ≡ w.0 = omega (arith, w.1) in
-              ap (λ z. (job_at jobs z).inv) place ∙ ap (λ (z : Job). z.inv) (job_is jobs w.0 w.2 w.3) ∙ w.5
+              ap (λ z. (job_at jobs z).inv) (omega (arith, w.1)) ∙ ap (λ (z : Job). z.inv) (job_is jobs w.0 w.2 w.3) ∙ w.5
 
           inv_of' : (d : ℕ) → position_from 0 jobs i ≡ Some d → (job_at jobs d).inv ≡ i
           inv_of' d f =
               let w = position_some 0 jobs i d f in
-              let place : d ≡ w.0 = omega (arith, w.1) in
-              ap (λ z. (job_at jobs z).inv) place ∙ ap (λ (z : Job). z.inv) (job_is jobs w.0 w.2 w.3) ∙ w.5
+              ap (λ z. (job_at jobs z).inv) (omega (arith, w.1)) ∙ ap (λ (z : Job). z.inv) (job_is jobs w.0 w.2 w.3) ∙ w.5
 
           by_place : (b : Bool) → eqb p q ≡ b → (done_by ls k q || (is_position l.position q && l.finished)) ≡ (eqb m i || done_by ls k q)
           by_place true f =
-              let same : p ≡ q = eqb-true p q f in
-              let one : m ≡ i = sym (inv_of q e) ∙ ap (λ z. (job_at jobs z).inv) (sym same) ∙ inv_of' p here in
+              let one : m ≡ i = sym (inv_of q e) ∙ ap (λ z. (job_at jobs z).inv) (sym (eqb-true p q f)) ∙ inv_of' p here in
               ap (λ b. done_by ls k q || b) (at_position l.position l.finished pos fin ∙ f) ∙ swap (done_by ls k q) true ∙ sym (ap (λ b. b || done_by ls k q) (eq-eqb m i one))
           by_place false f =
               let differ : eqb m i ≡ false = ne_eqb m i (λ z. let same : q ≡ p = same_Some _ _ (sym e ∙ ap (position_from 0 jobs) z ∙ here) in let y : true ≡ false = sym (eq-eqb p q (sym same)) ∙ f in cc) in

@@ -2,9 +2,7 @@
 use Rattle.std.proofs.Common.{◌≡◌, ℕ, zero, suc, ◌+◌, ◌≤◌, Bool, true, false, ◌&&◌, cond, eqb, List, [], ◌∷◌, slice_get, map, take, Option, Some, None, option_map, refl, sym, ap, ap₂, ◌∙◌, subst, arith, inl, inr}
 use Rattle.htl_runs.proofs.Words.{eq-eqb, cases_lt, and_from, slice_get-map, get_or_from_slice_get, same_Some, Inv, Stay, Tables, release, window_end, task_worst, no_place, writer_from, feeds, Job, is_fed_by, mask, precedes, absent_job, job_at, mask_bit, get_mapped, Place, job_in, placed, placed_job, placed_jobs, later_or, position_from, InvStands, IsJob, AreJobsSoFar, place, front_there, take-map, IsFramePlacing, JobsOfPlacing, not_some, job_is, and_none}
 use Rattle.htl_model.specs.declared.parts.End.TheVariants as E
-use Rattle.htl_runs.proofs.values.JobOutputs.{writer_is}
-use Rattle.htl_runs.proofs.frames.JobWindows.{position_some, position_none}
-use Rattle.htl_runs.proofs.values.PortWriters.{fed}
+use Rattle.htl_runs.proofs.{values.JobOutputs.writer_is, frames.JobWindows.position_some, frames.JobWindows.position_none, values.PortWriters.fed}
 
 -- ---- the last position
 
@@ -23,8 +21,7 @@ position_latest q (k ∷ js) i d r j at here is e = by_rest (position_from (suc 
     by_rest None f zero at e ih = omega (arith, by_test (k.present && eqb k.inv i) e)
     by_rest (Some s) f (suc m) at e ih = omega (arith, ih m at (f ∙ e))
     by_rest (Some s) f zero at e ih =
-        let w = position_some (suc q) js i s f in
-        omega (arith, w.1, same_Some _ _ e)
+        omega (arith, (position_some (suc q) js i s f).1, same_Some _ _ e)
 
 -- ---- jobs
 
@@ -58,8 +55,7 @@ module _ (t : Tables) (stays : List (Option Stay)) (frame n m : ℕ) (all : List
       by_inv : (x : Place) → slice_get places p ≡ Some x → (o : Option ℕ) → x.inv ≡ o → placed_job t all x ≡ j
           → (i a : ℕ) × (y : Inv) × (slice_get places p ≡ Some (place i a)) × (slice_get t.invs i ≡ Some y) × (j.inv ≡ i) × (j.release ≡ a + release t y) × (j.end ≡ a + window_end t y)
       by_inv x is None f e =
-          let none : placed_job t all x ≡ absent_job = ap (placed t all x.at) f in
-          let z : false ≡ true = ap (λ (k : Job). k.present) (sym none ∙ e) ∙ here in absurd (let w : ⊥ = cc in w)
+          let z : false ≡ true = ap (λ (k : Job). k.present) (sym (ap (placed t all x.at) f) ∙ e) ∙ here in absurd (let w : ⊥ = cc in w)
       by_inv x is (Some i) f e =
           let same : slice_get places p ≡ Some (place i x.at) = is ∙ ap (λ (o : Option ℕ). let y : Place = record { inv = o; at = x.at } in Some y) f in
           let k = placing.known p i x.at same in
@@ -94,20 +90,17 @@ module _ (t : Tables) (stays : List (Option Stay)) (frame n m : ℕ) (all : List
           absurd (position_none 0 jobs i p j.job f j.at j.present j.inv)
       by_found (Some q) f =
           let j = the_job i a s x p st.known at e in
-          let behind : 0 + p ≤ q = position_latest 0 jobs i p q j.job j.at j.present j.inv f in
           let w = position_some 0 jobs i q f in
           let place_q : q ≡ w.0 = omega (arith, w.1) in
           let other = placed_at w.0 w.2 w.3 w.4 in
           let same_inv : other.0 ≡ i = sym other.5 ∙ w.5 in
           let there : slice_get places q ≡ Some (place i other.1) = ap (slice_get places) place_q ∙ other.3 ∙ ap (λ k. Some (place k other.1)) same_inv in
-          let not_later : frame + other.1 ≤ s = placing.latest q i other.1 s x there st in
           elim (cases_lt p q) [
             | inl less ↦
                 let not_sooner : a ≤ other.1 = placing.order p q (place i a) (place i other.1) less at there in
-                let one : other.1 ≡ a = omega (arith, e, not_later, not_sooner) in
-                let same : q ≡ p = placing.once q p i a (there ∙ ap (λ b. Some (place i b)) one) at in
-                f ∙ ap (λ z. Some z) same
-            | inr past ↦ f ∙ ap (λ z. Some z) (let z : q ≡ p = omega (arith, behind, past) in z)
+                let one : other.1 ≡ a = omega (arith, e, placing.latest q i other.1 s x there st, not_sooner) in
+                f ∙ ap (λ z. Some z) (placing.once q p i a (there ∙ ap (λ b. Some (place i b)) one) at)
+            | inr past ↦ f ∙ ap (λ z. Some z) (let z : q ≡ p = omega (arith, position_latest 0 jobs i p q j.job j.at j.present j.inv f, past) in z)
           ]
 
   -- whoever reads a port follows its writer
@@ -118,20 +111,16 @@ module _ (t : Tables) (stays : List (Option Stay)) (frame n m : ℕ) (all : List
       let pq = placed_at q jq.job jq.at jq.present in
       let ip : pp.0 ≡ i = sym pp.5 ∙ jp.inv in
       let iq : pq.0 ≡ w = sym pq.5 ∙ jq.inv in
-      let xp : pp.2 ≡ x = same_Some _ _ (sym pp.4 ∙ ap (slice_get t.invs) ip ∙ known) in
-      let xq : pq.2 ≡ y = same_Some _ _ (sym pq.4 ∙ ap (slice_get t.invs) iq ∙ known_w) in
-      let sp : frame + pp.1 ≡ s = omega (arith, jp.release, pp.6, ap (release t) xp) in
-      let sq : frame + pq.1 ≡ s = omega (arith, jq.release, pq.6, ap (release t) xq) in
-      let same : pq.1 ≡ pp.1 = omega (arith, sp, sq) in
+      let sp : frame + pp.1 ≡ s = omega (arith, jp.release, pp.6, ap (release t) (same_Some _ _ (sym pp.4 ∙ ap (slice_get t.invs) ip ∙ known))) in
+      let sq : frame + pq.1 ≡ s = omega (arith, jq.release, pq.6, ap (release t) (same_Some _ _ (sym pq.4 ∙ ap (slice_get t.invs) iq ∙ known_w))) in
       let at_p : slice_get places p ≡ Some (place i pp.1) = pp.3 ∙ ap (λ z. Some (place z pp.1)) ip in
-      let at_q : slice_get places q ≡ Some (place w pp.1) = pq.3 ∙ ap₂ (λ z c. Some (place z c)) iq same in
-      let d = writer_is t x.mode b w o wr in
+      let at_q : slice_get places q ≡ Some (place w pp.1) = pq.3 ∙ ap₂ (λ z c. Some (place z c)) iq (omega (arith, sp, sq)) in
       let test : Place → Bool = λ z. eqb z.at pp.1 && is_fed_by t i z.inv in
       ap (λ (j : Job). precedes q j) (job_is jobs p (placed_job t all (place i pp.1)) (job_placed p (place i pp.1) at_p) ∙ job_made i pp.1 x known)
       ∙ mask_bit (map test all) q
       ∙ get_mapped test all no_place q (and_none (eqb 0 pp.1))
       ∙ ap test (get_or_from_slice_get all q (place w pp.1) no_place (front_there m all q (place w pp.1) at_q).0)
-      ∙ and_from (eqb pp.1 pp.1) (feeds t w i) (eq-eqb pp.1 pp.1 refl) (fed t i w k b o x known e d)
+      ∙ and_from (eqb pp.1 pp.1) (feeds t w i) (eq-eqb pp.1 pp.1 refl) (fed t i w k b o x known e (writer_is t x.mode b w o wr))
 
   jobs_so : AreJobsSoFar t stays frame n jobs
   jobs_so =

@@ -2,9 +2,7 @@
 use Rattle.std.proofs.Common.{◌≡◌, ◌<◌, ◌≤◌, ◌⊎◌, ℕ, zero, suc, ◌+◌, ◌-◌, ◌*◌, ◌/◌, ◌%◌, true, List, [], ◌∷◌, length, map, take, slice_get, Option, Some, None, option_map, refl, sym, ◌∙◌, ap, subst, arith, inl, inr}
 use Rattle.htl_runs.proofs.Words.{div-add-mod, mod-lt, mul-div_cancel_left, mul-mod_right, add-mul-mod_self_left, slice_get_within, get_or_from_slice_get, same_Some, Event, Inv, Mode, Stay, KeptApart, StandsFor, itself, chosen, state, stay_of, AreInRange, IsInvInRange, entry, Runs, IsEntry, IsSelection, parent_mode, is_root, root_modules, inv_of_mode, invs_of, Tables, mode_module, mode_period, window_end, is_concrete, running_invs, modes_at, chosen_exact_apart, front_there, mapped, map_at, start_below, of_flat, of_places, at_place, states_are_selections, Place, frame_of, unit_period, root_periods, starts, rounds_at, rounds, frame_divided, derived_place, frame_modes, frame_places, place, standing_places, AreOrdered, InvStands, not_some, standing_at, some_time, own_starts, since, until, IsFramePlacing, PlacedByModes, window_within, of_rounds, round_of, run_of, each_at, eq-eqb, eqb-true, times_grow}
 use Rattle.htl_model.specs.declared.frame.Round.{Round}
-use Rattle.htl_runs.proofs.frames.RootModes.{unit_period_is, has_root}
-use Rattle.htl_runs.proofs.frames.RootPaths.{IsTop, climb, down}
-use Rattle.htl_runs.proofs.frames.FrameMembers.{round_in, in_run}
+use Rattle.htl_runs.proofs.{frames.RootModes.unit_period_is, frames.RootModes.has_root, frames.RootPaths.IsTop, frames.RootPaths.climb, frames.RootPaths.down, frames.FrameMembers.round_in, frames.FrameMembers.in_run}
 
 -- ---- modes and stays
 
@@ -23,29 +21,11 @@ multiple : (p e : ℕ) → 0 < p → p * (p * e / p) ≡ p * e
 multiple p e some = ap (λ z. p * z) (mul-div_cancel_left e some)
 
 pub last_multiple : (p e n : ℕ) → 0 < p → p * e ≤ n → p * e ≤ p * (n / p)
-last_multiple p e n some h = by (order e (n / p))
-  where
-    order : (a b : ℕ) → (a ≤ b) ⊎ (suc b ≤ a)
-    order a b = grind arith
-
-    by : (e ≤ n / p) ⊎ (suc (n / p) ≤ e) → p * e ≤ p * (n / p)
-    by (inl l) = times_grow p e (n / p) l
-    by (inr l) =
-        let whole : p * (n / p) + n % p ≡ n = div-add-mod n p in
-        let rest : n % p < p = mod-lt n some in
-        let more : p * suc (n / p) ≤ p * e = times_grow p (suc (n / p)) e l in
-        let one : p * suc (n / p) ≡ p * (n / p) + p = grind arith in
-        absurd (omega (arith, whole, rest, more, one, h))
+last_multiple p e n some h = grind (arith, times_grow, div-add-mod, mod-lt)
 
 -- a round that begins before a multiple of its period ends by it
 fits : (p a b : ℕ) → p * a < p * b → p * a + p ≤ p * b
-fits p a b less = elim (order a b) [
-  | inl h ↦ let more : p * suc a ≤ p * b = times_grow p (suc a) b h in let one : p * suc a ≡ p * a + p = grind arith in omega (arith, more, one)
-  | inr h ↦ let more : p * b ≤ p * a = times_grow p b a h in absurd (omega (arith, more, less))
-]
-  where
-    order : (a b : ℕ) → (suc a ≤ b) ⊎ (b ≤ a)
-    order a b = grind arith
+fits p a b less = grind (arith, times_grow)
 
 pub there_front : {A : Type 0} (m : ℕ) (xs : List A) (p : ℕ) (x : A) → slice_get xs p ≡ Some x → p < m → slice_get (take m xs) p ≡ Some x
 there_front zero xs p x e h = absurd (omega arith)
@@ -63,8 +43,7 @@ module _ (t : Tables) (es : List Event) (n f m : ℕ) (range : AreInRange t) (ke
   common j u e =
       let p = unit_period t u in
       let even : frame_of t % p ≡ 0 = ap (λ z. frame_of t % unit_period t z) (sym (get_or_from_slice_get (root_modules t) j u 0 e)) ∙ frame_divided t j (slice_get_within (root_modules t) j u e) in
-      let whole : p * (frame_of t / p) + frame_of t % p ≡ frame_of t = div-add-mod (frame_of t) p in
-      (frame_of t / p, omega (arith, even, whole))
+      (frame_of t / p, omega (arith, even, div-add-mod (frame_of t) p))
 
   selections : (a : ℕ) → IsSelection t (modes_at t es a)
   selections a = states_are_selections t range es a
@@ -81,11 +60,7 @@ module _ (t : Tables) (es : List Event) (n f m : ℕ) (range : AreInRange t) (ke
     pub ends : a + mode_period t inv.mode ≤ frame_of t
 
   running_of : (ms : List (Option ℕ)) (u j k : ℕ) → slice_get (running_invs t ms u) j ≡ Some k → (q : ℕ) × (entry ms u ≡ Some q) × (slice_get (invs_of t q) j ≡ Some k)
-  running_of ms u j k e = by (entry ms u) refl e
-    where
-      by : (o : Option ℕ) → entry ms u ≡ o → slice_get (elim o as (λ _. List ℕ) [ Some q ↦ invs_of t q | None ↦ [] ]) j ≡ Some k → (q : ℕ) × (entry ms u ≡ Some q) × (slice_get (invs_of t q) j ≡ Some k)
-      by None g h = not_some k h
-      by (Some q) g h = (q, g, h)
+  running_of ms u j k e = grind (arith, not_some)
 
   frame_times : (u d : ℕ) → frame_of t ≡ unit_period t u * d → f ≡ unit_period t u * (d * (n / frame_of t))
   frame_times u d e = at_frame ∙ ap (λ z. z * (n / frame_of t)) e ∙ regroup (unit_period t u) d (n / frame_of t)
@@ -102,27 +77,23 @@ module _ (t : Tables) (es : List Event) (n f m : ℕ) (range : AreInRange t) (ke
       let k = r.4 in
       let ms = modes_at t es (f + rr.at) in
       let is : derived_place t modes (place k rr.at) ≡ place i a = ap (derived_place t modes) (sym r.6) ∙ x.2 in
-      let at : rr.at ≡ a = ap (λ (z : Place). z.at) is in
-      let stood : chosen t ms k ≡ Some i = ap (λ (z : Place). z.inv) is in
       let root = round_of t r.0 rr r.2 in
       let um = of_places is_root 0 t.modules root.0 rr.unit root.1 in
       let unit_at : slice_get t.modules rr.unit ≡ Some um.1 = ap (slice_get t.modules) (let z : rr.unit ≡ um.0 = omega (arith, um.2) in z) ∙ um.3 in
       let run = running_of ms rr.unit r.3 k r.5 in
-      let own : IsEntry t ms rr.unit um.1.parent (Some run.0) = subst (IsEntry t ms rr.unit um.1.parent) run.1 ((selections (f + rr.at)).each rr.unit um.1 unit_at) in
-      let mode_at = own.0 in
+      let mode_at = (subst (IsEntry t ms rr.unit um.1.parent) run.1 ((selections (f + rr.at)).each rr.unit um.1 unit_at)).0 in
       let unit : mode_module t run.0 ≡ rr.unit = ap (λ (o : Option Mode). elim o [ Some z ↦ z.«module» | None ↦ 0 ]) mode_at.1 ∙ mode_at.2 in
       let kx = of_places (inv_of_mode run.0) 0 t.invs r.3 k run.2 in
       let inv_at : slice_get t.invs k ≡ Some kx.1 = ap (slice_get t.invs) (let z : k ≡ kx.0 = omega (arith, kx.2) in z) ∙ kx.3 in
       let mode : kx.1.mode ≡ run.0 = eqb-true kx.1.mode run.0 kx.4 in
       let runs : Runs t ms kx.1.mode = ap (λ z. entry ms (mode_module t z)) mode ∙ ap (entry ms) unit ∙ run.1 ∙ ap (λ z. Some z) (sym mode) in
-      let stands : StandsFor t ms k i = (chosen_exact_apart t ms range kept k i).0 stood in
-      let d = down t range kept ms (selections (f + rr.at)) k i kx.1 inv_at runs stands in
+      let d = down t range kept ms (selections (f + rr.at)) k i kx.1 inv_at runs ((chosen_exact_apart t ms range kept k i).0 (ap (λ (z : Place). z.inv) is)) in
       let period : mode_period t d.0.mode ≡ unit_period t rr.unit = d.4 ∙ ap (mode_period t) mode ∙ unit_period_is t range kept rr.unit run.0 um.1 unit_at (slice_get_within t.modes run.0 mode_at.0 mode_at.1) unit in
       let c = common root.0 rr.unit root.1 in
       let up = unit_period t rr.unit in
       let whole : up * (rr.at / up) + rr.at % up ≡ rr.at = div-add-mod rr.at up in
       let sum : f + rr.at ≡ up * (c.0 * (n / frame_of t)) + up * (rr.at / up) = omega (arith, frame_times rr.unit c.0 c.1, whole, root.2) in
-      subst (λ z. IsAt i z) at
+      subst (λ z. IsAt i z) (ap (λ (z : Place). z.at) is)
       (record {
         inv = d.0;
         known = d.1;
@@ -140,9 +111,7 @@ module _ (t : Tables) (es : List Event) (n f m : ℕ) (range : AreInRange t) (ke
       early : (q : ℕ) (r : Round) → slice_get (rounds t) q ≡ Some r → r.at < frame_of t
       early q r e =
           let m = of_flat (rounds_at t) (starts t) q r e in
-          let k = of_rounds t m.1 (root_modules t) m.3 r m.4 in
-          let below = start_below (root_periods t) (frame_of t) m.0 m.1 m.2 in
-          omega (arith, below, k.2)
+          omega (arith, start_below (root_periods t) (frame_of t) m.0 m.1 m.2, (of_rounds t m.1 (root_modules t) m.3 r m.4).2)
 
   -- an invocation that stands for a root invocation of a round has a place
   found : (i a s u q k r j : ℕ) → slice_get (rounds t) r ≡ Some (record { at = a; unit = u }) → f + a ≡ s → s ≤ n → entry (modes_at t es s) u ≡ Some q → slice_get (invs_of t q) j ≡ Some k
@@ -175,13 +144,10 @@ module _ (t : Tables) (es : List Event) (n f m : ℕ) (range : AreInRange t) (ke
       let c = common h.index u h.at in
       let e = c.0 * (n / frame_of t) in
       let f_is : f ≡ per * e = frame_times u c.0 c.1 ∙ sym (ap (λ z. z * e) h.period) in
-      let before : per * e ≤ per * (n / per) = last_multiple per e n (some_time t range first12 q real) (omega (arith, f_is, past)) in
       let a = s - f in
-      let sum : f + a ≡ s = omega (arith, f_is, before, own) in
-      let small : a < frame_of t = omega (arith, late, inside, sum) in
-      let whole : a + per * e ≡ per * (n / per) = omega (arith, sum, f_is, own) in
-      let even : a % unit_period t u ≡ 0 = sym (ap (λ z. a % z) h.period) ∙ divides per a e (n / per) whole in
-      let round = round_in t h.index u a h.at small even in
+      let sum : f + a ≡ s = omega (arith, f_is, last_multiple per e n (some_time t range first12 q real) (omega (arith, f_is, past)), own) in
+      let even : a % unit_period t u ≡ 0 = sym (ap (λ z. a % z) h.period) ∙ divides per a e (n / per) (omega (arith, sum, f_is, own)) in
+      let round = round_in t h.index u a h.at (omega (arith, late, inside, sum)) even in
       let r = found i a s u q k round.0 j round.1 sum late is inv stood in
       (r.0, a, r.1, sum)
 
@@ -212,31 +178,24 @@ module _ (t : Tables) (es : List Event) (n f m : ℕ) (range : AreInRange t) (ke
           by_top i s q top.number late (own ∙ sym (ap (λ z. z * (n / z)) top.period)) real top.root top.runs j.0 j.1 ((chosen_exact_apart t (modes_at t es s) range kept top.number i).1 top.stands)
 
   stay_there : (s u q : ℕ) → entry (modes_at t es s) u ≡ Some q → (y : Stay) × (stay_of (state t es s).stays u ≡ Some y) × (y.mode ≡ q)
-  stay_there s u q e = by (stay_of (state t es s).stays u) refl (sym (entry_is t es s u) ∙ e)
-    where
-      by : (o : Option Stay) → stay_of (state t es s).stays u ≡ o → option_map (λ (y : Stay). y.mode) o ≡ Some q → (y : Stay) × (stay_of (state t es s).stays u ≡ Some y) × (y.mode ≡ q)
-      by None g h = not_some q h
-      by (Some y) g h = (y, g, same_Some y.mode q h)
+  stay_there s u q e = grind (arith, entry_is, not_some, same_Some)
 
   -- until a window has ended, whoever is at the place stands
   stands_on : (p i a : ℕ) (x : Inv) → slice_get (take m (standing_places t es f)) p ≡ Some (place i a) → slice_get t.invs i ≡ Some x → n < f + a + window_end t x → InvStands t (state t es n).stays i x (f + a)
   stands_on p i a x e known open_yet =
       let r = front_there m (standing_places t es f) p (place i a) e in
-      let begun : a ≤ n - f = ordered.front p (place i a) r.0 r.1 in
       let w = at_place_is p i a r.0 in
       let one : w.inv ≡ x = same_Some _ _ (sym w.known ∙ known) in
       let s = f + a in
       let mm = mode_module t x.mode in
-      let runs : Runs t (modes_at t es s) x.mode = subst (λ (z : Inv). Runs t (modes_at t es s) z.mode) one w.runs in
-      let y = stay_there s mm x.mode runs in
-      let real : y.0.mode < length t.modes = (standing_at t range es s).real mm y.0 y.1 in
-      let some : 0 < mode_period t y.0.mode = some_time t range first12 y.0.mode real in
+      let y = stay_there s mm x.mode (subst (λ (z : Inv). Runs t (modes_at t es s) z.mode) one w.runs) in
+      let some : 0 < mode_period t y.0.mode = some_time t range first12 y.0.mode ((standing_at t range es s).real mm y.0 y.1) in
       let same : mode_period t y.0.mode ≡ mode_period t x.mode = ap (mode_period t) y.2 in
       let times : s ≡ mode_period t y.0.mode * w.times = w.multiple_of ∙ ap (λ (z : Inv). mode_period t z.mode * w.times) one ∙ ap (λ z. z * w.times) (sym same) in
       let start : y.0.start ≡ s =
       own_starts t range first12 es s mm y.0 y.1 ∙ ap (λ z. mode_period t y.0.mode * (z / mode_period t y.0.mode)) times ∙ multiple (mode_period t y.0.mode) w.times some ∙ sym times in
       let d = n - s in
-      let is : s + d ≡ n = omega (arith, begun, past) in
+      let is : s + d ≡ n = omega (arith, ordered.front p (place i a) r.0 r.1, past) in
       let stay = until t range first12 es s d mm y.0 y.1 (omega (arith, is, start, same, open_yet, window_within t i x range first12 known)) in
       record {
         known = known;
@@ -248,17 +207,14 @@ module _ (t : Tables) (es : List Event) (n f m : ℕ) (range : AreInRange t) (ke
   none_later : (p i a s : ℕ) (x : Inv) → slice_get (take m (standing_places t es f)) p ≡ Some (place i a) → InvStands t (state t es n).stays i x s → f + a ≤ s
   none_later p i a s x e st =
       let r = front_there m (standing_places t es f) p (place i a) e in
-      let begun : a ≤ n - f = ordered.front p (place i a) r.0 r.1 in
       let w = at_place_is p i a r.0 in
-      let one : w.inv ≡ x = same_Some _ _ (sym w.known ∙ st.known) in
       let y : Stay = record { mode = x.mode; start = s } in
       let mm = mode_module t x.mode in
       let per = mode_period t x.mode in
       let some : 0 < per = some_time t range first12 x.mode ((standing_at t range es n).real mm y st.in_round) in
-      let own : s ≡ per * (n / per) = own_starts t range first12 es n mm y st.in_round in
-      let times : f + a ≡ per * w.times = w.multiple_of ∙ ap (λ (z : Inv). mode_period t z.mode * w.times) one in
-      let most : per * w.times ≤ per * (n / per) = last_multiple per w.times n some (omega (arith, times, begun, past)) in
-      omega (arith, times, most, own)
+      let times : f + a ≡ per * w.times = w.multiple_of ∙ ap (λ (z : Inv). mode_period t z.mode * w.times) (same_Some _ _ (sym w.known ∙ st.known)) in
+      let most : per * w.times ≤ per * (n / per) = last_multiple per w.times n some (omega (arith, times, ordered.front p (place i a) r.0 r.1, past)) in
+      omega (arith, times, most, own_starts t range first12 es n mm y st.in_round)
 
   pub placing : IsFramePlacing t (state t es n).stays f n (take m (standing_places t es f))
   placing =

@@ -31,7 +31,6 @@ module _ (t : Tables) (range : AreInRange t) (kept : KeptApart t 16) where
 
       by : (x : Mode) → slice_get t.modes q ≡ Some x → HasRoot q
       by x at =
-          let owner : x.«module» < length t.modules = (each_at (IsModeInRange t) t.modes range.modes q x at).owner in
           let is : mode_module t q ≡ x.«module» = ap (λ (o : Option Mode). elim o [ Some z ↦ z.«module» | None ↦ 0 ]) at in
-          let u = item_at t.modules (mode_module t q) (omega (arith, owner, is)) in
+          let u = item_at t.modules (mode_module t q) (omega (arith, (each_at (IsModeInRange t) t.modes range.modes q x at).owner, is)) in
           by_module u.0 u.1

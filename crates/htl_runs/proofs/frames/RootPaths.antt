@@ -19,10 +19,9 @@ module _ (t : Tables) (range : AreInRange t) (kept : KeptApart t 16) (modes : Li
       by (Some x) e =
           let u = mode_module t m in
           let parent : x.parent ≡ Some p = sym (ap refined e) ∙ refines in
-          let right : IsEntry t modes u x.parent (Some m) = subst (IsEntry t modes u x.parent) runs (selection.each u x e) in
           let that : IsModeThat t (λ owner. owner < u) p = subst (λ o. IfSome o (IsModeThat t (λ owner. owner < u))) parent (range.modules u x e).parent in
           let owner : mode_module t p ≡ that.0.«module» = ap (λ (o : Option Mode). elim o [ Some y ↦ y.«module» | None ↦ 0 ]) that.1 in
-          (subst (IsActive t modes) parent right.1, omega (arith, owner, that.2))
+          (subst (IsActive t modes) parent (subst (IsEntry t modes u x.parent) runs (selection.each u x e)).1, omega (arith, owner, that.2))
 
   -- an invocation of a refinement has an abstract parent in the refined mode
   record HasParent (x : Inv) (m : ℕ) : Type 0 where
@@ -80,8 +79,7 @@ module _ (t : Tables) (range : AreInRange t) (kept : KeptApart t 16) (modes : Li
       by (Some m) e up =
           let p = has_parent k m x at e in
           let higher = up_runs x.mode m runs e in
-          let mode : mode_module t p.inv.mode ≡ mode_module t m = ap (mode_module t) p.mode in
-          up p.number p.inv (omega (arith, mode, higher.1)) p.at (subst (Runs t modes) (sym p.mode) higher.0)
+          up p.number p.inv (omega (arith, ap (mode_module t) p.mode, higher.1)) p.at (subst (Runs t modes) (sym p.mode) higher.0)
           (below p.number k c p.inv x p.at p.abstract at p.is runs s)
           (ap (mode_period t) p.mode ∙ sym (parent_period t range kept12 x.mode (mode_module t x.mode) m (each_at (IsInvInRange t) t.invs range.invs k x at).owner refl e) ∙ period)
 
@@ -96,8 +94,7 @@ module _ (t : Tables) (range : AreInRange t) (kept : KeptApart t 16) (modes : Li
           absurd (right_parent t range kept n x at 2 0 (subst (λ q. ParentFault t q x.parent 2 0) (sym e) (subst (λ q. ParentFault t None q 2 0) (sym par) (refl, refl))))
       by (Some m) e =
           let p = has_parent n m x at e in
-          let number : p.number ≡ k = cc in
-          let one : Some p.inv ≡ Some i = sym p.at ∙ ap (slice_get t.invs) number ∙ here in
+          let one : Some p.inv ≡ Some i = sym p.at ∙ ap (slice_get t.invs) (cc) ∙ here in
           let same : p.inv ≡ i = cc in
           parent_period t range kept12 x.mode (mode_module t x.mode) m (each_at (IsInvInRange t) t.invs range.invs n x at).owner refl e ∙ ap (mode_period t) (sym p.mode) ∙ ap (λ (z : Inv). mode_period t z.mode) same
 
@@ -107,6 +104,4 @@ module _ (t : Tables) (range : AreInRange t) (kept : KeptApart t 16) (modes : Li
       let one : Some x ≡ Some y = sym at ∙ here in
       let is : x ≡ y = cc in
       (y, here, concrete, subst (λ (z : Inv). Runs t modes z.mode) is runs, ap (λ (z : Inv). mode_period t z.mode) (sym is))
-  down k c x at runs (below _ n _ i y here abstract at_n par runs_n rest) =
-      let r = down n c y at_n runs_n rest in
-      (r.0, r.1, r.2, r.3, r.4 ∙ child_period n k y x at_n par at)
+  down k c x at runs (below _ n _ i y here abstract at_n par runs_n rest) = grind (arith, child_period, down n c y at_n runs_n rest)

@@ -1,10 +1,7 @@
 -- A run's frames.
 use Rattle.std.proofs.Common.{◌≡◌, ℕ, zero, suc, ◌+◌, ◌-◌, ◌*◌, ◌/◌, ◌%◌, ◌≤◌, ◌<◌, ◌⊎◌, List, [], ◌∷◌, length, get_or, map, slice_get, take, Some, refl, sym, ap, subst, arith, inl, inr}
 use Rattle.htl_runs.proofs.Words.{div-add-mod, length-map, Event, Tables, AreInRange, KeptApart, Job, SInstr, Place, frame_of, starts, known_by, placed_job, legs_of, derived_place, no_leg, frame_modes, frame_places, frame_jobs, frame_at, walk_of, IsServing, front_there, frames_are_served, front_served, known_few, frame_start, begun_by, now_of, RunFrames, FeasibleRuns, ValuesGoOn, RunReady, known_rises}
-use Rattle.htl_runs.proofs.frames.FrameJobs.{frame_jobs_so_far}
-use Rattle.htl_runs.proofs.frames.PlacedStays.{there_front}
-use Rattle.htl_runs.proofs.frames.FrameValues.{all_ready, values_carried}
-use Rattle.htl_runs.proofs.values.Periods.{begins_or_not}
+use Rattle.htl_runs.proofs.{frames.FrameJobs.frame_jobs_so_far, frames.PlacedStays.there_front, frames.FrameValues.all_ready, frames.FrameValues.values_carried, values.Periods.begins_or_not}
 
 leg_known : (h : ℕ) (xs : List Place) (later_starts : List ℕ) (i d : ℕ) → i < length (legs_of h xs later_starts) → (get_or (legs_of h xs later_starts) i no_leg).from ≤ d → (get_or (legs_of h xs later_starts) i no_leg).known ≤ known_by d xs
 leg_known h xs [] i d l e = absurd (omega arith)
@@ -17,19 +14,11 @@ module _ (t : Tables) (lists : List (List SInstr)) (es : List Event) (range : Ar
   past n = let whole : frame_of t * (n / frame_of t) + n % frame_of t ≡ n = div-add-mod n (frame_of t) in omega (arith, whole)
 
   few : (f n : ℕ) → begun_by t es f n ≤ length (frame_jobs t (frame_modes t es f))
-  few f n =
-      let modes = frame_modes t es f in
-      let xs = frame_places t modes in
-      let ys = map (derived_place t modes) xs in
-      omega (arith, known_few (n - f) xs, length-map ys (placed_job t ys), length-map xs (derived_place t modes))
+  few f n = grind (arith, known_few, length-map)
 
   goes_on : (n f g p : ℕ) (j : Job) → g ≡ f → slice_get (take (begun_by t es f n) (frame_jobs t (frame_modes t es f))) p ≡ Some j
       → slice_get (take (begun_by t es g (suc n)) (frame_jobs t (frame_modes t es g))) p ≡ Some j
-  goes_on n f g p j same at =
-      let js = frame_jobs t (frame_modes t es f) in
-      let r = front_there (begun_by t es f n) js p j at in
-      let more : begun_by t es f n ≤ begun_by t es f (suc n) = known_rises (n - f) (suc n - f) (frame_places t (frame_modes t es f)) (omega arith) in
-      subst (λ z. slice_get (take (begun_by t es z (suc n)) (frame_jobs t (frame_modes t es z))) p ≡ Some j) (sym same) (there_front (begun_by t es f (suc n)) js p j r.0 (omega (arith, r.1, more)))
+  goes_on n f g p j same at = grind (arith, front_there, known_rises, there_front)
 
   pub run_frames_of : (n : ℕ) → (frame_start t (suc n) ≡ suc n) ⊎ ((frame_start t (suc n) ≡ frame_start t n) × ((now_of t lists es (suc n)).walk ≡ (now_of t lists es n).walk)
       × ((p : ℕ) (j : Job) → slice_get (now_of t lists es n).jobs p ≡ Some j → slice_get (now_of t lists es (suc n)).jobs p ≡ Some j))

@@ -2,14 +2,9 @@
 use Rattle.std.proofs.Common.{◌≡◌, ℕ, suc, ◌-◌, ◌≤◌, ◌<◌, List, [], ◌∷◌, length, slice_get, refl, ap, ◌∙◌, arith}
 use Rattle.htl_runs.proofs.Words.{Event, Tables, state, before, sense, SInstr, Round, ECode, Done, ModeReads, phase_path, effects, all_writes, with_sensors, AreTookWithin, turn_at, SMachineStands, ValuesFollow, IsShaped, finished_before, IsLoaded, Leaves, Records, left_before, Turn, turn_walk, Content}
 use Rattle.htl_runs.specs.values.PhaseEffects as running
-use Rattle.htl_runs.proofs.values.PhasePaths.{replay, addresses, write_phase}
+use Rattle.htl_runs.proofs.{values.PhasePaths.replay, values.PhasePaths.addresses, values.PhasePaths.write_phase, values.WorldShapes.has_places, records.SMachineInstants.s_machine_opens, values.ModuleStays.standing_before}
 use Rattle.htl_runs.specs.lists.RecordEffects.{with_records, next_world}
-use Rattle.htl_runs.proofs.values.WorldShapes.{has_places}
-use Rattle.htl_runs.proofs.records.SMachineInstants.{s_machine_opens}
-use Rattle.htl_runs.proofs.values.ModuleStays.{standing_before}
-use Rattle.htl_runs.proofs.frames.FrameValues.{count_grows}
-use Rattle.htl_runs.proofs.lists.ListValues.{values_now}
-use Rattle.htl_runs.proofs.lists.LoadedLists.{loaded_turns}
+use Rattle.htl_runs.proofs.{frames.FrameValues.count_grows, lists.ListValues.values_now, lists.LoadedLists.loaded_turns}
 use Rattle.htl_runs.proofs.instants.InstantPath.{after_writes, after_switches, after_reads, path_does}
 
 -- what a phase's clause says of the world is what the addresses do

@@ -4,8 +4,7 @@ use Rattle.htl_runs.proofs.Words.{eqb-true, eq-eqb, lt-ltb, le-ltb, and_parts, c
 use Rattle.htl_ecode.specs.declared.instr.EInstr.TheVariants as I
 use Rattle.htl_ecode.specs.Chains as C
 use Rattle.htl_runs.proofs.values.BlockContents.{In, AsksFor, asks_left, do_right, asks_joined, joined_asks, asks_up_to, up_to_asks, numbered_in, in_numbered, copied, not_called, among_reads}
-use Rattle.htl_runs.proofs.records.ReleasedBefore.{flag_at}
-use Rattle.htl_runs.proofs.frames.JobWindows.{position_some, last_open}
+use Rattle.htl_runs.proofs.{records.ReleasedBefore.flag_at, frames.JobWindows.position_some, frames.JobWindows.last_open}
 
 -- ---- who is asked for
 
@@ -97,8 +96,7 @@ are_flagged jobs (x ∷ xs) bs p h = by_kind (kind_of x) (are_flagged jobs xs (r
   where
     by_kind : Kind x → Flagged jobs xs (raise_want jobs x bs) p → Flagged jobs (x ∷ xs) bs p
     by_kind k (inr r) = inr (r.0, inr r.1, r.2, r.3)
-    by_kind (idles f g) (inl r) =
-        inl (λ i a e. elim a [ inl z ↦ g i z | inr z ↦ r.0 i z e ], r.1 ∙ ap (λ z. get_or z p false) (f jobs bs))
+    by_kind (idles f g) (inl r) = grind arith
     by_kind (releases i f) (inl r) = by_place (position_from 0 jobs i) refl
       where
         by_place : (o : Option ℕ) → position_from 0 jobs i ≡ o → Flagged jobs (x ∷ xs) bs p
@@ -172,8 +170,7 @@ module _ (t : Tables) (stays : List (Option Stay)) (n now start : ℕ) (jobs : L
           let w = position_some 0 jobs r.0 p r.2 in
           let one : w.2 ≡ j = same_Some _ _ (sym w.3 ∙ ap (slice_get jobs) (let z : w.0 ≡ p = omega (arith, w.1) in z) ∙ at) in
           let h = jobs_so_far.has r.0 st.0 st.1 st.2 in
-          let same : h.0 ≡ p = same_Some _ _ (sym h.2 ∙ r.2) in
-          let job : h.1.job ≡ j = same_Some _ _ (sym h.1.at ∙ ap (slice_get jobs) same ∙ at) in
+          let job : h.1.job ≡ j = same_Some _ _ (sym h.1.at ∙ ap (slice_get jobs) (same_Some _ _ (sym h.2 ∙ r.2)) ∙ at) in
           let when : j.release < suc now - start = omega (arith, st.3, h.1.release, ap (λ (z : Job). z.release) job) in
           r.3 ∙ sym (flag_at (suc now - start) jobs p j at ∙ ap₂ (λ a b. a && b) (ap (λ (z : Job). z.present) (sym one) ∙ w.4) (lt-ltb j.release (suc now - start) when))
       by_flag p j at (inl r) = r.1 ∙ flag_at (now - start) jobs p j at ∙ by_time j.present j.release not_now ∙ sym (flag_at (suc now - start) jobs p j at)

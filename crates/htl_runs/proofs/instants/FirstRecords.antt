@@ -2,8 +2,7 @@
 use Rattle.std.proofs.Common.{◌≡◌, ℕ, ◌-◌, ◌≤◌, true, false, ◌&&◌, ltb, [], length, get_or, refl, sym, ap, ◌∙◌, arith}
 use Rattle.htl_runs.proofs.Words.{ltb-false, Tables, job_at, job_there, Round, IsTold, no_round, pending_is, Plan, list_walk, count_left_before, Content, SMachineStands, SMachineAt, Records}
 use Rattle.htl_smach.specs.Rounds as rounds
-use Rattle.htl_runs.proofs.records.SMachineInstants.{s_machine_opens}
-use Rattle.htl_runs.proofs.records.ReleasedBefore.{flag_at}
+use Rattle.htl_runs.proofs.{records.SMachineInstants.s_machine_opens, records.ReleasedBefore.flag_at}
 
 -- no release before the instant is left untold
 pub at_told : (p : Plan) (s k now : ℕ) (r : Round) → s ≤ now → SMachineAt p s k (now - s) r → IsTold r now
@@ -24,17 +23,7 @@ no_list = record { jobs = []; lengths = []; first = record { time = 0; left = []
 
 -- before the first instant there is none
 pub first_s_machine : (r : Round) → r ≡ no_round → rounds.Stands r [] → SMachineAt no_list 0 0 0 r
-first_s_machine r none st =
-    record {
-      start = ap (λ (z : Round). z.start) none;
-      jobs = ap (λ (z : Round). z.jobs) none;
-      lengths = ap (λ (z : Round). length z.lengths) none ∙ sym (ap (λ (z : Round). length z.jobs) none);
-      first = ap (λ (z : Round). z.first) none;
-      place = ap (λ (z : Round). z.place) none;
-      running = ap (λ (z : Round). z.running) none;
-      released = ap (λ (z : Round). z.released) none;
-      stands = st;
-    }
+first_s_machine r none st = grind arith
 
 -- so no record is left, and the world stays
 pub first_recorded : (t : Tables) (at : ℕ) (r d : Round) (w v : Content) → r ≡ no_round → rounds.Stands r [] → Records t r w d v [] at → v ≡ w

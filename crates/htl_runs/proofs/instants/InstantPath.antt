@@ -1,10 +1,8 @@
 -- A whole instant, by the addresses of its path: records, the write phase, the sensors, the switch phase, the read phase.
 use Rattle.std.proofs.Common.{◌≡◌, ℕ, ◌<◌, List, length, Some, ap, ◌∙◌}
 use Rattle.htl_runs.proofs.Words.{Event, Stay, up_to, Tables, AreInRange, state, before, stay_of, sense, ECode, writes_done, switches_done, reads_done, ModeReads, Content, effects, all_writes, with_sensors, Turn, standing_at}
-use Rattle.htl_runs.proofs.values.PhasePaths.{replay, addresses, write_phase, read_phase}
+use Rattle.htl_runs.proofs.{values.PhasePaths.replay, values.PhasePaths.addresses, values.PhasePaths.write_phase, values.PhasePaths.read_phase, values.ModuleStays.standing_before, values.SwitchPhase.switch_phase}
 use Rattle.htl_runs.specs.lists.RecordEffects.{with_records, next_world}
-use Rattle.htl_runs.proofs.values.ModuleStays.{standing_before}
-use Rattle.htl_runs.proofs.values.SwitchPhase.{switch_phase}
 
 module _ (t : Tables) (code : ECode) (range : AreInRange t) (reads : (m : ℕ) → m < length t.modes → ModeReads t code m) (es : List Event) (now : ℕ) where
   -- what each phase's addresses do

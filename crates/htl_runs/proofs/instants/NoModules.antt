@@ -19,25 +19,9 @@ nothing (x ∷ xs) e = absurd (omega (arith, e))
 
 -- the S machine that stands in no list
 pub stands_nowhere : (d : ℕ) (r : Round) → SMachineAt no_list 0 0 d r → r ≡ no_round
-stands_nowhere d r at =
-    let make : Bool → ℕ → List Job → List ℕ → List Bool → ℕ → Point → Point → Round =
-    λ running start jobs lengths released place first point. record { running = running; start = start; jobs = jobs; lengths = lengths; released = released; place = place; first = first; point = point } in
-    let nil : Point = record { time = 0; left = [] } in
-    let first : r.first ≡ nil = at.first in
-    let point : r.point ≡ nil = at.stands.point ∙ ap (λ n. last_point r.jobs (take n []) r.first) at.place ∙ first in
-    let lengths : r.lengths ≡ [] = nothing r.lengths (at.lengths ∙ ap (λ (js : List Job). length js) at.jobs) in
-    ap (λ z. make z r.start r.jobs r.lengths r.released r.place r.first r.point) at.running
-    ∙ ap (λ z. make false z r.jobs r.lengths r.released r.place r.first r.point) at.start
-    ∙ ap (λ z. make false 0 z r.lengths r.released r.place r.first r.point) at.jobs
-    ∙ ap (λ z. make false 0 [] z r.released r.place r.first r.point) lengths
-    ∙ ap (λ z. make false 0 [] [] z r.place r.first r.point) at.released
-    ∙ ap (λ z. make false 0 [] [] [] z r.first r.point) at.place
-    ∙ ap (λ z. make false 0 [] [] [] 0 z r.point) first
-    ∙ ap (λ z. make false 0 [] [] [] 0 nil z) point
+stands_nowhere d r at = grind (arith, nothing)
 
 -- a run without modules leaves no record
 pub records_nothing : (t : Tables) (schedules : List (List SInstr)) (es : List Event) → hyper t ≡ None → (now : ℕ) (w : Content) → with_records t (turn_at t schedules es) now w ≡ w
 records_nothing t schedules es none zero w = refl
-records_nothing t schedules es none (suc n) w =
-    ap (λ o. with_records t (turn_by o t schedules es) (suc n) w) none
-    ∙ run_nothing t [] [] (λ k l e. not_some l e) (left_before no_turn (suc (suc n)) - left_before no_turn (suc n)) (left_before no_turn (suc n)) w
+records_nothing t schedules es none (suc n) w = grind (arith, run_nothing, not_some)

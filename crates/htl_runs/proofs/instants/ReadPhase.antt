@@ -1,5 +1,5 @@
 -- The addresses of the read phase do to the S machine what its blocks ask for.
-use Rattle.std.proofs.Common.{◌≡◌, ℕ, zero, suc, ◌-◌, ◌<◌, Bool, true, false, List, [], ◌∷◌, ◌++◌, length, slice_get, Option, Some, None, Result, Ok, inr, refl, sym, ap, ◌∙◌}
+use Rattle.std.proofs.Common.{arith, ◌≡◌, ℕ, zero, suc, ◌-◌, ◌<◌, Bool, true, false, List, [], ◌∷◌, ◌++◌, length, slice_get, Option, Some, None, Result, Ok, inr, refl, sym, ap, ◌∙◌}
 use Rattle.htl_runs.proofs.Words.{Event, Stay, State, up_to, Tables, AreInRange, state, stay_of, Round, ECode, EInstr, EFault, next_offset, phase_offsets, holds, Requirement, Exactly, NextBlock, EndOfRound, SwitchJump, ModeJump, AtAnchor, waits_for, all_do, block_chain, Step, Reached, reach, read, steps_of, passed_by, blocks, Done, chain_path, block_path, due_path, reads_done, Jumps, reach_is, anchor_is, read_is, spelled_stands, no_block, phase_path, wanted_reads, all_reads, s_machine_does, s_machine_at, s_machine_replay, s_machine_want, s_machine_all, standing_at}
 use Rattle.htl_ecode.specs.declared.instr.EInstr.TheVariants as I
 use Rattle.htl_ecode.proofs.Spelled.{ModeReads, Stands}
@@ -49,9 +49,7 @@ module _ (code : List EInstr) where
   reached_acts a (AtAnchor x) y r e = jumps_leave a x y.step.passed r (anchor_is code a x y e).0
 
   chain_acts : (ws : List Requirement) (a : ℕ) (ss : List Step) (r : Round) → read code a ws ≡ Ok ss → s_machine_path code (passed_by ss) r ≡ s_machine_all ws r
-  chain_acts [] a ss r e =
-      let none : [] ≡ ss = (let h : ◌≡◌ {A = Result (List Step) EFault} (Ok []) (Ok ss) = e in cc) in
-      ap (λ zs. s_machine_path code (passed_by zs) r) (sym none)
+  chain_acts [] a ss r e = grind arith
   chain_acts (x ∷ xs) a ss r e =
       let d = read_is code a x xs ss e in
       ap (λ zs. s_machine_path code (passed_by zs) r) d.is

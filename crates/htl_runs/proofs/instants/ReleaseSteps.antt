@@ -1,5 +1,5 @@
 -- The read phase goes on by one instruction, and what it releases is told.
-use Rattle.std.proofs.Common.{◌≡◌, ℕ, List, [], ◌∷◌, slice_get, Option, Some, None, refl, ap, ◌∙◌}
+use Rattle.std.proofs.Common.{arith, ◌≡◌, ℕ, List, [], ◌∷◌, slice_get, Option, Some, None, refl, ap, ◌∙◌}
 use Rattle.htl_runs.proofs.Words.{PosState, Pending, Round, state_of, ECode, EInstr, Done, position_from, made_ready, released_to, s_machine_does, s_machine_at, s_machine_replay}
 use Rattle.htl_ecode.specs.declared.instr.EInstr.TheVariants as I
 
@@ -9,11 +9,7 @@ ready_only Pending r p = refl
 ready_only _ r p = refl
 
 released_only : (i : ℕ) (r : Round) → released_to i r ≡ record r { released = (released_to i r).released }
-released_only i r = by_place (position_from 0 r.jobs i)
-  where
-    by_place : (o : Option ℕ) → (let x : Round = elim o as (λ _. Round) [ Some p ↦ made_ready (state_of r p) r p | None ↦ r ] in x ≡ record r { released = x.released })
-    by_place None = refl
-    by_place (Some p) = ready_only (state_of r p) r p
+released_only i r = grind (arith, ready_only)
 
 does_only : (i : EInstr) (r : Round) → s_machine_does i r ≡ record r { released = (s_machine_does i r).released }
 does_only (I.Release i) r = released_only i r
@@ -28,7 +24,4 @@ at_only (Some i) r = (does_jobs i r, ap (λ (z : Round). z.start) (does_only i r
 
 pub replay_only : (code : ECode) (ds : List Done) (r : Round) → ((s_machine_replay code ds r).jobs ≡ r.jobs) × ((s_machine_replay code ds r).start ≡ r.start)
 replay_only code [] r = (refl, refl)
-replay_only code (d ∷ ds) r =
-    let one = at_only (slice_get code.instrs d.address) r in
-    let rest = replay_only code ds (s_machine_at (slice_get code.instrs d.address) r) in
-    (rest.0 ∙ one.0, rest.1 ∙ one.1)
+replay_only code (d ∷ ds) r = grind (arith, at_only, replay_only code ds (s_machine_at (slice_get code.instrs d.address) r))

@@ -2,9 +2,7 @@
 use Rattle.std.proofs.Common.{◌≡◌, ℕ, suc, ◌+◌, ◌-◌, ◌≤◌, Bool, List, length, Option, refl, sym, ap, ◌∙◌, subst, arith}
 use Rattle.htl_runs.proofs.Words.{Event, Stay, Tables, AreInRange, state, Round, all_reads, count_left_before, AreJobsSoFar, HaveWindows, Plan, list_walk, SMachineStands, SMachineAt, Turn, AreTurns, IsListed, due_by, Leaves, raise_all, IsStanding, standing_at}
 use Rattle.htl_smach.specs.Rounds as rounds
-use Rattle.htl_runs.proofs.frames.FrameValues.{count_grows}
-use Rattle.htl_runs.proofs.records.SMachineInstants.{s_machine_opens, s_machine_closes, all_given}
-use Rattle.htl_runs.proofs.instants.DueReleases.{flags_after}
+use Rattle.htl_runs.proofs.{frames.FrameValues.count_grows, records.SMachineInstants.s_machine_opens, records.SMachineInstants.s_machine_closes, records.SMachineInstants.all_given, instants.DueReleases.flags_after}
 use Rattle.htl_runs.proofs.frames.ServedWindows.{windows_of}
 
 -- the round with these releases told
@@ -20,17 +18,7 @@ s_machine_left p s now r r1 past f leaves =
 pub s_machine_told : (t : Tables) (stays : List (Option Stay)) (n : ℕ) (p : Plan) (s k now : ℕ) (r : Round) → IsStanding t stays n → n ≤ now → s ≤ now → AreJobsSoFar t stays s now p.jobs → HaveWindows p.jobs → SMachineAt p s k (now - s) r
     → rounds.Stands (with_flags r (raise_all p.jobs (all_reads t now stays) r.released)) p.schedule
     → SMachineAt p s k (suc now - s) (with_flags r (raise_all p.jobs (all_reads t now stays) r.released))
-s_machine_told t stays n p s k now r standing past begun jobs_so_far windows at st =
-    record {
-      start = at.start;
-      jobs = at.jobs;
-      lengths = at.lengths;
-      first = at.first;
-      place = at.place;
-      running = at.running;
-      released = ap (raise_all p.jobs (all_reads t now stays)) at.released ∙ flags_after t stays n now s p.jobs standing past begun jobs_so_far windows;
-      stands = st;
-    }
+s_machine_told t stays n p s k now r standing past begun jobs_so_far windows at st = grind (arith, flags_after)
 
 module _ (t : Tables) (range : AreInRange t) (es : List Event) (turn : ℕ → Turn) (turns : AreTurns t es turn) where
   pub windows : (n : ℕ) → HaveWindows (turn n).plan.jobs

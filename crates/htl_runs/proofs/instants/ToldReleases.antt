@@ -3,12 +3,7 @@ use Rattle.std.proofs.Common.{◌≡◌, ◌≢◌, ℕ, zero, suc, ◌+◌, ◌
 use Rattle.htl_runs.proofs.Words.{eqb-true, set-get_or, slice_get_within, same_Some, Event, Tables, AreInRange, state, Job, Point, Left, job_at, last_point, finish, is_position, Finished, Round, state_by, state_of, ECode, Requirement, Exactly, ModeReads, phase_path, all_reads, count_left_before, done_by, Turn, turn_walk, records_so_far, left_before, AreTurns, IsListed, position_from, SMachineAt, raise_at, raise_want, raise_all, made_ready, released_to, s_machine_replay, s_machine_want, s_machine_all, standing_at, not_some, done_some, job_is, length-walk}
 use Rattle.htl_ecode.specs.declared.instr.EInstr.TheVariants as I
 use Rattle.htl_refine.proofs.DoneRecords as records
-use Rattle.htl_runs.proofs.frames.JobWindows.{position_some}
-use Rattle.htl_runs.proofs.records.SMachineInstants.{count_within}
-use Rattle.htl_runs.proofs.lists.ListValues.{take_front}
-use Rattle.htl_runs.proofs.values.BlockContents.{AsksFor}
-use Rattle.htl_runs.proofs.instants.DueReleases.{release_of}
-use Rattle.htl_runs.proofs.instants.SMachineSteps.{with_flags}
+use Rattle.htl_runs.proofs.{frames.JobWindows.position_some, records.SMachineInstants.count_within, lists.ListValues.take_front, values.BlockContents.AsksFor, instants.DueReleases.release_of, instants.SMachineSteps.with_flags}
 use Rattle.htl_runs.proofs.instants.ReadPhase.{read_phase_acts}
 
 -- ---- flags
@@ -24,10 +19,7 @@ released_is i r open_yet = by_place (position_from 0 r.jobs i) refl
 
     by_place : (o : Option ℕ) → position_from 0 r.jobs i ≡ o → elim o as (λ _. Round) [ Some p ↦ made_ready (state_of r p) r p | None ↦ r ] ≡ with_flags r (raise_at o r.released)
     by_place None e = refl
-    by_place (Some p) e =
-        let w = position_some 0 r.jobs i p e in
-        let at : slice_get r.jobs p ≡ Some w.2 = ap (slice_get r.jobs) (let z : p ≡ w.0 = omega (arith, w.1) in z) ∙ w.3 in
-        by_state p (job_at r.jobs p).present (eqb (get_or r.point.left p 0) 0) (get_or r.released p false) (ap (λ (j : Job). j.present) (job_is r.jobs p w.2 at) ∙ w.4) refl (open_yet p e)
+    by_place (Some p) e = grind (arith, position_some, by_state, job_is, open_yet)
 
 want_is : (w : Requirement) (r : Round) → ((i q : ℕ) → w ≡ Exactly (I.Release i) → position_from 0 r.jobs i ≡ Some q → state_of r q ≢ Finished) → s_machine_want w r ≡ with_flags r (raise_want r.jobs w r.released)
 want_is (Exactly (I.Release i)) r h = released_is i r (λ q e. h i q refl e)
@@ -82,22 +74,13 @@ module _ (t : Tables) (es : List Event) (turn : ℕ → Turn) (turns : AreTurns 
       let by_now : done_by (turns.walk now) (count_left_before (suc now - u.frame) (turns.walk now)) q ≡ true =
       ap is_some (front_more (turns.walk now) (e + k) (count_left_before (suc now - u.frame) (turns.walk now)) q one.0 (omega (arith, few, (turns.each now).count)) one.1) in
       let f = records.done_is (suc now - u.frame) (turns.walk now) q by_now in
-      let late = (turns.frames.runs now).late q f.0 below f.1 in
-      omega (arith, late.0, f.2, turns.frames.past now)
+      omega (arith, ((turns.frames.runs now).late q f.0 below f.1).0, f.2, turns.frames.past now)
     where
       front_is : (m : ℕ) → m ≤ length (records_so_far u) → take m (turns.walk now) ≡ take m (records_so_far u)
       front_is m h = ap (take m) (turns.each now).front ∙ take_front (records_so_far u) (turns.each now).rest m h
 
   not_done : (q : ℕ) → q < length u.plan.jobs → u.frame + (job_at u.plan.jobs q).release ≡ now → state_of r q ≢ Finished
-  not_done q below when done =
-      let both = done_by_state (job_at r.jobs q).present (eqb (get_or r.point.left q 0) 0) (get_or r.released q false) done in
-      omega (arith, when, done_late q below both.0 both.1)
-    where
-      done_by_state : (a b c : Bool) → state_by a b c ≡ Finished → (a ≡ true) × (b ≡ true)
-      done_by_state true true c e = (refl, refl)
-      done_by_state true false true e = absurd (let z : ⊥ = cc in z)
-      done_by_state true false false e = absurd (let z : ⊥ = cc in z)
-      done_by_state false b c e = absurd (let z : ⊥ = cc in z)
+  not_done q below when done = grind (arith, done_late)
 
   -- the read phase tells the flags of the instant
   pub read_phase_tells : (code : ECode) → AreInRange t → ((m : ℕ) → m < length t.modes → ModeReads t code m)

@@ -1,23 +1,14 @@
 -- The job lines of a run that count within a frame are those of the frame's own records.
 use Rattle.std.proofs.Common.{◌≡◌, ◌≢◌, ◌≤◌, ◌<◌, inl, inr, ℕ, zero, suc, ◌+◌, ◌-◌, ◌*◌, ◌/◌, ◌%◌, Bool, true, false, cond, ◌&&◌, eqb, ltb, leb, List, [], ◌∷◌, ◌++◌, map, slice_get, Option, Some, None, option_map, refl, sym, ap, ap₂, ◌∙◌, arith, append-nil}
 use Rattle.htl_runs.proofs.Words.{filter, div-add-mod, mod-lt, mul-le-mul_right, eqb-true, ltb-true, ltb-false, leb-true, and_parts, Event, node, joined, numbered, up_to, Tables, up_to_same, Job, SInstr, Leg, list_point, walks_from, end_to_end, Left, Point, first_point, last_point, walk_from, RunningList, lists_from, left_in, begun_before, Frame, frame_modes, path_of, frame_at, walk_of, Rises, rounds_before, shifted, RunLine, RunRecord, record_of, as_told, lists_records, old_records, closed_slice_line, job_lines, job_lines_at, lists_at, SliceLine, DoneLine, inv_at, cases_less_same, up_to_none}
-use Rattle.htl_runs.proofs.lines.JobLines.{job_lines_of, none_first, begins_silent}
-use Rattle.htl_runs.proofs.lines.Joined.{joined-append, joined-up_to, joined-maps}
-use Rattle.htl_runs.proofs.lines.RecordTimes.{nothing, joined_none, at_now, before_now, in_order}
-use Rattle.htl_runs.proofs.lines.StandingRecords.{silent_at}
-use Rattle.htl_runs.proofs.jobs.WorkRecords.{DoesWork}
+use Rattle.htl_runs.proofs.{lines.JobLines.job_lines_of, lines.JobLines.none_first, lines.JobLines.begins_silent, lines.Joined.joined-append, lines.Joined.joined-up_to, lines.Joined.joined-maps, lines.StandingRecords.silent_at}
+use Rattle.htl_runs.proofs.{lines.RecordTimes.nothing, lines.RecordTimes.joined_none, lines.RecordTimes.at_now, lines.RecordTimes.before_now, lines.RecordTimes.in_order, jobs.WorkRecords.DoesWork}
 
 -- ---- numbers of frames
 
 -- where frame n isn't one of those that began before, the instant is no later than its start
 not_begun : (h n now : ℕ) → 0 < h → rounds_before h now ≤ n → now ≤ n * h
-not_begun h n now some few =
-    let b = (now + h - 1) / h in
-    let whole : h * b + (now + h - 1) % h ≡ now + h - 1 = div-add-mod (now + h - 1) h in
-    let rest : (now + h - 1) % h < h = mod-lt (now + h - 1) some in
-    let turn : h * b ≡ b * h = grind arith in
-    let most : b * h ≤ n * h = mul-le-mul_right h few in
-    omega (arith, whole, rest, turn, most, some)
+not_begun h n now some few = grind (arith, div-add-mod, mod-lt, mul-le-mul_right)
 
 -- frames that have an instant in common are one
 frames_apart : (h k n at : ℕ) → k ≢ n → k * h < at → at ≤ k * h + h → n * h < at → at ≤ n * h + h → ⊥

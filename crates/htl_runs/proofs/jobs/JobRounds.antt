@@ -5,14 +5,7 @@ use Rattle.htl_runs.proofs.frames.PlacedStays.{at_place_is}
 
 -- rounds of one period that have an instant in common are one
 one_round : (per a b at : ℕ) → per * a < at → at ≤ per * a + per → per * b < at → at ≤ per * b + per → a ≡ b
-one_round per a b at low high low' high' = elim (three a b) [
-  | inl less ↦ let next : per * suc a ≤ per * b = mul-le-mul_left per less in let is : per * suc a ≡ per * a + per = grind arith in absurd (omega (arith, next, is, high, low'))
-  | inr (inl same) ↦ same
-  | inr (inr more) ↦ let next : per * suc b ≤ per * a = mul-le-mul_left per more in let is : per * suc b ≡ per * b + per = grind arith in absurd (omega (arith, next, is, high', low))
-]
-  where
-    three : (a b : ℕ) → (a < b) ⊎ ((a ≡ b) ⊎ (b < a))
-    three a b = grind arith
+one_round per a b at low high low' high' = grind (arith, mul-le-mul_left)
 
 module _ (t : Tables) (es : List Event) (k : ℕ) (range : AreInRange t) (kept : KeptApart t 16) (ticks : 0 < frame_of t) where
   abbrev frame : ℕ
@@ -41,8 +34,7 @@ module _ (t : Tables) (es : List Event) (k : ℕ) (range : AreInRange t) (kept :
   ordered = places_ordered t es frame (frame - frame) range kept
 
   at_frame : frame ≡ frame_of t * (frame / frame_of t)
-  at_frame =
-      mul_comm k (frame_of t) ∙ ap (λ z. frame_of t * z) (sym (mul-div_cancel_left k ticks)) ∙ ap (λ z. frame_of t * (z / frame_of t)) (mul_comm (frame_of t) k)
+  at_frame = grind (arith, mul_comm, mul-div_cancel_left)
 
   pub is_placed : (q : ℕ) (j : Job) → slice_get (frame_jobs t (frame_modes t es frame)) q ≡ Some j → j.present ≡ true → IsPlaced q j
   is_placed q j at here =
@@ -79,5 +71,4 @@ module _ (t : Tables) (es : List Event) (k : ℕ) (range : AreInRange t) (kept :
       let period : inv_period t i.inv ≡ per = ap (inv_period t) same in
       let one : x.times ≡ y.times =
       one_round per x.times y.times at (omega (arith, times, x.first, a)) (omega (arith, times, x.last, period, b)) (omega (arith, y.multiple, y.starts, c)) (omega (arith, y.multiple, y.starts, d)) in
-      let start : x.at ≡ y.at = omega (arith, times, y.multiple, ap (λ z. per * z) one) in
-      ordered.once p q j.inv y.at (x.place_is ∙ ap₂ (λ i a. Some (place i a)) same start) y.place_is
+      ordered.once p q j.inv y.at (x.place_is ∙ ap₂ (λ i a. Some (place i a)) same (omega (arith, times, y.multiple, ap (λ z. per * z) one))) y.place_is

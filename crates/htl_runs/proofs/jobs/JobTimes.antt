@@ -1,24 +1,16 @@
 -- The job lines of a run show each job whose window ended: one d line in time, and j lines in its window for all its ticks.
 use Rattle.std.proofs.Common.{◌≡◌, ◌≤◌, ◌<◌, inl, inr, ℕ, suc, ◌+◌, ◌*◌, Bool, true, false, ◌&&◌, eqb, ltb, leb, List, [], ◌∷◌, length, map, slice_get, get_or, Option, Some, None, refl, sym, ap, ap₂, ◌∙◌, subst, arith}
 use Rattle.htl_runs.proofs.Words.{flat_map, eqb-true, eqb-false, eq-eqb, lt-ltb, ltb-true, le-leb, leb-true, and_parts, Event, hyper, frame_of, starts, starts_below, root_periods, rounds_at, unit_period, multiple_of, joined, up_to, root_modules, Tables, Job, SInstr, Left, job_at, slices, first_point, AllWithin, work_some, job_there, job_is, derived_jobs, Frame, frame_modes, frame_at, running_places, walk_of, finish, AreTookWithin, IsFeasibleRun, spent, IsServed, path_rises, not_some, frames_are_served, every_job_in_time, IsLoaded, RunLine, job_lines_at, job_lines_to, SliceLine, DoneLine, is_in, done_time, slice_time, job_round, inv_period, IsToldInTime, AllToldInTime, same_Some}
-use Rattle.htl_runs.proofs.jobs.FrameLines.{owed, of_run}
-use Rattle.htl_runs.proofs.jobs.JobRounds.{IsPlaced, is_placed, only_job}
-use Rattle.htl_runs.proofs.lists.LoadedLists.{run_of}
-use Rattle.htl_runs.proofs.jobs.OneRecord.{Count, slice_claim, done_claim, out_of}
+use Rattle.htl_runs.proofs.{jobs.FrameLines.owed, jobs.FrameLines.of_run, jobs.JobRounds.IsPlaced, jobs.JobRounds.is_placed, jobs.JobRounds.only_job, lists.LoadedLists.run_of, lines.RecordTimes.joined_each, lines.RecordTimes.before_now}
+use Rattle.htl_runs.proofs.{jobs.OneRecord.Count, jobs.OneRecord.slice_claim, jobs.OneRecord.done_claim, jobs.OneRecord.out_of, jobs.WorkRecords.DoesWork, jobs.WorkRecords.works_in}
 use Rattle.htl_runs.proofs.jobs.PositionRecords.{shift, position_slice, position_done, all_slices, shifted_within, shifted_spent, within_at, done_once, first_done}
-use Rattle.htl_runs.proofs.lines.RecordTimes.{joined_each, before_now}
-use Rattle.htl_runs.proofs.jobs.WorkRecords.{DoesWork, works_in}
 
 module _ (t : Tables) (lists : List (List SInstr)) (es : List Event) (run : IsFeasibleRun t lists es) where
   abbrev frame : ℕ → Frame
   frame k = frame_at t lists es (k * frame_of t)
 
   hyper_is : hyper t ≡ Some (frame_of t)
-  hyper_is = by (hyper t) run.ticks
-    where
-      by : (o : Option ℕ) → 0 < elim o as (λ _. ℕ) [ Some h ↦ h | None ↦ 0 ] → o ≡ Some (elim o as (λ _. ℕ) [ Some h ↦ h | None ↦ 0 ])
-      by None h = absurd (omega (arith, h))
-      by (Some h) p = refl
+  hyper_is = grind arith
 
   -- each job is served, whenever its window ends
   served : (k q : ℕ) (j : Job) → slice_get (frame k).jobs q ≡ Some j → j.present ≡ true → IsServed (frame k).jobs (frame k).lengths (walk_of (frame k)) q j
@@ -41,7 +33,6 @@ module _ (t : Tables) (lists : List (List SInstr)) (es : List Event) (run : IsFe
       let w = works_in p.jobs p.lists p.legs (first_point p.jobs p.lengths) i l at does in
       let here = work_some p.jobs p.lengths w.position w.some in
       let there = job_there p.jobs w.position here in
-      let v = served k w.position (job_at p.jobs w.position) there here in
       record {
         position = w.position;
         of = w.of;
@@ -49,15 +40,14 @@ module _ (t : Tables) (lists : List (List SInstr)) (es : List Event) (run : IsFe
         at = there;
         present = here;
         released = w.released;
-        late = by w.position (job_at p.jobs w.position) w.of v w.ends does;
+        late = by w.position (job_at p.jobs w.position) w.of (served k w.position (job_at p.jobs w.position) there here) w.ends does;
         ends = w.ends;
       }
     where
       by : (q : ℕ) (j : Job) → l.position ≡ Some q → IsServed (frame k).jobs (frame k).lengths (walk_of (frame k)) q j → ((u : ℕ × ℕ) → l.slice ≡ Some u → u.1 ≡ l.at) → DoesWork l → l.at ≤ j.end
       by q j of v ends (inl u) = let last = within_at j.release j.end q (walk_of (frame k)) i l u.0 v.within at of u.1 in omega (arith, last, ends u.0 u.1)
       by q j of v ends (inr done) =
-          let same = v.once i l.at (l, at, of, done, refl) in
-          let one : l ≡ v.done.0 = same_Some _ _ (sym at ∙ ap (slice_get (walk_of (frame k))) same ∙ v.done.1) in
+          let one : l ≡ v.done.0 = same_Some _ _ (sym at ∙ ap (slice_get (walk_of (frame k))) (v.once i l.at (l, at, of, done, refl)) ∙ v.done.1) in
           omega (arith, ap (λ (x : Left). x.at) one, v.done.4, v.in_time)
 
   module _ (k end q : ℕ) (j : Job) (at : slice_get (frame k).jobs q ≡ Some j) (here : j.present ≡ true) (late : k * frame_of t + j.end ≤ end) where
@@ -105,8 +95,7 @@ module _ (t : Tables) (lists : List (List SInstr)) (es : List Event) (run : IsFe
     in_time : (i : ℕ) (l : Left) → slice_get walk i ≡ Some l → DoesWork l → l.position ≡ Some q → f + l.at < suc end
     in_time i l is does mine =
         let w = working k i l is does in
-        let same : w.job ≡ j = same_Some _ _ (sym w.at ∙ ap (slice_get (frame k).jobs) (same_Some _ _ (sym w.of ∙ mine)) ∙ at) in
-        omega (arith, late, w.late, ap (λ (z : Job). z.end) same)
+        omega (arith, late, w.late, ap (λ (z : Job). z.end) (same_Some _ _ (sym w.at ∙ ap (slice_get (frame k).jobs) (same_Some _ _ (sym w.of ∙ mine)) ∙ at)))
 
     lines : {X : Type 0} (h : RunLine → List X) → ((from to inv : ℕ) → (ltb start to && leb to stop) ≡ false → h (SliceLine from to inv) ≡ []) → ((at inv : ℕ) → (ltb start at && leb at stop) ≡ false → h (DoneLine at inv) ≡ [])
         → joined h (job_lines_to t lists es end) ≡ joined (before_now (owed h (frame k).jobs f) f (suc end)) walk

@@ -1,9 +1,7 @@
 -- What the lines of one record show of the job at a position q: what the record itself says of q, if it is left before n.
-use Rattle.std.proofs.Common.{◌≡◌, ◌<◌, ℕ, ◌+◌, Bool, true, false, cond, ◌&&◌, eqb, ltb, List, [], ◌∷◌, ◌++◌, Option, Some, None, option_map, refl, sym, ap, ap₂, ◌∙◌, append-nil}
+use Rattle.std.proofs.Common.{arith, ◌≡◌, ◌<◌, ℕ, ◌+◌, Bool, true, false, cond, ◌&&◌, eqb, ltb, List, [], ◌∷◌, ◌++◌, Option, Some, None, option_map, refl, sym, ap, ap₂, ◌∙◌, append-nil}
 use Rattle.htl_runs.proofs.Words.{eqb-true, lt-ltb, joined, Job, job_at, is_position, RunLine, closed_slice_line, DoneLine, is_in, done_time, slice_time, inv_at, not_some, same_Some, and_with_true}
-use Rattle.htl_runs.proofs.jobs.PositionRecords.{shift, shifted_slice}
-use Rattle.htl_runs.proofs.lines.Joined.{joined-append}
-use Rattle.htl_runs.proofs.lines.RecordTimes.{nothing}
+use Rattle.htl_runs.proofs.{jobs.PositionRecords.shift, jobs.PositionRecords.shifted_slice, lines.Joined.joined-append, lines.RecordTimes.nothing}
 
 module _ (jobs : List Job) (f q n i start end : ℕ) where
   -- a record at this offset is of a position, and its lines count exactly where that is q
@@ -15,11 +13,7 @@ module _ (jobs : List Job) (f q n i start end : ℕ) where
 
   -- what is left before n of something that only q gives
   left_before : {X : Type 0} (at p : ℕ) (xs : List X) → (p ≡ q → f + at < n) → cond (ltb (f + at) n) (cond (eqb p q) xs []) [] ≡ cond (eqb p q) xs []
-  left_before {X} at p xs early = by (eqb p q) refl
-    where
-      by : (b : Bool) → eqb p q ≡ b → cond {A = List X} (ltb (f + at) n) (cond b xs []) [] ≡ cond b xs []
-      by true e = ap (λ (c : Bool). cond c xs []) (lt-ltb (f + at) n (early (eqb-true p q e)))
-      by false e = nothing (ltb (f + at) n)
+  left_before {X} at p xs early = grind (arith, lt-ltb, eqb-true, nothing)
 
   no_slices : (fin : Bool) (at inv : ℕ) → joined (slice_time i start end) (cond fin (DoneLine at inv ∷ []) []) ≡ []
   no_slices true at inv = refl
@@ -28,8 +22,7 @@ module _ (jobs : List Job) (f q n i start end : ℕ) where
   -- the slice that the line shows
   pub slice_claim : (at : ℕ) (o : Option ℕ) (sl : Option (ℕ × ℕ)) (fin : Bool) → ((u : ℕ × ℕ) → sl ≡ Some u → (u.1 ≡ at) × Count at o) → (o ≡ Some q → (u : ℕ × ℕ) → sl ≡ Some u → f + at < n)
       → cond (ltb (f + at) n) (joined (slice_time i start end) (lines_at at o sl fin)) [] ≡ cond (is_position o q) (shifted_slice f sl) []
-  slice_claim at o None fin works early =
-      ap (λ (xs : List (ℕ × ℕ)). cond (ltb (f + at) n) xs []) (no_slices fin (f + at) (inv_at jobs o)) ∙ nothing (ltb (f + at) n) ∙ sym (nothing (is_position o q))
+  slice_claim at o None fin works early = grind (arith, no_slices, nothing)
   slice_claim at None (Some u) fin works early = let w = works u refl in not_some w.1.0 w.1.1
   slice_claim at (Some p) (Some u) fin works early =
       let w = works u refl in
@@ -71,8 +64,4 @@ module _ (jobs : List Job) (f q n i start end : ℕ) where
 
 -- a line of another time shows nothing
 pub out_of : {X : Type 0} (i inv : ℕ) (b : Bool) (xs : List X) → b ≡ false → cond (eqb inv i && b) xs [] ≡ []
-out_of i inv b xs e = ap (λ (c : Bool). cond (eqb inv i && c) xs []) e ∙ by (eqb inv i)
-  where
-    by : (c : Bool) → cond (c && false) xs [] ≡ []
-    by true = refl
-    by false = refl
+out_of i inv b xs e = grind arith

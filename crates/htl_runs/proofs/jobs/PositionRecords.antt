@@ -19,13 +19,7 @@ position_done s q l = cond (is_position l.position q && l.finished) ((s + l.at) 
 
 pub all_slices : (s q : ℕ) (ls : List Left) → joined (position_slice s q) ls ≡ map (shift s) (slices ls q)
 all_slices s q [] = refl
-all_slices s q (l ∷ ls) = by (is_position l.position q) l.slice (all_slices s q ls)
-  where
-    by : (b : Bool) (o : Option (ℕ × ℕ)) → joined (position_slice s q) ls ≡ map (shift s) (slices ls q)
-        → cond b (shifted_slice s o) [] ++ joined (position_slice s q) ls ≡ map (shift s) (cond b (slice_onto o (slices ls q)) (slices ls q))
-    by true (Some u) next = ap (λ (xs : List (ℕ × ℕ)). shift s u ∷ xs) next
-    by true None next = next
-    by false o next = next
+all_slices s q (l ∷ ls) = grind (arith, all_slices s q ls)
 
 pub shifted_within : (s a b : ℕ) (us : List (ℕ × ℕ)) → AllWithin a b us → AllWithin (s + a) (s + b) (map (shift s) us)
 shifted_within s a b [] h = h
@@ -38,12 +32,7 @@ shifted_spent s (u ∷ us) = let next = shifted_spent s us in omega (arith, next
 -- a slice of the position is one of those that lie within
 pub within_at : (a b q : ℕ) (ls : List Left) (k : ℕ) (l : Left) (u : ℕ × ℕ) → AllWithin a b (slices ls q) → slice_get ls k ≡ Some l → l.position ≡ Some q → l.slice ≡ Some u → u.1 ≤ b
 within_at a b q [] k l u all at is some = not_some l at
-within_at a b q (m ∷ ls) zero l u all at is some =
-    let same = same_Some _ _ at in
-    let first : cond (is_position m.position q) (slice_onto m.slice (slices ls q)) (slices ls q) ≡ u ∷ slices ls q =
-    ap₂ (λ (o : Option ℕ) (v : Option (ℕ × ℕ)). cond (is_position o q) (slice_onto v (slices ls q)) (slices ls q)) (ap (λ (x : Left). x.position) same ∙ is) (ap (λ (x : Left). x.slice) same ∙ some)
-    ∙ ap (λ (c : Bool). cond c (u ∷ slices ls q) (slices ls q)) (eq-eqb q q refl) in
-    (subst (AllWithin a b) first all).1
+within_at a b q (m ∷ ls) zero l u all at is some = grind (arith, same_Some, eq-eqb)
 within_at a b q (m ∷ ls) (suc k) l u all at is some = within_at a b q ls k l u (rest (is_position m.position q) m.slice all) at is some
   where
     rest : (c : Bool) (o : Option (ℕ × ℕ)) → AllWithin a b (cond c (slice_onto o (slices ls q)) (slices ls q)) → AllWithin a b (slices ls q)

@@ -36,22 +36,8 @@ module _ (jobs : List Job) (q until : ℕ) (x : Point) where
   at_once : (w : ℕ) → get_or x.left q 0 ≡ w → DoesWork record_of → (0 < get_or x.left q 0) × ((job_at jobs q).release < after.time)
   at_once zero none (inl u) = not_some u.0 (ap (λ w. slice_between (dispatch_begins x.time (job_at jobs q).release until) until w after.time) (sym none) ∙ u.1)
   at_once zero none (inr done) = absurd (let z : false ≡ true = ap (λ w. finishes_by w (get_or after.left q 0)) (sym none) ∙ done in let y : ⊥ = cc in y)
-  at_once (suc w) some (inl u) = by (ltb (dispatch_begins x.time (job_at jobs q).release until) until) refl (ap (λ v. slice_between (dispatch_begins x.time (job_at jobs q).release until) until v after.time) (sym some) ∙ u.1)
-    where
-      by : (b : Bool) → ltb (dispatch_begins x.time (job_at jobs q).release until) until ≡ b
-          → ◌≡◌ {A = Option (ℕ × ℕ)} (elim b [ true ↦ Some (dispatch_begins x.time (job_at jobs q).release until, after.time) | false ↦ None ]) (Some u.0)
-          → (0 < get_or x.left q 0) × ((job_at jobs q).release < after.time)
-      by false e f = not_some u.0 f
-      by true e f =
-          let room = ltb-true (dispatch_begins x.time (job_at jobs q).release until) until e in
-          let time : after.time ≡ time_after x.time (suc w) (job_at jobs q).release until = ap (λ v. time_after x.time v (job_at jobs q).release until) some in
-          (omega (arith, some), omega (arith, late x.time w (job_at jobs q).release until room, time))
-  at_once (suc w) some (inr done) =
-      let none : get_or after.left q 0 ≡ 0 = finish_is w (get_or after.left q 0) (ap (λ v. finishes_by v (get_or after.left q 0)) (sym some) ∙ done) in
-      let left : work_after x.time (suc w) (job_at jobs q).release until ≡ 0 =
-      ap (λ v. work_after x.time v (job_at jobs q).release until) (sym some) ∙ sym (left_same x.left q x.time (job_at jobs q).release until) ∙ none in
-      let time : after.time ≡ time_after x.time (suc w) (job_at jobs q).release until = ap (λ v. time_after x.time v (job_at jobs q).release until) some in
-      (omega (arith, some), omega (arith, late x.time w (job_at jobs q).release until (all_done x.time w (job_at jobs q).release until left), time))
+  at_once (suc w) some (inl u) = grind (arith, not_some, ltb-true, late)
+  at_once (suc w) some (inr done) = grind (arith, finish_is, left_same, late, all_done)
 
   dispatched : DoesWork record_of → Works jobs x record_of
   dispatched does =
@@ -69,9 +55,7 @@ works_at jobs [] x k l at does = not_some l at
 works_at jobs (i ∷ is) x (suc k) l at does =
     let w = works_at jobs is (next_point jobs i x) k l at does in
     record { position = w.position; of = w.of; some = omega (arith, w.some, left_falls jobs i x w.position); released = w.released; ends = w.ends }
-works_at jobs (Dispatch q until ∷ is) x zero l at does =
-    let same : record_of jobs q until x ≡ l = same_Some _ _ at in
-    subst (λ m. DoesWork m → Works jobs x m) same (dispatched jobs q until x) does
+works_at jobs (Dispatch q until ∷ is) x zero l at does = grind (arith, same_Some, dispatched)
 works_at jobs _ x zero l at does = let same = same_Some _ _ at in idle l (ap (λ (m : Left). m.slice) same) (ap (λ (m : Left). m.finished) same) does
 
 -- in the walks of a frame's lists
@@ -96,6 +80,5 @@ works_in jobs (s ∷ ss) (g ∷ gs) x k l at does = elim (cases_lt k (length (wa
         let ls = walk_from jobs s y in
         let ms = end_to_end (walks_from jobs ss gs (last_point jobs s y)) in
         let d = k - length ls in
-        let is : length ls + d ≡ k = omega (arith, h) in
-        let w = ih d (sym (get_back ls ms d) ∙ ap (slice_get (ls ++ ms)) is ∙ at) in
+        let w = ih d (sym (get_back ls ms d) ∙ ap (slice_get (ls ++ ms)) (omega (arith, h)) ∙ at) in
         record { position = w.position; of = w.of; some = omega (arith, w.some, left_falls_to jobs s y w.position); released = w.released; ends = w.ends }

@@ -2,9 +2,7 @@
 use Rattle.std.proofs.Common.{◌≡◌, ℕ, zero, suc, ◌+◌, ◌*◌, ◌/◌, Bool, true, false, cond, eqb, List, [], ◌∷◌, ◌++◌, map, slice_get, Option, Some, None, option_map, refl, sym, ap, ap₂, ◌∙◌, subst, arith}
 use Rattle.htl_runs.proofs.Words.{filter, eqb-true, append-nil, filter-append, Event, Line, line_text, lines_text, joined, numbered, up_to, value_lines, hyper, node, Tables, SInstr, Job, Leg, walks_from, Left, Point, first_point, last_point, walk_from, ECode, EInstr, Done, e_path, RunningList, lists_from, lists_at, left_in, begins_at, frame_modes, path_of, frame_at, shifted, Shown, Jobs, instr_line, shows_values, shows_jobs, shows_code, RunRecord, record_of, inv_at, as_told, old_records, new_records, e_line, old_lines, new_lines, e_lines, change_lines, lines, jobs_done, e_done, s_done, text_before, run_text, RunLine, printed, is_job_line, begins_as_job, text_lines, HasNames, closed_slice_line, job_done_line, job_lines, step_lines, record_lines, record_text, job_lines_at, job_lines_to, ShowsJobs, InstrLine, ChangeLine, StepLine, TotalsLine}
 use Rattle.htl_walk.specs.Paths as paths
-use Rattle.htl_runs.proofs.lines.LineBytes.{lines_found, jobs_found}
-use Rattle.htl_runs.proofs.lines.Joined.{joined-append, joined-maps}
-use Rattle.htl_runs.proofs.lines.StandingRecords.{silent_at}
+use Rattle.htl_runs.proofs.{lines.LineBytes.lines_found, lines.LineBytes.jobs_found, lines.Joined.joined-append, lines.Joined.joined-maps, lines.StandingRecords.silent_at}
 
 -- the job lines of a record of a list with these jobs, wherever the list is
 abbrev pub job_lines_of : List Job → ℕ × Left → List RunLine
@@ -91,9 +89,7 @@ module _ (t : Tables) where
 
   -- a record that is left as its list begins has no job lines
   no_lines : (jobs : List Job) (start k : ℕ) (l : Left) → (l.slice ≡ None) × (l.finished ≡ false) → job_lines_of jobs (k, shifted start l) ≡ []
-  no_lines jobs start k l silent =
-      let i = inv_at jobs l.position in
-      ap₂ (λ (o : Option (ℕ × ℕ)) (b : Bool). closed_slice_line i (option_map (λ (s : ℕ × ℕ). (start + s.0, start + s.1)) o) ++ job_done_line (start + l.at) b i) silent.0 silent.1
+  no_lines jobs start k l silent = grind arith
 
   pub none_first : (jobs : List Job) (start now k : ℕ) (ls : List Left) → ((i : ℕ) (l : Left) → slice_get ls i ≡ Some l → start + l.at ≡ now → (l.slice ≡ None) × (l.finished ≡ false))
       → joined (job_lines_of jobs) (filter (λ (l : ℕ × Left). eqb l.1.at now) (numbered k (map (shifted start) ls))) ≡ []

@@ -23,11 +23,7 @@ joins a b p q = record { all = list_all-append not_feed a b ∙ ap₂ (λ (x y :
 
 -- where the test fails at a line feed
 passes : (p : ℕ → Bool) → p 10 ≡ false → (b : ℕ) → p b ≡ true → not_feed b ≡ true
-passes p fails b passed = by (eqb b 10) refl
-  where
-    by : (c : Bool) → eqb b 10 ≡ c → not c ≡ true
-    by false e = refl
-    by true e = absurd (let z : ⊥ = (let same : b ≡ 10 = eqb-true b 10 e in let other : p b ≡ false = ap p same ∙ fails in let is : p b ≡ true = passed in cc) in z)
+passes p fails b passed = grind (arith, eqb-true)
 
 all_pass : (p : ℕ → Bool) → p 10 ≡ false → (bs : List ℕ) → list_all p bs ≡ true → IsPlain bs
 all_pass p fails [] h = plain refl
@@ -38,18 +34,7 @@ all_pass p fails (b ∷ bs) h =
 -- ---- numbers
 
 glyph_plain : (d : ℕ) → not_feed (digit_glyph false d) ≡ true
-glyph_plain d = by (nat_lt d 10)
-  where
-    above : (n : ℕ) → 10 < n → not_feed n ≡ true
-    above n h = by_test (eqb n 10) refl
-      where
-        by_test : (c : Bool) → eqb n 10 ≡ c → not c ≡ true
-        by_test false e = refl
-        by_test true e = absurd (omega (arith, h, eqb-true n 10 e))
-
-    by : (c : Bool) → not_feed (if c then 48 + d else (87 + d)) ≡ true
-    by true = above (48 + d) (omega arith)
-    by false = above (87 + d) (omega arith)
+glyph_plain d = grind (arith, eqb-true)
 
 onto_plain : (k n : ℕ) (acc : List ℕ) → IsPlain acc → IsPlain (digits_onto k 10 false n acc)
 onto_plain zero n acc h = h
@@ -74,9 +59,7 @@ value_plain (negsuc n) = record { all = (number_plain (suc n)).all }
 -- ---- names
 
 name_plain : (bs : List ℕ) → is_name bs ≡ true → IsPlain bs
-name_plain bs h =
-    let front = and_parts _ _ (and_parts _ _ h).0 in
-    all_pass is_word_byte refl bs (and_parts _ _ front.1).1
+name_plain bs h = grind (arith, all_pass, and_parts)
 
 module _ (t : Tables) (names : HasNames t) where
   comm_plain : (c : ℕ) → IsPlain (comm_name t c)
@@ -111,18 +94,10 @@ module _ (t : Tables) (names : HasNames t) where
   full_mode_plain m = joins (module_name t (mode_module t m) ++ codes ".") (mode_name t m) (joins (module_name t (mode_module t m)) (codes ".") (module_plain (mode_module t m)) (plain refl)) (mode_plain m)
 
   inv_plain : (i : ℕ) → IsPlain (inv_name t i)
-  inv_plain i = by (slice_get t.invs i)
-    where
-      by : (o : Option Inv) → IsPlain (elim o as (λ _. List ℕ) [ Some x ↦ full_inv t x | None ↦ decimal i ])
-      by (Some x) = joins (full_mode t x.mode ++ codes ".") (task_name t x.task) (joins (full_mode t x.mode) (codes ".") (full_mode_plain x.mode) (plain refl)) (task_plain x.task)
-      by None = number_plain i
+  inv_plain i = grind (arith, joins, codes, full_mode_plain, plain, task_plain, number_plain)
 
   mode_text_plain : (m : ℕ) → IsPlain (mode_text t m)
-  mode_text_plain m = by (slice_get t.modes m)
-    where
-      by : (o : Option Mode) → IsPlain (elim o as (λ _. List ℕ) [ Some x ↦ full_mode t m | None ↦ decimal m ])
-      by (Some x) = full_mode_plain m
-      by None = number_plain m
+  mode_text_plain m = grind (arith, full_mode_plain, number_plain)
 
   module_text_plain : (k : ℕ) → IsPlain (module_text t k)
   module_text_plain k = by (slice_get t.modules k) refl
@@ -147,8 +122,7 @@ module _ (t : Tables) (names : HasNames t) where
   instr_plain (I.CallWrite i k) = joins _ (decimal k) (joins _ (codes " ") (joins (codes "call write ") (inv_name t i) (plain refl) (inv_plain i)) (plain refl)) (number_plain k)
   instr_plain (I.CallRead i k) = joins _ (decimal k) (joins _ (codes " ") (joins (codes "call read ") (inv_name t i) (plain refl) (inv_plain i)) (plain refl)) (number_plain k)
   instr_plain (I.Release i) = joins (codes "release ") (inv_name t i) (plain refl) (inv_plain i)
-  instr_plain (I.Future d p a) =
-      joins _ (decimal a) (joins _ (codes " ") (joins _ (phase_word p) (joins _ (codes " ") (joins (codes "future ") (decimal d) (plain refl) (number_plain d)) (plain refl)) (phase_plain p)) (plain refl)) (number_plain a)
+  instr_plain (I.Future d p a) = grind (arith, joins, codes, plain, number_plain, phase_plain)
   instr_plain (I.JumpIf k a) = joins _ (decimal a) (joins _ (codes " ") (joins (codes "jumpif ") (decimal k) (plain refl) (number_plain k)) (plain refl)) (number_plain a)
   instr_plain (I.Jump a) = joins (codes "jump ") (decimal a) (plain refl) (number_plain a)
   instr_plain (I.IfMode m a) = joins _ (decimal a) (joins _ (codes " ") (joins (codes "ifmode ") (mode_text t m) (plain refl) (mode_text_plain m)) (plain refl)) (number_plain a)
@@ -217,9 +191,4 @@ module _ (t : Tables) (names : HasNames t) where
 
   pub jobs_found : (ls : List RunLine) → filter begins_as_job (map (printed t) ls) ≡ map (printed t) (filter is_job_line ls)
   jobs_found [] = refl
-  jobs_found (l ∷ ls) = ap (λ (b : Bool). cond b (printed t l ∷ filter begins_as_job (map (printed t) ls)) (filter begins_as_job (map (printed t) ls))) (letter l) ∙ by (is_job_line l) (jobs_found ls)
-    where
-      by : (b : Bool) → filter begins_as_job (map (printed t) ls) ≡ map (printed t) (filter is_job_line ls)
-          → cond b (printed t l ∷ filter begins_as_job (map (printed t) ls)) (filter begins_as_job (map (printed t) ls)) ≡ map (printed t) (cond b (l ∷ filter is_job_line ls) (filter is_job_line ls))
-      by true next = ap (λ (xs : List (List ℕ)). printed t l ∷ xs) next
-      by false next = next
+  jobs_found (l ∷ ls) = grind (arith, letter, jobs_found ls)

@@ -2,8 +2,7 @@
 use Rattle.std.proofs.Common.{◌≡◌, ℕ, suc, ◌+◌, ◌-◌, ◌^◌, min, cond, List, length, Option, Some, None, refl, sym, ◌∙◌, ap, length-append, arith}
 use Rattle.htl_runs.proofs.Words.{count_by, sum_by-append, Event, up_to, hyper, frame_of, Tables, SInstr, ECode, e_path, AreTookWithin, IsLoaded, Turn, old_records, new_records, plan_records, old_turn, turn_old_records, turn_new_records, standing_old, standing_new, capped, records_at, all_records, jobs_done, e_done, s_done, turn_by, turn_at, list_turn}
 use Rattle.htl_smach.specs.declared.left.Left.{Left}
-use Rattle.htl_runs.proofs.lists.LoadedLists.{loaded_run}
-use Rattle.htl_runs.proofs.lines.StandingRecords.{old_are, new_are}
+use Rattle.htl_runs.proofs.{lists.LoadedLists.loaded_run, lines.StandingRecords.old_are, lines.StandingRecords.new_are}
 
 module _ (t : Tables) (schedules : List (List SInstr)) (es : List Event) (loaded : IsLoaded t schedules) (within : AreTookWithin t es) where
   -- the length of a frame
@@ -40,9 +39,7 @@ capped_more a b = omega arith
 -- an instant adds its records and its addresses
 module _ (t : Tables) (schedules : List (List SInstr)) (es : List Event) (now : ℕ) where
   pub jobs_more : jobs_done t schedules es (suc now) ≡ min (jobs_done t schedules es now + count_by (λ (l : Left). l.finished) (records_at t schedules es now)) (2 ^ 64 - 1)
-  jobs_more =
-      ap capped (sum_by-append (λ (l : Left). cond {A = ℕ} l.finished 1 0) (all_records t schedules es now) (records_at t schedules es now))
-      ∙ capped_more (count_by (λ (l : Left). l.finished) (all_records t schedules es now)) (count_by (λ (l : Left). l.finished) (records_at t schedules es now))
+  jobs_more = grind (arith, sum_by-append, capped_more)
 
   pub s_more : s_done t schedules es (suc now) ≡ min (s_done t schedules es now + length (records_at t schedules es now)) (2 ^ 64 - 1)
   s_more = ap capped (length-append (all_records t schedules es now) (records_at t schedules es now)) ∙ capped_more (length (all_records t schedules es now)) (length (records_at t schedules es now))

@@ -27,8 +27,7 @@ before_now g s now l = cond (ltb (s + l.at) now) (g l) []
 module _ {X : Type 0} (g : Left → List X) (s : ℕ) where
   none_yet : (now a : ℕ) (ls : List Left) → Rises a ls → now ≤ s + a → joined (before_now g s now) ls ≡ []
   none_yet now a [] r late = refl
-  none_yet now a (l ∷ ls) r late =
-      ap₂ (λ (b : Bool) (rest : List X). cond b (g l) [] ++ rest) (le-ltb (s + l.at) now (omega (arith, r.0))) (none_yet now l.at ls r.1 (omega (arith, r.0)))
+  none_yet now a (l ∷ ls) r late = grind (arith, le-ltb, none_yet now l.at ls r.1 (omega (arith, r.0)))
 
   one_more : (now a : ℕ) (ls : List Left) → Rises a ls → joined (before_now g s now) ls ++ joined (at_now g s now) ls ≡ joined (before_now g s (suc now)) ls
   one_more now a [] r = refl

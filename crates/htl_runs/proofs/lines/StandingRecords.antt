@@ -6,8 +6,7 @@ use Rattle.htl_walk.specs.Walk as walks
 use Rattle.htl_smach.specs.declared.left.Left.{Left}
 use Rattle.htl_refine.specs.RecordLists.{list_at}
 use Rattle.std.proofs.lemmas.Simd.{map-map}
-use Rattle.htl_runs.proofs.lists.ListStarts.{ends_next}
-use Rattle.htl_runs.proofs.lists.RunLists.{rise, past, stands, from_is, length-jobs, are_listed}
+use Rattle.htl_runs.proofs.{lists.ListStarts.ends_next, lists.RunLists.rise, lists.RunLists.past, lists.RunLists.stands, lists.RunLists.from_is, lists.RunLists.length-jobs, lists.RunLists.are_listed}
 use Rattle.htl_runs.proofs.records.InstantRecords.{left_then, none_before, piece}
 
 -- ---- nothing runs at the point at which a list begins
@@ -16,16 +15,11 @@ use Rattle.htl_runs.proofs.records.InstantRecords.{left_then, none_before, piece
 pub silent_at : (jobs : List Job) (is : List SInstr) (x : Point) (a k : ℕ) (l : walks.Left) → a ≤ x.time → slice_get (walk_from jobs is x) k ≡ Some l → l.at ≡ a → (l.slice ≡ None) × (l.finished ≡ false)
 silent_at jobs [] x a k l low at first = not_some l at
 silent_at jobs (i ∷ is) x a (suc k) l low at first = let later = time_rises jobs i x in silent_at jobs is (next_point jobs i x) a k l (omega (arith, low, later)) at first
-silent_at jobs (Idle until ∷ is) x a zero l low at first =
-    let is : left_by jobs (Idle until) x (next_point jobs (Idle until) x) ≡ l = same_Some _ _ at in
-    (ap (λ (m : walks.Left). m.slice) (sym is), ap (λ (m : walks.Left). m.finished) (sym is))
-silent_at jobs (End ∷ is) x a zero l low at first =
-    let is : left_by jobs End x (next_point jobs End x) ≡ l = same_Some _ _ at in
-    (ap (λ (m : walks.Left). m.slice) (sym is), ap (λ (m : walks.Left). m.finished) (sym is))
+silent_at jobs (Idle until ∷ is) x a zero l low at first = grind (arith, same_Some)
+silent_at jobs (End ∷ is) x a zero l low at first = grind (arith, same_Some)
 silent_at jobs (Dispatch q until ∷ is) x a zero l low at first =
     let is : left_by jobs (Dispatch q until) x (next_point jobs (Dispatch q until) x) ≡ l = same_Some _ _ at in
-    let time : time_after x.time (get_or x.left q 0) (job_at jobs q).release until ≡ a = ap (λ (m : walks.Left). m.at) is ∙ first in
-    let both = by (get_or x.left q 0) (time_after x.time (get_or x.left q 0) (job_at jobs q).release until) time in (
+    let both = by (get_or x.left q 0) (time_after x.time (get_or x.left q 0) (job_at jobs q).release until) (ap (λ (m : walks.Left). m.at) is ∙ first) in (
       ap (λ (m : walks.Left). m.slice) (sym is) ∙ both.0,
       ap (λ (m : walks.Left). m.finished) (sym is) ∙ ap (finishes_by (get_or x.left q 0)) (left_same x.left q x.time (job_at jobs q).release until) ∙ both.1,
     )
@@ -39,11 +33,7 @@ silent_at jobs (Dispatch q until ∷ is) x a zero l low at first =
     by : (w to : ℕ) → time_after x.time w (job_at jobs q).release until ≡ a
         → (slice_between (dispatch_begins x.time (job_at jobs q).release until) until w to ≡ None) × (finishes_by w (work_after x.time w (job_at jobs q).release until) ≡ false)
     by zero to e = (refl, refl)
-    by (suc w) to e =
-        let over = ends x.time (job_at jobs q).release until w low e in (
-          ap (λ b. elim b as (λ _. Option (ℕ × ℕ)) [ true ↦ Some (dispatch_begins x.time (job_at jobs q).release until, to) | false ↦ None ]) (le-ltb (dispatch_begins x.time (job_at jobs q).release until) until over),
-          ap (finishes_by (suc w)) (all_left x.time (job_at jobs q).release until w over),
-        )
+    by (suc w) to e = grind (arith, ends, le-ltb, all_left)
 
 -- ---- the records of one list that are left at an instant
 
@@ -56,8 +46,7 @@ position_below : (jobs : List Job) (count to : ℕ) (is : List SInstr) (x : Poin
 position_below jobs count to [] x f k l q at pos = not_some l at
 position_below jobs count to (End ∷ []) x f (suc k) l q at pos = not_some l at
 position_below jobs count to (End ∷ i ∷ is) x f k l q at pos = absurd f.0
-position_below jobs count to (Dispatch p until ∷ is) x f zero l q at pos =
-    let same : p ≡ q = same_Some _ _ (ap (λ (m : walks.Left). m.position) (same_Some _ _ at) ∙ pos) in omega (arith, same, f.0.0)
+position_below jobs count to (Dispatch p until ∷ is) x f zero l q at pos = grind (arith, same_Some)
 position_below jobs count to (Dispatch p until ∷ is) x f (suc k) l q at pos = position_below jobs count to is (next_point jobs (Dispatch p until) x) f.1 k l q at pos
 position_below jobs count to (Idle until ∷ is) x f (suc k) l q at pos = position_below jobs count to is (next_point jobs (Idle until) x) f.1 k l q at pos
 position_below jobs count to _ x f zero l q at pos = not_some q (ap (λ (m : walks.Left). m.position) (same_Some _ _ at) ∙ pos)
@@ -152,15 +141,12 @@ module _ (t : Tables) (lists : List (List SInstr)) (es : List Event) (run : IsFe
   -- a record's job is that of the positions so far
   inv_front : (n : ℕ) (o : Option ℕ) → ((q : ℕ) → o ≡ Some q → q < (leg_at (frame_at t lists es (frame_start t n)) (turn n).list).known) → inv_at (frame_at t lists es (frame_start t n)).jobs o ≡ inv_at (turn n).plan.jobs o
   inv_front n None h = refl
-  inv_front n (Some q) h =
-      let known = (leg_at (frame_at t lists es (frame_start t n)) (turn n).list).known in
-      sym (ap (λ (j : Job). j.inv) (job_front known (frame_at t lists es (frame_start t n)).jobs q (h q refl)))
+  inv_front n (Some q) h = grind (arith, job_front)
 
   position_known : (n k : ℕ) (l : walks.Left) → slice_get (turn_walk (turn n)) k ≡ Some l → (q : ℕ) → l.position ≡ Some q → q < (leg_at (frame_at t lists es (frame_start t n)) (turn n).list).known
   position_known n k l at q pos =
       let u = turn n in
-      let listed = (are_listed t lists es run).each n in
-      let below = position_below u.plan.jobs (length u.plan.jobs) u.to u.plan.schedule u.plan.first listed.form k l q at pos in
+      let below = position_below u.plan.jobs (length u.plan.jobs) u.to u.plan.schedule u.plan.first ((are_listed t lists es run).each n).form k l q at pos in
       omega (arith, below, length-jobs t lists es run n)
 
   -- those of the list that stands at an instant

@@ -1,11 +1,8 @@
 -- The S machine as a list begins behind a frame's start.
 use Rattle.std.proofs.Common.{◌≡◌, ◌≢◌, ℕ, zero, suc, ◌+◌, ◌-◌, ◌%◌, ◌≤◌, ◌<◌, Bool, true, false, cond, List, [], ◌∷◌, ◌++◌, length, get_or, map, slice_get, take, drop, Some, refl, sym, ap, ap₂, ◌∙◌, subst, arith, inl, inr, length-append}
 use Rattle.htl_runs.proofs.Words.{ne_eqb, cases_eq, length-map, Event, frame_of, starts, known_by, Tables, Job, SInstr, HaveLengths, AreWithinWorst, Point, work, CanBegin, Round, round_begun, added, stands_added, new_jobs, Frame, frame_modes, frame_places, frame_at, IsFollowed, leg_at, list_plan, modes_at, took, IsFeasibleRun, take-map, lists_follow, leg_from, leg_knows, next_jobs, have_lengths, within_worst, frame_start, SMachineAt, list_begun, CanStart, IsAtEnd, ListsAreBegun, Turn, more_jobs, more_lengths, turn_of, list_turn, kept_lengths, drop-map}
-use Rattle.htl_runs.proofs.frames.JobWindows.{get_map}
-use Rattle.htl_runs.proofs.lists.FirstStand.{first_can, first_s_machine}
-use Rattle.htl_runs.proofs.lists.NextSMachines.{s_machines_go_on, even}
-use Rattle.htl_runs.proofs.lists.NextLists.{offset, later_next, same_frame}
-use Rattle.htl_runs.proofs.lists.RunLists.{past, stands, from_is, length-jobs}
+use Rattle.htl_runs.proofs.{frames.JobWindows.get_map, lists.FirstStand.first_can, lists.FirstStand.first_s_machine, lists.NextSMachines.s_machines_go_on, lists.NextSMachines.even}
+use Rattle.htl_runs.proofs.{lists.NextLists.offset, lists.NextLists.later_next, lists.NextLists.same_frame, lists.RunLists.past, lists.RunLists.stands, lists.RunLists.from_is, lists.RunLists.length-jobs}
 
 -- lengths that agree where a job is present are the same work
 same_work : (js : List Job) (ns ms : List ℕ) → length ns ≡ length ms → ((p : ℕ) (j : Job) → slice_get js p ≡ Some j → j.present ≡ true → get_or ns p 0 ≡ get_or ms p 0) → work js ns ≡ work js ms
@@ -83,9 +80,7 @@ module _ (t : Tables) (lists : List (List SInstr)) (es : List Event) (run : IsFe
 
   -- how long they take
   lengths_are : more_lengths (frame_at t lists es (frame_start t n)) (list_turn t lists es n).list ≡ map (λ (k : Job). took t es k.inv (frame_start t n + k.release)) (more_jobs (frame_at t lists es (frame_start t n)) (list_turn t lists es n).list)
-  lengths_are =
-      let g : Job → ℕ = λ k. took t es k.inv (f + k.release) in
-      ap (drop (leg_at p j).known) (take-map g (leg_at p (suc j)).known p.jobs) ∙ drop-map g (leg_at p j).known (take (leg_at p (suc j)).known p.jobs)
+  lengths_are = grind (arith, take-map, drop-map)
 
   gone : CanBegin r (suc n - r.start) (more_jobs (frame_at t lists es (frame_start t n)) (list_turn t lists es n).list) (more_lengths (frame_at t lists es (frame_start t n)) (list_turn t lists es n).list)
       × SMachineAt (list_plan (frame_at t lists es (frame_start t n)) (suc (list_turn t lists es n).list)) (frame_start t n) 0 (leg_at (frame_at t lists es (frame_start t n)) (suc (list_turn t lists es n).list)).from
@@ -96,25 +91,13 @@ module _ (t : Tables) (lists : List (List SInstr)) (es : List Event) (run : IsFe
 
   kept_same : (q : ℕ) (k : Job) → slice_get (more_jobs (frame_at t lists es (frame_start t n)) (list_turn t lists es n).list) q ≡ Some k → k.present ≡ true
       → get_or (kept_lengths takes (more_jobs (frame_at t lists es (frame_start t n)) (list_turn t lists es n).list)) q 0 ≡ get_or (more_lengths (frame_at t lists es (frame_start t n)) (list_turn t lists es n).list) q 0
-  kept_same q k at present =
-      let late = gone.0.later q k at present in
-      get_map (λ (z : Job). get_or takes z.inv 0) js q k 0 at
-      ∙ takes_are k.inv (f + k.release) (omega (arith, late, ends.start, past t lists es run n))
-      ∙ sym (get_map (λ (z : Job). took t es z.inv (f + z.release)) js q k 0 at) ∙ sym (ap (λ ns. get_or ns q 0) lengths_are)
+  kept_same q k at present = grind (arith, get_map, gone, past, lengths_are)
 
   counted : length (kept_lengths takes (more_jobs (frame_at t lists es (frame_start t n)) (list_turn t lists es n).list)) ≡ length (more_lengths (frame_at t lists es (frame_start t n)) (list_turn t lists es n).list)
   counted = length-map js (λ (z : Job). get_or takes z.inv 0) ∙ sym (gone.0.same)
 
   can : CanBegin r (suc n - r.start) (more_jobs (frame_at t lists es (frame_start t n)) (list_turn t lists es n).list) (kept_lengths takes (more_jobs (frame_at t lists es (frame_start t n)) (list_turn t lists es n).list))
-  can =
-      let c = gone.0 in
-      record {
-        told = c.told;
-        later = c.later;
-        same = counted ∙ c.same;
-        least = λ q k at present. let z = kept_same q k at present in let y = c.least q k at present in omega (arith, z, y);
-        most = λ q k at present. let z = kept_same q k at present in let y = c.most q k at present in omega (arith, z, y);
-      }
+  can = grind (arith, gone, counted, least, kept_same, most)
 
   s_machine : SMachineAt (list_plan (frame_at t lists es (frame_start t n)) (suc (list_turn t lists es n).list)) (frame_start t n) 0 (leg_at (frame_at t lists es (frame_start t n)) (suc (list_turn t lists es n).list)).from
       (added r (suc n) (more_jobs (frame_at t lists es (frame_start t n)) (list_turn t lists es n).list) (kept_lengths takes (more_jobs (frame_at t lists es (frame_start t n)) (list_turn t lists es n).list)))

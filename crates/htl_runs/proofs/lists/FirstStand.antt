@@ -2,8 +2,7 @@
 use Rattle.std.proofs.Common.{◌≡◌, ℕ, ◌+◌, ◌-◌, ◌%◌, ◌≤◌, ◌<◌, cond, List, [], ◌∷◌, length, get_or, map, take, refl, sym, ap, ap₂, ◌∙◌, subst, arith}
 use Rattle.htl_runs.proofs.Words.{eq-eqb, lt-ltb, length-map, Event, Place, frame_of, starts, known_by, Tables, Job, SInstr, Leg, AreInForm, path_point, HaveLengths, AreWithinWorst, Point, InForm, first_point, Round, round_begun, added, stands_begun, new_jobs, Frame, frame_modes, frame_places, frame_at, no_leg, leg_at, front_of, list_start, lengths_of, modes_at, took, IsFeasibleRun, take-map, take_work, first_jobs, frame_start, SMachineAt, list_begun, Turn, IsListed, list_turn, kept_lengths, leg_knows}
 use Rattle.htl_walk.specs.Paths as paths
-use Rattle.htl_runs.proofs.records.SMachineInstants.{none_released}
-use Rattle.htl_runs.proofs.lists.NextLists.{offset, first_next}
+use Rattle.htl_runs.proofs.{records.SMachineInstants.none_released, lists.NextLists.offset, lists.NextLists.first_next}
 use Rattle.htl_runs.proofs.lists.RunLists.{past, serving, stands, there, from_is, are_listed}
 
 kept_by : (takes : List ℕ) (f : ℕ → ℕ → ℕ) (now : ℕ) → ((i u : ℕ) → now ≤ u → get_or takes i 0 ≡ f i u) → (jobs : List Job) → kept_lengths takes jobs ≡ map (λ (j : Job). f j.inv (now + j.release)) jobs
@@ -59,16 +58,13 @@ module _ (t : Tables) (lists : List (List SInstr)) (es : List Event) (run : IsFe
     jobs_are : (list_turn t lists es at).plan.jobs ≡ new_jobs t (modes_at t es at) (at % frame_of t) 0
     jobs_are =
         let some : 0 < length (starts t) = let s = stands t lists es run at in omega (arith, s.there) in
-        let same : f + 0 ≡ at = omega (arith, starts_at) in
         ap (λ k. take k p.jobs) (known_at ∙ ap (λ i. known_by (get_or (starts t) i 0) places) list_is)
         ∙ first_jobs t (frame_modes t es f) some
         ∙ ap (λ a. new_jobs t (frame_modes t es f a) a 0) first_is
-        ∙ ap₂ (λ n a. new_jobs t (modes_at t es n) a 0) same (sym zero_is)
+        ∙ ap₂ (λ n a. new_jobs t (modes_at t es n) a 0) (omega (arith, starts_at)) (sym zero_is)
 
     lengths_kept : kept_lengths takes (new_jobs t (modes_at t es at) (at % frame_of t) 0) ≡ (list_turn t lists es at).plan.lengths
-    lengths_kept =
-        kept_by takes (took t es) at takes_are (new_jobs t (modes_at t es at) (at % frame_of t) 0)
-        ∙ ap (lengths_of t es at) (sym jobs_are) ∙ ap (λ n. lengths_of t es n u.plan.jobs) (sym starts_at) ∙ sym lengths_are
+    lengths_kept = grind (arith, kept_by, jobs_are, starts_at, lengths_are)
 
     first_point_is : (list_turn t lists es at).plan.first ≡ first_point (list_turn t lists es at).plan.jobs (list_turn t lists es at).plan.lengths
     first_point_is =
@@ -84,10 +80,7 @@ module _ (t : Tables) (lists : List (List SInstr)) (es : List Event) (run : IsFe
 
     pub first_can : HaveLengths (new_jobs t (modes_at t es at) (at % frame_of t) 0) (kept_lengths takes (new_jobs t (modes_at t es at) (at % frame_of t) 0))
         × AreWithinWorst (new_jobs t (modes_at t es at) (at % frame_of t) 0) (kept_lengths takes (new_jobs t (modes_at t es at) (at % frame_of t) 0))
-    first_can = (
-      subst (λ ns. HaveLengths (new_jobs t (modes_at t es at) (at % frame_of t) 0) ns) (sym lengths_kept) (subst (λ js. HaveLengths js u.plan.lengths) jobs_are listed.least),
-      subst (λ ns. AreWithinWorst (new_jobs t (modes_at t es at) (at % frame_of t) 0) ns) (sym lengths_kept) (subst (λ js. AreWithinWorst js u.plan.lengths) jobs_are listed.most),
-    )
+    first_can = grind (arith, lengths_kept, jobs_are, listed)
 
     pub first_s_machine : (r : Round) → SMachineAt (list_turn t lists es at).plan (list_turn t lists es at).frame 0 (at - (list_turn t lists es at).frame) (list_begun t (modes_at t es at) takes at r)
     first_s_machine r =
@@ -95,9 +88,8 @@ module _ (t : Tables) (lists : List (List SInstr)) (es : List Event) (run : IsFe
         let own : round_begun u.frame u.plan.jobs u.plan.lengths ≡ list_begun t (modes_at t es at) takes at r =
         ap (λ s. round_begun s u.plan.jobs u.plan.lengths) starts_at ∙ ap₂ (round_begun at) jobs_are (sym lengths_kept)
         ∙ sym (ap (λ b. cond b (round_begun at js (kept_lengths takes js)) (added r at (new_jobs t (modes_at t es at) (at % frame_of t) (length r.jobs)) (kept_lengths takes (new_jobs t (modes_at t es at) (at % frame_of t) (length r.jobs))))) (eq-eqb (at % frame_of t) 0 zero_is)) in
-        let none : at - u.frame ≡ 0 = omega (arith, starts_at) in
         subst (SMachineAt u.plan u.frame 0 (at - u.frame)) own
-        (subst (λ d. SMachineAt u.plan u.frame 0 d (round_begun u.frame u.plan.jobs u.plan.lengths)) (sym none)
+        (subst (λ d. SMachineAt u.plan u.frame 0 d (round_begun u.frame u.plan.jobs u.plan.lengths)) (sym (omega (arith, starts_at)))
         (record {
           start = refl;
           jobs = refl;

@@ -12,11 +12,7 @@ pub record StandsAt (ps : List ℕ) (h : ℕ) (places : List Place) (from : List
 
 none_yet : (h d : ℕ) (later : List ℕ) → begun_of d later ≡ 0 → d < h → d < next_of h later
 none_yet h d [] e less = less
-none_yet h d (b ∷ later) e less = by (leb b d) refl e
-  where
-    by : (c : Bool) → leb b d ≡ c → cond c (suc (begun_of d later)) 0 ≡ 0 → d < b
-    by true f g = absurd (omega (arith, g))
-    by false f g = leb-false b d f
+none_yet h d (b ∷ later) e less = grind (arith, leb-false)
 
 pub stands_at : (ps : List ℕ) (h d : ℕ) (places : List Place) (from : List ℕ) → Rises ps h from → d < h → (j : ℕ) → begun_of d from ≡ suc j → StandsAt ps h places from d j
 stands_at ps h d places [] r less j e = absurd (omega (arith, e))
@@ -55,9 +51,7 @@ begun_next ps h d (a ∷ later) r = by (leb a d) (leb a (suc d)) refl refl (begu
     by true true e f (inr next) = inr (ap suc next.0, omega (arith, next.1), next.2)
     by true false e f ih = absurd (omega (arith, leb-true a d e, leb-false a (suc d) f))
     by false false e f ih = inl refl
-    by false true e f ih =
-        let at : a ≡ suc d = omega (arith, leb-false a d e, leb-true a (suc d) f) in
-        inr (ap suc (none_after h (suc d) a later r.1 (omega (arith, at))), omega arith, at)
+    by false true e f ih = grind (arith, leb-false, leb-true, none_after)
 
 -- a list ends where the next begins, or where the frame does
 pub ends_next : (h : ℕ) (places : List Place) (from : List ℕ) (j : ℕ) → suc j < length from → (get_or (legs_of h places from) j no_leg).to ≡ get_or from (suc j) 0

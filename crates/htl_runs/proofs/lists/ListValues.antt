@@ -4,9 +4,7 @@ use mathlib.Core.Path.{fun_ext}
 use Rattle.htl_runs.proofs.Words.{Event, Inv, Tables, AreInRange, KeptApart, state, before, sense, Job, Left, finish, Content, count_left_before, done_by, complete_by, run_records, Now, finished_at, Turn, turn_walk, records_so_far, left_before, AreTurns, finished_in, InvStands, ValuesFollow, HasPlaces, HasReadInputs, effects, all_writes, with_sensors, get_back, within_front}
 use Rattle.htl_runs.specs.frames.FrameSteps as frames
 use Rattle.htl_runs.specs.lists.RecordEffects.{finished_before, with_records, next_world}
-use Rattle.htl_runs.proofs.values.InstantWorlds.{follows_on, after_shape, holds_values}
-use Rattle.htl_runs.proofs.records.SMachineInstants.{count_within}
-use Rattle.htl_runs.proofs.frames.FrameSteps.{finished_carried}
+use Rattle.htl_runs.proofs.{values.InstantWorlds.follows_on, values.InstantWorlds.after_shape, values.InstantWorlds.holds_values, records.SMachineInstants.count_within, frames.FrameSteps.finished_carried}
 use Rattle.htl_runs.proofs.frames.FrameValues.{all_ready, count_grows, records_follow}
 use Rattle.htl_runs.proofs.frames.FrameValues as by_frames
 
@@ -19,11 +17,7 @@ take_front (x ∷ xs) ys (suc k) h = ap (λ z. x ∷ z) (take_front xs ys k (ome
 
 pub count_front : (d : ℕ) (ys zs : List Left) → count_left_before d ys ≤ count_left_before d (ys ++ zs)
 count_front d [] zs = omega arith
-count_front d (y ∷ ys) zs = by (ltb y.at d) (count_front d ys zs)
-  where
-    by : (b : Bool) → count_left_before d ys ≤ count_left_before d (ys ++ zs) → cond b (suc (count_left_before d ys)) 0 ≤ cond b (suc (count_left_before d (ys ++ zs))) 0
-    by true h = omega (arith, h)
-    by false h = omega arith
+count_front d (y ∷ ys) zs = grind (arith, count_front d ys zs)
 
 -- where all of the first records are left before, so are those behind them that are
 pub count_behind : (d : ℕ) (xs ys zs : List Left) → length xs ≤ count_left_before d ((xs ++ ys) ++ zs) → length xs + count_left_before d ys ≤ count_left_before d ((xs ++ ys) ++ zs)
@@ -55,18 +49,11 @@ module _ (t : Tables) (range : AreInRange t) (kept : KeptApart t 12) (es : List 
 
   -- who is done by the first records of the frame
   pub done_front : (n k p : ℕ) → k ≤ length (records_so_far (turn n)) → done_by (turns.walk n) k p ≡ done_by (records_so_far (turn n)) k p
-  done_front n k p few =
-      ap (λ (ls : List Left). done_by ls k p) (turns.each n).front ∙ ap (λ (ls : List Left). is_some (finish ls p)) (take_front (records_so_far (turn n)) (turns.each n).rest k few)
+  done_front n k p few = grind (arith, is_some, take_front)
 
   -- so many records of the frame are left up to the instant behind n, at the least
   pub count_upto : (n : ℕ) → length (turn n).earlier + left_before (turn n) (suc (suc n)) ≤ count_left_before (suc (suc n) - (turn n).frame) (turns.walk n)
-  count_upto n =
-      let u = turn n in
-      let each = turns.each n in
-      let more = count_grows (suc n - u.frame) (suc (suc n) - u.frame) (turns.walk n) (omega arith) in
-      let some : length u.earlier ≤ count_left_before (suc (suc n) - u.frame) (turns.walk n) = omega (arith, more, each.count) in
-      let all = count_behind (suc (suc n) - u.frame) u.earlier (turn_walk u) each.rest (subst (λ (ls : List Left). length u.earlier ≤ count_left_before (suc (suc n) - u.frame) ls) each.front some) in
-      subst (λ (ls : List Left). length u.earlier + left_before u (suc (suc n)) ≤ count_left_before (suc (suc n) - u.frame) ls) (sym each.front) all
+  count_upto n = grind (arith, count_grows, count_behind)
 
   pub same_before : (n : ℕ) → finished_before turn n ≡ frames.present_finished now n
   same_before zero = refl

@@ -1,8 +1,7 @@
 -- The lists of a loaded program: at each instant one stands, and the code knows where one begins.
 use Rattle.std.proofs.Common.{◌≡◌, ℕ, ◌+◌, ◌<◌, eqb, List, [], ◌∷◌, length, map, get_or, Option, Some, None, IfSome, refl, sym, ap, ◌∙◌, subst, arith, inr, true}
 use Rattle.htl_runs.proofs.Words.{slice_get_within, Event, Inv, Module, hyper, unit_period, multiple_of, state, root_modules, Tables, is_concrete, frame_some, SInstr, AreTookWithin, IsFeasibleRun, roots_some, AreJobsSoFar, IsLoaded, Turn, AreTurns, AreListed, AreOf, no_turn, turn_by, turn_at, list_turn, some_round_begins, not_some, standing_at}
-use Rattle.htl_runs.proofs.lists.NextLists.{lists_begin}
-use Rattle.htl_runs.proofs.lists.RunLists.{are_turns, are_listed, code_is, job_is_of}
+use Rattle.htl_runs.proofs.{lists.NextLists.lists_begin, lists.RunLists.are_turns, lists.RunLists.are_listed, lists.RunLists.code_is, lists.RunLists.job_is_of}
 
 -- ---- without modules
 
@@ -28,38 +27,19 @@ some_roots t h e = by (root_modules t) refl
 
 module _ (t : Tables) (schedules : List (List SInstr)) (loaded : IsLoaded t schedules) where
   pub loaded_empty : hyper t ≡ None → t.modules ≡ []
-  loaded_empty e =
-      nothing t.modules
-      (λ some.
-      let r = roots_some t loaded.range some in
-      let h = some_hyper t r.0 r.1 r.2 in
-      not_some h.0 (sym e ∙ h.1))
+  loaded_empty e = grind (arith, nothing, roots_some, some_hyper, not_some)
 
   module _ (es : List Event) (within : AreTookWithin t es) where
     -- where there is a root module
     pub run_of : 0 < length (root_modules t) → IsFeasibleRun t schedules es
-    run_of some =
-        record {
-          range = loaded.range;
-          kept = loaded.rules;
-          within = within;
-          modules = some;
-          ticks = frame_some t loaded.range some;
-          accepted = loaded.feasible;
-        }
+    run_of some = grind (arith, frame_some)
 
     pub loaded_run : (h : ℕ) → hyper t ≡ Some h → IsFeasibleRun t schedules es
     loaded_run h e = run_of (some_roots t h e)
 
     -- nobody stands where there is no module
     no_jobs_so_far : t.modules ≡ [] → (n : ℕ) → AreJobsSoFar t (state t es n).stays 0 n []
-    no_jobs_so_far e n =
-        record {
-          has = λ i x s st. absurd (let less = (standing_at t loaded.range es n).known _ _ st.in_round in omega (arith, less, ap (λ (us : List Module). length us) e));
-          stands = λ p j at here late. not_some j at;
-          once = λ p q i s x a b. not_some a.job a.at;
-          preds = λ p q i w o k a s x y b c f g d e. not_some b.job b.at;
-        }
+    no_jobs_so_far e n = grind (arith, standing_at, not_some)
 
     no_turns : t.modules ≡ [] → AreTurns t es (λ n. no_turn)
     no_turns e =
@@ -79,11 +59,7 @@ module _ (t : Tables) (schedules : List (List SInstr)) (loaded : IsLoaded t sche
     turn_is h e = ap (λ o. turn_by o t schedules es) e
 
     pub loaded_turns : AreTurns t es (turn_at t schedules es)
-    loaded_turns = by (hyper t) refl
-      where
-        by : (o : Option ℕ) → hyper t ≡ o → AreTurns t es (turn_at t schedules es)
-        by None e = subst (AreTurns t es) (sym (ap (λ o. turn_by o t schedules es) e)) (no_turns (loaded_empty e))
-        by (Some h) e = subst (AreTurns t es) (sym (turn_is h e)) (are_turns t schedules es (loaded_run h e))
+    loaded_turns = grind (arith, no_turns, loaded_empty, turn_is, are_turns, loaded_run)
 
     pub loaded_listed : (h : ℕ) → hyper t ≡ Some h → AreListed (turn_at t schedules es)
     loaded_listed h e = subst AreListed (sym (turn_is h e)) (are_listed t schedules es (loaded_run h e))

@@ -3,10 +3,8 @@ use Rattle.std.proofs.Common.{◌≡◌, ◌≢◌, ℕ, zero, suc, ◌+◌, ◌
 use Rattle.htl_runs.proofs.Words.{list_any, div-add-mod, add-mul-mod_self_left, mul_assoc, eqb-true, eq-eqb, ne_eqb, cases_eq, get_or_from_slice_get, slice_get-get_or, slice_get_within, Event, Mode, KeptApart, frame_of, starts, unit_period, root_periods, rounds_of, choices, AreInRange, IsModeInRange, is_root, root_modules, modes_of, mode_of_module, Tables, mode_period, frame_divided, modes_some, place_passes_0, SInstr, IsRootAt, as_unit, choice_of, frame_modes, path_in, choice_at, nodes_below, node_read, modes_at, entry_place, IsFeasibleRun, nodes_read, node_steps, states_are_selections, frame_start, Turn, next_list, next_node, NextListStands, ListsBegin, begun_of, list_number, list_turn, first_period, opens, some_round_begins, all_at}
 use Rattle.htl_model.specs.Frames as frames
 use Rattle.htl_walk.proofs.Starts.{Rises}
-use Rattle.htl_runs.proofs.lists.ListStarts.{begun_next, none_after}
-use Rattle.htl_runs.proofs.frames.RoundStarts.{divides}
+use Rattle.htl_runs.proofs.{lists.ListStarts.begun_next, lists.ListStarts.none_after, frames.RoundStarts.divides, values.Periods.begins_or_not}
 use Rattle.htl_runs.proofs.lists.RunLists.{rise, past, stands, from_is, number, number_is}
-use Rattle.htl_runs.proofs.values.Periods.{begins_or_not}
 
 -- ---- where a round of a root module begins
 
@@ -16,9 +14,7 @@ first_is t j u range kept at =
     let x = place_passes_0 is_root j u t.modules at in
     let root : IsRootAt t u = record { owner = x.0; at = x.1; root = x.2 } in
     let m = get_or (modes_of t u) 0 0 in
-    let some : 0 < length (modes_of t u) = modes_some t u range (slice_get_within t.modules u x.0 x.1) in
-    let first : slice_get (modes_of t u) 0 ≡ Some m = slice_get-get_or (modes_of t u) 0 0 some in
-    let y = place_passes_0 (mode_of_module u) 0 m t.modes first in
+    let y = place_passes_0 (mode_of_module u) 0 m t.modes (slice_get-get_or (modes_of t u) 0 0 (modes_some t u range (slice_get_within t.modules u x.0 x.1))) in
     let unit : mode_period t m ≡ unit_period t u = as_unit t u m y.0 range kept root y.1 (eqb-true y.0.«module» u y.2) in
     let is : mode_period t m ≡ y.0.period = ap (λ (o : Option Mode). elim o as (λ _. ℕ) [ Some z ↦ z.period | None ↦ 0 ]) y.1 in
     (unit, omega (arith, unit, is, (all_at (IsModeInRange t) t.modes m y.0 range.modes y.1).period.some))
@@ -32,9 +28,7 @@ multiple h p k q d e = ap (λ z. z * q + d) (sym e) ∙ (let m : p * k * q ≡ p
 
 -- the code's test is that of the periods of the root modules
 pub begins_whole : (t : Tables) (now : ℕ) → AreInRange t → KeptApart t 12 → some_round_begins t now ≡ frames.begins (root_periods t) now
-begins_whole t now range kept =
-    any_mapped (opens t now) (λ p. eqb (now % p) 0) (unit_period t) (root_modules t)
-    (λ j u at. let f = first_is t j u range kept at in ap (λ q. not (eqb q 0) && eqb (now % q) 0) f.0 ∙ divides (unit_period t u) now f.1)
+begins_whole t now range kept = grind (arith, any_mapped, first_is, divides)
 
 -- so that is told by the offset from the frame's start
 pub begins_at : (t : Tables) (now : ℕ) → AreInRange t → KeptApart t 12 → some_round_begins t now ≡ frames.begins (root_periods t) (now % frame_of t)
@@ -47,8 +41,7 @@ begins_at t now range kept = any_mapped (opens t now) (λ p. eqb ((now % frame_o
         let f = first_is t j u range kept at in
         let there : get_or (root_modules t) j 0 ≡ u = get_or_from_slice_get (root_modules t) j u 0 at in
         let no_rest : h % p ≡ 0 = ap (λ v. h % unit_period t v) (sym there) ∙ frame_divided t j (slice_get_within (root_modules t) j u at) in
-        let parts : p * (h / p) + h % p ≡ h = div-add-mod h p in
-        let whole : p * (h / p) ≡ h = omega (arith, parts, no_rest) in
+        let whole : p * (h / p) ≡ h = omega (arith, div-add-mod h p, no_rest) in
         let now_is : now ≡ now % h + p * (h / p * (now / h)) = sym (div-add-mod now h) ∙ multiple h p (h / p) (now / h) (now % h) whole in
         ap (λ q. not (eqb q 0) && eqb (now % q) 0) f.0 ∙ divides p now f.1
         ∙ ap (λ z. eqb z 0) (ap (λ z. z % p) now_is ∙ add-mul-mod_self_left (now % h) p (h / p * (now / h)))
@@ -62,14 +55,7 @@ begins_start ps h (a ∷ later) (suc j) r l = begins_start ps h later j r.3 (ome
 
 first_number : (ps : List ℕ) (h : ℕ) (from : List ℕ) → Rises ps h from → list_number 0 from ≡ 0
 first_number ps h [] r = refl
-first_number ps h (a ∷ later) r = by (leb a 0)
-  where
-    none : begun_of 0 later ≡ 0
-    none = none_after h 0 a later r.1 (omega arith)
-
-    by : (b : Bool) → pred (cond b (suc (begun_of 0 later)) 0) ≡ 0
-    by true = none
-    by false = refl
+first_number ps h (a ∷ later) r = grind (arith, none_after)
 
 -- ---- the choice at a start
 
@@ -78,12 +64,7 @@ choice_same t modes a = go (root_modules t)
   where
     go : (us : List ℕ) → path_in t modes (rounds_of t a us) ≡ path_in t (λ x. modes a) (rounds_of t a us)
     go [] = refl
-    go (u ∷ us) = by (eqb (a % unit_period t u) 0) (go us)
-      where
-        by : (b : Bool) → path_in t modes (rounds_of t a us) ≡ path_in t (λ x. modes a) (rounds_of t a us)
-            → path_in t modes (cond b (record { at = a; unit = u } ∷ rounds_of t a us) (rounds_of t a us)) ≡ path_in t (λ x. modes a) (cond b (record { at = a; unit = u } ∷ rounds_of t a us) (rounds_of t a us))
-        by false ih = ih
-        by true ih = ap (λ n. entry_place t (modes a) u * choices t (rounds_of t a us) + n) ih
+    go (u ∷ us) = grind (arith, go us)
 
 node_first : (t : Tables) (modes : ℕ → List (Option ℕ)) (from : List ℕ) → 0 < length from → node_read t modes from 0 ≡ choice_at t modes (get_or from 0 0) * suc (nodes_below t (drop 1 from))
 node_first t modes [] l = absurd (omega arith)
@@ -134,9 +115,7 @@ module _ (t : Tables) (lists : List (List SInstr)) (es : List Event) (run : IsFe
 
     -- the choice at its start, by the modes of the instant
     choice_is : choice_at t (frame_modes t es (frame_start t now)) (get_or (starts t) (turn now).list 0) ≡ choice_of t (modes_at t es now) (now % frame_of t)
-    choice_is =
-        let same : frame_start t now + now % frame_of t ≡ now = omega (arith, offset, past t lists es run now) in
-        ap (choice_at t modes) at_is ∙ choice_same t modes (now % frame_of t) ∙ ap (λ n. choice_of t (modes_at t es n) (now % frame_of t)) same
+    choice_is = grind (arith, offset, past, at_is, choice_same)
 
     -- as a frame begins
     pub first_next : now % frame_of t ≡ 0 → (list before : ℕ) → ((turn now).list ≡ next_list t now list) × ((turn now).node ≡ next_node t (modes_at t es now) now before list)
@@ -154,10 +133,7 @@ module _ (t : Tables) (lists : List (List SInstr)) (es : List Event) (run : IsFe
 
   -- behind a frame's start the frame goes on
   pub same_frame : (n : ℕ) → now ≡ suc n → now % frame_of t ≢ 0 → (turn now).frame + (turn now).from ≡ now → frame_start t now ≡ frame_start t n
-  same_frame n e more here = elim (begins_or_not (frame_of t) n run.ticks) [
-    | inl whole ↦ absurd (more (let z : frame_start t now ≡ now = ap (frame_start t) e ∙ whole ∙ sym e in omega (arith, offset, z)))
-    | inr on ↦ ap (frame_start t) e ∙ on
-  ]
+  same_frame n e more here = grind (arith, begins_or_not, offset)
 
   -- behind it
   pub later_next : (n : ℕ) → now ≡ suc n → now % frame_of t ≢ 0 → (turn now).frame + (turn now).from ≡ now
@@ -165,8 +141,7 @@ module _ (t : Tables) (lists : List (List SInstr)) (es : List Event) (run : IsFe
   later_next n e more here =
       let test : eqb (now % frame_of t) 0 ≡ false = ne_eqb (now % frame_of t) 0 more in
       let list : (turn now).list ≡ suc (turn n).list = grown (begun_next (root_periods t) (frame_of t) (n - frame_start t n) (starts t) (rise t lists es run)) in
-      let s = stands t lists es run now in
-      let step = node_steps t modes (starts t) (turn n).list (omega (arith, list, s.there)) in
+      let step = node_steps t modes (starts t) (turn n).list (omega (arith, list, (stands t lists es run now).there)) in
       let old : (turn n).node ≡ node_read t modes (starts t) (turn n).list =
       nodes_read t (frame_modes t es (frame_start t n)) (λ a. states_are_selections t run.range es (frame_start t n + a)) (turn n).list ∙ ap (λ f. node_read t (frame_modes t es f) (starts t) (turn n).list) (sym (same_frame n e more here)) in (
         list ∙ sym (ap (λ b. cond b 0 (suc (turn n).list)) test),
@@ -180,9 +155,7 @@ module _ (t : Tables) (lists : List (List SInstr)) (es : List Event) (run : IsFe
           × (get_or (starts t) (begun_of (n - frame_start t n) (starts t)) 0 ≡ suc (n - frame_start t n)))
           → (turn now).list ≡ suc (turn n).list
       grown c =
-          let down = past t lists es run n in
-          let d : now - frame_start t now ≡ suc (n - frame_start t n) = omega (arith, same_frame n e more here, e, down) in
-          by d c
+          by (omega (arith, same_frame n e more here, e, past t lists es run n)) c
         where
           by : now - frame_start t now ≡ suc (n - frame_start t n)
               → (begun_of (suc (n - frame_start t n)) (starts t) ≡ begun_of (n - frame_start t n) (starts t))

@@ -1,8 +1,7 @@
 -- A list ends, and the S machine goes on with the next.
 use Rattle.std.proofs.Common.{◌≡◌, ℕ, zero, suc, ◌+◌, ◌-◌, ◌≤◌, ◌<◌, Bool, true, false, ◌&&◌, ltb, List, [], ◌∷◌, ◌++◌, length, take, drop, get_or, slice_get, replicate, Some, refl, sym, ap, ap₂, ◌∙◌, subst, arith, length-append, ⊎_elim}
 use Rattle.htl_runs.proofs.Words.{cases_lt, lt-ltb, le-ltb, length-take, length-drop, length-map, Job, Point, job_at, last_point, first_point, work, list_point, AgreeAt, HaveLengths, AreWithinWorst, onward_lists, same_length, job_there, CanBegin, IsEven, Pending, Round, added, state_of, stands_added, pending_is, Frame, IsFollowed, leg_at, front_of, list_start, list_plan, point_long, take_work, front_agrees, point_agrees, form_at, released_before, SMachineAt, more_jobs, more_lengths, SMachinesGoOn, front_more, get_taken, take_all, work_length, same_number_lists, point_next}
-use Rattle.htl_runs.proofs.lists.NextPoints.{drop_work, get_behind, point_untouched}
-use Rattle.htl_runs.proofs.records.ReleasedBefore.{flag_at}
+use Rattle.htl_runs.proofs.{lists.NextPoints.drop_work, lists.NextPoints.get_behind, lists.NextPoints.point_untouched, records.ReleasedBefore.flag_at}
 
 -- ---- releases
 
@@ -22,14 +21,10 @@ pub get_later : (n m : ℕ) (js : List Job) (p : ℕ) (k : Job) → slice_get (d
 get_later zero zero js p k e = absurd (let z : ⊥ = cc in z)
 get_later zero (suc m) [] p k e = absurd (let z : ⊥ = cc in z)
 get_later zero (suc m) (j ∷ js) zero k e = e
-get_later zero (suc m) (j ∷ js) (suc p) k e =
-    let r : slice_get js (0 + p) ≡ Some k = get_later zero m js p k e in
-    (let z : 0 + suc p ≡ suc (0 + p) = omega arith in ap (slice_get (j ∷ js)) z) ∙ r
+get_later zero (suc m) (j ∷ js) (suc p) k e = grind (arith, get_later zero m js p k e)
 get_later (suc n) zero js p k e = absurd (let z : ⊥ = cc in z)
 get_later (suc n) (suc m) [] p k e = absurd (let z : ⊥ = cc in z)
-get_later (suc n) (suc m) (j ∷ js) p k e =
-    let r : slice_get js (n + p) ≡ Some k = get_later n m js p k e in
-    (let z : suc n + p ≡ suc (n + p) = omega arith in ap (slice_get (j ∷ js)) z) ∙ r
+get_later (suc n) (suc m) (j ∷ js) p k e = grind (arith, get_later n m js p k e)
 
 later_below : (n m : ℕ) (js : List Job) (p : ℕ) (k : Job) → slice_get (drop n (take m js)) p ≡ Some k → n + p < m
 later_below zero zero js p k e = absurd (let z : ⊥ = cc in z)
@@ -45,12 +40,7 @@ later_below (suc n) (suc m) (j ∷ js) p k e = let r : n + p < m = later_below n
 module _ (f : Frame) (j s : ℕ) (r : Round) (g : IsFollowed f j) (at : SMachineAt (list_plan f j) s (length (get_or f.lists j [])) (leg_at f (suc j)).from r) where
   -- the point at which the list before ends, of the positions so far
   ended : r.point ≡ last_point (take (leg_at f j).known f.jobs) (get_or f.lists j []) (front_of (leg_at f j).known (list_start f j))
-  ended =
-      let c = get_or f.lists j [] in
-      at.stands.point
-      ∙ ap (λ k. last_point r.jobs (take k c) r.first) at.place
-      ∙ ap (λ is. last_point r.jobs is r.first) (take_all c)
-      ∙ ap₂ (λ js x. last_point js c x) at.jobs at.first
+  ended = grind (arith, take_all)
 
   alike : AgreeAt (length (take (leg_at f j).known f.jobs) + length (more_jobs f j))
       (record { time = (leg_at f (suc j)).from; left = (last_point (take (leg_at f j).known f.jobs) (get_or f.lists j []) (front_of (leg_at f j).known (list_start f j))).left ++ work (more_jobs f j) (more_lengths f j) })
@@ -92,12 +82,11 @@ module _ (f : Frame) (j s : ℕ) (r : Round) (g : IsFollowed f j) (at : SMachine
       same_number_lists (u.left ++ work (more_jobs f j) (more_lengths f j)) (take m v.left) (omega (arith, both, length-take m v.left, long_v, g.within))
       (λ p h. alike.left p (omega (arith, h, both, few, new, g.more)) ∙ sym (get_taken m v.left p (omega (arith, h, both)))) in
       let time : at' - r.start ≡ a = omega (arith, e, at.start) in
-      let next : list_start f (suc j) ≡ list_point a v = point_next f.jobs f.lists f.legs j (first_point f.jobs f.lengths) g.forms g.there in
       let make : ℕ → List ℕ → Point = λ t ws. record { time = t; left = ws } in
       ap (λ t. make t (r.point.left ++ work (more_jobs f j) (more_lengths f j))) time
       ∙ ap (λ (x : Point). make a (x.left ++ work (more_jobs f j) (more_lengths f j))) ended
       ∙ ap (make a) lefts
-      ∙ sym (ap (front_of m) next)
+      ∙ sym (ap (front_of m) (point_next f.jobs f.lists f.legs j (first_point f.jobs f.lengths) g.forms g.there))
 
   flags_are : r.released ++ replicate (length (more_jobs f j)) false ≡ released_before (leg_at f (suc j)).from (take (leg_at f (suc j)).known f.jobs)
   flags_are =
@@ -124,23 +113,10 @@ module _ (f : Frame) (j s : ℕ) (r : Round) (g : IsFollowed f j) (at : SMachine
       late true a d e h = ⊎_elim (λ (l : a < d). absurd (let z : true ≡ false = sym (lt-ltb a d l) ∙ h in cc)) (λ (l : d ≤ a). l) (cases_lt a d)
 
   length_at : (p : ℕ) (k : Job) → slice_get (more_jobs f j) p ≡ Some k → get_or (more_lengths f j) p 0 ≡ get_or f.lengths ((leg_at f j).known + p) 0
-  length_at p k e =
-      let n = (leg_at f j).known in
-      let m = (leg_at f (suc j)).known in
-      get_behind n (take m f.lengths) p ∙ get_taken m f.lengths (n + p) (later_below n m f.jobs p k e)
+  length_at p k e = grind (arith, get_behind, get_taken, later_below)
 
   pub can_begin : (at' : ℕ) → at' ≡ s + (leg_at f (suc j)).from → HaveLengths f.jobs f.lengths → AreWithinWorst f.jobs f.lengths → CanBegin r (at' - r.start) (more_jobs f j) (more_lengths f j)
-  can_begin at' e least most =
-      let n = (leg_at f j).known in
-      let m = (leg_at f (suc j)).known in
-      let offset : at' - r.start ≡ (leg_at f (suc j)).from = omega (arith, e, at.start) in
-      record {
-        told = λ p pending. omega (arith, offset, told p pending);
-        later = λ p k is here. omega (arith, offset, g.later (n + p) k (omega arith) (get_later n m f.jobs p k is) here);
-        same = omega (arith, length-drop n (take m f.lengths), length-take m f.lengths, length-drop n (take m f.jobs), length-take m f.jobs, g.lengths);
-        least = λ p k is here. omega (arith, length_at p k is, least (n + p) k (get_later n m f.jobs p k is) here);
-        most = λ p k is here. omega (arith, length_at p k is, most (n + p) k (get_later n m f.jobs p k is) here);
-      }
+  can_begin at' e least most = grind (arith, told, get_later, length-drop, length-take, length_at)
 
   -- as many of each
   pub even : IsEven r

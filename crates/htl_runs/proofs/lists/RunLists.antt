@@ -3,19 +3,14 @@ use Rattle.std.proofs.Common.{◌≡◌, ℕ, zero, suc, ◌+◌, ◌-◌, ◌*�
 use mathlib.Core.Path.{fun_ext}
 use Rattle.htl_runs.proofs.Words.{le-leb, lt-leb, cases_eq, append_assoc, length-map, length-take, div-add-mod, mod-lt, Event, Place, frame_of, node, starts, rounds, root_periods, begins, known_by, multiple_of, starts_below, nodes, root_modules, Tables, is_concrete, task_worst, Inv, get_list_to, Job, SInstr, placed_job, next_of, Leg, AreInForm, list_point, end_to_end, path_point, HaveLengths, AreWithinWorst, Left, Point, InForm, job_at, work, first_point, last_point, finish, nodes_within, job_there, work_present, derived_place, Frame, path_of, frame_modes, frame_places, frame_at, walks_of, walk_of, place, standing_places, no_leg, leg_at, list_plan, list_walk, records_before, count_left_before, done_by, IsServing, IsFeasibleRun, front_there, job_front, mapped, count_split, done_split, legs_many, leg_from, leg_knows, begins_by, form_at, list_walks, placed_present, paths_read, places_ordered, states_are_selections, round_of, run_of, frames_are_served, have_lengths, within_worst, paths_are, work_done, length-walk, frame_start, begun_by, Now, AreFrames, Turn, turn_walk, records_so_far, AreTurns, IsTurn, IsListed, AreListed, now_of, turn_of, begun_of, list_number, list_turn, RunsGoByLists, not_some, goes_on, round_down, get_taken, same_Some}
 use Rattle.htl_walk.proofs.Starts.{Rises, starts_rise, first_start, known_few}
-use Rattle.htl_runs.proofs.frames.PlacedStays.{at_place_is}
+use Rattle.htl_runs.proofs.{frames.PlacedStays.at_place_is, lists.ListValues.take_front, frames.RunFrames.feasible_runs, values.Periods.begins_or_not}
 use Rattle.htl_runs.proofs.lists.ListStarts.{StandsAt, stands_at, some_begun, begun_next, ends_next, ends_within, known_same}
-use Rattle.htl_runs.proofs.lists.ListValues.{take_front}
-use Rattle.htl_runs.proofs.frames.RunFrames.{feasible_runs}
-use Rattle.htl_runs.proofs.values.Periods.{begins_or_not}
 
 -- the records of list j among those of its frame
 split_at : (ws : List (List Left)) (j : ℕ) (x : List Left) → slice_get ws j ≡ Some x → (rest : List Left) × (end_to_end ws ≡ (end_to_end (take j ws) ++ x) ++ rest)
 split_at [] j x e = not_some x e
 split_at (w ∷ ws) zero x e = (end_to_end ws, ap (λ z. z ++ end_to_end ws) (same_Some w x e))
-split_at (w ∷ ws) (suc j) x e =
-    let r = split_at ws j x e in
-    (r.0, ap (λ z. w ++ z) r.1 ∙ sym (append_assoc w (end_to_end (take j ws) ++ x) r.0) ∙ ap (λ z. z ++ r.0) (sym (append_assoc w (end_to_end (take j ws)) x)))
+split_at (w ∷ ws) (suc j) x e = grind (arith, append_assoc, split_at ws j x e)
 
 -- a list begins at its leg's start
 point_time : (jobs : List Job) (ss : List (List SInstr)) (gs : List Leg) (j : ℕ) (x : Point) → AreInForm ss gs → j < length gs → (path_point jobs ss gs j 0 x).time ≡ (get_or gs j no_leg).from
@@ -25,14 +20,7 @@ point_time jobs (s ∷ ss) [] j x f l = absurd f
 point_time jobs (s ∷ ss) (g ∷ gs) zero x f l = refl
 point_time jobs (s ∷ ss) (g ∷ gs) (suc j) x f l = point_time jobs ss gs j (last_point jobs s (list_point g.from x)) f.1 (omega (arith, l))
 
--- the frame's length, by the periods of its root modules
-abbrev frame_by : List ℕ → ℕ
-frame_by ps = elim (elim ps as (λ _. Option ℕ) [ [] ↦ None | p ∷ qs ↦ Some (multiple_of p qs) ]) as (λ _. ℕ) [ Some h ↦ h | None ↦ 0 ]
-
 module _ (t : Tables) (lists : List (List SInstr)) (es : List Event) (run : IsFeasibleRun t lists es) where
-  abbrev h : ℕ
-  h = frame_of t
-
   abbrev from : List ℕ
   from = starts t
 
@@ -43,11 +31,7 @@ module _ (t : Tables) (lists : List (List SInstr)) (es : List Event) (run : IsFe
   rise = starts_rise (root_periods t) (frame_of t)
 
   pub first : next_of (frame_of t) (starts t) ≡ 0
-  first = by (root_periods t) refl
-    where
-      by : (ps : List ℕ) → root_periods t ≡ ps → next_of (frame_of t) (starts_below ps (frame_of t)) ≡ 0
-      by [] e = absurd (let none : frame_of t ≡ 0 = ap frame_by e in omega (arith, none, run.ticks))
-      by (p ∷ ps) e = first_start p ps (frame_of t) run.ticks
+  first = grind (arith, first_start)
 
   -- ---- the frame of an instant
 
@@ -62,9 +46,7 @@ module _ (t : Tables) (lists : List (List SInstr)) (es : List Event) (run : IsFe
 
   pub before_end : (n : ℕ) → n - frame_start t n < frame_of t
   before_end n =
-      let whole : frame_of t * (n / frame_of t) + n % frame_of t ≡ n = div-add-mod n (frame_of t) in
-      let rest : n % frame_of t < frame_of t = mod-lt n run.ticks in
-      omega (arith, whole, rest)
+      omega (arith, div-add-mod n (frame_of t), mod-lt n run.ticks)
 
   pub serving : (n : ℕ) → IsServing (frame n) (frame_of t)
   serving n = frames_are_served t lists es (frame_start t n) run
@@ -94,10 +76,7 @@ module _ (t : Tables) (lists : List (List SInstr)) (es : List Event) (run : IsFe
 
   -- its instructions are those of its node's list
   pub code_is : (n : ℕ) → (turn n).plan.schedule ≡ get_or lists (turn n).node []
-  code_is n =
-      let j = list_number (n - frame_start t n) (starts t) in
-      let less : j < length (starts t) = omega (arith, there n, legs_many (frame_of t) (places n) (starts t)) in
-      get_list_to (λ k. get_or lists (node t (path_of t (frame_modes t es (frame_start t n))) k) []) (length (starts t)) j [] less
+  code_is n = grind (arith, there, legs_many, get_list_to)
 
   pub from_is : (n : ℕ) → (turn n).from ≡ get_or (starts t) (turn n).list 0
   from_is n = leg_from (frame_of t) (places n) (starts t) (turn n).list (stands n).there
@@ -120,15 +99,11 @@ module _ (t : Tables) (lists : List (List SInstr)) (es : List Event) (run : IsFe
           let r = run_of t (frame_modes t es (frame_start t n)) (rounds t) p x at in
           let root = round_of t r.0 r.1 r.2 in
           let own : x.at ≡ r.1.at = ap (λ (z : Place). z.at) r.6 in
-          let begins_there : begins (root_periods t) r.1.at ≡ true = begins_by t (root_modules t) root.0 r.1.unit r.1.at root.1 root.2 in
           let quiet : begins (root_periods t) r.1.at ≡ false = s.quiet r.1.at (omega (arith, between.0, own)) (omega (arith, between.1, own, s.before)) in
-          absurd (let z : true ≡ false = sym begins_there ∙ quiet in let y : ⊥ = cc in y)
+          absurd (let z : true ≡ false = sym (begins_by t (root_modules t) root.0 r.1.unit r.1.at root.1 root.2) ∙ quiet in let y : ⊥ = cc in y)
 
   pub few : (n : ℕ) → (leg_at (frame n) (turn n).list).known ≤ length (frame n).jobs
-  few n =
-      let modes = frame_modes t es (frame_start t n) in
-      let ys = map (derived_place t modes) (places n) in
-      omega (arith, known_is n, known_few (n - frame_start t n) (places n), length-map ys (placed_job t ys), length-map (places n) (derived_place t modes))
+  few n = grind (arith, known_is, known_few, length-map)
 
   pub length-jobs : (n : ℕ) → length (turn n).plan.jobs ≡ (leg_at (frame n) (turn n).list).known
   length-jobs n = let less = few n in length-take (leg_at (frame n) (turn n).list).known (frame n).jobs ∙ omega (arith, less)
@@ -139,14 +114,12 @@ module _ (t : Tables) (lists : List (List SInstr)) (es : List Event) (run : IsFe
       let f = frame_start t n in
       let ys = standing_places t es f in
       let m = known_by (n - f) (places n) in
-      let r = front_there (leg_at (frame n) (turn n).list).known (frame n).jobs p j at in
-      let y = mapped (placed_job t ys) ys p j r.0 in
+      let y = mapped (placed_job t ys) ys p j (front_there (leg_at (frame n) (turn n).list).known (frame n).jobs p j at).0 in
       let c = placed_present t ys y.0.at y.0.inv j y.2 here in
       let inv : j.inv ≡ c.0 = sym (ap (λ (z : Job). z.inv) c.4) in
       let spot : slice_get ys p ≡ Some (place c.0 y.0.at) = y.1 ∙ ap (λ (o : Option ℕ). let z : Place = record { inv = o; at = y.0.at } in Some z) c.2 in
       let w = at_place_is t es n f m run.range run.kept refl (past n) (let less = before_end n in omega (arith, less, past n)) (places_ordered t es f (n - f) run.range run.kept) p c.0 y.0.at spot in
-      let one : w.inv ≡ c.1 = same_Some _ _ (sym w.known ∙ c.3) in
-      (c.1, ap (slice_get t.invs) inv ∙ c.3, ap (is_concrete t) (sym one) ∙ w.concrete, sym (ap (λ (z : Job). z.worst) c.4))
+      (c.1, ap (slice_get t.invs) inv ∙ c.3, ap (is_concrete t) (sym (same_Some _ _ (sym w.known ∙ c.3))) ∙ w.concrete, sym (ap (λ (z : Job). z.worst) c.4))
 
   -- ---- its records
 
@@ -185,18 +158,10 @@ module _ (t : Tables) (lists : List (List SInstr)) (es : List Event) (run : IsFe
   -- ---- what it keeps
 
   pub lasts : (n : ℕ) → HaveLengths (turn n).plan.jobs (turn n).plan.lengths
-  lasts n p j at here =
-      let m = (leg_at (frame n) (turn n).list).known in
-      let f = front_there m (frame n).jobs p j at in
-      let all = have_lengths t (frame_modes t es (frame_start t n)) es (frame_start t n) run.range run.within (places n) p j f.0 here in
-      omega (arith, all, get_taken m (frame n).lengths p f.1)
+  lasts n p j at here = grind (arith, front_there, have_lengths, get_taken)
 
   most : (n : ℕ) → AreWithinWorst (turn n).plan.jobs (turn n).plan.lengths
-  most n p j at here =
-      let m = (leg_at (frame n) (turn n).list).known in
-      let f = front_there m (frame n).jobs p j at in
-      let all = within_worst t (frame_modes t es (frame_start t n)) es (frame_start t n) run.range run.within (places n) p j f.0 here in
-      omega (arith, all, get_taken m (frame n).lengths p f.1)
+  most n p j at here = grind (arith, front_there, within_worst, get_taken)
 
   worked : (n k p : ℕ) → p < length (turn n).plan.jobs → k ≤ length (turn n).plan.schedule → (job_at (turn n).plan.jobs p).present ≡ true
       → get_or (last_point (turn n).plan.jobs (take k (turn n).plan.schedule) (turn n).plan.first).left p 0 ≡ 0 → done_by (records_so_far (turn n)) (length (turn n).earlier + k) p ≡ true
@@ -248,24 +213,16 @@ module _ (t : Tables) (lists : List (List SInstr)) (es : List Event) (run : IsFe
           × (get_or (starts t) (begun_of (n - frame_start t n) (starts t)) 0 ≡ suc (n - frame_start t n)))
           → (turn (suc n) ≡ turn n) ⊎ (((turn (suc n)).frame + (turn (suc n)).from ≡ suc n) × ((turn n).frame + (turn n).to ≡ suc n))
       by on (inl same) =
-          let d : suc n - frame_start t (suc n) ≡ suc (n - frame_start t n) = omega (arith, on, past n) in
-          inl (ap₂ (turn_of t lists es) on (ap (λ z. list_number z (starts t)) d ∙ ap pred same))
+          inl (ap₂ (turn_of t lists es) on (ap (λ z. list_number z (starts t)) (omega (arith, on, past n)) ∙ ap pred same))
       by on (inr next) =
-          let d : suc n - frame_start t (suc n) ≡ suc (n - frame_start t n) = omega (arith, on, past n) in
           let was : begun_of (n - frame_start t n) (starts t) ≡ suc (turn n).list = (number n).1 ∙ ap suc (sym (number_is n)) in
-          let is : (turn (suc n)).list ≡ suc (turn n).list = ap (λ z. list_number z (starts t)) d ∙ ap pred next.0 ∙ was in
+          let is : (turn (suc n)).list ≡ suc (turn n).list = ap (λ z. list_number z (starts t)) (omega (arith, on, past n)) ∙ ap pred next.0 ∙ was in
           let at : get_or (starts t) (suc (turn n).list) 0 ≡ suc (n - frame_start t n) = ap (λ z. get_or (starts t) z 0) (sym was) ∙ next.2 in
-          let new : (turn (suc n)).from ≡ suc (n - frame_start t n) = from_is (suc n) ∙ ap (λ z. get_or (starts t) z 0) is ∙ at in
           let old : (turn n).to ≡ suc (n - frame_start t n) = ends_next (frame_of t) (places n) (starts t) (turn n).list (omega (arith, next.1, was)) ∙ at in
-          inr (omega (arith, new, on, past n), omega (arith, old, past n))
+          inr (omega (arith, from_is (suc n) ∙ ap (λ z. get_or (starts t) z 0) is ∙ at, on, past n), omega (arith, old, past n))
 
   pub are_listed : AreListed (list_turn t lists es)
-  are_listed =
-      record {
-        each = is_listed;
-        first = (let s = stands 0 in let zero_is = past 0 in omega (arith, zero_is, from_is 0, s.begun));
-        on = goes;
-      }
+  are_listed = grind (arith, is_listed, first, stands, past, from_is, goes)
 
 pub runs_go_by_lists : RunsGoByLists
 runs_go_by_lists t lists es run = (are_turns t lists es run, are_listed t lists es run)

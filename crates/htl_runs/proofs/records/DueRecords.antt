@@ -17,11 +17,7 @@ still_pending r code p i st e pend =
     more a b h e = grind (arith, nat_tests)
 
 pub is_running : (r : Round) (code : List SInstr) (at : ℕ) (l : Left) → next_left r code at ≡ Some l → r.running ≡ true
-is_running r code at l e = by_test r.running refl e
-  where
-    by_test : (b : Bool) → r.running ≡ b → cond b (left_until at (slice_get (walk_records r code) r.place)) None ≡ Some l → r.running ≡ true
-    by_test true f g = f
-    by_test false f g = not_some l g
+is_running r code at l e = grind (arith, not_some)
 
 -- an instruction stands where one was left
 pub instr_there : (r : Round) (code : List SInstr) (at : ℕ) (l : Left) → next_left r code at ≡ Some l → (i : SInstr) × (slice_get code r.place ≡ Some i)

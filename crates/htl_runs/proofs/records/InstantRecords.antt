@@ -10,8 +10,7 @@ slice_is start None = refl
 slice_is start (Some s) = refl
 
 told_is : (start k : ℕ) (l : walks.Left) → told start k l ≡ as_told (k, shifted start l)
-told_is start k l =
-    ap (λ (s : Option (ℕ × ℕ)). record { at = start + l.at; instr = k; position = l.position; slice = s; finished = l.finished }) (slice_is start l.slice)
+told_is start k l = grind (arith, slice_is)
 
 -- ---- the records of a walk that are left at one instant
 
@@ -21,11 +20,7 @@ left_then start now k ls = filter (λ (l : ℕ × walks.Left). eqb l.1.at now) (
 
 pub none_before : (d a : ℕ) (ls : List walks.Left) → Rises a ls → d ≤ a → count_left_before d ls ≡ 0
 none_before d a [] r h = refl
-none_before d a (l ∷ ls) r h = by (ltb l.at d) refl
-  where
-    by : (b : Bool) → ltb l.at d ≡ b → cond b (suc (count_left_before d ls)) 0 ≡ 0
-    by true e = absurd (omega (arith, ltb-true l.at d e, r.0))
-    by false e = refl
+none_before d a (l ∷ ls) r h = grind (arith, ltb-true)
 
 pub piece : (start now d k a : ℕ) (ls : List walks.Left) → now ≡ start + d → Rises a ls
     → map as_told (left_then start now k ls) ≡ take (count_left_before (suc d) ls - count_left_before d ls) (drop (count_left_before d ls) (told_from start k ls))
@@ -42,14 +37,9 @@ piece start now d k a (l ∷ ls) is rises =
         ≡ take (cond upto (suc (count_left_before (suc d) ls)) 0 - cond before (suc (count_left_before d ls)) 0) (drop (cond before (suc (count_left_before d ls)) 0) (told start k l ∷ told_from start (suc k) ls))
     by true false now_is e f g next = absurd (omega (arith, ltb-true l.at d e, ltb-false l.at (suc d) f))
     by true true true e f g next = absurd (omega (arith, ltb-true l.at d e, eqb-true (start + l.at) now g, is))
-    by true true false e f g next =
-        next ∙ ap (λ n. take n (drop (count_left_before d ls) (told_from start (suc k) ls))) (one_less (count_left_before (suc d) ls) (count_left_before d ls))
-      where
-        one_less : (m n : ℕ) → m - n ≡ suc m - suc n
-        one_less m n = omega arith
+    by true true false e f g next = grind arith
     by false true true e f g next =
-        let low : count_left_before d ls ≡ 0 = behind d (ltb-false l.at d e) in
-        let here = next ∙ ap (λ c. take (count_left_before (suc d) ls - c) (drop c (told_from start (suc k) ls))) low in
+        let here = next ∙ ap (λ c. take (count_left_before (suc d) ls - c) (drop c (told_from start (suc k) ls))) (behind d (ltb-false l.at d e)) in
         ap₂ (λ (x : Left) (xs : List Left). x ∷ xs) (sym (told_is start k l)) (here ∙ ap (λ n. take n (told_from start (suc k) ls)) (less (count_left_before (suc d) ls)))
         ∙ ap (λ n. take n (told start k l ∷ told_from start (suc k) ls)) (sym (less (suc (count_left_before (suc d) ls))))
       where
@@ -57,10 +47,7 @@ piece start now d k a (l ∷ ls) is rises =
         less n = omega arith
     by false true false e f g next = absurd (eqb-false (start + l.at) now g (omega (arith, ltb-false l.at d e, ltb-true l.at (suc d) f, is)))
     by false false true e f g next = absurd (omega (arith, ltb-false l.at (suc d) f, eqb-true (start + l.at) now g, is))
-    by false false false e f g next =
-        let late = ltb-false l.at (suc d) f in
-        next
-        ∙ ap₂ (λ n c. take (n - c) (drop c (told_from start (suc k) ls))) (behind (suc d) late) (behind d (omega (arith, late)))
+    by false false false e f g next = grind (arith, ltb-false, behind)
 
 -- ---- the rounds before an instant
 
@@ -70,8 +57,7 @@ up_to_last f m h = ap (λ xs. xs ++ f m) (up_to_none f m h)
 
 -- before the instant behind n, those that began up to n
 pub rounds_are : (period n : ℕ) → 0 < period → rounds_before period (suc n) ≡ suc (n / period)
-rounds_are period n some =
-    ap (λ z. z / period) (let e : suc n + period - 1 ≡ n + period * 1 = omega arith in e) ∙ add-mul-div_left n 1 some ∙ (let e : n / period + 1 ≡ suc (n / period) = omega arith in e)
+rounds_are period n some = grind (arith, add-mul-div_left)
 
 pub none_at_first : (period : ℕ) → 0 < period → rounds_before period 0 ≡ 0
 none_at_first period some = grind arith

@@ -10,9 +10,7 @@ use Rattle.htl_runs.proofs.records.DueRecords.{is_running, instr_there, still_pe
 -- one record more, at the end
 run_more : (t : Tables) (jobs : List Job) (ls : List walks.Left) (n k : ℕ) (w : Content) → run_records t jobs ls (suc n) k w ≡ complete_by t jobs (slice_get ls (k + n)) (run_records t jobs ls n k w)
 run_more t jobs ls zero k w = ap (λ z. complete_by t jobs (slice_get ls z) w) (let e : k ≡ k + 0 = omega arith in e)
-run_more t jobs ls (suc n) k w =
-    run_more t jobs ls n (suc k) (complete_by t jobs (slice_get ls k) w)
-    ∙ ap (λ z. complete_by t jobs (slice_get ls z) (run_records t jobs ls n (suc k) (complete_by t jobs (slice_get ls k) w))) (let e : suc k + n ≡ k + suc n = omega arith in e)
+run_more t jobs ls (suc n) k w = grind (arith, run_more t jobs ls n (suc k) (complete_by t jobs (slice_get ls k) w))
 
 -- what an answer says of the walk of the round's list
 record IsAnswer (r : Round) (code : List SInstr) (l : Left) : Type 0 where
@@ -41,15 +39,7 @@ abbrev pub done_with : Tables → List Job → Left → Content → Content
 done_with t jobs l w = cond l.finished (complete_at t jobs l.position w) w
 
 pub recording_start : (t : Tables) (r : Round) (w : Content) (jobs : List Job) (code : List SInstr) (at : ℕ) → (r.running ≡ true → IsInForm r code) → Stands r code → IsTold r at → r.jobs ≡ jobs → IsShaped t w → IsRecording t r w r w jobs code at
-recording_start t r w jobs code at form st told same shaped =
-    record {
-      form = form;
-      stands = st;
-      told = told;
-      are = same;
-      shaped = shaped;
-      goes = λ p s k d e b h f. (k, omega arith, h, f, ap (λ z. run_records t p.jobs (list_walk p) z k w) (let z : 0 ≡ k - k = omega arith in z));
-    }
+recording_start t r w jobs code at form st told same shaped = grind arith
 
 pub recording_step : (t : Tables) (r0 r n : Round) (w0 w v : Content) (jobs : List Job) (code : List SInstr) (at : ℕ) (l : Left) → IsRecording t r0 w0 r w jobs code at → next_left r code at ≡ Some l → n ≡ after r code (Some l)
     → Stands n code → IsShaped t v → v ≡ done_with t jobs l w → IsRecording t r0 w0 n v jobs code at
@@ -92,44 +82,21 @@ recording_step t r0 r n w0 w v jobs code at l h e f st shaped is =
 
     -- the answer is the plan's record
     worlds : (p : Plan) (s m k d : ℕ) → p.schedule ≡ code → s ≤ at → m < due_by p s at → SMachineAt p s m d r → k ≤ m → done_with t jobs l w ≡ complete_by t p.jobs (slice_get (list_walk p) m) w
-    worlds p s m k d same past less was below =
-        let x = next_some p s at d past m r was less in
-        let one : l ≡ told s m x.0 = same_Some _ _ (sym e ∙ ap (λ c. next_left r c at) (sym same) ∙ x.2) in
-        let js : jobs ≡ p.jobs = sym h.are ∙ was.jobs in
-        ap (λ (z : Left). done_with t jobs z w) one ∙ ap (λ z. done_with t z (told s m x.0) w) js ∙ sym (ap (λ o. complete_by t p.jobs o w) x.1)
+    worlds p s m k d same past less was below = grind (arith, next_some, at, same_Some)
 
 pub recording_smaller : (r n : Round) (code : List SInstr) (at : ℕ) (l : Left) → next_left r code at ≡ Some l → n ≡ after r code (Some l) → length code - n.place < length code - r.place
 recording_smaller r n code at l e f = let i = instr_there r code at l e in omega (arith, slice_get_within code r.place i.0 i.1, ap (λ (z : Round). z.place) f)
 
 pub recording_end : (t : Tables) (r0 r n : Round) (w0 w : Content) (jobs : List Job) (code : List SInstr) (at : ℕ) → IsRecording t r0 w0 r w jobs code at → next_left r code at ≡ None → n ≡ r → Records t r0 w0 n w code at
-recording_end t r0 r n w0 w jobs code at h e f =
-    λ p s k d same past few was.
-    let g = h.goes p s k d same past few was in
-    let all : g.0 ≡ due_by p s at = elim (cases_up_to g.0 (due_by p s at) g.2) [
-      | inr b ↦ b
-      | inl a ↦ let x = next_some p s at d past g.0 r g.3 a in not_some (told s g.0 x.0) (sym e ∙ ap (λ c. next_left r c at) (sym same) ∙ x.2)
-    ] in (
-      subst (λ z. SMachineAt p s (due_by p s at) d z) (sym f) (subst (λ m. SMachineAt p s m d r) all g.3),
-      g.4 ∙ ap (λ z. run_records t p.jobs (list_walk p) (z - k) k w0) all,
-    )
+recording_end t r0 r n w0 w jobs code at h e f = grind (arith, cases_up_to, next_some, not_some)
 
 -- ---- what `complete` asks for and gives
 
 -- the job of an answer that finishes it
 pub answer_job : (t : Tables) (r : Round) (jobs : List Job) (code : List SInstr) (at : ℕ) (l : Left) → AreOf t jobs → r.jobs ≡ jobs → Stands r code → next_left r code at ≡ Some l → l.finished ≡ true → IfSome l.position (IsJobOf t jobs)
-answer_job t r jobs code at l all are st e fin = by_position l.position refl
-  where
-    by_position : (o : Option ℕ) → l.position ≡ o → IfSome o (IsJobOf t jobs)
-    by_position None f = tt
-    by_position (Some p) f =
-        let j = finished_job r code at p l st e fin f in
-        let is : job_at r.jobs p ≡ job_at jobs p = ap (λ (js : List Job). job_at js p) are in
-        let there : slice_get jobs p ≡ Some (job_at jobs p) = sym (ap (λ (js : List Job). slice_get js p) are) ∙ j.0 ∙ ap (λ z. Some z) is in
-        let a = all p (job_at jobs p) there (ap (λ (z : Job). z.present) (sym is) ∙ j.1) in
-        (slice_get_within jobs p (job_at jobs p) there, a.0, a.1)
+answer_job t r jobs code at l all are st e fin = grind (arith, finished_job, slice_get_within)
 
 -- what a done job puts out, by its position
 pub put_is : (t : Tables) (jobs : List Job) (fin : Bool) (o : Option ℕ) (p i : ℕ) (w v : Content) → AreInRange t → KeptApart t 12 → fin ≡ true → o ≡ Some p → i ≡ (job_at jobs p).inv → (fin ≡ true → IfSome o (IsJobOf t jobs))
     → v ≡ completed t i w → v ≡ cond fin (complete_at t jobs o w) w
-put_is t jobs fin o p i w v range kept done is inv known same =
-    same ∙ ap (λ z. completed t z w) inv ∙ sym (ap₂ (λ f z. cond f (complete_at t jobs z w) w) done is)
+put_is t jobs fin o p i w v range kept done is inv known same = grind arith

@@ -16,22 +16,14 @@ record_there (l ∷ ls) (suc k) h = record_there ls k (omega arith)
 
 pub count_within : (e : ℕ) (ls : List Left) → count_left_before e ls ≤ length ls
 count_within e [] = omega arith
-count_within e (l ∷ ls) = by_test (ltb l.at e) (count_within e ls)
-  where
-    by_test : (b : Bool) → count_left_before e ls ≤ length ls → cond b (suc (count_left_before e ls)) 0 ≤ suc (length ls)
-    by_test true h = omega arith
-    by_test false h = omega arith
+count_within e (l ∷ ls) = grind (arith, count_within e ls)
 
 module _ (p : Plan) (s now d : ℕ) (past : s ≤ now) where
   abbrev pub ls : List Left
   ls = list_walk p
 
   record_of : (k : ℕ) (r : Round) → SMachineAt p s k d r → slice_get (walk_records r p.schedule) r.place ≡ option_map (told s k) (slice_get ls k)
-  record_of k r at =
-      ap₂ (λ (js : List Job) (x : Point). slice_get (told_from r.start 0 (walk_from js p.schedule x)) r.place) at.jobs at.first
-      ∙ told_get r.start 0 ls r.place
-      ∙ ap₂ (λ a b. option_map (told a (0 + b)) (slice_get ls b)) at.start at.place
-      ∙ ap (λ z. option_map (told s z) (slice_get ls k)) (let e : 0 + k ≡ k = omega arith in e)
+  record_of k r at = grind (arith, told_get)
 
   -- while records are left up to the instant, the next is answered
   pub next_some : (k : ℕ) (r : Round) → SMachineAt p s k d r → k < count_left_before (suc now - s) ls → (l : Left) × (slice_get ls k ≡ Some l) × (next_left r p.schedule now ≡ Some (told s k l))
@@ -64,54 +56,21 @@ module _ (p : Plan) (s now d : ℕ) (past : s ≤ now) where
 
   -- a record that was answered moves it on
   pub moves_on : (k : ℕ) (r : Round) → SMachineAt p s k d r → rounds.Stands (moved r p.schedule) p.schedule → SMachineAt p s (suc k) d (moved r p.schedule)
-  moves_on k r at st =
-      record {
-        start = at.start;
-        jobs = at.jobs;
-        lengths = at.lengths;
-        first = at.first;
-        place = ap suc at.place;
-        running = ap (λ z. ltb (suc z) (length p.schedule)) at.place;
-        released = at.released;
-        stands = st;
-      }
+  moves_on k r at st = grind arith
 
 -- before the instant it stands at the records before it
 pub s_machine_opens : (p : Plan) (s now : ℕ) (r : Round) → SMachineStands p s now r → SMachineAt p s (count_left_before (now - s) (list_walk p)) (now - s) r
-s_machine_opens p s now r f =
-    record {
-      start = f.start;
-      jobs = f.jobs;
-      lengths = f.lengths;
-      first = f.first;
-      place = f.place;
-      running = f.running ∙ ap (λ z. ltb z (length p.schedule)) f.place;
-      released = f.released;
-      stands = f.stands;
-    }
+s_machine_opens p s now r f = grind arith
 
 -- and once all records of it are given and all releases told, it stands before the next
 pub s_machine_closes : (p : Plan) (s now : ℕ) (r : Round) → SMachineAt p s (count_left_before (suc now - s) (list_walk p)) (suc now - s) r → SMachineStands p s (suc now) r
-s_machine_closes p s now r at =
-    record {
-      start = at.start;
-      jobs = at.jobs;
-      lengths = at.lengths;
-      first = at.first;
-      place = at.place;
-      running = at.running ∙ ap (λ z. ltb z (length p.schedule)) (sym at.place);
-      released = at.released;
-      stands = at.stands;
-    }
+s_machine_closes p s now r at = grind arith
 
 -- ---- a list is over at its end
 
 -- then all its records are given
 pub all_given : (p : Plan) (s now count period : ℕ) → InForm count period p.schedule → p.first.time ≤ period → now ≡ s + period → count_left_before (suc now - s) (list_walk p) ≡ length p.schedule
-all_given p s now count period form early e =
-    count_all (suc now - s) (list_walk p)
-    (λ k l g. let z : l.at ≤ period = times_within p.jobs count period p.schedule p.first form early k l g in omega arith)
-    ∙ length-walk p.jobs p.schedule p.first
+all_given p s now count period form early e = grind (arith, count_all, times_within, length-walk)
 
 pub not_running : (p : Plan) (s d : ℕ) (r : Round) → SMachineAt p s (length p.schedule) d r → r.running ≡ false
 not_running p s d r at = at.running ∙ le-ltb (length p.schedule) (length p.schedule) (omega arith)
@@ -120,8 +79,4 @@ not_running p s d r at = at.running ∙ le-ltb (length p.schedule) (length p.sch
 
 pub none_released : (js : List Job) → replicate (length js) false ≡ released_before 0 js
 none_released [] = refl
-none_released (j ∷ js) = ap₂ (λ a b. a ∷ b) (by_present j.present) (none_released js)
-  where
-    by_present : (b : Bool) → false ≡ (b && ltb j.release 0)
-    by_present true = sym (none_below j.release)
-    by_present false = refl
+none_released (j ∷ js) = grind (arith, none_below, none_released js)

@@ -80,12 +80,8 @@ numbered_in (x ∷ xs) q n (inr h) = let r = numbered_in xs (suc q) n h in (suc 
 
 pub in_numbered : {A : Type 0} (xs : List A) (q d : ℕ) (x : A) → slice_get xs d ≡ Some x → In (q + d, x) (numbered q xs)
 in_numbered [] q d x e = absurd (let z : ⊥ = cc in z)
-in_numbered {A} (y ∷ xs) q zero x e = inl (same (q + 0) q x y (omega arith) (sym (same_Some _ _ e)))
-  where
-    same : (a b : ℕ) (c d : A) → a ≡ b → c ≡ d → ◌≡◌ {A = ℕ × A} (a, c) (b, d)
-    same a b c d e f = cc
-in_numbered (y ∷ xs) q (suc d) x e =
-    inr (subst (λ z. In (z, x) (numbered (suc q) xs)) (let f : suc q + d ≡ q + suc d = omega arith in f) (in_numbered xs (suc q) d x e))
+in_numbered {A} (y ∷ xs) q zero x e = grind (arith, same_Some)
+in_numbered (y ∷ xs) q (suc d) x e = grind (arith, in_numbered xs (suc q) d x e)
 
 -- ---- the ends of an offset
 
@@ -105,16 +101,8 @@ offset_in t o q k (e ∷ ends) h = by_test (meets t o e) refl h (offset_in t o (
 
 in_offset : (t : Tables) (o q d : ℕ) (ends : List End) (e : End) → slice_get ends d ≡ Some e → meets t o e ≡ true → In (q + d) (places_at t o q ends)
 in_offset t o q d [] e at m = absurd (let z : ⊥ = cc in z)
-in_offset t o q zero (f ∷ ends) e at m =
-    let yes : meets t o f ≡ true = ap (meets t o) (same_Some _ _ at) ∙ m in
-    subst (λ b. In (q + 0) (cond b (q ∷ places_at t o (suc q) ends) (places_at t o (suc q) ends))) (sym yes) (inl (let g : q + 0 ≡ q = omega arith in g))
-in_offset t o q (suc d) (f ∷ ends) e at m =
-    let ih : In (q + suc d) (places_at t o (suc q) ends) = subst (λ z. In z (places_at t o (suc q) ends)) (let g : suc q + d ≡ q + suc d = omega arith in g) (in_offset t o (suc q) d ends e at m) in
-    by_test (meets t o f) ih
-  where
-    by_test : (b : Bool) → In (q + suc d) (places_at t o (suc q) ends) → In (q + suc d) (cond b (q ∷ places_at t o (suc q) ends) (places_at t o (suc q) ends))
-    by_test true h = inr h
-    by_test false h = h
+in_offset t o q zero (f ∷ ends) e at m = grind (arith, same_Some)
+in_offset t o q (suc d) (f ∷ ends) e at m = grind (arith, in_offset t o (suc q) d ends e at m)
 
 meets_is : (t : Tables) (o : ℕ) (e : End) → meets t o e ≡ true → (c n : ℕ) × (e ≡ E.Comm c n) × (n * comm_period t c ≡ o)
 meets_is t o (E.Comm c n) h = (c, n, refl, eqb-true (n * comm_period t c) o h)
@@ -171,10 +159,7 @@ module _ (make : ℕ → ℕ → EInstr) (ends : Inv → List End) (apart : (a b
           }
 
   called : (m o i k : ℕ) → AsksFor (make i k) (all_do (joined (calls_of make ends t m o) (numbered 0 t.invs))) → IsCalled ends t m o i k
-  called m o i k h =
-      let r = asks_joined (make i k) (calls_of make ends t m o) (numbered 0 t.invs) h in
-      let d = numbered_in t.invs 0 r.0 r.1 in
-      item_called m o i k r.0 (ap (slice_get t.invs) (let z : r.0.0 ≡ d.0 = omega (arith, d.1) in z) ∙ d.2) r.2
+  called m o i k h = grind (arith, asks_joined, numbered_in, item_called)
 
   calls : (m o i k : ℕ) → IsCalled ends t m o i k → AsksFor (make i k) (all_do (joined (calls_of make ends t m o) (numbered 0 t.invs)))
   calls m o i k c =
@@ -196,19 +181,10 @@ not_waits j o p (Some x) f (inr (inl e)) = f e
 not_waits j o p (Some x) f (inr (inr h)) = h
 
 not_released : (j : EInstr) (t : Tables) (m o : ℕ) (ns : List (ℕ × Inv)) → ((i : ℕ) → Exactly (I.Release i) ≡ Exactly j → ⊥) → AsksFor j (all_do (joined (release_of t m o) ns)) → ⊥
-not_released j t m o ns f h = let r = asks_joined j (release_of t m o) ns h in by_test r.0 (counts t m r.0.1 && eqb (release t r.0.1) o) r.2
-  where
-    by_test : (n : ℕ × Inv) (b : Bool) → AsksFor j (all_do (cond b (I.Release n.0 ∷ []) [])) → ⊥
-    by_test n true (inl e) = f n.0 e
-    by_test n true (inr h) = h
-    by_test n false h = h
+not_released j t m o ns f h = grind (arith, asks_joined)
 
 pub not_called : (j : EInstr) (make : ℕ → ℕ → EInstr) (ends : Inv → List End) (t : Tables) (m o : ℕ) (ns : List (ℕ × Inv)) → ((a b : ℕ) → Exactly (make a b) ≡ Exactly j → ⊥) → AsksFor j (all_do (joined (calls_of make ends t m o) ns)) → ⊥
-not_called j make ends t m o ns f h = let r = asks_joined j (calls_of make ends t m o) ns h in by_test r.0 (counts t m r.0.1) r.2
-  where
-    by_test : (n : ℕ × Inv) (b : Bool) → AsksFor j (all_do (cond b (map (make n.0) (places_at t o 0 (ends n.1))) [])) → ⊥
-    by_test n true h = let r = asks_map j (make n.0) (places_at t o 0 (ends n.1)) h in f n.0 r.0 r.2
-    by_test n false h = h
+not_called j make ends t m o ns f h = grind (arith, asks_joined, asks_map)
 
 write_apart : (a b i k : ℕ) → Exactly (I.CallWrite a b) ≡ Exactly (I.CallWrite i k) → (a ≡ i) × (b ≡ k)
 write_apart a b i k e = (cc, cc)
@@ -246,10 +222,7 @@ called_write t m o i k c =
     (do_left (I.CallWrite i k) (written t m o) [] (calls I.CallWrite (λ x. x.writes) write_apart t m o i k c))
 
 read_called : (t : Tables) (m o i k : ℕ) → AsksFor (I.CallRead i k) (block_chain t m 3 o) → IsCalled (λ x. x.reads) t m o i k
-read_called t m o i k h = elim (among_reads (I.CallRead i k) t m o (λ e. let z : ⊥ = cc in z) h) [
-  | inl a ↦ called I.CallRead (λ x. x.reads) read_apart t m o i k a
-  | inr b ↦ absurd (not_released (I.CallRead i k) t m o (numbered 0 t.invs) (λ j e. let z : ⊥ = cc in z) b)
-]
+read_called t m o i k h = grind (arith, among_reads, called, read_apart, not_released)
 
 called_read : (t : Tables) (m o i k : ℕ) → IsCalled (λ x. x.reads) t m o i k → AsksFor (I.CallRead i k) (block_chain t m 3 o)
 called_read t m o i k c =
@@ -258,14 +231,10 @@ called_read t m o i k c =
 
 -- a chain of one kind asks for no call of the other
 no_write_in : (t : Tables) (m o i k : ℕ) → AsksFor (I.CallWrite i k) (block_chain t m 3 o) → ⊥
-no_write_in t m o i k h = elim (among_reads (I.CallWrite i k) t m o (λ e. let z : ⊥ = cc in z) h) [
-  | inl a ↦ not_called (I.CallWrite i k) I.CallRead (λ x. x.reads) t m o (numbered 0 t.invs) (λ a b e. let z : ⊥ = cc in z) a
-  | inr b ↦ not_released (I.CallWrite i k) t m o (numbered 0 t.invs) (λ j e. let z : ⊥ = cc in z) b
-]
+no_write_in t m o i k h = grind (arith, among_reads, not_called, not_released)
 
 no_read_in : (t : Tables) (m o i k : ℕ) → AsksFor (I.CallRead i k) (block_chain t m 1 o) → ⊥
-no_read_in t m o i k h =
-    not_called (I.CallRead i k) I.CallWrite (λ x. x.writes) t m o (numbered 0 t.invs) (λ a b e. let z : ⊥ = cc in z) (among_writes (I.CallRead i k) t m o (λ e. let z : ⊥ = cc in z) h)
+no_read_in t m o i k h = grind (arith, not_called, among_writes)
 
 -- ---- the blocks of all modules
 

@@ -30,43 +30,14 @@ no_end t c s now q (E.Comm a m ∷ ends) e d n at h = by_test (eqb c a && eqb (s
         → (end_to t c s now (suc q) ends ≡ None → (j : ℕ) → slice_get ends j ≡ Some (E.Comm c n) → ⊥) → ⊥
     by_test true is g d at ih = not_some q (sym g)
     by_test false is g (suc d) at ih = ih g d at
-    by_test false is g zero at ih =
-        let z : E.Comm a m ≡ E.Comm c n = same_Some _ _ at in
-        let first : a ≡ c = cc in
-        let second : m ≡ n = cc in
-        let yes : (eqb c a && eqb (s + m * comm_period t a) now) ≡ true =
-        all (eqb c a) (eqb (s + m * comm_period t a) now) (eq-eqb c a (sym first))
-        (eq-eqb (s + m * comm_period t a) now (ap (λ z. s + z * comm_period t a) second ∙ ap (λ z. s + n * comm_period t z) first ∙ h)) in
-        let y : false ≡ true = sym is ∙ yes in cc
-      where
-        all : (x y : Bool) → x ≡ true → y ≡ true → (x && y) ≡ true
-        all x y e f = grind arith
+    by_test false is g zero at ih = grind (arith, same_Some, eq-eqb)
 
 -- the round in which an invocation stands
 round_stands : (t : Tables) (stays : List (Option Stay)) (i s : ℕ) (x : Inv) → slice_get t.invs i ≡ Some x → round_start t stays x ≡ Some s → InvStands t stays i x s
-round_stands t stays i s x at e = by_test (is_concrete t x) refl e
-  where
-    by_stay : is_concrete t x ≡ true → (o : Option Stay) → stay_of stays (mode_module t x.mode) ≡ o → in_round o x.mode ≡ Some s → InvStands t stays i x s
-    by_stay con None is f = not_some s f
-    by_stay con (Some y) is f = by_mode (eqb y.mode x.mode) refl f
-      where
-        by_mode : (b : Bool) → eqb y.mode x.mode ≡ b → ◌≡◌ {A = Option ℕ} (cond b (Some y.start) None) (Some s) → InvStands t stays i x s
-        by_mode true m g =
-            record {
-              known = at;
-              concrete = con;
-              in_round = is ∙ ap (λ z. Some (record { mode = z; start = y.start })) (eqb-true y.mode x.mode m) ∙ ap (λ z. Some (record { mode = x.mode; start = z })) (same_Some _ _ g);
-            }
-        by_mode false m g = not_some s g
-
-    by_test : (b : Bool) → is_concrete t x ≡ b → ◌≡◌ {A = Option ℕ} (cond b (in_round (stay_of stays (mode_module t x.mode)) x.mode) None) (Some s) → InvStands t stays i x s
-    by_test true con g = by_stay con (stay_of stays (mode_module t x.mode)) refl g
-    by_test false con g = not_some s g
+round_stands t stays i s x at e = grind (arith, not_some, eqb-true, same_Some)
 
 pub stands_round : (t : Tables) (stays : List (Option Stay)) (i s : ℕ) (x : Inv) → InvStands t stays i x s → round_start t stays x ≡ Some s
-stands_round t stays i s x st =
-    ap (λ b. cond b (in_round (stay_of stays (mode_module t x.mode)) x.mode) None) st.concrete
-    ∙ ap (λ o. in_round o x.mode) st.in_round ∙ ap (λ b. cond b (Some s) None) (eq-eqb x.mode x.mode refl)
+stands_round t stays i s x st = grind (arith, eq-eqb)
 
 -- what is found of one invocation
 found_in : (t : Tables) (stays : List (Option Stay)) (c now k : ℕ) (x : Inv) (w : Write) → slice_get t.invs k ≡ Some x → write_in t c now k x.writes (round_start t stays x) ≡ Some w
@@ -83,10 +54,8 @@ found_in t stays c now k x w at e = by_round (round_start t stays x) refl e
             let r = found_end t c s now 0 o x.writes f in
             let y : ◌≡◌ {A = Write} (record { inv = k; start = s; output = o }) w = same_Some _ _ h in
             let inv : k ≡ w.inv = ap (λ (z : Write). z.inv) y in
-            let out : o ≡ w.output = ap (λ (z : Write). z.output) y in
-            let begin : s ≡ w.start = ap (λ (z : Write). z.start) y in
             let st = round_stands t stays k s x at is in
-            let place : w.output ≡ r.0 = omega (arith, out, r.1) in (
+            let place : w.output ≡ r.0 = omega (arith, ap (λ (z : Write). z.output) y, r.1) in (
               record {
                 inv = x;
                 start = s;
@@ -95,7 +64,7 @@ found_in t stays c now k x w at e = by_round (round_start t stays x) refl e
                 end = ap (slice_get x.writes) place ∙ r.3;
                 at = r.4;
               },
-              begin,
+              (ap (λ (z : Write). z.start) y),
             )
 
 pub found_write : (t : Tables) (stays : List (Option Stay)) (c now q : ℕ) (xs : List Inv) (w : Write) → ((j : ℕ) → slice_get t.invs (q + j) ≡ slice_get xs j) → write_from t stays c now q xs ≡ Some w
@@ -123,10 +92,7 @@ no_write t stays c now q (y ∷ xs) e j s k n x at r en h = by_item (write_in t 
         → (j : ℕ) → slice_get (y ∷ xs) j ≡ Some x → (write_from t stays c now (suc q) xs ≡ None → (l : ℕ) → slice_get xs l ≡ Some x → ⊥) → ⊥
     by_item (Some v) is g j at ih = not_some v (sym g)
     by_item None is g (suc j) at ih = ih g j at
-    by_item None is g zero at ih =
-        let same : y ≡ x = same_Some _ _ at in
-        let none : write_in t c now q x.writes (Some s) ≡ None = ap (write_in t c now q x.writes) (sym r) ∙ ap (λ (z : Inv). write_in t c now q z.writes (round_start t stays z)) (sym same) ∙ is in
-        no_end t c s now 0 x.writes (none_in (end_to t c s now 0 x.writes) none) k n en h
+    by_item None is g zero at ih = grind (arith, same_Some, no_end, none_in)
 
 pub no_due : (t : Tables) (stays : List (Option Stay)) (c now : ℕ) → write_from t stays c now 0 t.invs ≡ None → (i k : ℕ) → IsDue t stays now i k c → ⊥
 no_due t stays c now e i k d = no_write t stays c now 0 t.invs e i d.start k d.instance d.inv d.stands.known (stands_round t stays i d.start d.inv d.stands) d.end d.at

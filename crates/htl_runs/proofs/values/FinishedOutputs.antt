@@ -76,35 +76,22 @@ module _ (t : Tables) (range : AreInRange t) (kept : KeptApart t 12) (es : List 
 
   outputs_are : HasPlaces t w → (j : ℕ) (y : Inv) (u k : ℕ) → InvStands t (before t es now).stays j y u → and_also i finished j ≡ true → k < length y.writes
       → (b : Bool) → eqb j i ≡ b → buffer (completed t i w).outputs j k ≡ out_val t es j u k
-  outputs_are shape j y u k sj fin h false is =
-      let other : j ≢ i = eqb-false j i is in
-      let was : finished j ≡ true = sym (ap (λ b. b || finished j) is) ∙ fin in
-      ap (λ bs. buffer bs j k) put ∙ ap (λ row. get_or row k (pos 0)) (get_or-set_other w.outputs i j (made t x.task (arguments t w i x)) [] other) ∙ follows.outputs j y u k sj was h
+  outputs_are shape j y u k sj fin h false is = grind (arith, eqb-false, put, pos, get_or-set_other)
   outputs_are shape j y u k sj fin h true is =
       let same : j ≡ i = eqb-true j i is in
       let item : y ≡ x = same_Some _ _ (sym sj.known ∙ ap (slice_get t.invs) same ∙ st.known) in
       let one : ◌≡◌ {A = Stay} (record { mode = y.mode; start = u }) (record { mode = x.mode; start = s }) =
       same_Some _ _ (sym sj.in_round ∙ ap (λ (z : Inv). stay_of (before t es now).stays (mode_module t z.mode)) item ∙ st.in_round) in
-      let start : u ≡ s = ap (λ (z : Stay). z.start) one in
       ap (λ bs. buffer bs j k) put
       ∙ ap (λ z. buffer (set w.outputs i (made t x.task (arguments t w i x))) z k) same
       ∙ ap (λ q. get_or q k (pos 0)) (get_or-set_same w.outputs i (made t x.task (arguments t w i x)) [] (shape.outputs i x st.known))
       ∙ made_is k (subst (λ (z : Inv). k < length z.writes) item h)
-      ∙ ap₂ (λ a b. out_val t es a b k) (sym same) (sym start)
+      ∙ ap₂ (λ a b. out_val t es a b k) (sym same) (sym (ap (λ (z : Stay). z.start) one))
 
   -- the world follows on, with the job among those that are finished
   pub finish_follows : HasPlaces t w → ValuesFollow t es now (and_also i finished) (completed t i w)
-  finish_follows shape =
-      record {
-        values = follows.values;
-        inputs = λ j y u k c n sj fin at h. follows.inputs j y u k c n sj (or_second (eqb j i) (finished j) fin) at h;
-        outputs = λ j y u k sj fin h. outputs_are shape j y u k sj fin h (eqb j i) refl;
-      }
+  finish_follows shape = grind (arith, or_second, outputs_are)
 
 -- the shape stays
 pub completed_shape : (t : Tables) (i : ℕ) (w : Content) → HasPlaces t w → HasPlaces t (completed t i w)
-completed_shape t i w s = record { values = s.values; inputs = s.inputs; outputs = λ j x at. by_inv j x at (slice_get t.invs i) }
-  where
-    by_inv : (j : ℕ) (x : Inv) → slice_get t.invs j ≡ Some x → (o : Option Inv) → j < length {A = List ℤ} (elim o [ Some y ↦ set w.outputs i (made t y.task (arguments t w i y)) | None ↦ w.outputs ])
-    by_inv j x at None = s.outputs j x at
-    by_inv j x at (Some y) = omega (arith, s.outputs j x at, length-set w.outputs i (made t y.task (arguments t w i y)))
+completed_shape t i w s = grind (arith, set, length-set)

@@ -6,8 +6,7 @@ none_due : (at k : ℕ) (xs : List (Option Trigger)) → ((j : ℕ) (x : Trigger
 none_due at k [] h = refl
 none_due at k (None ∷ xs) h = none_due at (suc k) xs (λ j x e. h (suc j) x e)
 none_due at k (Some y ∷ xs) h =
-    let later : at < y.at = h 0 y refl in
-    ap (λ (o : Option ℕ). elim o as (λ _. Option (ℕ × ℕ)) [ Some a ↦ Some (k, a) | None ↦ first_due at (suc k) xs ]) (not_yet later)
+    ap (λ (o : Option ℕ). elim o as (λ _. Option (ℕ × ℕ)) [ Some a ↦ Some (k, a) | None ↦ first_due at (suc k) xs ]) (not_yet (h 0 y refl))
     ∙ none_due at (suc k) xs (λ j x e. h (suc j) x e)
   where
     differ : (b : Bool) → eqb y.at at ≡ b → at < y.at → cond b (Some y.target) None ≡ None
@@ -19,9 +18,7 @@ none_due at k (Some y ∷ xs) h =
 
 -- no instruction is due in a phase
 done_none : (code : ECode) (phase at : ℕ) (m : Standing) → m.running ≡ None → first_due at 0 (triggers_of phase m.calendar) ≡ None → done_in code phase at m ≡ None
-done_none code phase at m idle none =
-    ap (λ (o : Option Block). elim (elim o as (λ _. Option Block) [ Some b ↦ Some b | None ↦ block_from at (first_due at 0 (triggers_of phase m.calendar)) ]) as (λ _. Option EDone) [ Some b ↦ done_at b.«module» b.address (slice_get code.instrs b.address) | None ↦ None ]) idle
-    ∙ ap (λ (f : Option (ℕ × ℕ)). elim (block_from at f) as (λ _. Option EDone) [ Some b ↦ done_at b.«module» b.address (slice_get code.instrs b.address) | None ↦ None ]) none
+done_none code phase at m idle none = grind arith
 
 -- what an instant at which no trigger is due leaves
 pub record IsIdle (t : Tables) (code : ECode) (es : List Event) (now : ℕ) (m : Standing) : Type 0 where

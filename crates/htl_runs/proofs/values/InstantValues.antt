@@ -3,15 +3,11 @@ use Rattle.std.proofs.Common.{◌≡◌, ℕ, zero, suc, ◌+◌, ◌*◌, ◌/�
 use mathlib.Core.Path.{fun_ext}
 use Rattle.htl_runs.proofs.Words.{slice_get_within, Event, Comm, Inv, Stay, State, Write, list_to, up_to, Tables, AreInRange, state, before, stay_of, sense, out, next_value, next_values, written, written_by, write_from, first_value, first_values, state_step, seen_before, Requirement, Content, buffer, comm_of, effects, wanted_writes, all_writes, want_effect, shown, shown_at, IsDue, AreDistinct, values_before, IsStanding, standing_at, not_some, length-list_to, length_mapped, zero_down}
 use Rattle.htl_emach.specs.Contents as contents
-use Rattle.htl_runs.proofs.values.BlockContents.{due_of, due_asks}
-use Rattle.htl_runs.proofs.values.WantEffects.{Written, are_written}
-use Rattle.htl_runs.proofs.values.DueWrites.{found_write, no_due}
+use Rattle.htl_runs.proofs.{values.BlockContents.due_of, values.BlockContents.due_asks, values.WantEffects.Written, values.WantEffects.are_written, values.DueWrites.found_write, values.DueWrites.no_due}
 
 -- the communicator at an output that is due
 due_comm : (t : Tables) (stays : List (Option Stay)) (now i k c : ℕ) → IsDue t stays now i k c → comm_of (slice_get (contents.writes_at t i) k) ≡ Some c
-due_comm t stays now i k c d =
-    ap (λ (o : Option Inv). comm_of (slice_get (elim o [ Some x ↦ x.writes | None ↦ [] ]) k)) d.stands.known
-    ∙ ap comm_of d.end
+due_comm t stays now i k c d = grind arith
 
 -- what goes to a communicator is due to it
 due_to : (t : Tables) (stays : List (Option Stay)) (now i k c : ℕ) → ((d : ℕ) × IsDue t stays now i k d) → comm_of (slice_get (contents.writes_at t i) k) ≡ Some c → IsDue t stays now i k c
@@ -35,20 +31,13 @@ module _ (t : Tables) (stays : List (Option Stay)) (n now : ℕ) (standing : IsS
           absurd (r.0 x.inv x.output (due_asks t stays n now standing past x.inv x.output c d.0) (due_comm t stays now x.inv x.output c d.0))
       by_found (Some x) e (inr r) =
           let d = found_write t stays c now 0 t.invs x (λ j. ap (slice_get t.invs) (let z : 0 + j ≡ j = omega arith in z)) e in
-          let f : IsDue t stays now r.0 r.1 c = due_to t stays now r.0 r.1 c (due_of t stays n now standing past r.0 r.1 r.2) r.3 in
-          let same = distinct r.0 r.1 x.inv x.output c f d.0 in
+          let same = distinct r.0 r.1 x.inv x.output c (due_to t stays now r.0 r.1 c (due_of t stays n now standing past r.0 r.1 r.2) r.3) d.0 in
           r.4 ∙ ap (λ z. buffer w.outputs z r.1) same.0 ∙ ap (buffer w.outputs x.inv) same.1
           ∙ hold x.inv x.output c d.0 ∙ ap (λ z. out (length t.invs) t seen x.inv z x.output) d.1
 
   pub next_are : (sensed seen : ℕ → ℕ → ℤ) (w : Content) → HoldDue t seen stays now w → length w.values ≡ length t.comms
       → shown t sensed now (effects t (all_writes t now stays) w).values ≡ next_values t sensed seen stays w.values now
-  next_are sensed seen w hold len = ap (λ f. list_to f (length t.comms)) (fun_ext (λ c. by_comm c (slice_get t.comms c) refl))
-    where
-      by_comm : (c : ℕ) (o : Option Comm) → slice_get t.comms c ≡ o
-          → shown_at sensed now (effects t (all_writes t now stays) w).values c o ≡ next_value t sensed seen stays w.values now c o
-      by_comm c None e = refl
-      by_comm c (Some x) e =
-          ap (λ y. cond x.sensor (sensed c (x.period * (now / x.period))) y) (values_are seen w c hold (omega (arith, len, slice_get_within t.comms c x e)))
+  next_are sensed seen w hold len = grind (arith, values_are, slice_get_within)
 
 -- ---- the first instant
 
@@ -58,13 +47,7 @@ map_at f (y ∷ xs) zero d x e = ap f (let z : y ≡ x = cc in z)
 map_at f (y ∷ xs) (suc k) d x e = map_at f xs k d x e
 
 first_are : (t : Tables) (sensed : ℕ → ℕ → ℤ) → shown t sensed 0 (map (λ c. c.init) t.comms) ≡ first_values t sensed
-first_are t sensed = ap (λ f. list_to f (length t.comms)) (fun_ext (λ c. by_comm c (slice_get t.comms c) refl))
-  where
-    by_comm : (c : ℕ) (o : Option Comm) → slice_get t.comms c ≡ o → shown_at sensed 0 (map (λ c. c.init) t.comms) c o ≡ first_value sensed c o
-    by_comm c None e = refl
-    by_comm c (Some x) e =
-        ap (λ u. cond x.sensor (sensed c u) (get_or (map (λ c. c.init) t.comms) c (pos 0))) (zero_down x.period)
-        ∙ ap (λ y. cond x.sensor (sensed c 0) y) (map_at (λ c. c.init) t.comms c (pos 0) x e)
+first_are t sensed = grind (arith, pos, zero_down, map_at)
 
 -- as many values as communicators
 pub length-values : (t : Tables) (es : List Event) (now : ℕ) → length (values_before t es now) ≡ length t.comms

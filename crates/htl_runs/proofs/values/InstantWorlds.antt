@@ -4,12 +4,9 @@ use Rattle.htl_runs.proofs.Words.{slice_get_within, same_Some, Event, Inv, Stay,
 use Rattle.htl_model.specs.declared.parts.End.TheVariants as E
 use Rattle.htl_ecode.specs.declared.instr.EInstr.TheVariants as I
 use Rattle.htl_emach.specs.Contents as contents
-use Rattle.htl_runs.proofs.values.ModuleStays.{standing_before}
-use Rattle.htl_runs.proofs.values.BlockContents.{AsksFor, read_of, read_asks, no_write_read, no_read_write}
+use Rattle.htl_runs.proofs.{values.ModuleStays.standing_before, values.BlockContents.AsksFor, values.BlockContents.read_of, values.BlockContents.read_asks, values.BlockContents.no_write_read, values.BlockContents.no_read_write}
 use Rattle.htl_runs.proofs.values.WantEffects.{Filled, are_filled, HasRoom, outputs_stay, inputs_stay, values_stay, shape_stays}
-use Rattle.htl_runs.proofs.values.OneWriter.{distinct}
-use Rattle.htl_runs.proofs.values.InstantValues.{HoldDue, values_step, length-shown}
-use Rattle.htl_runs.proofs.values.JobOutputs.{out_seen}
+use Rattle.htl_runs.proofs.{values.OneWriter.distinct, values.InstantValues.HoldDue, values.InstantValues.values_step, values.InstantValues.length-shown, values.JobOutputs.out_seen}
 
 module _ (t : Tables) (range : AreInRange t) (kept : KeptApart t 12) (es : List Event) (now : ℕ) (finished later : ℕ → Bool) (w : Content)
     (follows : ValuesFollow t es now finished w) (shape : HasPlaces t w) (ready : Ready t es now finished) (carried : AreCarried t es now finished later) where
@@ -48,19 +45,13 @@ module _ (t : Tables) (range : AreInRange t) (kept : KeptApart t 12) (es : List 
   after_shape = shape_stays t (all_reads t now (state t es now).stays) sensed sensed_shape
 
   reads_comm : (i k c n : ℕ) (x : Inv) → slice_get t.invs i ≡ Some x → slice_get x.reads k ≡ Some (E.Comm c n) → comm_of (slice_get (contents.reads_at t i) k) ≡ Some c
-  reads_comm i k c n x at e =
-      ap (λ (o : Option Inv). comm_of (slice_get (elim o [ Some x ↦ x.reads | None ↦ [] ]) k)) at ∙ ap comm_of e
+  reads_comm i k c n x at e = grind arith
 
   split : (a b : ℕ) → a < suc b → (a < b) ⊎ (a ≡ b)
   split a b h = grind arith
 
   stood_inv : (i s : ℕ) (x : Inv) → InvStands t (state t es now).stays i x s → s < now → InvStands t (before t es now).stays i x s
-  stood_inv i s x st h =
-      record {
-        known = st.known;
-        concrete = st.concrete;
-        in_round = stood t es now (mode_module t x.mode) (record { mode = x.mode; start = s }) st.in_round h;
-      }
+  stood_inv i s x st h = grind (arith, stood)
 
   -- what an input that was read at `now` met
   read_instant : (i k c n s : ℕ) (x : Inv) → InvStands t (state t es now).stays i x s → slice_get x.reads k ≡ Some (E.Comm c n) → AsksFor (I.CallRead i k) (all_reads t now (state t es now).stays) → s + n * comm_period t c ≡ now
@@ -109,9 +100,4 @@ module _ (t : Tables) (range : AreInRange t) (kept : KeptApart t 12) (es : List 
 
   -- the value half is carried over the instant
   pub follows_on : ValuesFollow t es (suc now) later after
-  follows_on =
-      record {
-        values = values_stay t (all_reads t now (state t es now).stays) sensed (λ i k. no_write_read t now (state t es now).stays i k) ∙ holds_values;
-        inputs = inputs_after;
-        outputs = outputs_after;
-      }
+  follows_on = grind (arith, values_stay, no_write_read, holds_values, inputs_after, outputs_after)

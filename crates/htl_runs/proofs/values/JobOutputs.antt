@@ -34,14 +34,12 @@ writer_in t m p q (x ∷ xs) w o at e =
     by_place is None f g ih = ih g
     by_place is (Some z) f g ih =
         let pair : ◌≡◌ {A = ℕ × ℕ} (q, z) (w, o) = same_Some _ _ g in
-        let first : q ≡ w = ap (λ (a : ℕ × ℕ). a.0) pair in
-        let second : z ≡ o = ap (λ (a : ℕ × ℕ). a.1) pair in
         let d = port_is p 0 z x.writes f in
         record {
           inv = x;
-          known = ap (slice_get t.invs) (let y : w ≡ q + 0 = omega (arith, first) in y) ∙ at 0;
+          known = ap (slice_get t.invs) (let y : w ≡ q + 0 = omega (arith, ap (λ (a : ℕ × ℕ). a.0) pair) in y) ∙ at 0;
           mode = eqb-true x.mode m is;
-          end = ap (slice_get x.writes) (let y : o ≡ d.0 = omega (arith, second, d.1) in y) ∙ d.2;
+          end = ap (slice_get x.writes) (let y : o ≡ d.0 = omega (arith, ap (λ (a : ℕ × ℕ). a.1) pair, d.1) in y) ∙ d.2;
         }
 
     by_test : (b : Bool) → eqb x.mode m ≡ b → ◌≡◌ {A = Option (ℕ × ℕ)} (elim (cond b (port_output p 0 x.writes) None) [ Some o ↦ Some (q, o) | None ↦ writer_from m p (suc q) xs ]) (Some (w, o))
@@ -64,12 +62,7 @@ below r v (suc n) = below r v n + bit (ltb (r n) v)
 
 bit_grows : (a v u : ℕ) → v ≤ u → bit (ltb a v) ≤ bit (ltb a u)
 unfolding bit
-bit_grows a v u h = by_test (ltb a v) (ltb a u) refl refl
-  where
-    by_test : (b c : Bool) → ltb a v ≡ b → ltb a u ≡ c → bit b ≤ bit c
-    by_test true true e f = omega arith
-    by_test true false e f = absurd (let z : ltb a u ≡ true = lt-ltb a u (omega (arith, ltb-true a v e)) in let y : ⊥ = cc in y)
-    by_test false c e f = omega arith
+bit_grows a v u h = grind (arith, bit, lt-ltb, ltb-true)
 
 below_grows : (r : ℕ → ℕ) (v u n : ℕ) → v ≤ u → below r v n ≤ below r u n
 unfolding below
@@ -84,18 +77,12 @@ below_more r v u (suc n) j a b h = by_place (cases_below j n h) (λ g. below_mor
     by_place : (j < n) ⊎ (j ≡ n) → (j < n → below r v n < below r u n) → below r v n + bit (ltb (r n) v) < below r u n + bit (ltb (r n) u)
     by_place (inl g) ih = omega (arith, ih g, bit_grows (r n) v u (omega arith))
     by_place (inr e) ih =
-        let a' : v ≤ r n = omega (arith, ap r e) in
-        let b' : r n < u = omega (arith, ap r e) in
-        omega (arith, below_grows r v u n (omega arith), ap bit (le-ltb (r n) v a'), ap bit (lt-ltb (r n) u b'))
+        omega (arith, below_grows r v u n (omega arith), ap bit (le-ltb (r n) v (omega (arith, ap r e))), ap bit (lt-ltb (r n) u (omega (arith, ap r e))))
 
 below_all : (r : ℕ → ℕ) (v n : ℕ) → below r v n ≤ n
 unfolding below bit
 below_all r v zero = omega arith
-below_all r v (suc n) = by_test (ltb (r n) v) (below_all r v n)
-  where
-    by_test : (b : Bool) → below r v n ≤ n → below r v n + bit b ≤ suc n
-    by_test true h = omega (arith)
-    by_test false h = omega (arith)
+below_all r v (suc n) = grind (arith, below, bit, below_all r v n)
 
 pub below_less : (r : ℕ → ℕ) (i n : ℕ) → i < n → below r (r i) n < n
 below_less r i n h = omega (arith, below_more r (r i) (suc (r i)) n i (omega arith) (omega arith) h, below_all r (suc (r i)) n)

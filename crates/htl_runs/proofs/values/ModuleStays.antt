@@ -4,14 +4,7 @@ use Rattle.htl_runs.proofs.Words.{Event, Stay, Tables, AreInRange, before, stay_
 
 module _ (t : Tables) (range : AreInRange t) where
   standing_none : IsStanding t [] 0
-  standing_none =
-      record {
-        real = λ k y e. not_some y e;
-        own = λ k y e. not_some y e;
-        past = λ k y e. not_some y e;
-        parent = λ k m y e p. not_some y e;
-        known = λ k y e. not_some y e;
-      }
+  standing_none = grind (arith, not_some)
 
   pub standing_before : (es : List Event) (now : ℕ) → (n : ℕ) × IsStanding t (before t es now).stays n × (n ≤ now)
   standing_before es zero = (0, standing_none, omega arith)

@@ -28,18 +28,10 @@ together : (t : Tables) (stays : List (Option Stay)) (n a b : ℕ) → IsStandin
 together t stays n a b st ra rb x y px py same =
     let rx = runs_is t stays x (path_runs t stays n a x st px ra) in
     let ry = runs_is t stays y (path_runs t stays n b y st py rb) in
-    let one : rx.0 ≡ ry.0 = same_Some _ _ (sym rx.1 ∙ ap (stay_of stays) same ∙ ry.1) in
-    sym rx.2 ∙ ap (λ (z : Stay). z.mode) one ∙ ry.2
+    sym rx.2 ∙ ap (λ (z : Stay). z.mode) (same_Some _ _ (sym rx.1 ∙ ap (stay_of stays) same ∙ ry.1)) ∙ ry.2
 
 outputs_apart : (i k j l : ℕ) → OutputBefore i k j l ⊎ (OutputBefore j l i k ⊎ ((i ≡ j) × (k ≡ l)))
-outputs_apart i k j l = by_inv (cases_less_more i j) (cases_less_more k l)
-  where
-    by_inv : (i < j) ⊎ ((j < i) ⊎ (i ≡ j)) → (k < l) ⊎ ((l < k) ⊎ (k ≡ l)) → OutputBefore i k j l ⊎ (OutputBefore j l i k ⊎ ((i ≡ j) × (k ≡ l)))
-    by_inv (inl a) b = inl (inl a)
-    by_inv (inr (inl a)) b = inr (inl (inl a))
-    by_inv (inr (inr e)) (inl b) = inl (inr (e, b))
-    by_inv (inr (inr e)) (inr (inl b)) = inr (inl (inr (sym e, b)))
-    by_inv (inr (inr e)) (inr (inr f)) = inr (inr (e, f))
+outputs_apart i k j l = grind (arith, cases_less_more)
 
 module _ (t : Tables) (range : AreInRange t) (kept : KeptApart t 12) (stays : List (Option Stay)) (n now : ℕ) (standing : IsStanding t stays n) where
   -- the instance is the same where the mode is
@@ -54,8 +46,7 @@ module _ (t : Tables) (range : AreInRange t) (kept : KeptApart t 12) (stays : Li
           same_Some _ _ (sym a.stands.in_round ∙ ap (λ m. stay_of stays (mode_module t m)) e ∙ b.stands.in_round) in
           let start : a.start ≡ b.start = ap (λ (z : Stay). z.start) one in
           let inv = each_at (IsInvInRange t) t.invs range.invs i a.inv a.stands.known in
-          let end : IsEndInRange t a.inv.mode (E.Comm c a.instance) = each_at (IsEndInRange t a.inv.mode) a.inv.writes inv.writes k (E.Comm c a.instance) a.end in
-          let comm = item_at t.comms c end.0 in
+          let comm = item_at t.comms c (each_at (IsEndInRange t a.inv.mode) a.inv.writes inv.writes k (E.Comm c a.instance) a.end).0 in
           let span = (each_at IsCommInRange t.comms range.comms c comm.0 comm.1).period in
           let period : comm_period t c ≡ comm.0.period = ap (λ (o : Option Comm). elim o [ Some x ↦ x.period | None ↦ 0 ]) comm.1 in
           inl (e, times_same a.instance b.instance (comm_period t c) (omega (arith, span.some, period)) (omega (arith, a.at, b.at, start)))

@@ -20,8 +20,7 @@ module _ (code : List EInstr) (go : ℕ → EInstr → Option ℕ) where
   one_path a (x ∷ xs) (y ∷ ys) p q =
       let r = next_of_block code go a x xs p in
       let s = next_of_block code go a y ys q in
-      let same : r.1.0 ≡ s.1.0 = same_Some r.1.0 s.1.0 (sym r.1.1 ∙ s.1.1) in
-      ap suc (by (λ c p' q'. one_path c xs ys p' q') r.1.0 s.1.0 same r.1.2 s.1.2)
+      ap suc (by (λ c p' q'. one_path c xs ys p' q') r.1.0 s.1.0 (same_Some r.1.0 s.1.0 (sym r.1.1 ∙ s.1.1)) r.1.2 s.1.2)
     where
       none_some : (n : ℕ) → None ≡ Some n → ⊥
       none_some n e = cc
@@ -32,8 +31,7 @@ module _ (code : List EInstr) (go : ℕ → EInstr → Option ℕ) where
       by again i j same (inl h) (inr k) = absurd (none_some k.0 (sym h.0 ∙ ap (go a) same ∙ k.1))
       by again i j same (inr h) (inl k) = absurd (none_some h.0 (sym k.0 ∙ sym (ap (go a) same) ∙ h.1))
       by again i j same (inr h) (inr k) =
-          let to : h.0 ≡ k.0 = same_Some h.0 k.0 (sym h.1 ∙ ap (go a) same ∙ k.1) in
-          again k.0 (subst (λ c. Ends code go c xs) to h.2) k.2
+          again k.0 (subst (λ c. Ends code go c xs) (same_Some h.0 k.0 (sym h.1 ∙ ap (go a) same ∙ k.1)) h.2) k.2
 
   -- from an address on it a path goes on to the same end
   goes_from : (a b : ℕ) (xs : List ℕ) → Ends code go a xs → list_any (eqb b) xs ≡ true → (ys : List ℕ) × (length ys ≤ length xs) × Ends code go b ys
@@ -65,8 +63,7 @@ module _ (code : List EInstr) (go : ℕ → EInstr → Option ℕ) where
       again f (inl h) = (let none : list_any (eqb x) [] ≡ true = sym (ap (list_any (eqb x)) h.1) ∙ f in let z : ⊥ = cc in z)
       again f (inr h) =
           let m = goes_from h.0 x xs h.2 f in
-          let same = one_path x m.0 (x ∷ xs) m.2 (subst (λ z. Ends code go z (x ∷ xs)) (sym r.0) p) in
-          omega (arith, m.1, same)
+          omega (arith, m.1, one_path x m.0 (x ∷ xs) m.2 (subst (λ z. Ends code go z (x ∷ xs)) (sym r.0) p))
 
       not_again : (d : Bool) → list_any (eqb x) xs ≡ d → list_any (eqb x) xs ≡ false
       not_again false f = f
@@ -112,8 +109,7 @@ module _ (t : Tables) (code : ECode) (es : List Event) (now phase : ℕ) (sound 
       by : ((d : Calendar) → Between t code es now phase d (suc k) → length (from_module (phase_blocks t code es now phase) n (suc k)) ≤ n * length code.instrs) → (o : Option ℕ) → due_target t code es now phase k ≡ o → length (phase_blocks t code es now phase k ++ from_module (phase_blocks t code es now phase) n (suc k)) ≤ suc n * length code.instrs
       by again None e =
           let h = laws.idle e in
-          let none : length (phase_blocks t code es now phase k) ≡ 0 = ap length h.0 in
-          joined (omega (arith, none)) (again c (h.1 c b))
+          joined (omega (arith, ap length h.0)) (again c (h.1 c b))
       by again (Some a) e =
           let h = laws.busy a e in
           let r = h.2 c b in
@@ -121,10 +117,7 @@ module _ (t : Tables) (code : ECode) (es : List Event) (now phase : ℕ) (sound 
           joined (omega (arith, long, block_short code.instrs _ a h.0 r.ends)) (again (calendar_replay t code now k h.0 (with_trigger phase k None c)) r.leads)
 
   pub phase_short : (c : Calendar) → Between t code es now phase c 0 → length (phase_path t code es now phase) ≤ length t.modules * length code.instrs
-  phase_short c b =
-      let same : length t.modules - 0 ≡ length t.modules = omega arith in
-      subst (λ (ds : List Done). length ds ≤ length t.modules * length code.instrs) (sym (from_zero (phase_blocks t code es now phase) (length t.modules) ∙ ap (λ n. from_module (phase_blocks t code es now phase) n 0) same))
-      (short_from (length t.modules) 0 c (omega arith) b)
+  phase_short c b = grind (arith, from_zero, short_from)
 
 -- ---- the instructions that are left, counted without the events
 
@@ -139,9 +132,7 @@ steps_for t code es now phase values (suc n) m done rest h p same few mid =
         → Onward t code es now phase (standing_after t code values phase now m o) done rest o
         → ◌≡◌ {A = ℕ} (elim o [ Some d ↦ suc (steps n t code values phase now (standing_after t code values phase now m (Some d))) | None ↦ 0 ]) (length rest)
     by_result ih None on = sym (ap length on.0)
-    by_result ih (Some d) on =
-        let less : length on.0 ≤ n = (let l : length rest ≡ suc (length on.0) = ap length on.1 in omega (arith, few, l)) in
-        ap suc (ih (standing_after t code values phase now m (Some d)) (done ++ done_of d ∷ []) on.0 less on.4) ∙ sym (ap length on.1)
+    by_result ih (Some d) on = grind (arith, rest)
 
 -- fewer are left after one
 pub fewer_then : (t : Tables) (code : ECode) (es : List Event) (now phase : ℕ) (values : List ℤ) (m next : Standing) (d : EDone) (done rest : List Done) (c : Calendar) → AreInRange t → KeptApart t 12 → Spells t code → (1 ≤ phase) × (phase ≤ 3)

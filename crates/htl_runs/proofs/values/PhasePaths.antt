@@ -1,5 +1,5 @@
 -- The addresses of the write phase and of the read phase do what their blocks ask for.
-use Rattle.std.proofs.Common.{◌≡◌, ℕ, suc, ◌-◌, ◌*◌, Bool, true, false, cond, ◌&&◌, ◌||◌, eqb, List, [], ◌∷◌, ◌++◌, length, map, slice_get, zero, ◌<◌, Option, Some, None, Result, Ok, inl, inr, refl, sym, ap, ◌∙◌}
+use Rattle.std.proofs.Common.{arith, ◌≡◌, ℕ, suc, ◌-◌, ◌*◌, Bool, true, false, cond, ◌&&◌, ◌||◌, eqb, List, [], ◌∷◌, ◌++◌, length, map, slice_get, zero, ◌<◌, Option, Some, None, Result, Ok, inl, inr, refl, sym, ap, ◌∙◌}
 use Rattle.htl_runs.proofs.Words.{Inv, End, Stay, State, joined, numbered, up_to, Tables, comm_period, offsets, release, stay_of, ECode, EInstr, EFault, counts, counted_in, places_at, next_offset, phase_offsets, holds, Requirement, Exactly, NextBlock, EndOfRound, SwitchJump, ModeJump, AtAnchor, all_do, call_of, calls_of, release_of, releases, calls, waits_for, block_chain, Step, Reached, reach, read, steps_of, passed_by, blocks, Done, on, chain_path, block_path, due_path, writes_done, reads_done, Jumps, reach_is, anchor_is, read_is, IsBlockPhase, spelled_stands, no_block, Content, effect, want_effect, effects, wanted_writes, wanted_reads, all_writes, all_reads, effect_at, or_parts}
 use Rattle.htl_model.specs.declared.parts.End.TheVariants as E
 use Rattle.htl_ecode.specs.declared.instr.EInstr.TheVariants as I
@@ -18,12 +18,10 @@ module _ (t : Tables) (code : List EInstr) where
 
   pub jumps_do_nothing : (a b : ℕ) (xs : List ℕ) (w : Content) → Jumps code a xs b → replay t code xs w ≡ w
   jumps_do_nothing a b [] w p = refl
-  jumps_do_nothing a b (x ∷ xs) w p =
-      ap (λ o. replay t code xs (effect_at t o w)) (ap (slice_get code) p.0 ∙ p.1.1) ∙ jumps_do_nothing p.1.0 b xs w p.1.2
+  jumps_do_nothing a b (x ∷ xs) w p = grind (arith, jumps_do_nothing p.1.0 b xs w p.1.2)
 
   pub one_does : (a b : ℕ) (xs : List ℕ) (i : EInstr) (w : Content) → Jumps code a xs b → slice_get code b ≡ Some i → replay t code (xs ++ b ∷ []) w ≡ effect t i w
-  one_does a b xs i w p at =
-      replay_more xs (b ∷ []) w ∙ ap (λ z. replay t code (b ∷ []) z) (jumps_do_nothing a b xs w p) ∙ ap (λ o. effect_at t o w) at
+  one_does a b xs i w p at = grind (arith, replay_more, jumps_do_nothing)
 
   pub same_effect : (i j : EInstr) (w : Content) → i ≡ j → effect t i w ≡ effect t j w
   same_effect i j w e = ap (λ z. effect t z w) e
@@ -48,9 +46,7 @@ module _ (t : Tables) (code : List EInstr) where
 
   -- the addresses passed by a chain do to the world what the chain requires
   pub chain_does : (ws : List Requirement) (a : ℕ) (ss : List Step) (w : Content) → read code a ws ≡ Ok ss → replay t code (passed_by ss) w ≡ effects t ws w
-  chain_does [] a ss w e =
-      let none : [] ≡ ss = (let h : ◌≡◌ {A = Result (List Step) EFault} (Ok []) (Ok ss) = e in cc) in
-      ap (λ zs. replay t code (passed_by zs) w) (sym none)
+  chain_does [] a ss w e = grind arith
   chain_does (x ∷ xs) a ss w e =
       let r = read_is code a x xs ss e in
       ap (λ zs. replay t code (passed_by zs) w) r.is
@@ -66,11 +62,7 @@ waits_do_nothing t o p (Some x) w = refl
 
 holds_more : (o : ℕ) (xs ys : List ℕ) → holds o (xs ++ ys) ≡ (holds o xs || holds o ys)
 holds_more o [] ys = refl
-holds_more o (x ∷ xs) ys = ap (λ b. eqb x o || b) (holds_more o xs ys) ∙ sym (or_assoc (eqb x o) (holds o xs) (holds o ys))
-  where
-    or_assoc : (a b c : Bool) → ((a || b) || c) ≡ (a || (b || c))
-    or_assoc true b c = refl
-    or_assoc false b c = refl
+holds_more o (x ∷ xs) ys = grind (arith, holds_more o xs ys)
 
 idle_ends : (t : Tables) (o k : ℕ) (ends : List End) → holds o (offsets t ends) ≡ false → places_at t o k ends ≡ []
 idle_ends t o k [] h = refl
@@ -104,15 +96,10 @@ idle_releases t m p o k (x ∷ xs) reads h =
 
 -- at another offset nothing is called or released
 pub no_calls : (t : Tables) (m p o : ℕ) → holds o (phase_offsets t m p) ≡ false → calls t m p o ≡ []
-no_calls t m p o h = ap (λ js. js ++ cond (eqb p 1) [] (releases t m o)) (idle_calls t m p o 0 t.invs h) ∙ by_phase (eqb p 1) refl
-  where
-    by_phase : (c : Bool) → eqb p 1 ≡ c → cond c [] (releases t m o) ≡ []
-    by_phase true e = refl
-    by_phase false e = idle_releases t m p o 0 t.invs e h
+no_calls t m p o h = grind (arith, idle_calls, idle_releases)
 
 idle_chain : (t : Tables) (m p o : ℕ) (w : Content) → holds o (phase_offsets t m p) ≡ false → effects t (block_chain t m p o) w ≡ w
-idle_chain t m p o w h =
-    ap (λ js. effects t (all_do js ++ (waits_for o p (next_offset t m p (suc o)) ++ Exactly I.Return ∷ [])) w) (no_calls t m p o h) ∙ waits_do_nothing t o p (next_offset t m p (suc o)) w
+idle_chain t m p o w h = grind (arith, no_calls, waits_do_nothing)
 
 -- ---- the path of a block does what its chain requires
 
@@ -125,8 +112,7 @@ block_does t code m p o w phase r = by_offset (holds o (phase_offsets t m p)) re
         ap (λ z. replay t code.instrs (elim z [ Some a ↦ chain_path code a (block_chain t m p o) | None ↦ [] ]) w) s.found
         ∙ ap (λ z. replay t code.instrs (passed_by (steps_of z)) w) s.reads.1
         ∙ chain_does t code.instrs (block_chain t m p o) s.address s.reads.0 w s.reads.1
-    by_offset false h =
-        ap (λ z. replay t code.instrs (elim z [ Some a ↦ chain_path code a (block_chain t m p o) | None ↦ [] ]) w) (no_block t code m p o h) ∙ sym (idle_chain t m p o w h)
+    by_offset false h = grind (arith, no_block, idle_chain)
 
 -- ---- all modules
 

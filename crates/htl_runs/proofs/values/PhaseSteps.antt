@@ -1,5 +1,5 @@
 -- A phase goes on by one instruction, and ends.
-use Rattle.std.proofs.Common.{◌≡◌, ℕ, List, [], ◌∷◌, ◌++◌, slice_get, Option, Some, None, refl, sym, ap, ◌∙◌, subst}
+use Rattle.std.proofs.Common.{arith, ◌≡◌, ℕ, List, [], ◌∷◌, ◌++◌, slice_get, Option, Some, None, refl, sym, ap, ◌∙◌, subst}
 use Rattle.htl_runs.proofs.Words.{append-nil, Event, Tables, ECode, EInstr, Done, EDone, Content, IsShaped, Standing, content_after, StandsSafely, Onward, phase_path, done_of, IsAllowed, switch_quiet, IsRunning, replay, effect_at}
 
 replay_more : (t : Tables) (code : ECode) (ds : List Done) (d : Done) (w : Content) → replay t code (ds ++ d ∷ []) w ≡ effect_at t (slice_get code.instrs d.address) (replay t code ds w)
@@ -9,16 +9,7 @@ replay_more t code (x ∷ ds) d w = replay_more t code ds d (effect_at t (slice_
 -- one instruction more
 pub running_on : (t : Tables) (code : ECode) (es : List Event) (at phase : ℕ) (m next : Standing) (w after first : Content) (d : EDone) → (h : IsRunning t code es at phase m w first) → StandsSafely t code next → IsShaped t after →
     Onward t code es at phase next h.done h.rest (Some d) → after ≡ content_after t w (Some d) → IsRunning t code es at phase next after first
-running_on t code es at phase m next w after first d h safe shaped on is =
-    record {
-      done = h.done ++ done_of d ∷ [];
-      rest = on.0;
-      midway = on.4;
-      safe = safe;
-      shaped = shaped;
-      content = is ∙ sym (ap (λ (o : Option EInstr). effect_at t o w) on.2) ∙ ap (effect_at t (slice_get code.instrs d.address)) h.content ∙ sym (replay_more t code h.done (done_of d) first);
-      values = λ two. ap (λ (z : Content). z.values) (is ∙ switch_quiet t d.«module» d.instr w (subst (λ p. IsAllowed t p d.«module» d.instr) two on.3)) ∙ h.values two;
-    }
+running_on t code es at phase m next w after first d h safe shaped on is = grind (arith, replay_more, switch_quiet)
 
 pub running_done : (t : Tables) (code : ECode) (es : List Event) (at phase : ℕ) (m next : Standing) (w after first : Content) (d : EDone) → (h : IsRunning t code es at phase m w first) → (safe : StandsSafely t code next) → (shaped : IsShaped t after) →
     (on : Onward t code es at phase next h.done h.rest (Some d)) → (is : after ≡ content_after t w (Some d)) → (running_on t code es at phase m next w after first d h safe shaped on is).done ≡ h.done ++ done_of d ∷ []
@@ -28,9 +19,7 @@ running_done t code es at phase m next w after first d h safe shaped on is = ref
 -- nothing is left
 pub phase_replayed : (t : Tables) (code : ECode) (es : List Event) (at phase : ℕ) (m next : Standing) (w after first : Content) → (h : IsRunning t code es at phase m w first) → Onward t code es at phase next h.done h.rest None → after ≡ content_after t w None →
     after ≡ replay t code (phase_path t code es at phase) first
-phase_replayed t code es at phase m next w after first h on is =
-    let all : phase_path t code es at phase ≡ h.done = h.midway.path ∙ ap (λ zs. h.done ++ zs) on.0 ∙ append-nil h.done in
-    is ∙ h.content ∙ sym (ap (λ ds. replay t code ds first) all)
+phase_replayed t code es at phase m next w after first h on is = grind (arith, append-nil)
 
 pub phase_ends : (t : Tables) (code : ECode) (es : List Event) (at phase : ℕ) (m next : Standing) (w first : Content) → (h : IsRunning t code es at phase m w first) → Onward t code es at phase next h.done h.rest None →
     Onward t code es at phase next (phase_path t code es at phase) [] None

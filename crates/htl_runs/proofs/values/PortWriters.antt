@@ -1,5 +1,5 @@
 -- An invocation that reads a port is fed by the one that writes it.
-use Rattle.std.proofs.Common.{◌≡◌, ℕ, zero, suc, Bool, true, eqb, List, [], ◌∷◌, slice_get, Option, Some, refl, ap, ◌∙◌}
+use Rattle.std.proofs.Common.{arith, ◌≡◌, ℕ, zero, suc, Bool, true, eqb, List, [], ◌∷◌, slice_get, Option, Some, refl, ap, ◌∙◌}
 use Rattle.htl_runs.proofs.Words.{list_any, eq-eqb, and_from, or_left, or_right, Inv, End, Tables, is_read_from, feeds_at, feeds, is_port, not_some, same_Some}
 use Rattle.htl_model.specs.declared.parts.End.TheVariants as E
 use Rattle.htl_runs.proofs.values.JobOutputs.{IsWriter}
@@ -11,7 +11,4 @@ any_there f (d ∷ ends) (suc k) e at h = or_right (f d) (list_any f ends) (any_
 
 -- an invocation that reads a port is fed by its writer
 pub fed : (t : Tables) (i w k a o : ℕ) (x : Inv) → slice_get t.invs i ≡ Some x → slice_get x.reads k ≡ Some (E.Port a) → (d : IsWriter t x.mode a w o) → feeds t w i ≡ true
-fed t i w k a o x known e d =
-    ap (λ (z : Option Inv). feeds_at z (slice_get t.invs i)) d.known ∙ ap (feeds_at (Some d.inv)) known
-    ∙ and_from (eqb d.inv.mode x.mode) (list_any (is_read_from d.inv.writes) x.reads) (eq-eqb d.inv.mode x.mode d.mode)
-    (any_there (is_read_from d.inv.writes) x.reads k (E.Port a) e (any_there (is_port a) d.inv.writes o (E.Port a) d.end (eq-eqb a a refl)))
+fed t i w k a o x known e d = grind (arith, and_from, eq-eqb, any_there)

@@ -1,5 +1,5 @@
 -- Sensors that are set one by one.
-use Rattle.std.proofs.Common.{◌≡◌, ℕ, ◌%◌, Bool, true, false, cond, eqb, List, get_or, set, slice_get, Some, ℤ, pos, sym, subst}
+use Rattle.std.proofs.Common.{arith, ◌≡◌, ℕ, ◌%◌, Bool, true, false, cond, eqb, List, get_or, set, slice_get, Some, ℤ, pos, sym, subst}
 use Rattle.htl_runs.proofs.Words.{Comm, Tables, Content, shown_then, AreShown, HasValues, IsShaped, FitsType, slice_get_within}
 
 -- what is shown fits the types
@@ -16,9 +16,4 @@ sensors_shaped t shows old now w0 w ss os h set =
     })
   where
     fits : (c : ℕ) (x : Comm) → slice_get t.comms c ≡ Some x → FitsType x.ty (shown_then shows old now w0.values c x)
-    fits c x at = by_sensor x.sensor (eqb (now % x.period) 0)
-      where
-        by_sensor : (a b : Bool) → FitsType x.ty (cond a (cond b (get_or shows c (pos 0)) (get_or old c (pos 0))) (get_or w0.values c (pos 0)))
-        by_sensor true true = ss.fit c x at
-        by_sensor true false = os.fit c x at
-        by_sensor false b = h.values.fit c x at
+    fits c x at = grind (arith, pos)

@@ -1,9 +1,7 @@
 -- The sensors that are set at an instant are those of the meaning.
 use Rattle.std.proofs.Common.{◌≡◌, ℕ, zero, suc, ◌*◌, ◌/◌, ◌%◌, ◌<◌, Bool, true, false, cond, eqb, List, [], ◌∷◌, length, get_or, slice_get, Some, ℤ, pos, refl, sym, ap, ap₂, ◌∙◌, arith, inl, inr}
 use Rattle.htl_runs.proofs.Words.{slice_get_within, eqb-true, Event, State, Comm, Tables, state, sense, first_value, next_value, written, state_step, seen_before, Content, with_sensors, shown, shown_at, values_before, AreShown, zero_down}
-use Rattle.htl_runs.proofs.values.FinishedOutputs.{list_to_at}
-use Rattle.htl_runs.proofs.values.Periods.{begins_or_not}
-use Rattle.htl_runs.proofs.values.InstantValues.{length-shown}
+use Rattle.htl_runs.proofs.{values.FinishedOutputs.list_to_at, values.Periods.begins_or_not, values.InstantValues.length-shown}
 
 list_is : (xs ys : List ℤ) → length xs ≡ length ys → ((k : ℕ) → k < length xs → get_or xs k (pos 0) ≡ get_or ys k (pos 0)) → xs ≡ ys
 list_is [] [] e h = refl
@@ -12,9 +10,7 @@ list_is _ _ e h = absurd (omega (arith, e))
 
 -- a sensor has what it showed when its period last divided the instant
 sensor_value : (t : Tables) (es : List Event) (n c : ℕ) (x : Comm) → slice_get t.comms c ≡ Some x → x.sensor ≡ true → get_or (state t es n).values c (pos 0) ≡ sense t es c (x.period * (n / x.period))
-sensor_value t es zero c x at is =
-    list_to_at (λ c. first_value (sense t es) c (slice_get t.comms c)) (length t.comms) c (slice_get_within t.comms c x at)
-    ∙ ap (first_value (sense t es) c) at ∙ ap (λ b. cond b (sense t es c 0) x.init) is ∙ sym (ap (sense t es c) (zero_down x.period))
+sensor_value t es zero c x at is = grind (arith, list_to_at, slice_get_within, zero_down)
 sensor_value t es (suc n) c x at is =
     let old = state t es n in
     let value : ℕ → ℤ = λ c. next_value t (sense t es) (seen_before t es (suc n)) old.stays old.values (suc n) c (slice_get t.comms c) in
@@ -62,7 +58,4 @@ sensors_are t es now shows w v some same h =
     by_sensor c x at less false e = refl
 
     by_comm : (c : ℕ) → c < length t.comms → ((x : Comm) × (slice_get t.comms c ≡ Some x)) → get_or v.values c (pos 0) ≡ get_or (shown t (sense t es) now w.values) c (pos 0)
-    by_comm c less r =
-        h.below c r.0 less r.1 ∙ by_sensor c r.0 r.1 less r.0.sensor refl
-        ∙ sym (ap (shown_at (sense t es) now w.values c) r.1)
-        ∙ sym (list_to_at (λ c. shown_at (sense t es) now w.values c (slice_get t.comms c)) (length t.comms) c less)
+    by_comm c less r = grind (arith, by_sensor, list_to_at)

@@ -1,5 +1,5 @@
 -- The addresses of the switch phase leave the world as it is.
-use Rattle.std.proofs.Common.{◌≡◌, ℕ, suc, ◌+◌, Bool, true, false, cond, eqb, List, [], ◌∷◌, ◌++◌, length, map, zero, ◌<◌, Option, Some, None, Result, Ok, Err, ℤ, inl, inr, refl, sym, ap, ◌∙◌}
+use Rattle.std.proofs.Common.{arith, ◌≡◌, ℕ, suc, ◌+◌, Bool, true, false, cond, eqb, List, [], ◌∷◌, ◌++◌, length, map, zero, ◌<◌, Option, Some, None, Result, Ok, Err, ℤ, inl, inr, refl, sym, ap, ◌∙◌}
 use Rattle.htl_runs.proofs.Words.{Stay, State, joined, numbered, up_to, Switch, Action, Tables, mode_period, mode_module, stay_of, ECode, EInstr, EFault, parent_of, AreInRange, IsSwitchInRange, next_offset, same_instr, Requirement, Exactly, NextBlock, EndOfRound, SwitchJump, ModeJump, AtAnchor, all_do, waits_for, enter_chain, begin_chain, decide_chain, children, asks_for, test_of, tests_of, branch_target, Resolved, resolved, bind, fault, pass, leaving, Step, read, steps_of, passed_by, entered, block_begun, decided, turn_step, step_from, begin_path, enter_path, followed, decide_path, switch_path, switches_done, holds_in, chain_path, bind_ok, IsResolved, resolve_is, same_is, reach_is, read_is, Reads, ModeReads, Content, effect, want_effect, effects, slice_get_within, each_at}
 use Rattle.htl_ecode.specs.declared.instr.EInstr.TheVariants as I
 use Rattle.htl_runs.proofs.values.BlockContents.{In, numbered_in}
@@ -44,9 +44,7 @@ quiet_enter : (t : Tables) (code : ECode) (m : ℕ) → AreQuiet (enter_chain t 
 quiet_enter t code m = (tt, quiet_more (all_do (map (λ k. I.Fork k) (children t m))) (AtAnchor (block_begun code m) ∷ []) (quiet_forks (children t m)) (tt, tt))
 
 quiet_begin : (t : Tables) (code : ECode) (m : ℕ) → AreQuiet (begin_chain t (decided code m) m)
-quiet_begin t code m =
-    quiet_more (waits_for 0 1 (next_offset t m 1 0)) (waits_for 0 3 (next_offset t m 3 0) ++ EndOfRound (mode_period t m) (decided code m) ∷ Exactly I.Return ∷ []) (quiet_waits 0 1 (next_offset t m 1 0))
-    (quiet_more (waits_for 0 3 (next_offset t m 3 0)) (EndOfRound (mode_period t m) (decided code m) ∷ Exactly I.Return ∷ []) (quiet_waits 0 3 (next_offset t m 3 0)) (tt, (tt, tt)))
+quiet_begin t code m = grind (arith, quiet_more, quiet_waits)
 
 quiet_decide : (t : Tables) (code : ECode) (m : ℕ) → AreQuiet (decide_chain t (block_begun code m) code.enter m)
 quiet_decide t code m =

@@ -61,11 +61,7 @@ Written t c ws w =
     ⊎ ((i k : ℕ) × AsksFor (I.CallWrite i k) ws × (comm_of (slice_get (contents.writes_at t i) k) ≡ Some c) × (get_or (effects t ws w).values c (pos 0) ≡ buffer w.outputs i k))
 
 length_after : (t : Tables) (a b : ℕ) (w : Content) → length (call_write t a b w).values ≡ length w.values
-length_after t a b w = by_end (comm_of (slice_get (contents.writes_at t a) b))
-  where
-    by_end : (o : Option ℕ) → length {A = ℤ} (elim o [ Some c ↦ set w.values c (buffer w.outputs a b) | None ↦ w.values ]) ≡ length w.values
-    by_end None = refl
-    by_end (Some d) = length-set w.values d (buffer w.outputs a b)
+length_after t a b w = grind (arith, set, length-set)
 
 -- one write more in front
 write_front : (t : Tables) (c : ℕ) (x : Requirement) (xs : List Requirement) (a b : ℕ) (w : Content) → x ≡ Exactly (I.CallWrite a b) → c < length w.values
@@ -81,41 +77,17 @@ write_front t c x xs a b w is room (inl r) = by_end (comm_of (slice_get (content
 
     none_now : (o : Option ℕ) → comm_of (slice_get (contents.writes_at t a) b) ≡ o → (o ≡ Some c → ⊥) → (i k : ℕ) → AsksFor (I.CallWrite i k) (x ∷ xs) → comm_of (slice_get (contents.writes_at t i) k) ≡ Some c → ⊥
     none_now o e n i k (inr h) f = r.0 i k h f
-    none_now o e n i k (inl g) f =
-        let same : Exactly (I.CallWrite a b) ≡ Exactly (I.CallWrite i k) = sym is ∙ g in
-        let first : a ≡ i = cc in
-        let second : b ≡ k = cc in
-        n (sym e ∙ ap (λ z. comm_of (slice_get (contents.writes_at t z) b)) first ∙ ap (λ z. comm_of (slice_get (contents.writes_at t i) z)) second ∙ f)
+    none_now o e n i k (inl g) f = grind arith
 
     by_end : (o : Option ℕ) → comm_of (slice_get (contents.writes_at t a) b) ≡ o → Written t c (x ∷ xs) w
     by_end None e = inl (none_now None e (λ f. let z : ⊥ = cc in z), here ∙ ap (λ v. get_or v c (pos 0)) (put None e))
-    by_end (Some d) e = by_comm (cases_eq d c)
-      where
-        by_comm : (d ≡ c) ⊎ (d ≢ c) → Written t c (x ∷ xs) w
-        by_comm (inl g) =
-            inr (
-              a,
-              b,
-              inl is,
-              e ∙ ap (λ z. Some z) g,
-              here ∙ ap (λ v. get_or v c (pos 0)) (put (Some d) e) ∙ ap (λ z. get_or (set w.values z (buffer w.outputs a b)) c (pos 0)) g
-                  ∙ get_or-set_same w.values c (buffer w.outputs a b) (pos 0) room,
-            )
-        by_comm (inr g) =
-            inl (
-              none_now (Some d) e (λ f. g (let z : d ≡ c = cc in z)),
-              here ∙ ap (λ v. get_or v c (pos 0)) (put (Some d) e) ∙ get_or-set_other w.values d c (buffer w.outputs a b) (pos 0) (λ f. g (sym f)),
-            )
+    by_end (Some d) e = grind (arith, cases_eq, here, pos, put, set, get_or-set_same, none_now, get_or-set_other)
 
 -- a want that writes nothing in front
 idle_front : (t : Tables) (c : ℕ) (x : Requirement) (xs : List Requirement) (w : Content) → ((i k : ℕ) → x ≡ Exactly (I.CallWrite i k) → ⊥) → (want_effect t x w).values ≡ w.values → (want_effect t x w).outputs ≡ w.outputs
     → Written t c xs (want_effect t x w) → Written t c (x ∷ xs) w
 idle_front t c x xs w n v o (inr r) = inr (r.0, r.1, inr r.2, r.3, r.4 ∙ ap (λ bs. buffer bs r.0 r.1) o)
-idle_front t c x xs w n v o (inl r) = inl (none_now, r.1 ∙ ap (λ z. get_or z c (pos 0)) v)
-  where
-    none_now : (i k : ℕ) → AsksFor (I.CallWrite i k) (x ∷ xs) → comm_of (slice_get (contents.writes_at t i) k) ≡ Some c → ⊥
-    none_now i k (inl e) f = n i k e
-    none_now i k (inr h) f = r.0 i k h f
+idle_front t c x xs w n v o (inl r) = grind (arith, pos)
 
 pub are_written : (t : Tables) (c : ℕ) (ws : List Requirement) (w : Content) → c < length w.values → Written t c ws w
 are_written t c [] w h = inl (λ i k a e. a, refl)
@@ -123,13 +95,8 @@ are_written t c (x ∷ xs) w h = by_kind (kind_of x) (λ v g. are_written t c xs
   where
     by_kind : Kind x → ((v : Content) → c < length v.values → Written t c xs v) → Written t c (x ∷ xs) w
     by_kind (writes a b e) ih = write_front t c x xs a b w e h (ih (call_write t a b w) (omega (arith, length_after t a b w)))
-    by_kind (reads a b e) ih =
-        let v : (want_effect t x w).values ≡ w.values = ap (λ z. (want_effect t z w).values) e in
-        idle_front t c x xs w (λ i k f. let z : Exactly (I.CallRead a b) ≡ Exactly (I.CallWrite i k) = sym e ∙ f in cc) v (ap (λ z. (want_effect t z w).outputs) e)
-        (ih (want_effect t x w) (omega (arith, ap (λ (z : List ℤ). length z) v)))
-    by_kind (idles f g k) ih =
-        let v : (want_effect t x w).values ≡ w.values = ap (λ (z : Content). z.values) (f t w) in
-        idle_front t c x xs w g v (ap (λ (z : Content). z.outputs) (f t w)) (ih (want_effect t x w) (omega (arith, ap (λ (z : List ℤ). length z) v)))
+    by_kind (reads a b e) ih = grind (arith, idle_front)
+    by_kind (idles f g k) ih = grind (arith, idle_front)
 
 -- ---- reads
 
@@ -138,51 +105,26 @@ HasRoom i k w = (i < length w.inputs) × (k < length (get_or w.inputs i []))
 
 -- rows keep their lengths
 pub put_row : (bs : List (List ℤ)) (a b i : ℕ) (v : ℤ) → i < length bs → length (get_or (put_in bs a b v) i []) ≡ length (get_or bs i [])
-put_row bs a b i v h = by_row (cases_eq a i)
-  where
-    by_row : (a ≡ i) ⊎ (a ≢ i) → length (get_or (put_in bs a b v) i []) ≡ length (get_or bs i [])
-    by_row (inl e) =
-        ap (λ z. length (get_or (put_in bs z b v) i [])) e
-        ∙ ap (λ (z : List ℤ). length z) (get_or-set_same bs i (set (get_or bs i []) b v) [] h) ∙ length-set (get_or bs i []) b v
-    by_row (inr n) = ap (λ (z : List ℤ). length z) (get_or-set_other bs a i (set (get_or bs a []) b v) [] (λ e. n (sym e)))
+put_row bs a b i v h = grind (arith, cases_eq, get_or-set_same, set, length-set, get_or-set_other)
 
 pub put_same : (bs : List (List ℤ)) (i k : ℕ) (v : ℤ) → i < length bs → k < length (get_or bs i []) → buffer (put_in bs i k v) i k ≡ v
 put_same bs i k v h g = ap (λ row. get_or row k (pos 0)) (get_or-set_same bs i (set (get_or bs i []) k v) [] h) ∙ get_or-set_same (get_or bs i []) k v (pos 0) g
 
 pub put_other : (bs : List (List ℤ)) (a b i k : ℕ) (v : ℤ) → i < length bs → (a ≡ i → b ≡ k → ⊥) → buffer (put_in bs a b v) i k ≡ buffer bs i k
-put_other bs a b i k v h n = by_row (cases_eq a i)
-  where
-    by_row : (a ≡ i) ⊎ (a ≢ i) → buffer (put_in bs a b v) i k ≡ buffer bs i k
-    by_row (inl e) =
-        ap (λ z. buffer (put_in bs z b v) i k) e
-        ∙ ap (λ row. get_or row k (pos 0)) (get_or-set_same bs i (set (get_or bs i []) b v) [] h)
-        ∙ get_or-set_other (get_or bs i []) b k v (pos 0) (λ f. n e (sym f))
-    by_row (inr m) = ap (λ row. get_or row k (pos 0)) (get_or-set_other bs a i (set (get_or bs a []) b v) [] (λ e. m (sym e)))
+put_other bs a b i k v h n = grind (arith, cases_eq, pos, get_or-set_same, set, get_or-set_other)
 
 -- the input buffers once a communicator, if any, was read
 abbrev pub inputs_with : Content → ℕ → ℕ → Option ℕ → List (List ℤ)
 inputs_with w a b o = elim o [ Some c ↦ put_in w.inputs a b (get_or w.values c (pos 0)) | None ↦ w.inputs ]
 
 room_after : (t : Tables) (a b i k : ℕ) (w : Content) → HasRoom i k w → HasRoom i k (call_read t a b w)
-room_after t a b i k w h = by_end (comm_of (slice_get (contents.reads_at t a) b))
-  where
-    by_end : (o : Option ℕ) → (i < length (inputs_with w a b o)) × (k < length (get_or (inputs_with w a b o) i []))
-    by_end None = h
-    by_end (Some d) =
-        let v = get_or w.values d (pos 0) in
-        (omega (arith, length-set w.inputs a (set (get_or w.inputs a []) b v), h.0), omega (arith, put_row w.inputs a b i v h.0, h.1))
+room_after t a b i k w h = grind (arith, pos, length-set, set, put_row)
 
 other_read : (t : Tables) (a b i k : ℕ) (w : Content) → i < length w.inputs → (a ≡ i → b ≡ k → ⊥) → buffer (call_read t a b w).inputs i k ≡ buffer w.inputs i k
-other_read t a b i k w h n = by_end (comm_of (slice_get (contents.reads_at t a) b))
-  where
-    by_end : (o : Option ℕ) → buffer (elim o [ Some c ↦ put_in w.inputs a b (get_or w.values c (pos 0)) | None ↦ w.inputs ]) i k ≡ buffer w.inputs i k
-    by_end None = refl
-    by_end (Some d) = put_other w.inputs a b i k (get_or w.values d (pos 0)) h n
+other_read t a b i k w h n = grind (arith, pos, put_other)
 
 same_read : (t : Tables) (i k c : ℕ) (w : Content) → comm_of (slice_get (contents.reads_at t i) k) ≡ Some c → HasRoom i k w → buffer (call_read t i k w).inputs i k ≡ get_or w.values c (pos 0)
-same_read t i k c w e h =
-    ap (λ (o : Option ℕ). buffer (elim o [ Some d ↦ put_in w.inputs i k (get_or w.values d (pos 0)) | None ↦ w.inputs ]) i k) e
-    ∙ put_same w.inputs i k (get_or w.values c (pos 0)) h.0 h.1
+same_read t i k c w e h = grind (arith, pos, put_same)
 
 -- the input is read, and holds c; or it isn't, and stays
 abbrev pub Filled : Tables → ℕ → ℕ → ℕ → List Requirement → Content → Type 0
@@ -203,13 +145,7 @@ are_filled t i k c (x ∷ xs) w e n h = by_kind (kind_of x) (λ v g. are_filled 
     front v is same kept other (inr r) = inr (inr r.0, ap (λ z. buffer (effects t xs z).inputs i k) is ∙ r.1 ∙ ap (λ z. get_or z c (pos 0)) same)
 
     read_here : (a b : ℕ) → x ≡ Exactly (I.CallRead a b) → a ≡ i → b ≡ k → Filled t i k c xs (call_read t i k w) → Filled t i k c (x ∷ xs) w
-    read_here a b is p q f =
-        let y : x ≡ Exactly (I.CallRead i k) = is ∙ ap (λ z. Exactly (I.CallRead z b)) p ∙ ap (λ z. Exactly (I.CallRead i z)) q in
-        let go : want_effect t x w ≡ call_read t i k w = ap (λ z. want_effect t z w) y in
-        elim f [
-          | inl r ↦ inr (inl y, ap (λ z. buffer (effects t xs z).inputs i k) go ∙ r.1 ∙ same_read t i k c w e h)
-          | inr r ↦ inr (inl y, ap (λ z. buffer (effects t xs z).inputs i k) go ∙ r.1)
-        ]
+    read_here a b is p q f = grind (arith, same_read)
 
     by_kind : Kind x → IH → Filled t i k c (x ∷ xs) w
     by_kind (writes a b f) ih = absurd (n a b (inl f))

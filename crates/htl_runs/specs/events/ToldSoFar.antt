@@ -4,9 +4,7 @@ use Rattle.htl_runs.specs.Common.{Event, Tables, sense, SInstr, ECode, Standing,
 use Rattle.htl_emach.specs.Following as machines
 use Rattle.htl_model.specs.declared.event.Event.TheVariants as V
 use Rattle.htl_walk.specs.Feasible.{AreFeasible}
-use Rattle.htl_runs.specs.values.Values.{ValuesFollow}
-use Rattle.htl_runs.specs.frames.LastPositions.{position_from}
-use Rattle.htl_runs.specs.lines.Lines.{e_done}
+use Rattle.htl_runs.specs.{values.Values.ValuesFollow, frames.LastPositions.position_from, lines.Lines.e_done}
 
 -- what contracts see of a machine, but for its triggers and totals
 pub record RunState : Type 0 where

@@ -1,12 +1,10 @@
 -- Who stands at the positions of a frame so far.
 use Rattle.std.specs.Prelude.{◌≡◌, ℕ, ◌+◌, ◌-◌, ◌*◌, ◌/◌, ◌≤◌, ◌<◌, List, take, slice_get, Option, Some}
-use Rattle.htl_runs.specs.Common.{Event, Inv, Stay, KeptApart, state, AreInRange, Tables, window_end, frame_modes, frame_places, frame_jobs}
-use Rattle.htl_model.specs.declared.frame.Place.{Place}
-use Rattle.htl_model.specs.Frames.{frame_of, known_by}
+use Rattle.htl_runs.specs.{Common.Event, Common.Inv, Common.Stay, Common.KeptApart, Common.state, Common.AreInRange, Common.Tables, Common.window_end, Common.frame_modes, Common.frame_places, Common.frame_jobs, values.Values.InvStands}
+use Rattle.htl_model.specs.{declared.frame.Place.Place, Frames.frame_of, Frames.known_by}
 use Rattle.htl_walk.specs.PathJobs.{placed_jobs}
 use Rattle.htl_refine.specs.FramePlaces.{place, standing_places, AreOrdered}
 use Rattle.htl_runs.specs.frames.JobsSoFar.{AreJobsSoFar}
-use Rattle.htl_runs.specs.values.Values.{InvStands}
 
 -- the positions so far of the frame from `frame`, where at n the modules are as `stays` says
 pub record IsFramePlacing (t : Tables) (stays : List (Option Stay)) (frame n : ℕ) (places : List Place) : Type 0 where

@@ -2,11 +2,7 @@
 use Rattle.std.specs.Prelude.{◌≡◌, ℕ, zero, suc, ◌-◌, ◌≤◌, ◌⊎◌, Bool, false, List, slice_get, Some}
 use Rattle.htl_runs.specs.Common.{Event, Tables, AreInRange, KeptApart, sense, state, before, Job, Left, Content, count_left_before, done_by}
 use Rattle.htl_refine.specs.ServedSoFar.{IsServedSoFar}
-use Rattle.htl_runs.specs.frames.JobsSoFar.{AreJobsSoFar}
-use Rattle.htl_runs.specs.values.FinishedJobs.{run_records}
-use Rattle.htl_runs.specs.frames.LastPositions.{finished_in}
-use Rattle.htl_runs.specs.values.Values.{AreCarried}
-use Rattle.htl_runs.specs.values.InstantEffects.{world_after}
+use Rattle.htl_runs.specs.{frames.JobsSoFar.AreJobsSoFar, values.FinishedJobs.run_records, frames.LastPositions.finished_in, values.Values.AreCarried, values.InstantEffects.world_after}
 
 -- the frame at an instant: when it began, the jobs that it has so far, and its records
 pub record Now : Type 0 where

@@ -1,12 +1,9 @@
 -- Which jobs a frame has so far: one for each invocation that stands, in its module's own round, with its window and its predecessors.
 use Rattle.std.specs.Prelude.{◌≡◌, ℕ, ◌+◌, ◌<◌, ◌≤◌, true, List, slice_get, Option, Some, None}
-use Rattle.htl_runs.specs.Common.{Inv, Stay, writer_from, Job}
+use Rattle.htl_runs.specs.{Common.Inv, Common.Stay, Common.writer_from, Common.Job, frames.LastPositions.position_from, values.Values.InvStands}
 use Rattle.htl_model.specs.declared.parts.End.TheVariants as E
 use Rattle.htl_model.specs.Tables.{Tables, release, window_end, task_worst}
-use Rattle.htl_walk.specs.Jobs.{precedes}
-use Rattle.htl_walk.specs.Walk.{Left, job_at, finish}
-use Rattle.htl_runs.specs.frames.LastPositions.{position_from}
-use Rattle.htl_runs.specs.values.Values.{InvStands}
+use Rattle.htl_walk.specs.{Jobs.precedes, Walk.Left, Walk.job_at, Walk.finish}
 
 -- the job at position p of the frame is that of invocation i, which is x, in the round of its module from s
 pub record IsJob (t : Tables) (jobs : List Job) (frame p i : ℕ) (x : Inv) (s : ℕ) : Type 0 where

@@ -1,8 +1,7 @@
 -- Where a list begins: where a round of some root module does.
 use Rattle.std.specs.Prelude.{◌%◌, ℕ, Bool, not, ◌&&◌, eqb, get_or}
 use Rattle.std.specs.List.{list_any}
-use Rattle.htl_model.specs.Selections.{root_modules, modes_of}
-use Rattle.htl_model.specs.Tables.{Tables, mode_period}
+use Rattle.htl_model.specs.{Selections.root_modules, Selections.modes_of, Tables.Tables, Tables.mode_period}
 
 -- the period of a module's first mode; 0 where it has none
 abbrev pub first_period : Tables → ℕ → ℕ

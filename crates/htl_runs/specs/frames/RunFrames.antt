@@ -1,9 +1,7 @@
 -- A run, frame by frame.
 use Rattle.std.specs.Prelude.{ℕ, suc, ◌*◌, ◌<◌, List, take}
-use Rattle.htl_runs.specs.Common.{Event, KeptApart, frame_of, AreInRange, Tables, SInstr, Content}
-use Rattle.htl_refine.specs.FrameRuns.{frame_modes, frame_jobs, frame_at, walk_of}
-use Rattle.htl_refine.specs.ServedFrames.{IsServing, IsFeasibleRun}
-use Rattle.htl_runs.specs.frames.FramePlaces.{frame_start, begun_by}
+use Rattle.htl_runs.specs.{Common.Event, Common.KeptApart, Common.frame_of, Common.AreInRange, Common.Tables, Common.SInstr, Common.Content, frames.FramePlaces.frame_start, frames.FramePlaces.begun_by}
+use Rattle.htl_refine.specs.{FrameRuns.frame_modes, FrameRuns.frame_jobs, FrameRuns.frame_at, FrameRuns.walk_of, ServedFrames.IsServing, ServedFrames.IsFeasibleRun}
 use Rattle.htl_runs.specs.frames.FrameSteps.{Now, present_finished, finished_at, AreFrames, next_by_frames}
 use Rattle.htl_runs.specs.values.Values.{ValuesFollow, HasPlaces, Ready}
 

@@ -1,10 +1,7 @@
 -- The parts of an instant: what both machines do to the world, one after the other.
 use Rattle.std.specs.Prelude.{◌≡◌, ℕ, List, [], None}
-use Rattle.htl_runs.specs.Common.{Event, Tables, sense, SInstr, ECode, Standing, StandsSafely, IsShaped, Onward, phase_path, Content}
-use Rattle.htl_runs.specs.values.PhaseEffects.{replay}
-use Rattle.htl_runs.specs.values.InstantEffects.{with_sensors}
-use Rattle.htl_runs.specs.lists.RecordEffects.{with_records}
-use Rattle.htl_runs.specs.lists.RunLists.{turn_at}
+use Rattle.htl_runs.specs.{Common.Event, Common.Tables, Common.sense, Common.SInstr, Common.ECode, Common.Standing, Common.StandsSafely, Common.IsShaped, Common.Onward, Common.phase_path, Common.Content, values.PhaseEffects.replay}
+use Rattle.htl_runs.specs.{values.InstantEffects.with_sensors, lists.RecordEffects.with_records, lists.RunLists.turn_at}
 
 -- the records of the list before, each phase, and the sensors between
 pub record Passed (t : Tables) (code : ECode) (schedules : List (List SInstr)) (es : List Event) (now : ℕ) (w0 w5 : Content) (e : Standing) : Type 0 where

@@ -1,8 +1,7 @@
 -- What the releases of an instant tell the S machine.
 use Rattle.std.specs.Prelude.{ℕ, Bool, true, List, [], ◌∷◌, set, Option, Some, None}
-use Rattle.htl_runs.specs.Common.{Job, EInstr, Requirement, Exactly}
+use Rattle.htl_runs.specs.{Common.Job, Common.EInstr, Common.Requirement, Common.Exactly, frames.LastPositions.position_from}
 use Rattle.htl_ecode.specs.declared.instr.EInstr.TheVariants as I
-use Rattle.htl_runs.specs.frames.LastPositions.{position_from}
 
 -- the position of a released invocation is told
 abbrev pub raise_at : Option ℕ → List Bool → List Bool

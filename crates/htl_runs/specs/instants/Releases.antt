@@ -1,8 +1,7 @@
 -- The S machine while the read phase of an instant is done: its releases make jobs ready.
 use Rattle.std.specs.Prelude.{ℕ, true, List, [], ◌∷◌, slice_get, set, Option, Some, None}
-use Rattle.htl_runs.specs.Common.{PosState, Pending, Round, state_of, ECode, EInstr, Requirement, Exactly, Done}
+use Rattle.htl_runs.specs.{Common.PosState, Common.Pending, Common.Round, Common.state_of, Common.ECode, Common.EInstr, Common.Requirement, Common.Exactly, Common.Done, frames.LastPositions.position_from}
 use Rattle.htl_ecode.specs.declared.instr.EInstr.TheVariants as I
-use Rattle.htl_runs.specs.frames.LastPositions.{position_from}
 
 -- a position is made ready, where it is pending
 abbrev pub made_ready : PosState → Round → ℕ → Round

@@ -1,11 +1,9 @@
 -- What the job lines of a run show of one job of one round.
 use Rattle.std.specs.Prelude.{◌≡◌, ◌≤◌, ℕ, ◌+◌, ◌*◌, Bool, true, cond, ◌&&◌, eqb, ltb, leb, List, [], ◌∷◌, get_or, slice_get, Option, Some, None, option_map}
-use Rattle.htl_runs.specs.Common.{Event, joined, Tables, mode_period, Job, SInstr, frame_modes, frame_places, frame_at}
+use Rattle.htl_runs.specs.{Common.Event, Common.joined, Common.Tables, Common.mode_period, Common.Job, Common.SInstr, Common.frame_modes, Common.frame_places, Common.frame_at, lines.RunLines.RunLine}
 use Rattle.htl_model.specs.Frames.{frame_of, no_place}
 use Rattle.htl_walk.specs.Walk.{AllWithin, finish}
-use Rattle.htl_refine.specs.FrameRuns.{walk_of}
-use Rattle.htl_refine.specs.ServedJobs.{spent}
-use Rattle.htl_runs.specs.lines.RunLines.{RunLine}
+use Rattle.htl_refine.specs.{FrameRuns.walk_of, ServedJobs.spent}
 use Rattle.htl_runs.specs.lines.RunLines.RunLine.{SliceLine, DoneLine}
 
 -- a line of invocation i about an instant after `start`, and at `end` or before

@@ -2,11 +2,9 @@
 use Rattle.std.specs.Prelude.{◌≡◌, ◌<◌, ℕ, true, List, ◌++◌, length, map}
 use Rattle.htl_runs.specs.Common.{filter, Event, lines_text, up_to, sense, value_lines, frame_of, root_modules, Object, IsAccepted, AreTookWithin, Shown, shows_jobs, frame_at}
 use Rattle.htl_console.specs.declared.shown.Shown.TheVariants.{Values}
-use Rattle.htl_runs.specs.events.ToldSoFar.{AreReadFrom, reading_of, IsLoaded}
+use Rattle.htl_runs.specs.{events.ToldSoFar.AreReadFrom, events.ToldSoFar.reading_of, events.ToldSoFar.IsLoaded, jobs.JobTimes.AllToldInTime, lines.Programs.schedules_of, lines.Programs.before_of, lines.Programs.text_of}
 use Rattle.htl_refine.specs.ServedJobs.{AllServed}
 use Rattle.htl_runs.specs.lines.RunLines.{printed, job_lines_to, ShowsJobs, begins_as_job, text_lines, HasNames}
-use Rattle.htl_runs.specs.jobs.JobTimes.{AllToldInTime}
-use Rattle.htl_runs.specs.lines.Programs.{schedules_of, before_of, text_of}
 
 -- of an accepted object the tables keep the rules, and its lists are accepted for all paths
 abbrev pub AcceptedIsLoaded : Type 0

@@ -1,9 +1,7 @@
 -- The lines of values and modes that are others than before.
 use Rattle.std.specs.Prelude.{ℕ, ◌||◌, cond, not, eqb, List, [], ◌∷◌, ◌++◌, length, get_or, Option, ℤ, pos}
-use Rattle.htl_model.specs.Functions.{same}
+use Rattle.htl_model.specs.{Functions.same, Meaning.same_mode, declared.line.Line.TheVariants.ValueLine, declared.line.Line.TheVariants.ModeLine}
 use Rattle.htl_runs.specs.Common.{up_to, lines_text, Tables, Line, list_at, Shown, shows_values}
-use Rattle.htl_model.specs.Meaning.{same_mode}
-use Rattle.htl_model.specs.declared.line.Line.TheVariants.{ValueLine, ModeLine}
 
 abbrev pub value_change : ℕ → ℕ → ℤ → ℤ → List Line
 value_change now c old new = cond (eqb now 0 || not (same old new)) (ValueLine now c new ∷ []) []

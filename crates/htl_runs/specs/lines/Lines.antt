@@ -2,8 +2,7 @@
 use Rattle.std.specs.Prelude.{ℕ, suc, ◌-◌, ◌^◌, min, cond, List, [], ◌++◌, length, map, slice_get, count_by, Option, Some, None}
 use Rattle.htl_runs.specs.Common.{Event, lines_text, totals_line, joined, up_to, value_lines, hyper, Tables, SInstr, ECode, Done, e_path, Shown, shows_values, shows_code, instr_line}
 use Rattle.htl_smach.specs.declared.left.Left.{Left}
-use Rattle.htl_runs.specs.lines.RunRecords.{RunRecord, old_records, new_records, instant_records}
-use Rattle.htl_runs.specs.lines.RunLines.{record_text}
+use Rattle.htl_runs.specs.{lines.RunRecords.RunRecord, lines.RunRecords.old_records, lines.RunRecords.new_records, lines.RunRecords.instant_records, lines.RunLines.record_text}
 
 -- ---- the lines of an instant
 

@@ -1,6 +1,5 @@
 -- What an object tells of its runs.
-use Rattle.htl_runs.specs.Common.{ℕ, List, map, Event, Object, SInstr, Schedule, Shown}
-use Rattle.htl_runs.specs.lines.Lines.{lines, text_before, run_text}
+use Rattle.htl_runs.specs.{Common.ℕ, Common.List, Common.map, Common.Event, Common.Object, Common.SInstr, Common.Schedule, Common.Shown, lines.Lines.lines, lines.Lines.text_before, lines.Lines.run_text}
 
 -- the instructions of its schedules, by node
 abbrev pub schedules_of : Object → List (List SInstr)

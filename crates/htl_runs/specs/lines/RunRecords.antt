@@ -3,9 +3,7 @@ use Rattle.std.specs.Prelude.{ℕ, zero, suc, ◌+◌, ◌-◌, ◌*◌, ◌/◌
 use Rattle.htl_runs.specs.Common.{filter, Event, joined, up_to, hyper, Tables, Job, SInstr, job_at, RunningList, lists_at, left_in, begun_before, begins_at, frame_at, rounds_before, Plan, list_walk}
 pub use Rattle.htl_smach.specs.declared.left.Left.{Left}
 use Rattle.htl_smach.specs.Rounds.{told_from}
-use Rattle.htl_runs.specs.records.DueRecords.{as_told}
-use Rattle.htl_runs.specs.lists.StandingLists.{Turn, left_before}
-use Rattle.htl_runs.specs.lists.RunLists.{turn_at}
+use Rattle.htl_runs.specs.{records.DueRecords.as_told, lists.StandingLists.Turn, lists.StandingLists.left_before, lists.RunLists.turn_at}
 
 -- the invocation of the job at a position; 0 where there is none
 abbrev pub inv_at : List Job → Option ℕ → ℕ

@@ -2,9 +2,7 @@
 use Rattle.std.specs.Prelude.{◌≡◌, ◌≤◌, ◌<◌, ℕ, ◌+◌, ◌-◌, ◌%◌, pred, cond, eqb, List, length, get_or, Option}
 use Rattle.htl_runs.specs.Common.{Event, frame_of, Tables, SInstr, HaveLengths, AreWithinWorst, CanBegin, new_jobs, modes_at, took, IsFeasibleRun}
 use Rattle.htl_smach.specs.Rounds.{Round, round_begun, added}
-use Rattle.htl_runs.specs.records.SMachineStands.{SMachineAt}
-use Rattle.htl_runs.specs.lists.RunLists.{list_turn}
-use Rattle.htl_runs.specs.lists.ListLengths.{kept_lengths}
+use Rattle.htl_runs.specs.{records.SMachineStands.SMachineAt, lists.RunLists.list_turn, lists.ListLengths.kept_lengths}
 
 -- that of a frame's start begins anew, another goes on with further positions: by the modes of the instant, and the lengths that are kept
 abbrev pub list_begun : Tables → List (Option ℕ) → List ℕ → ℕ → Round → Round

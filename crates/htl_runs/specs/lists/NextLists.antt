@@ -1,7 +1,6 @@
 -- Where a list begins, and which: by the list before it and the modes at that instant.
 use Rattle.std.specs.Prelude.{◌≡◌, ℕ, suc, ◌+◌, ◌*◌, ◌%◌, pred, cond, eqb, List, drop, Option}
-use Rattle.htl_runs.specs.Common.{Event, frame_of, starts, Tables, SInstr, choice_of, nodes_below, modes_at, IsFeasibleRun}
-use Rattle.htl_runs.specs.lists.RunLists.{list_turn}
+use Rattle.htl_runs.specs.{Common.Event, Common.frame_of, Common.starts, Common.Tables, Common.SInstr, Common.choice_of, Common.nodes_below, Common.modes_at, Common.IsFeasibleRun, lists.RunLists.list_turn}
 use Rattle.htl_runs.specs.frames.RoundStarts.{some_round_begins}
 
 -- the number in its frame of the list that begins, where that of the list before it was this

@@ -1,9 +1,7 @@
 -- The S machine where the next list of a frame begins.
 use Rattle.std.specs.Prelude.{ℕ, suc, ◌+◌, ◌-◌, List, [], length, take, drop, get_or}
-use Rattle.htl_runs.specs.Common.{Job, HaveLengths, AreWithinWorst, CanBegin, Round, added, leg_at, list_plan}
-use Rattle.htl_refine.specs.FrameRuns.{Frame}
-use Rattle.htl_refine.specs.ListLaws.{IsFollowed}
-use Rattle.htl_runs.specs.records.SMachineStands.{SMachineAt}
+use Rattle.htl_runs.specs.{Common.Job, Common.HaveLengths, Common.AreWithinWorst, Common.CanBegin, Common.Round, Common.added, Common.leg_at, Common.list_plan, records.SMachineStands.SMachineAt}
+use Rattle.htl_refine.specs.{FrameRuns.Frame, ListLaws.IsFollowed}
 
 -- the positions that are new in list j + 1, and how long they take
 abbrev pub more_jobs : Frame → ℕ → List Job

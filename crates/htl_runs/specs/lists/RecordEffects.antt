@@ -1,9 +1,7 @@
 -- The lists of the processor, and what their records do to the world.
 use Rattle.std.specs.Prelude.{ℕ, zero, suc, ◌-◌, Bool, false, List}
-use Rattle.htl_runs.specs.Common.{Event, Tables, sense, state, before, Content}
-use Rattle.htl_runs.specs.values.FinishedJobs.{run_records}
+use Rattle.htl_runs.specs.{Common.Event, Common.Tables, Common.sense, Common.state, Common.before, Common.Content, values.FinishedJobs.run_records, values.InstantEffects.world_after}
 use Rattle.htl_runs.specs.lists.StandingLists.{Turn, turn_walk, left_before, turn_finished_by}
-use Rattle.htl_runs.specs.values.InstantEffects.{world_after}
 
 -- the jobs of the present rounds that are finished before an instant
 abbrev pub finished_before : (ℕ → Turn) → ℕ → ℕ → Bool

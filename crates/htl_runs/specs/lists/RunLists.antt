@@ -1,10 +1,9 @@
 -- A run, list by list: the list of its frame that stands at an instant.
 use Rattle.std.specs.Prelude.{ℕ, suc, ◌-◌, cond, leb, pred, List, [], ◌∷◌, take, Option, Some, None}
-use Rattle.htl_runs.specs.Common.{Event, Tables, SInstr, leg_at, list_plan, IsFeasibleRun}
+use Rattle.htl_runs.specs.{Common.Event, Common.Tables, Common.SInstr, Common.leg_at, Common.list_plan, Common.IsFeasibleRun, frames.FramePlaces.frame_start}
 use Rattle.htl_model.specs.Frames.{hyper, starts, node}
 use Rattle.htl_walk.specs.Paths.{end_to_end}
 use Rattle.htl_refine.specs.FrameRuns.{frame_modes, path_of, frame_at, walks_of}
-use Rattle.htl_runs.specs.frames.FramePlaces.{frame_start}
 use Rattle.htl_runs.specs.lists.StandingLists.{Turn, AreTurns, AreListed}
 
 -- list j of the frame from f

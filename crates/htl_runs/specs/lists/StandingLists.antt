@@ -1,10 +1,8 @@
 -- The list that stands at an instant: of which frame and node it is, what the processor knows in it, and what the lists before it left.
 use Rattle.std.specs.Prelude.{◌≡◌, ◌<◌, ◌≤◌, ◌⊎◌, ℕ, zero, suc, ◌+◌, ◌-◌, Bool, true, List, ◌++◌, length, take, get_or, Option, Some, None}
-use Rattle.htl_runs.specs.Common.{Event, Tables, HaveLengths, AreWithinWorst, Round, no_round, count_left_before, done_by}
+use Rattle.htl_runs.specs.{Common.Event, Common.Tables, Common.HaveLengths, Common.AreWithinWorst, Common.Round, Common.no_round, Common.count_left_before, Common.done_by, frames.FrameSteps.AreFrames, frames.LastPositions.finished_in}
 use Rattle.htl_walk.specs.Walk.{Left, InForm, job_at, last_point}
 use Rattle.htl_refine.specs.ListPlans.{ListPlan, list_walk}
-use Rattle.htl_runs.specs.frames.FrameSteps.{AreFrames}
-use Rattle.htl_runs.specs.frames.LastPositions.{finished_in}
 use Rattle.htl_runs.specs.records.SMachineStands.{SMachineStands}
 
 pub record Turn : Type 0 where

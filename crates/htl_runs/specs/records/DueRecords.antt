@@ -1,9 +1,8 @@
 -- The S machine while the records of an instant are left.
 use Rattle.std.specs.Prelude.{◌≡◌, ◌≤◌, ℕ, suc, ◌-◌, List}
-use Rattle.htl_runs.specs.Common.{SInstr, Round, count_left_before, Plan, list_walk}
+use Rattle.htl_runs.specs.{Common.SInstr, Common.Round, Common.count_left_before, Common.Plan, Common.list_walk, records.SMachineStands.SMachineAt}
 use Rattle.htl_smach.specs.declared.left.Left.{Left}
 use Rattle.htl_walk.specs.Walk as walks
-use Rattle.htl_runs.specs.records.SMachineStands.{SMachineAt}
 
 -- a record of a walk, with its place, as the S machine tells it
 abbrev pub as_told : ℕ × walks.Left → Left

@@ -1,9 +1,7 @@
 -- The world and the S machine while the records of an instant are left.
 use Rattle.std.specs.Prelude.{◌≡◌, ◌≤◌, ◌<◌, ℕ, ◌-◌, true, List, length, slice_get, IfSome, Some}
 use Rattle.htl_runs.specs.Common.{Tables, is_concrete, Job, SInstr, job_at, Round, Stands, IsInForm, IsTold, Content, IsShaped, Plan, list_walk}
-use Rattle.htl_runs.specs.values.FinishedJobs.{run_records}
-use Rattle.htl_runs.specs.records.SMachineStands.{SMachineAt}
-use Rattle.htl_runs.specs.records.DueRecords.{due_by}
+use Rattle.htl_runs.specs.{values.FinishedJobs.run_records, records.SMachineStands.SMachineAt, records.DueRecords.due_by}
 
 -- each present job is of a concrete invocation
 abbrev pub AreOf : Tables → List Job → Type 0

@@ -1,11 +1,9 @@
 -- When values and buffers follow the meaning of tables and events.
 use Rattle.std.specs.Prelude.{◌≡◌, ℕ, zero, suc, ◌+◌, ◌*◌, ◌<◌, Bool, true, false, ◌||◌, eqb, List, [], length, get_or, slice_get, map, Some, ℤ, Option}
 use Rattle.htl_runs.specs.Common.{Event, Inv, Stay}
-use Rattle.htl_model.specs.declared.parts.End.{End}
+use Rattle.htl_model.specs.{declared.parts.End.End, Tables.Tables, Tables.comm_period, Tables.mode_module, Tables.is_concrete, Meaning.state, Meaning.before, Meaning.stay_of, Meaning.val, Meaning.out, Meaning.writer_from}
 use Rattle.htl_model.specs.declared.parts.End.TheVariants as E
-use Rattle.htl_model.specs.Tables.{Tables, comm_period, mode_module, is_concrete}
 use Rattle.htl_emach.specs.Contents.{Content, buffer}
-use Rattle.htl_model.specs.Meaning.{state, before, stay_of, val, out, writer_from}
 
 -- invocation i is x, concrete, and stands in the round from s, where the modules are as `stays` says
 pub record InvStands (t : Tables) (stays : List (Option Stay)) (i : ℕ) (x : Inv) (s : ℕ) : Type 0 where

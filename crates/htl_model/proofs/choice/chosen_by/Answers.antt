@@ -1,6 +1,5 @@
 use Rattle.std.proofs.Common.{◌≡◌, ◌-◌, ◌+◌, ℕ, length, slice_get, Some, sym, ◌∙◌, ap, arith}
-use Rattle.htl_model.proofs.Words.{chosen_in, Tables}
-use Rattle.htl_model.proofs.ChosenLaws.{chosen_past, chosen_here, chosen_none, chosen_down, inv_stands}
+use Rattle.htl_model.proofs.{Words.chosen_in, Words.Tables, ChosenLaws.chosen_past, ChosenLaws.chosen_here, ChosenLaws.chosen_none, ChosenLaws.chosen_down, ChosenLaws.inv_stands}
 use Rattle.htl_model.proofs.choice.chosen_by.Goals as goal
 
 pub returns-then-at-invs : goal.returns-then-at-invs

@@ -1,6 +1,5 @@
 use Rattle.std.proofs.Common.{◌≡◌, ◌-◌, ℕ, suc, sym, ◌∙◌, ap, subst, arith}
-use Rattle.htl_model.proofs.Words.{AreChildrenFrom, Tables}
-use Rattle.htl_model.proofs.ChosenLaws.{children_none, children_more}
+use Rattle.htl_model.proofs.{Words.AreChildrenFrom, Words.Tables, ChosenLaws.children_none, ChosenLaws.children_more}
 use Rattle.htl_model.proofs.choice.running_children.Goals as goal
 
 pub loop-n-init : goal.loop-n-init

@@ -1,6 +1,5 @@
 use Rattle.std.proofs.Common.{◌+◌, ℕ, take, set, length-set, ap, ◌∙◌, length, arith}
-use Rattle.htl_model.proofs.Words.{Ty, comm_type}
-use Rattle.htl_model.proofs.PlaceLaws.{types_more, rest_same}
+use Rattle.htl_model.proofs.{Words.Ty, Words.comm_type, PlaceLaws.types_more, PlaceLaws.rest_same}
 use Rattle.htl_model.proofs.lookup.fill_types.Goals as goal
 
 pub loop-k-preserved : goal.loop-k-preserved

@@ -1,6 +1,5 @@
 use Rattle.std.proofs.Common.{◌+◌, ◌++◌, length, take, drop, arith, sym, ap, ◌∙◌, append_assoc}
-use Rattle.htl_model.proofs.Words.{length-append, invs_of, places_of, places_in}
-use Rattle.htl_model.proofs.PlaceSteps.{place_next, round_at}
+use Rattle.htl_model.proofs.{Words.length-append, Words.invs_of, Words.places_of, Words.places_in, PlaceSteps.place_next, PlaceSteps.round_at}
 use Rattle.htl_model.proofs.places.fill_places.Goals as goal
 
 pub put_places-n-requires-clause-room : goal.put_places-n-requires-clause-room

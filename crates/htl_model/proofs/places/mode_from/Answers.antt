@@ -1,6 +1,5 @@
 use Rattle.std.proofs.Common.{cond, ◌+◌, ◌/◌, ◌%◌, drop, get_or, arith, sym, ap, ◌∙◌}
-use Rattle.htl_model.proofs.Words.{mode_from, modes_of}
-use Rattle.htl_model.proofs.PlaceSteps.{mode_next, round_at}
+use Rattle.htl_model.proofs.{Words.mode_from, Words.modes_of, PlaceSteps.mode_next, PlaceSteps.round_at}
 use Rattle.htl_model.proofs.places.mode_from.Goals as goal
 
 pub returns-then-is_round : goal.returns-then-is_round

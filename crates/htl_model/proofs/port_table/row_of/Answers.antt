@@ -1,6 +1,5 @@
 use Rattle.std.proofs.Common.{◌||◌, ◌∙◌, sym, ap, arith, take}
-use Rattle.htl_model.proofs.Words.{list_any, list_any_more, has_bit, is_from}
-use Rattle.htl_model.proofs.BitLaws.{has_bit_or}
+use Rattle.htl_model.proofs.{Words.list_any, Words.list_any_more, Words.has_bit, Words.is_from, BitLaws.has_bit_or}
 use Rattle.htl_model.proofs.port_table.row_of.Goals as goal
 
 pub loop-k-preserved : goal.loop-k-preserved

@@ -1,7 +1,5 @@
 use Rattle.std.proofs.Common.{◌≡◌, ◌+◌, ℕ, sym, ◌∙◌, subst, arith}
-use Rattle.htl_model.proofs.Words.{slice_get_within, get_or_from_slice_get, inv_in_mode, IsStartOf}
-use Rattle.htl_model.proofs.FirstLaws.{first_hit, first_miss}
-use Rattle.htl_model.proofs.StartLaws.{found_from_start, nothing_later}
+use Rattle.htl_model.proofs.{Words.slice_get_within, Words.get_or_from_slice_get, Words.inv_in_mode, Words.IsStartOf, FirstLaws.first_hit, FirstLaws.first_miss, StartLaws.found_from_start, StartLaws.nothing_later}
 use Rattle.htl_model.proofs.search.first_inv.Goals as goal
 
 pub loop-k-init : goal.loop-k-init

@@ -1,7 +1,6 @@
 use Rattle.std.proofs.Common.{sym, ◌≡◌, get_or, Some, subst, List}
-use Rattle.htl_model.proofs.Words.{slice_get-get_or, End, EndSite, slice_get}
+use Rattle.htl_model.proofs.{Words.slice_get-get_or, Words.End, Words.EndSite, Words.slice_get, FirstLaws.nothing_first}
 use Rattle.htl_model.specs.declared.parts.End.TheVariants as E
-use Rattle.htl_model.proofs.FirstLaws.{nothing_first}
 use Rattle.htl_model.proofs.search.first_output.Goals as goal
 
 pub returns-then-not-judges_outputs : goal.returns-then-not-judges_outputs

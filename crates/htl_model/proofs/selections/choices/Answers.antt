@@ -1,6 +1,5 @@
 use Rattle.std.proofs.Common.{◌≡◌, ◌<◌, ◌-◌, ◌+◌, ◌^◌, List, length, min, drop, sym, ◌∙◌, ap, arith}
-use Rattle.htl_model.proofs.Words.{Module, modes_below, choices_from, Tables}
-use Rattle.htl_model.proofs.RootModeLaws.{choices_none, choices_before, modes_all, modes_between}
+use Rattle.htl_model.proofs.{Words.Module, Words.modes_below, Words.choices_from, Words.Tables, RootModeLaws.choices_none, RootModeLaws.choices_before, RootModeLaws.modes_all, RootModeLaws.modes_between}
 use Rattle.htl_model.proofs.selections.choices.Goals as goal
 
 pub loop-k-init : goal.loop-k-init

@@ -1,6 +1,5 @@
 use Rattle.std.proofs.Common.{◌≡◌, ◌+◌, map, sym, ◌∙◌, ap, subst, arith}
-use Rattle.htl_model.proofs.Words.{IsNonDecreasing, Mode, modes_below, Tables}
-use Rattle.htl_model.proofs.RootModeLaws.{modes_grow, modes_most, first_back, first_found}
+use Rattle.htl_model.proofs.{Words.IsNonDecreasing, Words.Mode, Words.modes_below, Words.Tables, RootModeLaws.modes_grow, RootModeLaws.modes_most, RootModeLaws.first_back, RootModeLaws.first_found}
 use Rattle.htl_model.proofs.selections.first_mode.Goals as goal
 
 pub loop-first-init : goal.loop-first-init

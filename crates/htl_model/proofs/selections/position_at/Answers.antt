@@ -1,6 +1,5 @@
 use Rattle.std.proofs.Common.{◌≡◌, ◌∙◌, ℕ, List, drop, get_or, sym, ap, arith}
-use Rattle.htl_model.proofs.Words.{Inv, places_from, is_running, Tables}
-use Rattle.htl_model.proofs.RootModeLaws.{found_here, found_later, found_over, positions_met, none_left}
+use Rattle.htl_model.proofs.{Words.Inv, Words.places_from, Words.is_running, Words.Tables, RootModeLaws.found_here, RootModeLaws.found_later, RootModeLaws.found_over, RootModeLaws.positions_met, RootModeLaws.none_left}
 use Rattle.htl_model.proofs.selections.position_at.Goals as goal
 use Rattle.htl_model.proofs.selections.position_at.Goals.{then-is_running+else-left-eq0, else-is_running}
 

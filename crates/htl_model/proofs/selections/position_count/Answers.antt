@@ -1,6 +1,5 @@
 use Rattle.std.proofs.Common.{◌≡◌, ◌∙◌, List, length, sym, ap, arith}
-use Rattle.htl_model.proofs.Words.{Inv, places_from, is_running, Tables}
-use Rattle.htl_model.proofs.RootModeLaws.{count_here, count_over, positions_met, none_left}
+use Rattle.htl_model.proofs.{Words.Inv, Words.places_from, Words.is_running, Words.Tables, RootModeLaws.count_here, RootModeLaws.count_over, RootModeLaws.positions_met, RootModeLaws.none_left}
 use Rattle.htl_model.proofs.selections.position_count.Goals as goal
 use Rattle.htl_model.proofs.selections.position_count.Goals.{then-is_running, else-is_running}
 

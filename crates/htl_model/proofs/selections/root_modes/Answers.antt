@@ -1,6 +1,5 @@
 use Rattle.std.proofs.Common.{◌≡◌, ◌<◌, ◌-◌, ◌+◌, ◌/◌, suc, List, Some, slice_get, length, drop, sym, ◌∙◌, ap, subst, arith, refl}
-use Rattle.htl_model.proofs.Words.{Module, modes_below, choices_from, Tables, div-one, slice_get-get_or, length-set}
-use Rattle.htl_model.proofs.SelectionLaws.{modes_some}
+use Rattle.htl_model.proofs.{Words.Module, Words.modes_below, Words.choices_from, Words.Tables, Words.div-one, Words.slice_get-get_or, Words.length-set, SelectionLaws.modes_some}
 use Rattle.htl_model.proofs.RootModeLaws.{choices_none, digits_before, modes_all, modes_between, entry_found, entries_none, entries_more, AreRootModesFrom}
 use Rattle.htl_model.proofs.selections.root_modes.Goals as goal
 

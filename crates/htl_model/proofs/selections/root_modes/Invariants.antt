@@ -1,6 +1,5 @@
 use Rattle.std.proofs.Common.{◌≡◌, ◌/◌, ◌≤◌, length, drop}
-use Rattle.htl_model.proofs.Words.{modes_below, choices_from}
-use Rattle.htl_model.proofs.RootModeLaws.{AreRootModesFrom}
+use Rattle.htl_model.proofs.{Words.modes_below, Words.choices_from, RootModeLaws.AreRootModesFrom}
 use Rattle.htl_model.proofs.selections.root_modes.Given as goal
 
 abbrev pub invariant-loop-k : goal.invariant-loop-k

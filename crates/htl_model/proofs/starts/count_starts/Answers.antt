@@ -1,6 +1,5 @@
 use Rattle.std.proofs.Common.{◌∷◌, [], List, ℕ, length, map, arith, refl, ap, ◌∙◌}
-use Rattle.htl_model.proofs.Words.{length-append, unit_period}
-use Rattle.htl_model.proofs.FrameSteps.{begins_zero, starts_next}
+use Rattle.htl_model.proofs.{Words.length-append, Words.unit_period, FrameSteps.begins_zero, FrameSteps.starts_next}
 use Rattle.htl_model.proofs.starts.count_starts.Goals as goal
 
 pub loop-at-init : goal.loop-at-init

@@ -1,7 +1,6 @@
 use Rattle.std.proofs.Common.{◌++◌, [], ◌∷◌, length, map, arith, refl, sym, ap, ◌∙◌}
-use Rattle.htl_model.proofs.Words.{length-append, take_more_set, unit_period}
+use Rattle.htl_model.proofs.{Words.length-append, Words.take_more_set, Words.unit_period, FrameSteps.begins_zero, FrameSteps.room_for, FrameSteps.starts_next}
 use Rattle.std.proofs.Math.ListN.{length-set}
-use Rattle.htl_model.proofs.FrameSteps.{begins_zero, room_for, starts_next}
 use Rattle.htl_model.proofs.starts.fill_starts.Goals as goal
 
 pub loop-at-init : goal.loop-at-init

@@ -1,7 +1,5 @@
 use Rattle.std.proofs.Common.{length, take, ◌++◌, ◌≡◌, refl, sym, ap, ◌∙◌, subst, arith}
-use Rattle.htl_refine.proofs.Words.{All, placed_jobs, HasTimes, new_places}
-use Rattle.htl_refine.proofs.BegunTimes.{new_times}
-use Rattle.htl_refine.proofs.NewJobs.{places_are, jobs_are, end_is}
+use Rattle.htl_refine.proofs.{Words.All, Words.placed_jobs, Words.HasTimes, Words.new_places, BegunTimes.new_times, NewJobs.places_are, NewJobs.jobs_are, NewJobs.end_is}
 use Rattle.htl_refine.proofs.begun.derive_begun.Goals as goal
 
 pub placed_jobs-requires-clause-times : goal.placed_jobs-requires-clause-times

@@ -1,8 +1,5 @@
 use Rattle.std.proofs.Common.{◌≡◌, ◌∙◌, ap, ℕ, List, Option, length, arith}
-use Rattle.htl_refine.proofs.Words.{length-map, chosen, Tables, kept_apart, job_of, new_jobs, running_positions, standing}
-use Rattle.htl_refine.proofs.FirstRound.{new_are}
-use Rattle.htl_refine.proofs.Inherit.{refinement}
-use Rattle.htl_refine.proofs.RootSelection.{few_positions}
+use Rattle.htl_refine.proofs.{Words.length-map, Words.chosen, Words.Tables, Words.kept_apart, Words.job_of, Words.new_jobs, Words.running_positions, Words.standing, FirstRound.new_are, Inherit.refinement, RootSelection.few_positions}
 use Rattle.htl_refine.proofs.derived.derive.Goals as goal
 
 many : (t : Tables) (m : List (Option ℕ)) → length (new_jobs t m 0 0) ≡ length (running_positions t m)

@@ -1,9 +1,6 @@
 use Rattle.std.proofs.Common.{◌≡◌, ◌∙◌, ℕ, List, Option, length, take, sym, ap, subst, arith}
 use Rattle.htl_refine.proofs.Words.{All, length-map, starts, Tables, Place, Job, placed_job, placed_jobs, HasTimes, begun_places, begun_jobs, modes_of_all}
-use Rattle.htl_refine.proofs.AlongPath.{jobs_along}
-use Rattle.htl_refine.proofs.AlongServing.{refines_along, serves_along}
-use Rattle.htl_refine.proofs.BegunPlaces.{begun_few, selections_of, as_many}
-use Rattle.htl_refine.proofs.BegunTimes.{begun_times}
+use Rattle.htl_refine.proofs.{AlongPath.jobs_along, AlongServing.refines_along, AlongServing.serves_along, BegunPlaces.begun_few, BegunPlaces.selections_of, BegunPlaces.as_many, BegunTimes.begun_times}
 use Rattle.htl_refine.proofs.derived_path.derive_path.Goals as goal
 
 many : (t : Tables) (sels : List (List (Option ℕ))) → length (begun_jobs t sels) ≡ length (begun_places t sels (starts t))

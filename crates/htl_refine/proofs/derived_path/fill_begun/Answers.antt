@@ -1,6 +1,5 @@
 use Rattle.std.proofs.Common.{◌<◌, length, get_or, take, arith, ◌∙◌}
-use Rattle.htl_refine.proofs.Words.{starts, start_read, begun_places, modes_of_all}
-use Rattle.htl_refine.proofs.BegunPlaces.{begun_step, begun_room, modes_read, as_many}
+use Rattle.htl_refine.proofs.{Words.starts, Words.start_read, Words.begun_places, Words.modes_of_all, BegunPlaces.begun_step, BegunPlaces.begun_room, BegunPlaces.modes_read, BegunPlaces.as_many}
 use Rattle.htl_refine.proofs.derived_path.fill_begun.Goals as goal
 
 pub put_start-n-requires-clause-room : goal.put_start-n-requires-clause-room

@@ -1,7 +1,6 @@
 use Rattle.std.proofs.Common.{sym, ◌∙◌, subst, arith}
 use Rattle.htl_refine.specs.ConcreteJobs.{IsOfSelection}
-use Rattle.htl_refine.proofs.FirstRound.{choice_is}
-use Rattle.htl_refine.proofs.RootSelection.{below_count, is_of_selection}
+use Rattle.htl_refine.proofs.{FirstRound.choice_is, RootSelection.below_count, RootSelection.is_of_selection}
 use Rattle.htl_refine.proofs.roots.selection_of.Goals as goal
 
 pub begun_choice-requires : goal.begun_choice-requires

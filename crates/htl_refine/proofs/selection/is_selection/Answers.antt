@@ -1,6 +1,5 @@
 use Rattle.std.proofs.Common.{sym, ◌∙◌, subst, ap}
-use Rattle.htl_refine.proofs.Words.{Decides, is_selection, IsSelection}
-use Rattle.htl_refine.proofs.SelectedLaws.{selection_is}
+use Rattle.htl_refine.proofs.{Words.Decides, Words.is_selection, Words.IsSelection, SelectedLaws.selection_is}
 use Rattle.htl_refine.proofs.selection.is_selection.Goals as goal
 
 pub returns : goal.returns

@@ -1,6 +1,4 @@
-use Rattle.htl_runs.proofs.Words.{every_job_in_time, schedules_of}
-use Rattle.htl_runs.proofs.jobs.Accepted.{accepted_is_loaded}
-use Rattle.htl_runs.proofs.lists.LoadedLists.{run_of}
+use Rattle.htl_runs.proofs.{Words.every_job_in_time, Words.schedules_of, jobs.Accepted.accepted_is_loaded, lists.LoadedLists.run_of}
 use Rattle.htl_runs.proofs.laws.every_job_in_time.Goals as goal
 
 pub returns : goal.returns

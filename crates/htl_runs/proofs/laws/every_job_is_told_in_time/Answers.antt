@@ -1,6 +1,5 @@
 use Rattle.htl_runs.specs.lines.Programs.{schedules_of}
-use Rattle.htl_runs.proofs.jobs.Accepted.{accepted_is_loaded}
-use Rattle.htl_runs.proofs.jobs.JobTimes.{told_in_time}
+use Rattle.htl_runs.proofs.{jobs.Accepted.accepted_is_loaded, jobs.JobTimes.told_in_time}
 use Rattle.htl_runs.proofs.laws.every_job_is_told_in_time.Goals as goal
 
 pub returns : goal.returns

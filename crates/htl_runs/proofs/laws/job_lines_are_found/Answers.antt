@@ -1,5 +1,4 @@
-use Rattle.htl_runs.proofs.Words.{job_lines_to, schedules_of, text_of}
-use Rattle.htl_runs.proofs.lines.JobLines.{run_shows, jobs_are_found}
+use Rattle.htl_runs.proofs.{Words.job_lines_to, Words.schedules_of, Words.text_of, lines.JobLines.run_shows, lines.JobLines.jobs_are_found}
 use Rattle.htl_runs.proofs.laws.job_lines_are_found.Goals as goal
 
 pub returns : goal.returns

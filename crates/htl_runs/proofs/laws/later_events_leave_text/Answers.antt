@@ -1,6 +1,5 @@
 use Rattle.htl_runs.specs.lines.Programs.{schedules_of}
-use Rattle.htl_runs.proofs.jobs.Accepted.{accepted_is_loaded}
-use Rattle.htl_runs.proofs.events.TextSoFar.{later_leave}
+use Rattle.htl_runs.proofs.{jobs.Accepted.accepted_is_loaded, events.TextSoFar.later_leave}
 use Rattle.htl_runs.proofs.laws.later_events_leave_text.Goals as goal
 
 pub returns : goal.returns

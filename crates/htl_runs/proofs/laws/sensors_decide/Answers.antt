@@ -1,6 +1,5 @@
 use Rattle.std.proofs.Common.{◌≡◌, subst}
-use Rattle.htl_runs.proofs.Words.{Values, text_before, schedules_of, before_of}
-use Rattle.htl_runs.proofs.events.SensorsDecide.{sensors_decide}
+use Rattle.htl_runs.proofs.{Words.Values, Words.text_before, Words.schedules_of, Words.before_of, events.SensorsDecide.sensors_decide}
 use Rattle.htl_runs.proofs.laws.sensors_decide.Goals as goal
 
 pub returns : goal.returns

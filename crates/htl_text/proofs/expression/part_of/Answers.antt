@@ -1,7 +1,6 @@
 use Rattle.std.proofs.Common.{rules, to_z, of_z, w64, ◌≡◌, List, sym, subst, ap, ap₂, ◌∙◌, ◌≤◌, length}
 use Rattle.htl_text.specs.Expressions.{Expr, Number, Infix}
-use Rattle.htl_text.proofs.Words.{IsExpr, expr_in, back, front, Node}
-use Rattle.htl_text.proofs.Parts.{ends_as, choice_same}
+use Rattle.htl_text.proofs.{Words.IsExpr, Words.expr_in, Words.back, Words.front, Words.Node, Parts.ends_as, Parts.choice_same}
 use Rattle.htl_text.proofs.expression.part_of.Goals as goal
 
 pub invariant_of-e : goal.invariant_of-e

@@ -1,8 +1,6 @@
 use Rattle.std.proofs.Common.{arith, ◌<◌, ◌-◌, ℕ, List, length, sym, subst, ap, refl}
-use Rattle.htl_text.proofs.Words.{zip, tokens_in, offsets_of, IsFront, Entry, Front}
+use Rattle.htl_text.proofs.{Words.zip, Words.tokens_in, Words.offsets_of, Words.IsFront, Words.Entry, Words.Front, Keeping.AreKeeping, Keeping.AreKeeping-all, Keeping.AreKeeping-push, Lengths.token_len-fits}
 use Rattle.htl_text.proofs.Cutting.{cut-char, cut-number, cut-name, cut-shorter, not_empty, is_empty, skip-fits}
-use Rattle.htl_text.proofs.Keeping.{AreKeeping, AreKeeping-all, AreKeeping-push}
-use Rattle.htl_text.proofs.Lengths.{token_len-fits}
 use Rattle.htl_text.proofs.lexer.read_tokens.Goals as goal
 
 pub hold-requires : goal.hold-requires

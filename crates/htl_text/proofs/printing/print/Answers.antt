@@ -1,5 +1,4 @@
-use Rattle.htl_text.proofs.Words.{IfOk-weaker, program_of, each, program_tokens, map}
-use Rattle.htl_text.proofs.Writing.{Adds-each_of, Adds-whole}
+use Rattle.htl_text.proofs.{Words.IfOk-weaker, Words.program_of, Words.each, Words.program_tokens, Words.map, Writing.Adds-each_of, Writing.Adds-whole}
 use Rattle.htl_text.proofs.printing.print.Goals as goal
 
 pub returns : goal.returns

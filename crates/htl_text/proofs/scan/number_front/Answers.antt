@@ -1,6 +1,5 @@
 use Rattle.std.proofs.Common.{arith, is_some, sym, ap, ◌∙◌}
-use Rattle.htl_text.proofs.Words.{is_ascii_digit, prefix_len-le-length}
-use Rattle.htl_text.proofs.Fronts.{front-digits, front-number, front-short, front-large}
+use Rattle.htl_text.proofs.{Words.is_ascii_digit, Words.prefix_len-le-length, Fronts.front-digits, Fronts.front-number, Fronts.front-short, Fronts.front-large}
 use Rattle.htl_text.proofs.scan.number_front.Goals as goal
 
 pub split_at-requires : goal.split_at-requires

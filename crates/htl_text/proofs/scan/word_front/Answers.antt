@@ -1,6 +1,5 @@
 use Rattle.std.proofs.Common.{arith, sym, ◌∙◌}
-use Rattle.htl_text.proofs.Words.{prefix_len-le-length, is_word_byte}
-use Rattle.htl_text.proofs.Fronts.{front-word, front-name, front-long}
+use Rattle.htl_text.proofs.{Words.prefix_len-le-length, Words.is_word_byte, Fronts.front-word, Fronts.front-name, Fronts.front-long}
 use Rattle.htl_text.proofs.scan.word_front.Goals as goal
 
 pub split_at-requires : goal.split_at-requires

@@ -1,6 +1,5 @@
 use Rattle.std.proofs.Common.{◌≡◌, ℕ, ◌<◌, eqb, take, length, get_or, sym, ◌∙◌, ap, arith}
-use Rattle.htl_walk.proofs.Words.{list_all, get_or-take, unit_period}
-use Rattle.htl_walk.proofs.EqualPeriods.{decided}
+use Rattle.htl_walk.proofs.{Words.list_all, Words.get_or-take, Words.unit_period, EqualPeriods.decided}
 use Rattle.htl_walk.proofs.equal_periods.roots_have_one_period.Goals as goal
 
 pub returns : goal.returns

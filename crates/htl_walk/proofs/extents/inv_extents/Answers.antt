@@ -1,6 +1,5 @@
 use Rattle.std.proofs.Common.{◌≡◌, ◌<◌, List, length, get_or, subst, sym, ap, ◌∙◌, refl, arith}
-use Rattle.htl_walk.proofs.Words.{Tables, Inv, inv_of_mode, length-set}
-use Rattle.htl_walk.proofs.ExtentLaws.{stands_first, stand_next}
+use Rattle.htl_walk.proofs.{Words.Tables, Words.Inv, Words.inv_of_mode, Words.length-set, ExtentLaws.stands_first, ExtentLaws.stand_next}
 use Rattle.htl_walk.proofs.extents.inv_extents.Goals as goal
 
 pub loop-k-init : goal.loop-k-init

@@ -1,6 +1,5 @@
 use Rattle.std.proofs.Common.{◌≡◌, ◌<◌, ◌+◌, length, drop, get_or, sym, ap, ◌∙◌, arith}
-use Rattle.htl_walk.proofs.Words.{Tables, Mode, mode_of_module, places_from, eq-eqb, ne_eqb}
-use Rattle.htl_walk.proofs.ExtentLaws.{place_here, place_later}
+use Rattle.htl_walk.proofs.{Words.Tables, Words.Mode, Words.mode_of_module, Words.places_from, Words.eq-eqb, Words.ne_eqb, ExtentLaws.place_here, ExtentLaws.place_later}
 use Rattle.htl_walk.proofs.extents.mode_at.Goals.{then-list-k+else-left-eq0, else-list-k}
 use Rattle.htl_walk.proofs.extents.mode_at.Goals as goal
 

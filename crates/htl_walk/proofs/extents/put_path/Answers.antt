@@ -1,6 +1,5 @@
 use Rattle.std.proofs.Common.{◌+◌, ◌/◌, ◌%◌, ◌++◌, get_or, refl, length, take, drop, arith, sym, ap, ◌∙◌, append_assoc}
-use Rattle.htl_walk.proofs.Words.{length-append, modes_of, invs_of, places_of, places_in}
-use Rattle.htl_walk.proofs.ExtentLaws.{found}
+use Rattle.htl_walk.proofs.{Words.length-append, Words.modes_of, Words.invs_of, Words.places_of, Words.places_in, ExtentLaws.found}
 use Rattle.htl_model.proofs.PlaceSteps.{place_next, round_at}
 use Rattle.htl_walk.proofs.extents.put_path.Goals as goal
 

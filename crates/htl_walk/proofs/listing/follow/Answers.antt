@@ -1,7 +1,5 @@
 use Rattle.std.proofs.Common.{◌≡◌, ℕ, length, refl, sym, subst, arith, add-one}
-use Rattle.htl_walk.proofs.Words.{slice_get-get_or, Dispatch}
-use Rattle.htl_walk.proofs.Following.{known_at}
-use Rattle.htl_walk.proofs.Walked.{IsWalked, walked_none, walked_more, missed_here, at_end, left_open, none_left, known_more}
+use Rattle.htl_walk.proofs.{Words.slice_get-get_or, Words.Dispatch, Following.known_at, Walked.IsWalked, Walked.walked_none, Walked.walked_more, Walked.missed_here, Walked.at_end, Walked.left_open, Walked.none_left, Walked.known_more}
 use Rattle.htl_walk.proofs.listing.follow.Goals as goal
 
 pub step-requires-clause-known : goal.step-requires-clause-known

@@ -1,5 +1,4 @@
-use Rattle.htl_walk.proofs.Words.{arith, instrs_of}
-use Rattle.htl_walk.proofs.CodeWalk.{resumed_first, first_left_is, later_left_is}
+use Rattle.htl_walk.proofs.{Words.arith, Words.instrs_of, CodeWalk.resumed_first, CodeWalk.first_left_is, CodeWalk.later_left_is}
 use Rattle.htl_walk.proofs.node_walk.begin_left.Goals as goal
 
 pub returns-then-first-eq0 : goal.returns-then-first-eq0

@@ -18,7 +18,6 @@ save-requires c =
 pub returns-in-Err-clause-missed : goal.returns-in-Err-clause-missed
 returns-in-Err-clause-missed c =
     let t = c.args.p.t.now in
-    let lists = instrs_of c.args.p.lists.now in
     let path = c.args.p.path in
     let j = c.loop-j.j in
     let l : j < length (starts t) = omega (arith, c.loop-j-test.true, c.requires.frame.count) in
@@ -28,7 +27,7 @@ returns-in-Err-clause-missed c =
       c.in-Err.miss,
       l,
       c.loop-j.invariant.clean,
-      miss_here t lists path j _ _ _ _ _ _ c.in-Err.miss at c.in-Err.ensures.missed,
+      miss_here t (instrs_of c.args.p.lists.now) path j _ _ _ _ _ _ c.in-Err.miss at c.in-Err.ensures.missed,
       c.counted.ensures ∙ ap (λ n. counted n c.in-Err.miss) c.count_before.ensures.count,
     )
 

@@ -1,6 +1,5 @@
 use Rattle.std.proofs.Common.{◌≡◌, ◌∙◌, sym, ap, subst, take}
-use Rattle.htl_walk.proofs.Words.{All, places_in, path_places, placed_jobs, path_jobs, HasTimes}
-use Rattle.htl_walk.proofs.Placing.{formed_times}
+use Rattle.htl_walk.proofs.{Words.All, Words.places_in, Words.path_places, Words.placed_jobs, Words.path_jobs, Words.HasTimes, Placing.formed_times}
 use Rattle.htl_walk.proofs.node_walk.walk_on.Goals as goal
 
 pub placed_jobs-requires-clause-times : goal.placed_jobs-requires-clause-times

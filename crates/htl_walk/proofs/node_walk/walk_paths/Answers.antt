@@ -1,7 +1,5 @@
 use Rattle.std.proofs.Common.{◌<◌, arith, sym, subst}
-use Rattle.htl_walk.proofs.Words.{paths, AreWalkedTo, instrs_of}
-use Rattle.htl_walk.proofs.NodeWalks.{all_accepted}
-use Rattle.htl_walk.proofs.CodeWalk.{fork_clean, fork_saved, clean_paths, saved_path, missed, refused_all}
+use Rattle.htl_walk.proofs.{Words.paths, Words.AreWalkedTo, Words.instrs_of, NodeWalks.all_accepted, CodeWalk.fork_clean, CodeWalk.fork_saved, CodeWalk.clean_paths, CodeWalk.saved_path, CodeWalk.missed, CodeWalk.refused_all}
 use Rattle.htl_walk.proofs.node_walk.walk_paths.Goals.{then-path-eq0, else-path-eq0}
 use Rattle.htl_walk.proofs.node_walk.walk_paths.Goals as goal
 

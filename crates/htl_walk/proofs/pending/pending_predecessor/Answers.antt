@@ -1,12 +1,10 @@
 use Rattle.std.proofs.Common.{◌≡◌, arith, ap, ◌∙◌}
-use Rattle.htl_walk.proofs.Words.{bit_at, w128, bit_and, bit_at-trailing_zeros, bit_at-zero}
-use Rattle.htl_walk.proofs.PendingLaws.{both_set, not_both, both_fit}
+use Rattle.htl_walk.proofs.{Words.bit_at, Words.w128, Words.bit_and, Words.bit_at-trailing_zeros, Words.bit_at-zero, PendingLaws.both_set, PendingLaws.not_both, PendingLaws.both_fit}
 use Rattle.htl_walk.proofs.pending.pending_predecessor.Goals as goal
 
 pub returns-then-waiting-eq0-clause-none : goal.returns-then-waiting-eq0-clause-none
 returns-then-waiting-eq0-clause-none c =
-    let none : bit_and c.args.job.now.preds c.args.pending ≡ 0 = omega (arith, c.if-waiting-eq0.true) in
-    λ q w. not_both c.args.job.now.preds c.args.pending q (ap (λ n. bit_at n q) none ∙ bit_at-zero q) w
+    λ q w. not_both c.args.job.now.preds c.args.pending q (ap (λ n. bit_at n q) (omega (arith, c.if-waiting-eq0.true)) ∙ bit_at-zero q) w
 
 pub returns-else-waiting-eq0-clause-waits : goal.returns-else-waiting-eq0-clause-waits
 returns-else-waiting-eq0-clause-waits c =

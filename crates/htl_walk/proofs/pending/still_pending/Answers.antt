@@ -1,6 +1,5 @@
 use Rattle.std.proofs.Common.{◌*◌, ◌%◌, ◌^◌, arith}
-use Rattle.htl_walk.proofs.Words.{bit_not, w128, bit_and}
-use Rattle.htl_walk.proofs.PendingLaws.{cleared, kept_pending, not_kept}
+use Rattle.htl_walk.proofs.{Words.bit_not, Words.w128, Words.bit_and, PendingLaws.cleared, PendingLaws.kept_pending, PendingLaws.not_kept}
 use Rattle.htl_walk.proofs.pending.still_pending.Goals as goal
 
 pub returns-then-left-gt0 : goal.returns-then-left-gt0

@@ -1,7 +1,6 @@
 use Rattle.std.proofs.Common.{ℕ, length, sym, ap, ◌∙◌, arith}
 use Rattle.std.proofs.lemmas.List.{drop-set-lt, length-set}
-use Rattle.htl_walk.proofs.Words.{begins_with, placed_job}
-use Rattle.htl_walk.proofs.Placing.{place_is, place_small, front_next}
+use Rattle.htl_walk.proofs.{Words.begins_with, Words.placed_job, Placing.place_is, Placing.place_small, Placing.front_next}
 use Rattle.htl_walk.proofs.placed.placed_jobs.Goals as goal
 
 pub moved-requires-clause-release : goal.moved-requires-clause-release

@@ -1,6 +1,5 @@
 use Rattle.std.proofs.Common.{ℕ, ◌<◌, length, arith}
-use Rattle.htl_walk.proofs.Following.{worst_filled}
-use Rattle.htl_walk.proofs.PendingLaws.{pending_first}
+use Rattle.htl_walk.proofs.{Following.worst_filled, PendingLaws.pending_first}
 use Rattle.htl_walk.proofs.worst_case.fill_worst.Goals as goal
 
 pub returns-clause-work : goal.returns-clause-work

@@ -1,6 +1,5 @@
 use Rattle.std.proofs.Common.{◌≡◌, ℕ, List, length, get_or, refl, sym, subst, arith, add-one}
-use Rattle.htl_walk.proofs.Words.{slice_get-get_or, Dispatch}
-use Rattle.htl_walk.proofs.Following.{IsFollowedTo, followed_none, followed_more, followed_all, missed_here, unfinished, known_at}
+use Rattle.htl_walk.proofs.{Words.slice_get-get_or, Words.Dispatch, Following.IsFollowedTo, Following.followed_none, Following.followed_more, Following.followed_all, Following.missed_here, Following.unfinished, Following.known_at}
 use Rattle.htl_walk.specs.declared.miss.Miss.TheVariants as miss
 use Rattle.htl_walk.proofs.Acceptance.{refused}
 use Rattle.htl_walk.proofs.worst_case.follow.Goals as goal

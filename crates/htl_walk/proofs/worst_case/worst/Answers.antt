@@ -1,6 +1,5 @@
-use Rattle.htl_walk.proofs.Words.{List, length, subst, SInstr, IsFirstDeparture}
+use Rattle.htl_walk.proofs.{Words.List, Words.length, Words.subst, Words.SInstr, Words.IsFirstDeparture, Acceptance.refused}
 use Rattle.htl_walk.specs.declared.miss.Miss.TheVariants as miss
-use Rattle.htl_walk.proofs.Acceptance.{refused}
 use Rattle.htl_walk.proofs.worst_case.worst.Goals as goal
 
 pub returns-in-Some-clause-refused : goal.returns-in-Some-clause-refused

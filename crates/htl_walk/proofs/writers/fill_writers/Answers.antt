@@ -1,5 +1,4 @@
-use Rattle.htl_walk.proofs.Words.{arith, rules, get_or, None, refl, cell, writes_to, one_writer, inv_of}
-use Rattle.htl_walk.proofs.Masks.{writers_all}
+use Rattle.htl_walk.proofs.{Words.arith, Words.rules, Words.get_or, Words.None, Words.refl, Words.cell, Words.writes_to, Words.one_writer, Words.inv_of, Masks.writers_all}
 use Rattle.htl_walk.proofs.writers.fill_writers.Goals as goal
 
 pub loop-q-preserved : goal.loop-q-preserved

@@ -1,6 +1,5 @@
 use Rattle.std.proofs.Common.{◌≡◌, ◌∷◌, [], ◌++◌, List, ℕ, length, take, map, arith, refl, sym, ap, ◌∙◌}
-use Rattle.htl_model.proofs.Words.{nil_from_length, flat_map, rounds_at, choices, frame_of, nodes_of, root_modules}
-use Rattle.htl_model.proofs.FrameLimits.{limits_kept}
+use Rattle.htl_model.proofs.{Words.nil_from_length, Words.flat_map, Words.rounds_at, Words.choices, Words.frame_of, Words.nodes_of, Words.root_modules, FrameLimits.limits_kept}
 use Rattle.htl_model.proofs.FrameBuild.{some_roots, no_longer, no_frame, no_starts, no_rounds, no_radices, no_paths, end_is, frame_some, starts_are, starts_told, radices_few, paths_are, ways_some, ways_few}
 use Rattle.htl_model.proofs.frame.Frame.survey.Goals as goal
 

@@ -1,5 +1,4 @@
-use Rattle.htl_model.proofs.Words.{subst, AreCode}
-use Rattle.htl_model.proofs.CodeLaws.{code_held}
+use Rattle.htl_model.proofs.{Words.subst, Words.AreCode, CodeLaws.code_held}
 use Rattle.htl_model.proofs.tables.Tables.copy.Goals as goal
 
 pub copy_parts-requires : goal.copy_parts-requires

@@ -1,8 +1,6 @@
 use Rattle.std.proofs.Common.{◌≡◌, ◌<◌, ◌-◌, List, ℕ, Some, option_map, length, take, get_or, arith, sym, ap, ◌∙◌}
 use Rattle.htl_model.specs.Selections.{root_modules}
-use Rattle.htl_model.proofs.FrameBuild.{frame_some}
-use Rattle.htl_model.proofs.FrameLimits.{with_unit}
-use Rattle.htl_model.proofs.LimitCode.{frame_told, frame_short, limit_rest}
+use Rattle.htl_model.proofs.{FrameBuild.frame_some, FrameLimits.with_unit, LimitCode.frame_told, LimitCode.frame_short, LimitCode.limit_rest}
 use Rattle.htl_model.proofs.tables.Tables.frame_limits.Goals as goal
 
 pub other_limits-requires-clause-frame : goal.other_limits-requires-clause-frame

@@ -1,6 +1,5 @@
 use Rattle.std.proofs.Common.{ap, ◌∙◌}
-use Rattle.htl_text.proofs.Words.{names_of, names_in}
-use Rattle.htl_text.proofs.Parts.{names_in-is}
+use Rattle.htl_text.proofs.{Words.names_of, Words.names_in, Parts.names_in-is}
 use Rattle.htl_text.proofs.expression.Expression.nodes.Goals as goal
 
 pub returns-clause-names : goal.returns-clause-names

@@ -1,5 +1,4 @@
-use Rattle.htl_text.proofs.Writing.{Adds-each_of}
-use Rattle.htl_text.proofs.Words.{switch_of, switch_tokens}
+use Rattle.htl_text.proofs.{Writing.Adds-each_of, Words.switch_of, Words.switch_tokens}
 use Rattle.htl_text.proofs.printing.ModeNodePrint.print.Goals as goal
 
 pub returns : goal.returns

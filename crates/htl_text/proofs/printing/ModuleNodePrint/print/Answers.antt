@@ -1,5 +1,4 @@
-use Rattle.htl_text.proofs.Writing.{Adds-each_of}
-use Rattle.htl_text.proofs.Words.{task_of, mode_of, task_tokens, mode_tokens}
+use Rattle.htl_text.proofs.{Writing.Adds-each_of, Words.task_of, Words.mode_of, Words.task_tokens, Words.mode_tokens}
 use Rattle.htl_text.proofs.printing.ModuleNodePrint.print.Goals as goal
 
 pub returns : goal.returns

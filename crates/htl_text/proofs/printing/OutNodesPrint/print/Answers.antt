@@ -1,5 +1,4 @@
-use Rattle.htl_text.proofs.Writing.{Adds-brackets_of}
-use Rattle.htl_text.proofs.Words.{out_of, out_tokens}
+use Rattle.htl_text.proofs.{Writing.Adds-brackets_of, Words.out_of, Words.out_tokens}
 use Rattle.htl_text.proofs.printing.OutNodesPrint.print.Goals as goal
 
 pub returns-in-Concrete : goal.returns-in-Concrete

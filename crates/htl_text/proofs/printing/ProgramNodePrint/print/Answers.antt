@@ -1,5 +1,4 @@
-use Rattle.htl_text.proofs.Writing.{Adds-each_of}
-use Rattle.htl_text.proofs.Words.{module_of, module_tokens}
+use Rattle.htl_text.proofs.{Writing.Adds-each_of, Words.module_of, Words.module_tokens}
 use Rattle.htl_text.proofs.printing.ProgramNodePrint.print.Goals as goal
 
 pub returns : goal.returns

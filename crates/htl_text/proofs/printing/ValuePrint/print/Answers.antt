@@ -1,5 +1,4 @@
-use Rattle.htl_text.proofs.Words.{rules, Writes, token_bytes}
-use Rattle.htl_text.proofs.Writing.{Adds-token}
+use Rattle.htl_text.proofs.{Words.rules, Words.Writes, Words.token_bytes, Writing.Adds-token}
 use Rattle.htl_text.specs.declared.token.Token.TheVariants as token
 use Rattle.htl_text.proofs.printing.ValuePrint.print.Goals as goal
 

@@ -1,6 +1,5 @@
 use Rattle.std.proofs.Common.{◌≡◌, List, ap, sym, subst, ◌∙◌}
-use Rattle.htl_text.proofs.Words.{slice_get, option_map, kind_at, kind_of, TokenList, Entry}
-use Rattle.htl_text.proofs.AtPlaces.{kinds-at, first-at}
+use Rattle.htl_text.proofs.{Words.slice_get, Words.option_map, Words.kind_at, Words.kind_of, Words.TokenList, Words.Entry, AtPlaces.kinds-at, AtPlaces.first-at}
 use Rattle.htl_text.proofs.tokens.Tokens.kind.Goals as goal
 
 pub returns-clause-kind : goal.returns-clause-kind

@@ -1,6 +1,5 @@
 use Rattle.std.proofs.Common.{rules, to_z, of_z, w64, ℤ, ◌≡◌, ℕ, List, Some, length, ap, sym, subst, ◌∙◌, ◌<◌}
-use Rattle.htl_text.proofs.Words.{slice_get, option_map, IsKept, token_in, kind_of, TokenList, Entry, Token}
-use Rattle.htl_text.proofs.AtPlaces.{entry-below, entry-kind, token-at}
+use Rattle.htl_text.proofs.{Words.slice_get, Words.option_map, Words.IsKept, Words.token_in, Words.kind_of, Words.TokenList, Words.Entry, Words.Token, AtPlaces.entry-below, AtPlaces.entry-kind, AtPlaces.token-at}
 use Rattle.htl_text.specs.declared.token.Kind.TheVariants as kind
 use Rattle.htl_text.specs.declared.token.Token.TheVariants as token
 use Rattle.htl_text.proofs.tokens.Tokens.number_at.Goals as goal
