@@ -3,9 +3,7 @@ use Rattle.std.proofs.Common.{◌≡◌, ℕ, List, Option, Some, None, Result, 
 use Rattle.htl_patch.proofs.Words.{AskTheSame, KeepsLimits, Tables, IsAccepted, IsInRange, IsFunctionCode, Object, IsPatched, IsHandedBackBy, IsPatchStop, IsPatchedAs, PatchIsRefusedFor, mode_named, replacement_by, replacement_of, Joins, patched_object, CanPatch, patched, IsReplacementFault, IsFaultBy, IsPatchFault, IsHandedBack, IsEarlyFault, IsTablesFault, IsTablesStop, IsAcceptedWith, Replacement, replacement, PatchFault, PatchStop}
 use Rattle.htl_patch.specs.declared.fault.PatchFault.TheVariants as fault
 use Rattle.htl_patch.specs.declared.fault.PatchStop.TheVariants as stop
-use Rattle.htl_patch.proofs.Accepting.{replacement_is, tables_keep_limits, tables_are_code, ask_the_same}
-use Rattle.htl_patch.proofs.OneStop.{one_patch_fault}
-use Rattle.htl_patch.proofs.Stopping.{patch_not_refused}
+use Rattle.htl_patch.proofs.{Accepting.replacement_is, Accepting.tables_keep_limits, Accepting.tables_are_code, Accepting.ask_the_same, OneStop.one_patch_fault, Stopping.patch_not_refused}
 
 -- ---- the two modes
 

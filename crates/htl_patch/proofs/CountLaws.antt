@@ -1,7 +1,6 @@
 -- Numbers below a bound of which none comes twice are no more than the bound.
 use Rattle.std.proofs.Common.{◌≤◌, ◌<◌, ℕ, eqb, get_or, List, length, Some, All, ◌∙◌, ap, arith}
-use Rattle.htl_patch.proofs.Words.{IsDistinct, Decides-eqb, IsDistinct-from_AllPairs, length-le_from_distinct_below, slice_get-get_or, AreApart, all_at}
-use Rattle.htl_patch.proofs.Transfers.{any_has}
+use Rattle.htl_patch.proofs.{Words.IsDistinct, Words.Decides-eqb, Words.IsDistinct-from_AllPairs, Words.length-le_from_distinct_below, Words.slice_get-get_or, Words.AreApart, Words.all_at, Transfers.any_has}
 
 distinct : (xs : List ℕ) → AreApart xs → IsDistinct eqb xs
 distinct xs a =

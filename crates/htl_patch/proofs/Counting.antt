@@ -1,7 +1,7 @@
 -- Lists by their members, counts of functions, and levels.
 use Rattle.std.proofs.Common.{◌≡◌, ◌≤◌, ◌<◌, ◌⊎◌, inl, inr, ℕ, zero, suc, ◌+◌, true, List, [], ◌∷◌, ◌++◌, length, map, take, drop, get_or, slice_get, Option, Some, None, All, refl, sym, ◌∙◌, ap, subst, arith}
-use Rattle.htl_patch.proofs.Words.{flat_map, IsNonDecreasing, slice_get_within, slice_get-get_or, same_Some, AreApart, Task, is_within, parent_of, Tables, mode_module, function_count, count_before, level, cases_less_more, from_map, get_mapped}
-use Rattle.htl_patch.proofs.Members.{Has, none, of_flat}
+use Rattle.htl_patch.proofs.Words.{flat_map, IsNonDecreasing, slice_get_within, slice_get-get_or, same_Some, AreApart, Task, place_among, is_within, parent_of, Tables, mode_module, function_count, count_before, level, cases_less_more, from_map, get_mapped}
+use Rattle.htl_patch.proofs.Members.{Has, none, of_flat, place_at, place_one, map_map}
 
 -- ---- lists
 
@@ -64,6 +64,33 @@ owners_rise own to us tells i j d less below =
     let z = from_map to items j (get_or owners j d) (slice_get-get_or owners j d below) in
     let order = rising own to 0 us (λ i z m e h. (let r = tells i z m e h in omega (arith, r))) i j y.0 z.0 less y.1 z.1 in
     omega (arith, order, y.2, z.2)
+
+-- so the owners of items with new numbers don't fall
+pub items_rise : {A : Type 0} (own : A → ℕ) (new : A → A) (at : ℕ → A) (owned : ℕ → List ℕ) (us : List ℕ) → AreApart us
+    → ((x : A) → own (new x) ≡ place_among (own x) us) → ((y m : ℕ) → Has (owned y) m → own (at m) ≡ y) → IsNonDecreasing (map own (map (λ (k : ℕ). new (at k)) (flat_map owned us)))
+items_rise own new at owned us apart moved owner =
+    subst IsNonDecreasing (sym (map_map own (λ (k : ℕ). new (at k)) (flat_map owned us)))
+    (owners_rise owned (λ m. own (new (at m))) us (λ i z m e h. moved (at m) ∙ ap (λ (y : ℕ). place_among y us) (owner z m h) ∙ place_at us i z apart e))
+
+-- where keys differ, those of items with new numbers do: each is an owner among the given ones, with something else
+pub keys_differ : {A B : Type 0} (key : A → ℕ × B) (new : A → A) (at : ℕ → A) (xs : List A) (us ns : List ℕ) → AreApart ns → AreApart (map key xs)
+    → ((x : A) → (key (new x)).0 ≡ place_among (key x).0 us)
+    → ((m : ℕ) → Has ns m → (y : ℕ) × Has us y × (x : A) × (slice_get xs m ≡ Some x) × ((key x).0 ≡ y) × (at m ≡ x))
+    → ((x y : ℕ) → Has ns x → Has ns y → (key (new (at x))).1 ≡ (key (new (at y))).1 → (key (at x)).1 ≡ (key (at y)).1)
+    → AreApart (map key (map (λ (k : ℕ). new (at k)) ns))
+keys_differ {A} {B} key new at xs us ns apart keys moved of rest =
+    subst AreApart (sym (map_map key (λ (k : ℕ). new (at k)) ns))
+    (apart_image (λ (k : ℕ). key (new (at k))) ns apart (λ x y h i e. (
+    let place : place_among (key (at x)).0 us ≡ place_among (key (at y)).0 us = sym (moved (at x)) ∙ ap (λ (z : ℕ × B). z.0) e ∙ moved (at y) in
+    let owner : (key (at x)).0 ≡ (key (at y)).0 = place_one us (key (at x)).0 (key (at y)).0 (owned x h) (owned y i) place in
+    let other : (key (at x)).1 ≡ (key (at y)).1 = rest x y h i (ap (λ (z : ℕ × B). z.1) e) in
+    one_key key xs keys x y (at x) (at y) (stands x h) (stands y i) (ap (λ (z : ℕ). (z, (key (at x)).1)) owner ∙ ap (λ (z : B). ((key (at y)).0, z)) other))))
+  where
+    owned : (m : ℕ) → Has ns m → Has us (key (at m)).0
+    owned m h = let r = of m h in subst (Has us) (sym (ap (λ (z : A). (key z).0) r.5 ∙ r.4)) r.1
+
+    stands : (m : ℕ) → Has ns m → slice_get xs m ≡ Some (at m)
+    stands m h = let r = of m h in r.3 ∙ ap (λ (z : A). Some z) (sym r.5)
 
 -- ---- functions
 

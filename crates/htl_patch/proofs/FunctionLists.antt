@@ -1,8 +1,7 @@
 -- Functions in memory and in the tables.
 use Rattle.std.proofs.Common.{◌≡◌, ◌≤◌, ◌<◌, ◌+◌, ℕ, zero, suc, false, List, [], ◌∷◌, ◌++◌, length, map, take, drop, get_or, slice_get, Some, All, refl, sym, ◌∙◌, ap, arith, append_assoc, append-nil}
 use Rattle.htl_patch.proofs.Words.{flat_map, length-map, slice_get-get_or, length-list_to, get_list_to, AreInRange, IsTaskInRange, Tables, Fun, fun_of, function_count, count_at, count_before, Function, Task, task_there, IsFunctionCode, first_function, firsts_of, functions_of, all_at, get_mapped}
-use Rattle.htl_patch.proofs.Members.{none, map_append}
-use Rattle.htl_patch.proofs.Counting.{count_within}
+use Rattle.htl_patch.proofs.{Members.none, Members.map_append, Counting.count_within}
 
 -- a function in memory is one of the tables
 pub function_there : (fs : List Fun) (held : List Function) (k : ℕ) (f : Function) → fs ≡ map fun_of held → k < length fs → f ≡ get_or held k f → slice_get fs k ≡ Some (fun_of f)

@@ -2,8 +2,7 @@
 use Rattle.std.proofs.Common.{◌≡◌, ◌≤◌, ◌<◌, ◌+◌, ◌-◌, ℕ, zero, suc, List, [], ◌∷◌, ◌++◌, length, length-append, length-drop, append_assoc, map, take, drop, get_or, slice_get, Option, Some, refl, sym, ◌∙◌, ap, arith, take-append-drop, pos}
 use Rattle.std.proofs.lemmas.List.{get_or-drop}
 use Rattle.htl_patch.proofs.Words.{length-map, AreInRange, Number, Tables, Fun, Formula, function_count, count_at, count_before, switch_function, Task, functions_of, function_of_switch, Replacement, combined, donor_task, output_count, output_functions, switch_functions, get_back, get_front, get_mapped, take_front}
-use Rattle.htl_patch.proofs.Members.{none}
-use Rattle.htl_patch.proofs.Counting.{count_within, take_length}
+use Rattle.htl_patch.proofs.{Members.none, Counting.count_within, Counting.take_length}
 
 -- ---- lists
 

@@ -1,13 +1,11 @@
 -- Renumbered tables are in range where not too much is taken over.
 use Rattle.std.proofs.Common.{◌≡◌, ◌≤◌, ◌<◌, inl, inr, ℕ, suc, ◌+◌, true, eqb, eq-eqb, List, [], ◌∷◌, length, length-append, map, take, drop, slice_get, Option, Some, None, IfSome, All, option_map, refl, sym, ◌∙◌, ap, subst, arith}
-use Rattle.htl_patch.proofs.Words.{flat_map, count_by, IsNonDecreasing, length-map, slice_get_within, slice_get-get_or, get_or_from_slice_get, MAX_MODE_INVOCATIONS, AreApart, End, Inv, Mode, Port, Switch, Task, different_pairs, are_different_pairs, AreInRange, IsInvInRange, IsEndInRange, IsSwitchInRange, IsFunInRange, invs_of, Tables, Fun, mode_module, function_count, count_at, count_before, switch_function, place_among, tasks_of, ports_of, switches_of, task_of_module, port_of_mode, Numbering, numbering, mode_at, port_at, task_at, inv_at, switch_at, new_port, new_task, new_inv, new_switch, new_end, functions_of, function_of_switch, renumbered, from_map, get_mapped}
+use Rattle.htl_patch.proofs.Words.{flat_map, count_by, length-map, slice_get_within, slice_get-get_or, get_or_from_slice_get, MAX_MODE_INVOCATIONS, End, Inv, Mode, Port, Switch, Task, different_pairs, are_different_pairs, AreInRange, IsInvInRange, IsEndInRange, IsSwitchInRange, IsFunInRange, modes_of, invs_of, Tables, Fun, mode_module, function_count, count_at, count_before, switch_function, place_among, tasks_of, ports_of, switches_of, task_of_module, port_of_mode, Numbering, numbering, mode_at, port_at, task_at, inv_at, switch_at, new_mode, new_port, new_task, new_inv, new_switch, new_end, functions_of, function_of_switch, renumbered, from_map, get_mapped}
 use Rattle.htl_model.specs.declared.parts.End.TheVariants as E
-use Rattle.htl_patch.proofs.Members.{Has, has_either, of_flat, in_flat, in_places_0, place_get, place_one, map_map}
-use Rattle.htl_patch.proofs.Renumbering.{inv_owner, switch_owner, invs_apart, task_new}
-use Rattle.htl_patch.proofs.Widths.{widths}
-use Rattle.htl_patch.proofs.Sound.{inv_key, IsSound, IsOrder}
-use Rattle.htl_patch.proofs.Counting.{all_from, all_map, apart_image, one_key, owners_rise, total, count_total, count_within, take_length, has_take, has_drop}
-use Rattle.htl_patch.proofs.Ranging.{AreParentsTransferred, AreFew, mode_of, inv_of, task_of, switch_of, mode_below, inv_below, mode_transferred, mode_owner_place, mode_owner_at, modes, modes_rise, modules, module_names, mode_names, ports, mode_place_at, ports_rise, port_names, tasks, tasks_rise, task_names}
+use Rattle.htl_patch.proofs.{Members.Has, Members.has_either, Members.of_flat, Members.in_flat, Members.in_places_0, Members.place_get, Members.place_one, Widths.widths, Sound.inv_key, Sound.IsSound, Sound.IsOrder}
+use Rattle.htl_patch.proofs.Renumbering.{mode_owner, inv_owner, task_owner, port_owner, switch_owner, modes_apart, invs_apart, task_new}
+use Rattle.htl_patch.proofs.Counting.{all_from, all_map, items_rise, keys_differ, total, count_total, count_within, take_length, has_take, has_drop}
+use Rattle.htl_patch.proofs.Ranging.{AreParentsTransferred, AreFew, mode_of, inv_of, task_of, switch_of, mode_below, inv_below, mode_transferred, mode_owner_place, mode_owner_at, modes, modules, module_names, mode_names, ports, port_names, tasks, task_names}
 
 module _ (u : Tables) (units : List ℕ) (sound : IsSound u) (order : IsOrder u units) (parents : AreParentsTransferred u (numbering u units))
     (few : AreFew (renumbered u (numbering u units))) where
@@ -76,30 +74,14 @@ module _ (u : Tables) (units : List ℕ) (sound : IsSound u) (order : IsOrder u 
   invs : All (IsInvInRange t) t.invs
   invs = all_map (IsInvInRange t) (λ (k : ℕ). new_inv n (inv_at u k)) n.invs inv_range
 
-  invs_rise : IsNonDecreasing (map (λ i. i.mode) t.invs)
-  invs_rise =
-      subst IsNonDecreasing (sym (map_map (λ (m : Inv). m.mode) (λ (k : ℕ). new_inv n (inv_at u k)) n.invs))
-      (owners_rise (invs_of u) (λ m. place_among (inv_at u m).mode n.modes) n.modes
-      (λ i z m e h. ap (λ (y : ℕ). place_among y n.modes) (inv_owner u z m h) ∙ (mode_place_at u units sound order parents few) i z e))
-
   invoked_once : are_different_pairs (map inv_key t.invs) ≡ true
   invoked_once =
       different_pairs (map inv_key t.invs)
-      (subst AreApart (sym (map_map inv_key (λ (k : ℕ). new_inv n (inv_at u k)) n.invs))
-      (apart_image (λ (k : ℕ). inv_key (new_inv n (inv_at u k))) n.invs (invs_apart u units order.apart) (λ x y h i e. (let a = (inv_of u units sound order parents few) x h in
-      let b = (inv_of u units sound order parents few) y i in
-      let p = key_at x h in
-      let q = key_at y i in
-      let whole : (place_among a.2.mode n.modes, place_among a.2.task n.tasks) ≡ (place_among b.2.mode n.modes, place_among b.2.task n.tasks) = sym p ∙ e ∙ q in
-      let am : Has n.modes a.2.mode = subst (Has n.modes) (sym a.4) a.1 in
-      let bm : Has n.modes b.2.mode = subst (Has n.modes) (sym b.4) b.1 in
-      let mode : a.2.mode ≡ b.2.mode = place_one n.modes a.2.mode b.2.mode am bm (ap (λ (z : ℕ × ℕ). z.0) whole) in
-      let task : a.2.task ≡ b.2.task = place_one n.tasks a.2.task b.2.task (task_transferred x h) (task_transferred y i) (ap (λ (z : ℕ × ℕ). z.1) whole) in
-      let key : inv_key a.2 ≡ inv_key b.2 = ap (λ (z : ℕ). (z, a.2.task)) mode ∙ ap (λ (z : ℕ). (b.2.mode, z)) task in
-      one_key inv_key u.invs sound.invoked_once x y a.2 b.2 a.3 b.3 key))))
+      (keys_differ inv_key (new_inv n) (inv_at u) u.invs n.modes n.invs (invs_apart u units order.apart) sound.invoked_once (λ x. refl)
+      (inv_of u units sound order parents few) (λ x y h i e. place_one n.tasks (inv_at u x).task (inv_at u y).task (task_has x h) (task_has y i) e))
     where
-      key_at : (m : ℕ) (h : Has n.invs m) → inv_key (new_inv n (inv_at u m)) ≡ (place_among ((inv_of u units sound order parents few) m h).2.mode n.modes, place_among ((inv_of u units sound order parents few) m h).2.task n.tasks)
-      key_at m h = ap (λ (x : Inv). inv_key (new_inv n x)) ((inv_of u units sound order parents few) m h).5
+      task_has : (k : ℕ) → Has n.invs k → Has n.tasks (inv_at u k).task
+      task_has k h = subst (λ (i : Inv). Has n.tasks i.task) (sym ((inv_of u units sound order parents few) k h).5) (task_transferred k h)
 
   few_in_mode : (m : ℕ) → count_by (λ i. eqb i.mode m) t.invs ≤ MAX_MODE_INVOCATIONS
   few_in_mode = widths u units sound order.apart
@@ -126,12 +108,6 @@ module _ (u : Tables) (units : List ℕ) (sound : IsSound u) (order : IsOrder u 
 
   switches : All (IsSwitchInRange t) t.switches
   switches = all_map (IsSwitchInRange t) (λ (k : ℕ). new_switch n (switch_at u k)) n.switches switch_range
-
-  switches_rise : IsNonDecreasing (map (λ w. w.mode) t.switches)
-  switches_rise =
-      subst IsNonDecreasing (sym (map_map (λ (m : Switch). m.mode) (λ (k : ℕ). new_switch n (switch_at u k)) n.switches))
-      (owners_rise (switches_of u) (λ m. place_among (switch_at u m).mode n.modes) n.modes
-      (λ i z m e h. ap (λ (y : ℕ). place_among y n.modes) (switch_owner u z m h) ∙ (mode_place_at u units sound order parents few) i z e))
 
   -- ---- functions
 
@@ -184,6 +160,7 @@ module _ (u : Tables) (units : List ℕ) (sound : IsSound u) (order : IsOrder u 
 
   pub renumbered_in_range : AreInRange t
   renumbered_in_range =
+      let ms = modes_apart u units order.apart in
       record {
         few_comms = sound.few_comms;
         few_modules = few.modules;
@@ -199,11 +176,11 @@ module _ (u : Tables) (units : List ℕ) (sound : IsSound u) (order : IsOrder u 
         port_names = (port_names u units sound order parents few);
         task_names = (task_names u units sound order parents few);
         invoked_once = invoked_once;
-        modes_by_module = (modes_rise u units sound order parents few);
-        ports_by_mode = (ports_rise u units sound order parents few);
-        tasks_by_module = (tasks_rise u units sound order parents few);
-        invs_by_mode = invs_rise;
-        switches_by_mode = switches_rise;
+        modes_by_module = items_rise (λ (x : Mode). x.«module») (new_mode n) (mode_at u) (modes_of u) units order.apart (λ x. refl) (mode_owner u);
+        ports_by_mode = items_rise (λ (x : Port). x.mode) (new_port n) (port_at u) (ports_of u) n.modes ms (λ x. refl) (port_owner u);
+        tasks_by_module = items_rise (λ (x : Task). x.«module») (new_task n) (task_at u) (tasks_of u) units order.apart (λ x. refl) (task_owner u);
+        invs_by_mode = items_rise (λ (x : Inv). x.mode) (new_inv n) (inv_at u) (invs_of u) n.modes ms (λ x. refl) (inv_owner u);
+        switches_by_mode = items_rise (λ (x : Switch). x.mode) (new_switch n) (switch_at u) (switches_of u) n.modes ms (λ x. refl) (switch_owner u);
         comms = sound.comms;
         modes = (modes u units sound order parents few);
         modules = (modules u units sound order parents few);

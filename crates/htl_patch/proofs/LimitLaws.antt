@@ -2,11 +2,8 @@
 use Rattle.std.proofs.Common.{◌≡◌, ◌≤◌, ℕ, zero, suc, Bool, cond, ltb, eqb, List, [], ◌∷◌, ◌++◌, length, Option, Some, None, refl, sym, ◌∙◌, ap, arith}
 use Rattle.htl_model.proofs.Listed.{list_same}
 use Rattle.htl_patch.proofs.Words.{count_by, length-map, MAX_MODULES, MAX_MODES, MAX_PORTS, MAX_TASKS, MAX_INVOCATIONS, MAX_SWITCHES, MAX_MODE_INVOCATIONS, list_to, parent_of, Tables, mode_module, greatest, Mode, Module, level, levels, widest, exceeded, first_limit, module_mode_tables, sizes_of, AreFewNumbers, order, new_numbers, patched, mode_at, module_at, port_at, task_at, inv_at, switch_at, new_mode, new_module, new_port, new_task, new_inv, new_switch, Replacement, combined, le-ltb}
-use Rattle.htl_patch.proofs.Replacing.{CanReplace, order_apart}
-use Rattle.htl_patch.proofs.Limiting.{greatest_most, of_list_to}
+use Rattle.htl_patch.proofs.{Replacing.CanReplace, Replacing.order_apart, Limiting.greatest_most, Limiting.of_list_to, CombinedTables.combined_sound, Widths.widths}
 use Rattle.htl_patch.proofs.NumberLaws.{few_units, few_modes, few_tasks, few_ports, few_invs, few_switches}
-use Rattle.htl_patch.proofs.CombinedTables.{combined_sound}
-use Rattle.htl_patch.proofs.Widths.{widths}
 
 -- levels by the lists of modules and modes alone
 level_combined : (t : Tables) (n u : ℕ) → level n (module_mode_tables t.modules t.modes) u ≡ level n t u

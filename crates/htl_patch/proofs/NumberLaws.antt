@@ -1,11 +1,8 @@
 -- The old numbers of what is taken over, by lists of owners; each is that of an item.
 use Rattle.std.proofs.Common.{◌≡◌, ◌≤◌, ◌<◌, ℕ, zero, suc, List, [], ◌∷◌, ◌++◌, length, map, All, length-append, refl, ◌∙◌, ap, subst, arith}
 use Rattle.htl_patch.proofs.Words.{flat_map, length-map, slice_get_within, same_Some, Inv, Mode, Port, Switch, Task, root_modules, modes_of, invs_of, Tables, is_owner, owned_by, mode_owners, port_owners, task_owners, inv_owners, switch_owners, mode_children, children, below, order, new_numbers, ports_of, tasks_of, switches_of, Replacement, donor_module, combined, get_front}
-use Rattle.htl_patch.proofs.BothOwners.{modes_few, tasks_few, ports_few, invs_few, switches_few}
-use Rattle.htl_patch.proofs.CountLaws.{few_apart}
-use Rattle.htl_patch.proofs.Replacing.{CanReplace, host_root, child_there, order_apart}
-use Rattle.htl_patch.proofs.Members.{Has, none, of_flat, places_map}
-use Rattle.htl_patch.proofs.Counting.{all_from}
+use Rattle.htl_patch.proofs.{BothOwners.both_few, BothOwners.modes_owned, BothOwners.tasks_owned, BothOwners.ports_owned, BothOwners.invs_owned, BothOwners.switches_owned, CountLaws.few_apart, Counting.all_from}
+use Rattle.htl_patch.proofs.{Replacing.CanReplace, Replacing.host_root, Replacing.child_there, Replacing.order_apart, Members.Has, Members.none, Members.of_flat, Members.places_map}
 use Rattle.htl_patch.proofs.Renumbering.{mode_there, task_there, port_there, inv_there, switch_there, modes_apart, tasks_apart, ports_apart, invs_apart, switches_apart}
 
 flat_on : {A : Type 0} (f g : ℕ → List A) (xs : List ℕ) → ((x : ℕ) → f x ≡ g x) → flat_map f xs ≡ flat_map g xs
@@ -89,29 +86,29 @@ module _ (g : Replacement) (c : CanReplace g) where
   pub few_modes : length (new_numbers g).modes ≤ 16384
   few_modes =
       let most = few_apart (new_numbers g).modes (length (combined g).modes) (modes_apart (combined g) (order g) (order_apart g c)) (modes_within (combined g) (order g)) in
-      let few = modes_few g c.host c.donor in
+      let few = both_few (modes_owned g c.host c.donor) in
       let size = length-map (combined g).modes (λ (x : Mode). x.«module») in omega (arith, most, few, size)
 
   pub few_tasks : length (new_numbers g).tasks ≤ 16384
   few_tasks =
       let most = few_apart (new_numbers g).tasks (length (combined g).tasks) (tasks_apart (combined g) (order g) (order_apart g c)) (tasks_within (combined g) (order g)) in
-      let few = tasks_few g c.host c.donor in
+      let few = both_few (tasks_owned g c.host c.donor) in
       let size = length-map (combined g).tasks (λ (x : Task). x.«module») in omega (arith, most, few, size)
 
   pub few_ports : length (new_numbers g).ports ≤ 16384
   few_ports =
       let most = few_apart (new_numbers g).ports (length (combined g).ports) (ports_apart (combined g) (order g) (order_apart g c)) (ports_within (combined g) (new_numbers g).modes) in
-      let few = ports_few g c.host c.donor in
+      let few = both_few (ports_owned g c.host c.donor) in
       let size = length-map (combined g).ports (λ (x : Port). x.mode) in omega (arith, most, few, size)
 
   pub few_invs : length (new_numbers g).invs ≤ 16384
   few_invs =
       let most = few_apart (new_numbers g).invs (length (combined g).invs) (invs_apart (combined g) (order g) (order_apart g c)) (invs_within (combined g) (new_numbers g).modes) in
-      let few = invs_few g c.host c.donor in
+      let few = both_few (invs_owned g c.host c.donor) in
       let size = length-map (combined g).invs (λ (x : Inv). x.mode) in omega (arith, most, few, size)
 
   pub few_switches : length (new_numbers g).switches ≤ 16384
   few_switches =
       let most = few_apart (new_numbers g).switches (length (combined g).switches) (switches_apart (combined g) (order g) (order_apart g c)) (switches_within (combined g) (new_numbers g).modes) in
-      let few = switches_few g c.host c.donor in
+      let few = both_few (switches_owned g c.host c.donor) in
       let size = length-map (combined g).switches (λ (x : Switch). x.mode) in omega (arith, most, few, size)

@@ -2,8 +2,7 @@
 use Rattle.std.proofs.Common.{◌≡◌, ◌≤◌, ◌<◌, ◌⊎◌, inl, inr, ℕ, zero, suc, ◌+◌, Bool, true, false, cond, eqb, List, [], ◌∷◌, ◌++◌, length, map, drop, get_or, slice_get, Some, refl, sym, ◌∙◌, ap, subst, arith, append-nil, length-drop}
 use Rattle.std.proofs.lemmas.List.{get_or-drop}
 use Rattle.htl_patch.proofs.Words.{IsNonDecreasing, slice_get_within, slice_get-get_or, get_or_from_slice_get, places_from, is_owner, owned_by, place_among, ne_eqb, from_map}
-use Rattle.htl_patch.proofs.ChildLaws.{places_end}
-use Rattle.htl_patch.proofs.Members.{Has, same_or, place_get, places_nothing}
+use Rattle.htl_patch.proofs.{ChildLaws.places_end, Members.Has, Members.same_or, Members.place_get, Members.places_nothing}
 
 -- nothing stands before the first place
 pub owned_first : (m k : ℕ) (xs : List ℕ) → places_from (is_owner m) k xs ≡ places_from (is_owner m) (k + place_among m xs) (drop (place_among m xs) xs)

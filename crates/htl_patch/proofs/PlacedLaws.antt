@@ -1,6 +1,6 @@
 -- Items with the new numbers that lists of new numbers tell are the renumbered ones.
-use Rattle.std.proofs.Common.{◌≡◌, ◌≤◌, ◌<◌, ◌+◌, ◌-◌, ℕ, zero, cond, Bool, true, false, eqb, List, [], ◌∷◌, ◌++◌, length, length-append, map, get_or, slice_get, Option, Some, None, IfSome, option_map, All, refl, sym, ◌∙◌, ap, arith}
-use Rattle.htl_patch.proofs.Words.{length-map, slice_get_within, slice_get-get_or, AreInRange, IsInvInRange, IsEndInRange, Tables, End, Inv, Mode, Module, Port, Switch, Task, ArePlacesOf, ArePlaces, HasPlace, HasPlaces, placed, placed_mode, placed_module, placed_port, placed_task, placed_end, placed_inv, placed_switch, Numbering, place_among, new_mode, new_module, new_port, new_task, new_end, new_inv, new_switch, Replacement, combined, donor_mode, donor_module, donor_port, donor_task, donor_end, donor_inv, donor_switch, refined_mode, donor_parent, invs_named, invoked_name, invokes_named, belongs_to_mode, NewNumbers, all_at}
+use Rattle.std.proofs.Common.{◌≡◌, ◌≤◌, ◌<◌, ◌+◌, ◌-◌, ℕ, cond, Bool, true, false, eqb, List, [], ◌∷◌, ◌++◌, length, length-append, map, get_or, slice_get, Option, Some, None, IfSome, option_map, All, refl, sym, ◌∙◌, ap, arith}
+use Rattle.htl_patch.proofs.Words.{length-map, slice_get_within, slice_get-get_or, AreInRange, IsInvInRange, IsEndInRange, Tables, End, Inv, Module, Port, Switch, ArePlacesOf, ArePlaces, HasPlace, HasPlaces, placed, placed_module, placed_end, placed_inv, placed_switch, Numbering, place_among, new_module, new_end, new_inv, new_switch, Replacement, combined, donor_mode, donor_module, donor_port, donor_task, donor_end, donor_inv, donor_switch, refined_mode, donor_parent, invs_named, invoked_name, invokes_named, belongs_to_mode, NewNumbers, all_at}
 use Rattle.htl_model.specs.declared.parts.End.TheVariants as E
 use Rattle.htl_patch.proofs.Members.{Has, map_map, map_on, of_places_0}
 
@@ -41,16 +41,16 @@ module _ (g : Replacement) (host : AreInRange g.host) (donor : AreInRange g.dono
   front : (count : ℕ) (keys places : List ℕ) (k : ℕ) → ArePlacesOf count keys places → k < count → placed places 0 k ≡ place_among k keys
   front count keys places k a less = let same : 0 + k ≡ k = omega arith in ap (λ (m : ℕ). get_or places m 0) same ∙ a.at k less
 
-  unit_front : (k : ℕ) → k < h → placed p.units.items 0 k ≡ place_among k n.modules
+  pub unit_front : (k : ℕ) → k < h → placed p.units.items 0 k ≡ place_among k n.modules
   unit_front k less = front (length (combined g).modules) n.modules p.units.items k are.units (omega (arith, less, units_count))
 
-  unit_back : (k : ℕ) → k < length g.donor.modules → placed p.units.items h k ≡ place_among (h + k) n.modules
+  pub unit_back : (k : ℕ) → k < length g.donor.modules → placed p.units.items h k ≡ place_among (h + k) n.modules
   unit_back k less = are.units.at (h + k) (omega (arith, less, units_count))
 
-  mode_front : (k : ℕ) → k < hm → placed p.modes.items 0 k ≡ place_among k n.modes
+  pub mode_front : (k : ℕ) → k < hm → placed p.modes.items 0 k ≡ place_among k n.modes
   mode_front k less = front (length (combined g).modes) n.modes p.modes.items k are.modes (omega (arith, less, modes_count))
 
-  mode_back : (k : ℕ) → k < length g.donor.modes → placed p.modes.items hm k ≡ place_among (hm + k) n.modes
+  pub mode_back : (k : ℕ) → k < length g.donor.modes → placed p.modes.items hm k ≡ place_among (hm + k) n.modes
   mode_back k less = are.modes.at (hm + k) (omega (arith, less, modes_count))
 
   pub units_size : length p.units.items ≡ h + length g.donor.modules
@@ -58,22 +58,6 @@ module _ (g : Replacement) (host : AreInRange g.host) (donor : AreInRange g.dono
 
   pub modes_size : length p.modes.items ≡ hm + length g.donor.modes
   modes_size = are.modes.size ∙ modes_count
-
-  -- ---- modes
-
-  pub host_mode : (x : Mode) → x.«module» < h → placed_mode p.units.items 0 x ≡ new_mode n x
-  host_mode x less = ap (λ (k : ℕ). record x { «module» = k }) (unit_front x.«module» less)
-
-  pub guest_mode : (x : Mode) → x.«module» < length g.donor.modules → placed_mode p.units.items h x ≡ new_mode n (donor_mode g x)
-  guest_mode x less = ap (λ (k : ℕ). record x { «module» = k }) (unit_back x.«module» less)
-
-  -- ---- tasks
-
-  pub host_task : (x : Task) → x.«module» < h → placed_task p.units.items 0 x ≡ new_task n x
-  host_task x less = ap (λ (k : ℕ). record x { «module» = k }) (unit_front x.«module» less)
-
-  pub guest_task : (x : Task) → x.«module» < length g.donor.modules → placed_task p.units.items h x ≡ new_task n (donor_task g x)
-  guest_task x less = ap (λ (k : ℕ). record x { «module» = k }) (unit_back x.«module» less)
 
   -- ---- modules
 
@@ -107,14 +91,6 @@ module _ (g : Replacement) (host : AreInRange g.host) (donor : AreInRange g.dono
   guest_module x into start parent =
       ap (λ (o : Option ℕ). make_module x o (placed p.modes.items hm x.start)) (parent_placed (option_map (refined_mode g) x.parent) (refined_within x.parent into parent))
       ∙ ap (make_module x (option_map (λ (k : ℕ). place_among k n.modes) (option_map (refined_mode g) x.parent))) (mode_back x.start start)
-
-  -- ---- ports
-
-  pub host_port : (x : Port) → x.mode < hm → placed_port p.modes.items 0 x ≡ new_port n x
-  host_port x less = ap (λ (k : ℕ). record x { mode = k }) (mode_front x.mode less)
-
-  pub guest_port : (x : Port) → x.mode < length g.donor.modes → placed_port p.modes.items hm x ≡ new_port n (donor_port g x)
-  guest_port x less = ap (λ (k : ℕ). record x { mode = k }) (mode_back x.mode less)
 
   -- ---- switches
 

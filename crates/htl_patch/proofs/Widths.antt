@@ -1,9 +1,7 @@
 -- No mode of renumbered tables has too many invocations.
 use Rattle.std.proofs.Common.{◌≡◌, ◌≤◌, ℕ, eqb, List, [], length, slice_get, Option, Some, None, refl, sym, ◌∙◌, ap, subst, arith}
 use Rattle.htl_patch.proofs.Words.{count_by, length-map, MAX_MODE_INVOCATIONS, places_from, AreApart, Inv, inv_of_mode, invs_of, Tables, place_among, Numbering, numbering, inv_at, new_inv, renumbered, ne_eqb, get_or_from_slice_get, count_places, from_map}
-use Rattle.htl_patch.proofs.Members.{Has, of_flat, place_get, place_at, places_nothing}
-use Rattle.htl_patch.proofs.Renumbering.{inv_there, modes_apart, invs_new}
-use Rattle.htl_patch.proofs.Sound.{IsSound}
+use Rattle.htl_patch.proofs.{Members.Has, Members.of_flat, Members.place_get, Members.place_at, Members.places_nothing, Renumbering.inv_there, Renumbering.modes_apart, Renumbering.invs_new, Sound.IsSound}
 
 module _ (u : Tables) (units : List ℕ) (sound : IsSound u) (apart : AreApart units) where
   abbrev n : Numbering

@@ -1,7 +1,6 @@
 -- The numbers of the first functions of tasks.
 use Rattle.std.specs.Prelude.{ℕ, List, length}
-use Rattle.htl_model.specs.Lists.{list_to}
-use Rattle.htl_model.specs.Tables.{Tables, count_before}
+use Rattle.htl_model.specs.{Lists.list_to, Tables.Tables, Tables.count_before}
 
 abbrev pub first_function : Tables → ℕ → ℕ
 first_function t k = count_before k t.tasks

@@ -1,14 +1,8 @@
 -- What holds of replaced refinements.
 use Rattle.std.specs.Prelude.{◌≡◌, ℕ, List}
 use Rattle.htl_load.specs.Alike.{AskTheSame}
-use Rattle.htl_object.specs.Accepted.{IsAccepted}
-use Rattle.htl_object.specs.Ranges.{IsInRange}
-use Rattle.htl_object.specs.declared.object.Object.{Object}
-use Rattle.htl_patch.specs.Object.{patched_object, CanPatch}
-use Rattle.htl_patch.specs.Patched.{patched}
-use Rattle.htl_patch.specs.Stops.{IsPatchFault}
-use Rattle.htl_patch.specs.Combined.{Replacement}
-use Rattle.htl_patch.specs.declared.fault.PatchFault.{PatchFault}
+use Rattle.htl_object.specs.{Accepted.IsAccepted, Ranges.IsInRange, declared.object.Object.Object}
+use Rattle.htl_patch.specs.{Object.patched_object, Object.CanPatch, Patched.patched, Stops.IsPatchFault, Combined.Replacement, declared.fault.PatchFault.PatchFault}
 
 -- an accepted object whose refinement is replaced by one that keeps the form rules and has right functions is accepted
 abbrev pub PatchedIsAccepted : Type 0

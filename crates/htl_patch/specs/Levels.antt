@@ -1,9 +1,7 @@
 -- How much the patched tables have of what is limited, by the numbers that are taken over.
 use Rattle.std.specs.Prelude.{◌≤◌, ℕ, List, [], ◌∷◌, length}
 use Rattle.htl_base.specs.declared.limits.TheConstants.{MAX_MODULES, MAX_MODES, MAX_PORTS, MAX_TASKS, MAX_INVOCATIONS, MAX_SWITCHES, MAX_MODE_INVOCATIONS, MAX_LEVELS}
-use Rattle.htl_model.specs.declared.parts.Mode.{Mode}
-use Rattle.htl_model.specs.declared.parts.Module.{Module}
-use Rattle.htl_model.specs.Tables.{Tables}
+use Rattle.htl_model.specs.{declared.parts.Mode.Mode, declared.parts.Module.Module, Tables.Tables}
 use Rattle.htl_patch.specs.Renumbered.{Numbering}
 
 -- tables of modules and modes alone, which tell the levels

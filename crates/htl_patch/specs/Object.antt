@@ -1,12 +1,9 @@
 -- The object in which the refinement of a mode is a donor's.
 use Rattle.std.specs.Prelude.{ℕ, List, Some, ◌≡◌}
 use Rattle.htl_ecode.specs.Layout.{layout}
-use Rattle.htl_model.specs.Broken.{Formed}
-use Rattle.htl_model.specs.FunctionTypes.{FitPlaces}
+use Rattle.htl_model.specs.{Broken.Formed, FunctionTypes.FitPlaces}
 use Rattle.htl_object.specs.declared.object.Object.{Object}
-use Rattle.htl_patch.specs.Joining.{replacement_of, Joins}
-use Rattle.htl_patch.specs.Patched.{patched}
-use Rattle.htl_patch.specs.Combined.{Replacement}
+use Rattle.htl_patch.specs.{Joining.replacement_of, Joining.Joins, Patched.patched, Combined.Replacement}
 
 -- the patched tables, their E code in the generated layout, and the schedules and the platform of the host
 abbrev pub patched_object : Object → Replacement → Object

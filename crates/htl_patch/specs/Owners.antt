@@ -1,12 +1,6 @@
 -- The owners of the items of tables, and the places of the items of one owner.
 use Rattle.std.specs.Prelude.{ℕ, Bool, eqb, List, map}
-use Rattle.htl_model.specs.declared.parts.Inv.{Inv}
-use Rattle.htl_model.specs.declared.parts.Mode.{Mode}
-use Rattle.htl_model.specs.declared.parts.Port.{Port}
-use Rattle.htl_model.specs.declared.parts.Switch.{Switch}
-use Rattle.htl_model.specs.declared.parts.Task.{Task}
-use Rattle.htl_model.specs.Lists.{places_from}
-use Rattle.htl_model.specs.Tables.{Tables}
+use Rattle.htl_model.specs.{declared.parts.Inv.Inv, declared.parts.Mode.Mode, declared.parts.Port.Port, declared.parts.Switch.Switch, declared.parts.Task.Task, Lists.places_from, Tables.Tables}
 
 -- the modules of the modes
 abbrev pub mode_owners : Tables → List ℕ

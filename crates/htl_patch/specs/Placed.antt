@@ -1,16 +1,8 @@
 -- Items with their new numbers, which lists of new numbers by old ones tell.
 use Rattle.std.specs.Prelude.{◌≡◌, ◌<◌, ℕ, ◌+◌, List, length, map, get_or, Option, IfSome, All, option_map}
-use Rattle.htl_model.specs.declared.parts.End.{End}
+use Rattle.htl_model.specs.{declared.parts.End.End, declared.parts.Inv.Inv, declared.parts.Mode.Mode, declared.parts.Module.Module, declared.parts.Port.Port, declared.parts.Switch.Switch, declared.parts.Task.Task, Tables.Tables}
 use Rattle.htl_model.specs.declared.parts.End.TheVariants as E
-use Rattle.htl_model.specs.declared.parts.Inv.{Inv}
-use Rattle.htl_model.specs.declared.parts.Mode.{Mode}
-use Rattle.htl_model.specs.declared.parts.Module.{Module}
-use Rattle.htl_model.specs.declared.parts.Port.{Port}
-use Rattle.htl_model.specs.declared.parts.Switch.{Switch}
-use Rattle.htl_model.specs.declared.parts.Task.{Task}
-use Rattle.htl_model.specs.Tables.{Tables}
-use Rattle.htl_patch.specs.declared.numbers.NewNumbers.{NewNumbers}
-use Rattle.htl_patch.specs.Renumbered.{Numbering, place_among}
+use Rattle.htl_patch.specs.{declared.numbers.NewNumbers.NewNumbers, Renumbered.Numbering, Renumbered.place_among}
 
 -- for each number below the count its place among the keys
 pub record ArePlacesOf (count : ℕ) (keys places : List ℕ) : Type 0 where

@@ -1,17 +1,11 @@
 -- Why a refinement isn't replaced.
 use Rattle.std.specs.Prelude.{◌≡◌, ℕ, List, Option, Some, None}
 use Rattle.htl_ecode.specs.Layout.{layout}
-use Rattle.htl_load.specs.Unfit.{IsFirstUnfit}
-use Rattle.htl_load.specs.declared.fault.ObjectFault.{ObjectFault}
+use Rattle.htl_load.specs.{Unfit.IsFirstUnfit, declared.fault.ObjectFault.ObjectFault}
 use Rattle.htl_load.specs.declared.fault.ObjectFault.TheVariants as object_fault
-use Rattle.htl_model.specs.Broken.{Formed, IsFirstBroken}
-use Rattle.htl_model.specs.FunctionTypes.{FitPlaces}
-use Rattle.htl_model.specs.Tables.{Tables}
+use Rattle.htl_model.specs.{Broken.Formed, Broken.IsFirstBroken, FunctionTypes.FitPlaces, Tables.Tables}
 use Rattle.htl_object.specs.declared.object.Object.{Object}
-use Rattle.htl_patch.specs.Joining.{replacement_of, IsFirstDifference, first_unmatched, first_twice, first_limit, Joins}
-use Rattle.htl_patch.specs.Patched.{patched}
-use Rattle.htl_patch.specs.Combined.{Replacement}
-use Rattle.htl_patch.specs.declared.fault.PatchFault.{PatchFault}
+use Rattle.htl_patch.specs.{Joining.replacement_of, Joining.IsFirstDifference, Joining.first_unmatched, Joining.first_twice, Joining.first_limit, Joining.Joins, Patched.patched, Combined.Replacement, declared.fault.PatchFault.PatchFault}
 use Rattle.htl_patch.specs.declared.fault.PatchFault.TheVariants as fault
 use Rattle.htl_patch.specs.declared.fault.PatchStop.{PatchStop}
 use Rattle.htl_patch.specs.declared.fault.PatchStop.TheVariants as stop

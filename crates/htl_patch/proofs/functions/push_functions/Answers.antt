@@ -1,6 +1,5 @@
 use Rattle.std.proofs.Common.{◌≡◌, ◌<◌, ◌+◌, ◌++◌, ℕ, length, map, take, drop, ap, sym, ◌∙◌, refl, arith}
-use Rattle.htl_patch.proofs.Words.{nat_tests, Tables, fun_of}
-use Rattle.htl_patch.proofs.FunctionLists.{function_is_code, function_pushed}
+use Rattle.htl_patch.proofs.{Words.nat_tests, Words.Tables, Words.fun_of, FunctionLists.function_is_code, FunctionLists.function_pushed}
 use Rattle.htl_patch.proofs.functions.push_functions.Goals as goal
 
 pub copied_function-requires : goal.copied_function-requires

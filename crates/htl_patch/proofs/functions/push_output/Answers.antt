@@ -1,6 +1,5 @@
 use Rattle.std.proofs.Common.{◌≡◌, ◌≤◌, ◌++◌, ◌-◌, ℕ, List, length, map, ap, subst, ◌∙◌, OnOk, arith}
-use Rattle.htl_patch.proofs.Words.{nat_tests, Fun, fun_of, functions_of, Replacement}
-use Rattle.htl_patch.proofs.FunctionParts.{of_front, of_back}
+use Rattle.htl_patch.proofs.{Words.nat_tests, Words.Fun, Words.fun_of, Words.functions_of, Words.Replacement, FunctionParts.of_front, FunctionParts.of_back}
 use Rattle.htl_patch.proofs.functions.push_output.Goals as goal
 
 pub push_of_task-requires-clause-within : goal.push_of_task-requires-clause-within

@@ -1,6 +1,5 @@
 use Rattle.std.proofs.Common.{◌<◌, length, map, arith}
-use Rattle.htl_patch.proofs.Words.{nat_tests, fun_of, functions_of, combined}
-use Rattle.htl_patch.proofs.FunctionLists.{flat_more}
+use Rattle.htl_patch.proofs.{Words.nat_tests, Words.fun_of, Words.functions_of, Words.combined, FunctionLists.flat_more}
 use Rattle.htl_patch.proofs.functions.push_outputs.Goals as goal
 
 pub loop-k-preserved : goal.loop-k-preserved

@@ -1,6 +1,5 @@
 use Rattle.std.proofs.Common.{◌≡◌, ◌≤◌, ◌++◌, ◌-◌, ◌∷◌, [], ℕ, length, map, ap, subst, ◌∙◌, OnOk, arith}
-use Rattle.htl_patch.proofs.Words.{nat_tests, Fun, fun_of, function_of_switch, Replacement}
-use Rattle.htl_patch.proofs.FunctionParts.{switch_front, switch_back}
+use Rattle.htl_patch.proofs.{Words.nat_tests, Words.Fun, Words.fun_of, Words.function_of_switch, Words.Replacement, FunctionParts.switch_front, FunctionParts.switch_back}
 use Rattle.htl_patch.proofs.functions.push_switch.Goals as goal
 
 pub push_of_switch-requires-clause-within : goal.push_of_switch-requires-clause-within

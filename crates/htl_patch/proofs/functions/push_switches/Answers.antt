@@ -1,6 +1,5 @@
 use Rattle.std.proofs.Common.{◌<◌, length, map, arith}
-use Rattle.htl_patch.proofs.Words.{nat_tests, fun_of, function_of_switch, combined}
-use Rattle.htl_patch.proofs.FunctionLists.{map_more}
+use Rattle.htl_patch.proofs.{Words.nat_tests, Words.fun_of, Words.function_of_switch, Words.combined, FunctionLists.map_more}
 use Rattle.htl_patch.proofs.functions.push_switches.Goals as goal
 
 pub loop-k-preserved : goal.loop-k-preserved

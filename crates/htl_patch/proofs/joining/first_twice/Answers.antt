@@ -1,6 +1,5 @@
 use Rattle.std.proofs.Common.{◌<◌, length, ap, refl, arith, ◌∙◌}
-use Rattle.htl_patch.proofs.Words.{nat_tests, first_twice, Replacement}
-use Rattle.htl_patch.proofs.JoinLaws.{twice_next, twice_found}
+use Rattle.htl_patch.proofs.{Words.nat_tests, Words.first_twice, Words.Replacement, JoinLaws.twice_next, JoinLaws.twice_found}
 use Rattle.htl_patch.proofs.joining.first_twice.Goals as goal
 
 pub loop-k-preserved : goal.loop-k-preserved

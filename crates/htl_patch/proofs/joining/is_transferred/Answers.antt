@@ -1,6 +1,5 @@
 use Rattle.std.proofs.Common.{◌∙◌}
-use Rattle.htl_patch.proofs.Words.{length, ap, Replacement}
-use Rattle.htl_patch.proofs.JoinLaws.{transferred_is}
+use Rattle.htl_patch.proofs.{Words.length, Words.ap, Words.Replacement, JoinLaws.transferred_is}
 use Rattle.htl_patch.proofs.joining.is_transferred.Goals as goal
 
 pub returns : goal.returns

@@ -1,6 +1,5 @@
 use Rattle.std.proofs.Common.{◌<◌, ℕ, length, sym, subst, ap, ◌∙◌}
-use Rattle.htl_patch.proofs.Words.{Replacement, mode_module}
-use Rattle.htl_patch.proofs.JoinLaws.{unit_within}
+use Rattle.htl_patch.proofs.{Words.Replacement, Words.mode_module, JoinLaws.unit_within}
 use Rattle.htl_patch.proofs.joining.is_unmatched.Goals as goal
 
 pub is_transferred-requires-clause-unit : goal.is_transferred-requires-clause-unit

@@ -1,6 +1,5 @@
 use Rattle.std.proofs.Common.{get_or, ◌∙◌, Some, None, ap, sym, subst}
-use Rattle.htl_patch.proofs.Words.{is_transferred, Replacement, AreInRange, mode_module}
-use Rattle.htl_patch.proofs.JoinLaws.{counterparts_within, counterpart_is, matched_is_none, unmatched_is, inv_unit}
+use Rattle.htl_patch.proofs.{Words.is_transferred, Words.Replacement, Words.AreInRange, Words.mode_module, JoinLaws.counterparts_within, JoinLaws.counterpart_is, JoinLaws.matched_is_none, JoinLaws.unmatched_is, JoinLaws.inv_unit}
 use Rattle.htl_patch.proofs.joining.is_unmatched_parent.Goals as goal
 
 pub bounds : goal.bounds

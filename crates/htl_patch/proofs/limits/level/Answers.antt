@@ -1,6 +1,5 @@
 use Rattle.std.proofs.Common.{◌≡◌, ◌<◌, arith}
-use Rattle.htl_patch.proofs.Words.{nat_tests, level, module_mode_tables}
-use Rattle.htl_patch.proofs.LevelLaws.{level_more, level_top, level_end, level_start}
+use Rattle.htl_patch.proofs.{Words.nat_tests, Words.level, Words.module_mode_tables, LevelLaws.level_more, LevelLaws.level_top, LevelLaws.level_end, LevelLaws.level_start}
 use Rattle.htl_patch.proofs.limits.level.Goals as goal
 
 pub loop-left-init : goal.loop-left-init

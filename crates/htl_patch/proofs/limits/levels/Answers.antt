@@ -1,5 +1,4 @@
-use Rattle.htl_patch.proofs.Words.{arith, level, module_mode_tables}
-use Rattle.htl_patch.proofs.LevelLaws.{greatest_next}
+use Rattle.htl_patch.proofs.{Words.arith, Words.level, Words.module_mode_tables, LevelLaws.greatest_next}
 use Rattle.htl_patch.proofs.limits.levels.Goals as goal
 
 pub loop-unit-preserved : goal.loop-unit-preserved

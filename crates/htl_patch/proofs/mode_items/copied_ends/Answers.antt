@@ -1,6 +1,5 @@
 use Rattle.std.proofs.Common.{◌++◌, ◌∷◌, [], ap, ◌∙◌}
-use Rattle.htl_patch.proofs.Words.{End, placed_end}
-use Rattle.htl_patch.proofs.FunctionLists.{map_more}
+use Rattle.htl_patch.proofs.{Words.End, Words.placed_end, FunctionLists.map_more}
 use Rattle.htl_patch.proofs.mode_items.copied_ends.Goals as goal
 
 pub loop-k-preserved : goal.loop-k-preserved

@@ -1,6 +1,5 @@
 use Rattle.std.proofs.Common.{Some, None, length, ap, sym, ◌∙◌, arith}
-use Rattle.htl_patch.proofs.Words.{Replacement, belongs_to_mode}
-use Rattle.htl_patch.proofs.JoinLaws.{counterparts_within, counterpart_is, moved_matched, moved_unmatched, moved_own}
+use Rattle.htl_patch.proofs.{Words.Replacement, Words.belongs_to_mode, JoinLaws.counterparts_within, JoinLaws.counterpart_is, JoinLaws.moved_matched, JoinLaws.moved_unmatched, JoinLaws.moved_own}
 use Rattle.htl_patch.proofs.mode_items.moved.Goals as goal
 
 pub bounds : goal.bounds

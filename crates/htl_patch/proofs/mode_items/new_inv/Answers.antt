@@ -1,6 +1,5 @@
 use Rattle.std.proofs.Common.{◌≡◌, IfOk, length, ap, subst, arith, ◌∙◌}
-use Rattle.htl_patch.proofs.Words.{nat_tests, Inv, new_numbers, Replacement}
-use Rattle.htl_patch.proofs.NewItems.{inv_here, inv_there, inv_parent_in}
+use Rattle.htl_patch.proofs.{Words.nat_tests, Words.Inv, Words.new_numbers, Words.Replacement, NewItems.inv_here, NewItems.inv_there, NewItems.inv_parent_in}
 use Rattle.htl_patch.proofs.mode_items.new_inv.Goals as goal
 
 pub copied_inv-requires : goal.copied_inv-requires

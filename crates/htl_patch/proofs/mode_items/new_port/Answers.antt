@@ -1,6 +1,5 @@
 use Rattle.std.proofs.Common.{length, ap, ◌∙◌, arith}
-use Rattle.htl_patch.proofs.Words.{nat_tests, new_numbers, Replacement}
-use Rattle.htl_patch.proofs.NewItems.{port_here, port_there}
+use Rattle.htl_patch.proofs.{Words.nat_tests, Words.new_numbers, Words.Replacement, NewItems.port_here, NewItems.port_there}
 use Rattle.htl_patch.proofs.mode_items.new_port.Goals as goal
 
 pub copied_port-requires : goal.copied_port-requires

@@ -1,6 +1,5 @@
 use Rattle.std.proofs.Common.{◌≡◌, IfOk, length, ap, subst, arith, ◌∙◌}
-use Rattle.htl_patch.proofs.Words.{nat_tests, Switch, new_numbers, Replacement}
-use Rattle.htl_patch.proofs.NewItems.{switch_here, switch_there}
+use Rattle.htl_patch.proofs.{Words.nat_tests, Words.Switch, Words.new_numbers, Words.Replacement, NewItems.switch_here, NewItems.switch_there}
 use Rattle.htl_patch.proofs.mode_items.new_switch.Goals as goal
 
 pub copied_switch-requires-clause-mode : goal.copied_switch-requires-clause-mode

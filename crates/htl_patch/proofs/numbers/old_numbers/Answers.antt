@@ -1,7 +1,6 @@
 use Rattle.std.proofs.Common.{◌<◌, ℕ, List, length, All, subst, sym, ◌∙◌}
 use Rattle.htl_patch.specs.Combined.{combined}
-use Rattle.htl_patch.proofs.Replacing.{CanReplace}
-use Rattle.htl_patch.proofs.NumberLaws.{modes_within, order_within}
+use Rattle.htl_patch.proofs.{Replacing.CanReplace, NumberLaws.modes_within, NumberLaws.order_within}
 use Rattle.htl_patch.proofs.numbers.old_numbers.Goals as goal
 
 pub modes_in-requires : goal.modes_in-requires

@@ -1,49 +1,42 @@
 use Rattle.std.proofs.Common.{◌+◌, length, ◌∙◌, ap, arith}
-use Rattle.htl_patch.proofs.Words.{new_numbers, Numbering, combined, donor_port, donor_task, donor_inv, Replacement}
-use Rattle.htl_patch.proofs.Replacing.{CanReplace}
-use Rattle.htl_patch.proofs.JoinLaws.{places_are, both_count}
+use Rattle.htl_patch.proofs.{Words.new_numbers, Words.Numbering, Words.combined, Words.donor_port, Words.donor_task, Words.donor_inv, Words.Replacement, Replacing.CanReplace, JoinLaws.places_are, JoinLaws.both_count}
 use Rattle.htl_patch.proofs.NumberLaws.{few_units, few_modes, few_tasks, few_ports, few_invs}
 use Rattle.htl_patch.proofs.numbers.renumber.Goals as goal
 
 pub places-requires-clause-few : goal.places-requires-clause-few
 places-requires-clause-few c =
-    let g = c.args.g.now in
-    let can : CanReplace g = record { host = c.keeps_ranges.ensures.host; donor = c.keeps_ranges.ensures.donor; into = c.requires.patched_mode; from = c.requires.replacing_mode } in
     let is = ap (λ (z : Numbering). length z.modules) (c.n.view_is ∙ c.requires.numbers) in
     let view = ap length c.as_slice.ensures.value in
-    let few = few_units g can in omega (arith, is, view, few)
+    let can : CanReplace c.args.g.now = record { host = c.keeps_ranges.ensures.host; donor = c.keeps_ranges.ensures.donor; into = c.requires.patched_mode; from = c.requires.replacing_mode } in
+    omega (arith, is, view, few_units c.args.g.now can)
 
 pub places-requires-2-clause-few : goal.places-requires-2-clause-few
 places-requires-2-clause-few c =
-    let g = c.args.g.now in
-    let can : CanReplace g = record { host = c.keeps_ranges.ensures.host; donor = c.keeps_ranges.ensures.donor; into = c.requires.patched_mode; from = c.requires.replacing_mode } in
     let is = ap (λ (z : Numbering). length z.modes) (c.n.view_is ∙ c.requires.numbers) in
     let view = ap length c.as_slice-2.ensures.value in
-    let few = few_modes g can in omega (arith, is, view, few)
+    let can : CanReplace c.args.g.now = record { host = c.keeps_ranges.ensures.host; donor = c.keeps_ranges.ensures.donor; into = c.requires.patched_mode; from = c.requires.replacing_mode } in
+    omega (arith, is, view, few_modes c.args.g.now can)
 
 pub places-requires-3-clause-few : goal.places-requires-3-clause-few
 places-requires-3-clause-few c =
-    let g = c.args.g.now in
-    let can : CanReplace g = record { host = c.keeps_ranges.ensures.host; donor = c.keeps_ranges.ensures.donor; into = c.requires.patched_mode; from = c.requires.replacing_mode } in
     let is = ap (λ (z : Numbering). length z.ports) (c.n.view_is ∙ c.requires.numbers) in
     let view = ap length c.as_slice-3.ensures.value in
-    let few = few_ports g can in omega (arith, is, view, few)
+    let can : CanReplace c.args.g.now = record { host = c.keeps_ranges.ensures.host; donor = c.keeps_ranges.ensures.donor; into = c.requires.patched_mode; from = c.requires.replacing_mode } in
+    omega (arith, is, view, few_ports c.args.g.now can)
 
 pub places-requires-4-clause-few : goal.places-requires-4-clause-few
 places-requires-4-clause-few c =
-    let g = c.args.g.now in
-    let can : CanReplace g = record { host = c.keeps_ranges.ensures.host; donor = c.keeps_ranges.ensures.donor; into = c.requires.patched_mode; from = c.requires.replacing_mode } in
     let is = ap (λ (z : Numbering). length z.tasks) (c.n.view_is ∙ c.requires.numbers) in
     let view = ap length c.as_slice-4.ensures.value in
-    let few = few_tasks g can in omega (arith, is, view, few)
+    let can : CanReplace c.args.g.now = record { host = c.keeps_ranges.ensures.host; donor = c.keeps_ranges.ensures.donor; into = c.requires.patched_mode; from = c.requires.replacing_mode } in
+    omega (arith, is, view, few_tasks c.args.g.now can)
 
 pub places-requires-5-clause-few : goal.places-requires-5-clause-few
 places-requires-5-clause-few c =
-    let g = c.args.g.now in
-    let can : CanReplace g = record { host = c.keeps_ranges.ensures.host; donor = c.keeps_ranges.ensures.donor; into = c.requires.patched_mode; from = c.requires.replacing_mode } in
     let is = ap (λ (z : Numbering). length z.invs) (c.n.view_is ∙ c.requires.numbers) in
     let view = ap length c.as_slice-5.ensures.value in
-    let few = few_invs g can in omega (arith, is, view, few)
+    let can : CanReplace c.args.g.now = record { host = c.keeps_ranges.ensures.host; donor = c.keeps_ranges.ensures.donor; into = c.requires.patched_mode; from = c.requires.replacing_mode } in
+    omega (arith, is, view, few_invs c.args.g.now can)
 
 pub returns : goal.returns
 returns c =

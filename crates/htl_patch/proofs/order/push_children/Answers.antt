@@ -1,6 +1,5 @@
 use Rattle.std.proofs.Common.{◌++◌, ◌<◌, ◌≤◌, ◌∙◌, ℕ, List, [], length, map, ap, sym, arith}
-use Rattle.htl_patch.proofs.Words.{nat_tests, flat_map, mode_of_module, modes_of, mode_children, frame, combined, Frame}
-use Rattle.htl_patch.proofs.ChildLaws.{given_cond, given_all, map_flat}
+use Rattle.htl_patch.proofs.{Words.nat_tests, Words.flat_map, Words.mode_of_module, Words.modes_of, Words.mode_children, Words.frame, Words.combined, Words.Frame, ChildLaws.given_cond, ChildLaws.given_all, ChildLaws.map_flat}
 use Rattle.htl_patch.proofs.order.push_children.Goals as goal
 
 pub loop-m-preserved : goal.loop-m-preserved

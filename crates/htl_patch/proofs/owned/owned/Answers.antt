@@ -1,5 +1,4 @@
-use Rattle.htl_patch.proofs.Words.{[], owned_by}
-use Rattle.htl_patch.proofs.FunctionLists.{flat_more}
+use Rattle.htl_patch.proofs.{Words.[], Words.owned_by, FunctionLists.flat_more}
 use Rattle.htl_patch.proofs.owned.owned.Goals as goal
 
 pub loop-k-preserved : goal.loop-k-preserved

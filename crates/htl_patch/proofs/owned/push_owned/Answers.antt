@@ -1,6 +1,5 @@
 use Rattle.std.proofs.Common.{◌++◌, ℕ, List, ap, arith}
-use Rattle.htl_patch.proofs.Words.{nat_tests, owned_by}
-use Rattle.htl_patch.proofs.OwnerLaws.{owned_from, owned_stop, among_most}
+use Rattle.htl_patch.proofs.{Words.nat_tests, Words.owned_by, OwnerLaws.owned_from, OwnerLaws.owned_stop, OwnerLaws.among_most}
 use Rattle.htl_patch.proofs.owned.push_owned.Goals as goal
 
 pub loop-place-init : goal.loop-place-init

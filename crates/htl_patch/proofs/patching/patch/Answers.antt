@@ -1,5 +1,4 @@
-use Rattle.htl_patch.proofs.Words.{subst, IsAccepted}
-use Rattle.htl_patch.proofs.Answering.{only, refused}
+use Rattle.htl_patch.proofs.{Words.subst, Words.IsAccepted, Answering.only, Answering.refused}
 use Rattle.htl_patch.proofs.patching.patch.Goals as goal
 
 pub returns-clause-only : goal.returns-clause-only

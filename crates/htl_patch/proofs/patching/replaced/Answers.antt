@@ -1,6 +1,5 @@
 use Rattle.std.proofs.Common.{◌≡◌, ℕ, Some, All, subst}
-use Rattle.htl_patch.proofs.Words.{AskTheSame, KeepsLimits, IsAccepted, IsFunctionCode, Object, replacement_of, Joins, patched, Replacement, replacement}
-use Rattle.htl_patch.proofs.Accepting.{replacement_is}
+use Rattle.htl_patch.proofs.{Words.AskTheSame, Words.KeepsLimits, Words.IsAccepted, Words.IsFunctionCode, Words.Object, Words.replacement_of, Words.Joins, Words.patched, Words.Replacement, Words.replacement, Accepting.replacement_is}
 use Rattle.htl_patch.proofs.Answering.{replacement_named, made_ok, made_err, given, patched_by, late_stop, early_stop}
 use Rattle.htl_patch.proofs.patching.replaced.Goals as goal
 use Rattle.htl_patch.proofs.patching.replaced.Goals.{In-Some-mode_named, In-Ok-made}

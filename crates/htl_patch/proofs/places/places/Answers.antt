@@ -1,6 +1,5 @@
 use Rattle.std.proofs.Common.{◌≡◌, ◌∙◌, ◌-◌, ℕ, List, length, suc, get_or, ap, subst, sym, refl, arith}
-use Rattle.htl_patch.proofs.Words.{length-set, nat_tests}
-use Rattle.htl_patch.proofs.ListLaws.{get_push, place_end, told_here, told_past}
+use Rattle.htl_patch.proofs.{Words.length-set, Words.nat_tests, ListLaws.get_push, ListLaws.place_end, ListLaws.told_here, ListLaws.told_past}
 use Rattle.htl_patch.proofs.places.places.Goals as goal
 
 pub loop-init : goal.loop-init

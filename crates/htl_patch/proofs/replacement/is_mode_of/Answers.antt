@@ -1,6 +1,5 @@
 use Rattle.std.proofs.Common.{◌+◌, ℕ, eqb, [], length, map, ap, sym, ◌∙◌, subst, ◌<◌}
-use Rattle.htl_patch.proofs.Words.{Tables, Mode, replacement, donor_mode, Replacement, mode_of_module, mode_at, combined}
-use Rattle.htl_patch.proofs.NewItems.{here, there}
+use Rattle.htl_patch.proofs.{Words.Tables, Words.Mode, Words.replacement, Words.donor_mode, Words.Replacement, Words.mode_of_module, Words.mode_at, Words.combined, NewItems.here, NewItems.there}
 use Rattle.htl_patch.proofs.replacement.is_mode_of.Goals as goal
 
 pub returns-then-m-modes : goal.returns-then-m-modes

@@ -1,7 +1,6 @@
 use Rattle.std.proofs.Common.{◌≡◌, ◌<◌, ℕ, List, length, map, All, ap, subst, sym, ◌∙◌}
 use Rattle.htl_patch.proofs.Words.{AreInRange, fun_of, order, new_numbers, patched, Numbering, port_at, task_at, inv_at, switch_at, new_port, new_task, new_inv, new_switch, combined, Replacement}
-use Rattle.htl_patch.proofs.Assembling.{made, same_tables}
-use Rattle.htl_patch.proofs.NumberLaws.{ports_within, tasks_within, invs_within, switches_within}
+use Rattle.htl_patch.proofs.{Assembling.made, Assembling.same_tables, NumberLaws.ports_within, NumberLaws.tasks_within, NumberLaws.invs_within, NumberLaws.switches_within}
 use Rattle.htl_patch.proofs.tables.assembled.Goals as goal
 use Rattle.htl_patch.proofs.tables.assembled.Goals.{After-new-8}
 

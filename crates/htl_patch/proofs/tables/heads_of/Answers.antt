@@ -1,7 +1,5 @@
 use Rattle.std.proofs.Common.{◌<◌, ℕ, List, length, map, All, ap, subst, sym, ◌∙◌}
-use Rattle.htl_patch.proofs.Words.{order, new_numbers, Numbering, mode_at, module_at, new_mode, new_module, combined}
-use Rattle.htl_patch.proofs.Replacing.{CanReplace}
-use Rattle.htl_patch.proofs.NumberLaws.{order_within, modes_within}
+use Rattle.htl_patch.proofs.{Words.order, Words.new_numbers, Words.Numbering, Words.mode_at, Words.module_at, Words.new_mode, Words.new_module, Words.combined, Replacing.CanReplace, NumberLaws.order_within, NumberLaws.modes_within}
 use Rattle.htl_patch.proofs.tables.heads_of.Goals as goal
 
 pub new_modules-requires-clause-within : goal.new_modules-requires-clause-within

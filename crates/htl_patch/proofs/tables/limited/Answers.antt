@@ -1,9 +1,6 @@
 use Rattle.std.proofs.Common.{◌≡◌, ap, subst, sym, ◌∙◌}
-use Rattle.htl_patch.proofs.Words.{exceeded, first_limit, sizes_of, AreFewNumbers, patched, Numbering}
-use Rattle.htl_patch.proofs.Assembling.{joined, limited}
-use Rattle.htl_patch.proofs.Replacing.{CanReplace}
-use Rattle.htl_patch.proofs.LimitLaws.{few_numbers, limit_is, levels_combined}
-use Rattle.htl_patch.proofs.Parents.{have_parents, patched_in_range}
+use Rattle.htl_patch.proofs.{Words.exceeded, Words.first_limit, Words.sizes_of, Words.AreFewNumbers, Words.patched, Words.Numbering, Assembling.joined, Assembling.limited, Replacing.CanReplace}
+use Rattle.htl_patch.proofs.{LimitLaws.few_numbers, LimitLaws.limit_is, LimitLaws.levels_combined, Parents.have_parents, Parents.patched_in_range}
 use Rattle.htl_patch.proofs.tables.limited.Goals as goal
 use Rattle.htl_patch.proofs.tables.limited.Goals.{After-keeps_ranges, After-levels-count}
 

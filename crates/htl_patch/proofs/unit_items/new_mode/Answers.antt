@@ -1,6 +1,5 @@
 use Rattle.std.proofs.Common.{length, ap, ◌∙◌, arith}
-use Rattle.htl_patch.proofs.Words.{nat_tests, new_numbers, Replacement}
-use Rattle.htl_patch.proofs.NewItems.{mode_here, mode_there}
+use Rattle.htl_patch.proofs.{Words.nat_tests, Words.new_numbers, Words.Replacement, NewItems.mode_here, NewItems.mode_there}
 use Rattle.htl_patch.proofs.unit_items.new_mode.Goals as goal
 
 pub copied_mode-requires : goal.copied_mode-requires

@@ -1,6 +1,5 @@
 use Rattle.std.proofs.Common.{length, ap, ◌∙◌, arith}
-use Rattle.htl_patch.proofs.Words.{nat_tests, new_numbers, Replacement}
-use Rattle.htl_patch.proofs.NewItems.{module_here, module_there, guest_parent_in}
+use Rattle.htl_patch.proofs.{Words.nat_tests, Words.new_numbers, Words.Replacement, NewItems.module_here, NewItems.module_there, NewItems.guest_parent_in}
 use Rattle.htl_patch.proofs.unit_items.new_module.Goals as goal
 
 pub copied_module-requires-clause-start : goal.copied_module-requires-clause-start

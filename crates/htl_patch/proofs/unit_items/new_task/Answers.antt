@@ -1,6 +1,5 @@
 use Rattle.std.proofs.Common.{◌≡◌, length, ap, subst, IfOk, arith, ◌∙◌}
-use Rattle.htl_patch.proofs.Words.{nat_tests, Task, new_numbers, Replacement}
-use Rattle.htl_patch.proofs.NewItems.{task_here, task_there}
+use Rattle.htl_patch.proofs.{Words.nat_tests, Words.Task, Words.new_numbers, Words.Replacement, NewItems.task_here, NewItems.task_there}
 use Rattle.htl_patch.proofs.unit_items.new_task.Goals as goal
 
 pub copied_task-requires : goal.copied_task-requires

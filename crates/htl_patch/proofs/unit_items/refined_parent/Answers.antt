@@ -1,5 +1,4 @@
-use Rattle.htl_patch.proofs.Words.{arith}
-use Rattle.htl_patch.proofs.NewItems.{refined_small}
+use Rattle.htl_patch.proofs.{Words.arith, NewItems.refined_small}
 use Rattle.htl_patch.proofs.unit_items.refined_parent.Goals as goal
 
 pub overflow_cast-result : goal.overflow_cast-result
