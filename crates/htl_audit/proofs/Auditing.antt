@@ -3,8 +3,7 @@ use Rattle.std.proofs.Common.{◌≡◌, ℕ, suc, ◌<◌, cond, ◌&&◌, eqb,
 use Rattle.htl_audit.proofs.Words.{nat_tests, Event, sense, Tables, reading_of, shown_as, sense_sense, took_sense, AuditTotals, Slice, LogFault, Audit, AuditFollows, IsAudited, all_rounds, Kept, first_fault, jobs_done, Says, LogFollows, LogEnds, Numbers, verdict_of, fault_in}
 use Rattle.htl_model.specs.declared.event.Event.TheVariants as V
 use Rattle.htl_machine.specs.Calls as machines
-use Rattle.htl_audit.proofs.Growing.{rounds_same}
-use Rattle.htl_audit.proofs.Verdicts.{verdict_is, numbers_are}
+use Rattle.htl_audit.proofs.{Growing.rounds_same, Verdicts.verdict_is, Verdicts.numbers_are}
 
 -- ---- the verdict
 

@@ -2,8 +2,7 @@
 -- ended; all others keep what they had.
 use Rattle.std.proofs.Common.{◌≡◌, ℕ, zero, suc, ◌+◌, ◌-◌, ◌*◌, ◌/◌, ◌%◌, ◌≤◌, ◌<◌, ◌⊎◌, inl, inr, Bool, true, false, cond, List, [], ◌∷◌, ◌++◌, length, get_or, map, Some, refl, sym, ◌∙◌, ap, subst, arith}
 use Rattle.htl_audit.proofs.Words.{slice_get, eqb-true, cases_lt, map-append, slice_get_within, none-some, div-add-mod, Event, Inv, KeptApart, root_periods, begins, feeds, AreInRange, Tables, mode_period, Job, precedes, took, modes_at, HaveRounds, BeginningJobs, round_of, starts_before, all_rounds, Kept, has_job, start_at, begins_round, lengths_begun, IsIn, IsCurrent, HasJob, AreKept, IsSized, get_either, get_front, into_back, marked_within}
-use Rattle.htl_audit.proofs.Growing.{start_is, round_is}
-use Rattle.htl_audit.proofs.Renewing.{IsNew, IsStill, all_new, all_still, runs_is}
+use Rattle.htl_audit.proofs.{Growing.start_is, Growing.round_is, Renewing.IsNew, Renewing.IsStill, Renewing.all_new, Renewing.all_still, Renewing.runs_is}
 use Rattle.htl_audit.proofs.RoundJobs.{begins_is, fresh, fresh_begins, has_fresh, precedes_is, feeds_begin}
 use Rattle.htl_audit.proofs.RoundJobs as jobs
 

@@ -1,15 +1,10 @@
 -- What an auditor follows of a log, over an instant at which rounds begin.
 use Rattle.std.proofs.Common.{◌≡◌, ℕ, suc, ◌+◌, ◌≤◌, ◌<◌, ◌⊎◌, inl, inr, Bool, true, false, cond, ◌&&◌, eqb, ltb, List, [], ◌∷◌, ◌++◌, length, get_or, take, Option, Some, None, IfSome, refl, sym, ◌∙◌, ap, ap₂, subst, arith}
-use Rattle.htl_audit.proofs.Words.{slice_get, nat_tests, slice_get_within, Event, Inv, KeptApart, root_periods, begins, numbered, AreInRange, Tables, Job, took, inv_worst, modes_at, AreTookWithin, took_within, worst_some, Slice, LogFault, Agree, AreEarly, AgreeBefore, HaveRounds, BeginningJobs, round_of, all_rounds, Kept, sum_at, lengths_begun, ticks, line_fault, is_short, any_short, how_many, jobs_done, IsNext, IsLast, BeganBefore, IsIn, IsCurrent, AreSummed, IsSized, LogFollows, LogEnds, and_parts, cases_lt, ltb-true, get_front, same_truth}
+use Rattle.htl_audit.proofs.Words.{slice_get, nat_tests, slice_get_within, Event, Inv, KeptApart, root_periods, begins, numbered, AreInRange, Tables, Job, took, inv_worst, modes_at, AreTookWithin, took_within, worst_some, Slice, LogFault, Agree, AreEarly, AgreeBefore, HaveRounds, BeginningJobs, round_of, all_rounds, Kept, sum_at, lengths_begun, ticks, line_fault, is_short, any_short, how_many, jobs_done, IsNext, IsLast, BeganBefore, IsIn, IsCurrent, AreSummed, IsSized, LogFollows, LogEnds, cases_lt, get_front, same_truth}
 use Rattle.htl_audit.specs.Legal as rules
-use Rattle.htl_audit.proofs.Agreeing.{fault_alike, no_ticks}
-use Rattle.htl_audit.proofs.Beginning.{grown, split, is_new, is_still, begins_or_not, old_current, kept_new}
-use Rattle.htl_audit.proofs.RoundJobs.{fresh, fresh_begins}
-use Rattle.htl_audit.proofs.Growing.{rounds_agree, rounds_still}
-use Rattle.htl_audit.proofs.Onward.{early, kept_then}
-use Rattle.htl_audit.proofs.Renewing.{renewed_sized, renewed_else, start_past}
-use Rattle.htl_audit.proofs.Summing.{passes}
-use Rattle.htl_audit.proofs.JobTests.{job_found, job_there}
+use Rattle.htl_audit.proofs.{Beginning.grown, Beginning.split, Beginning.is_new, Beginning.is_still, Beginning.begins_or_not, Beginning.old_current, Beginning.kept_new, RoundJobs.fresh, RoundJobs.fresh_begins, Summing.passes}
+use Rattle.htl_audit.proofs.{Growing.rounds_agree, Growing.rounds_still, Onward.early, Onward.kept_then, Onward.first_stays, Renewing.renewed_sized, Renewing.renewed_else, Renewing.start_past, Judging.lies, Judging.no_ticks}
+use Rattle.htl_audit.proofs.JobTests.{job_found, job_there, short_parts}
 
 -- a job takes at least one tick
 pub some_took : (t : Tables) → AreInRange t → (es : List Event) → AreTookWithin t es → (i u : ℕ) (x : Inv) → slice_get t.invs i ≡ Some x → 1 ≤ took t es i u
@@ -51,17 +46,13 @@ module _ (t : Tables) (range : AreInRange t) (kept : KeptApart t 16) (rounds : H
   keep = kept_then t (all_rounds t es s) (suc s) s (omega arith) log k f.judged all (suc s) agree (omega arith)
 
   broken : (g : LogFault) → k.fault ≡ Some g → (x : Slice) × (slice_get log c ≡ Some x) × (x.to < suc s) × (line_fault all (suc s) (take c log) x ≡ Some g.kind) × (g.line ≡ suc (length (take c log)))
-  broken g e = by (subst (λ o. IsNext t (all_rounds t es s) (suc s) ([] ++ take c log) (slice_get log c) k o) e f.judged.next)
-    where
-      by : IsNext t (all_rounds t es s) (suc s) ([] ++ take c log) (slice_get log c) k (Some g)
-          → (x : Slice) × (slice_get log c ≡ Some x) × (x.to < suc s) × (line_fault all (suc s) (take c log) x ≡ Some g.kind) × (g.line ≡ suc (length (take c log)))
-      by n = (n.0, n.1, n.2, sym (fault_alike s (take c log) soon (all_rounds t es s) all (suc s) (suc s) n.0 agree (omega arith) (omega (arith, n.2)) n.2) ∙ n.3, n.4)
+  broken = first_stays t (all_rounds t es s) (suc s) s (omega arith) log k f.judged all (suc s) agree (omega arith)
 
   -- a new job has no ticks yet, and takes some
   idle : (p : ℕ) (j : Job) → slice_get (round_of t es s).jobs p ≡ Some j → j.present ≡ true → (ticks (round_of t es s) j (take c log) ≡ 0) × (1 ≤ rules.job_length (round_of t es s) p)
   idle p j at here =
       let g = fresh t range kept rounds es s p j at here in
-      (no_ticks s (round_of t es s) j (take c log) soon (omega arith), omega (arith, g.length_is, some_took t range es within j.inv (s + j.release) g.inv g.known))
+      (no_ticks (round_of t es s) j (take c log) (λ i x here e. omega (arith, (lies (round_of t es s) j x e).from, soon i x here)), omega (arith, g.length_is, some_took t range es within j.inv (s + j.release) g.inv g.known))
 
   done_new : jobs_done all (take c log) ≡ jobs_done (all_rounds t es s) (take c log)
   done_new = omega (arith, done_both (all_rounds t es s) (round_of t es s ∷ []) (take c log), how_none (passes (take c log) (round_of t es s)) 0 (round_of t es s).jobs (λ d j at. none d j at j.present refl))
@@ -82,16 +73,14 @@ module _ (t : Tables) (range : AreInRange t) (kept : KeptApart t 16) (rounds : H
       there : any_short all (suc s) (take c log) ≡ true → any_short (all_rounds t es s) (suc s) (take c log) ≡ true
       there e =
           let g = job_found (λ r j. is_short (suc s) r (take c log) j) all e in
-          let two = and_parts (g.job.present && ltb (g.round.start + g.job.end) (suc s)) (ltb (ticks g.round g.job (take c log)) (rules.job_length g.round g.position)) g.passes in
-          let one = and_parts g.job.present (ltb (g.round.start + g.job.end) (suc s)) two.0 in
-          let ended : g.round.start + g.job.end < suc s = ltb-true (g.round.start + g.job.end) (suc s) one.1 in
-          let i : IsIn all g.round g.position g.job = record { number = g.is.number; at = g.is.at; job = g.is.job; present = one.0 } in
+          let short = short_parts g.job.present (g.round.start + g.job.end) (suc s) (ticks g.round g.job (take c log)) (rules.job_length g.round g.position) g.passes in
+          let i : IsIn all g.round g.position g.job = record { number = g.is.number; at = g.is.at; job = g.is.job; present = short.0 } in
           elim (split t range kept rounds es s is g.round g.position g.job i) [
             | inl o ↦ job_there (λ r j. is_short (suc s) r (take c log) j) (all_rounds t es s) g.round g.position g.job (record { number = o.0.number; at = o.0.at; job = o.0.job }) g.passes
             | inr n ↦
                 (let at : slice_get (round_of t es s).jobs g.position ≡ Some g.job = ap (λ (z : BeginningJobs). slice_get z.jobs g.position) (sym n.1) ∙ g.is.job in
-                let w = fresh t range kept rounds es s g.position g.job at one.0 in
-                absurd (omega (arith, ended, w.room, ap (λ (z : BeginningJobs). z.start) n.1)))
+                let w = fresh t range kept rounds es s g.position g.job at short.0 in
+                absurd (omega (arith, short.1, w.room, ap (λ (z : BeginningJobs). z.start) n.1)))
           ]
 
       back : any_short (all_rounds t es s) (suc s) (take c log) ≡ true → any_short all (suc s) (take c log) ≡ true

@@ -1,11 +1,9 @@
 -- The values that a legal log gives are those of logical execution time, instant by instant.
 use Rattle.std.proofs.Common.{◌≡◌, ◌≤◌, ◌<◌, ◌⊎◌, inl, inr, ℕ, zero, suc, ◌-◌, Bool, true, false, cond, ◌||◌, eqb, List, [], ◌∷◌, ◌++◌, length, slice_get, Option, Some, ℤ, refl, sym, ap, ap₂, ◌∙◌, subst, arith}
-use Rattle.htl_audit.proofs.Words.{eqb-true, eqb-false, ne_eqb, Event, Inv, Stay, State, KeptApart, state, before, sense, stays_at, AreInRange, Tables, SInstr, AreFeasible, Content, first_content, completed, first_shaped, AreTookWithin, schedules_of, InvStands, Ready, ValuesFollow, HasPlaces, and_also, effects, all_reads, all_writes, with_sensors, follows_on, after_shape, holds_values, finish_follows, completed_shape, has_places, Slice, ended, ending, is_finished, with_lines, Known, next_known, known, GivesTheMeaning, LegalLogGivesTheMeaning, HaveRounds, round_of, all_rounds, lies_in, ticks, job_length, IsLegal, none-some}
+use Rattle.htl_audit.proofs.Words.{eqb-true, eqb-false, ne_eqb, Event, Inv, Stay, State, KeptApart, state, before, sense, stays_at, AreInRange, Tables, SInstr, AreFeasible, Content, first_content, completed, first_shaped, AreTookWithin, schedules_of, InvStands, Ready, ValuesFollow, HasPlaces, and_also, effects, all_reads, all_writes, with_sensors, follows_on, after_shape, holds_values, finish_follows, completed_shape, has_places, Slice, ended, ending, is_finished, with_lines, Known, next_known, known, GivesTheMeaning, LegalLogGivesTheMeaning, HaveRounds, round_of, all_rounds, lies_in, ticks, job_length, IsLegal, none-some, false_from_ne_true}
 use Rattle.htl_audit.proofs.FinishedByLog.{finished_is, finished_stands, alike, own_job, never, lies_own, has_read, all_ready, none_ready, all_carried}
-use Rattle.htl_audit.proofs.Judging.{lies, ticks_more}
-use Rattle.htl_audit.proofs.LegalLogs.{ended_next, ending_at, kept, one_ending, none_first}
+use Rattle.htl_audit.proofs.{Judging.lies, Judging.ticks_more, LegalLogs.ended_next, LegalLogs.ending_at, LegalLogs.kept, LegalLogs.one_ending, LegalLogs.none_first, StandingJobs.HasJobFrom, StandingJobs.stands_order}
 use Rattle.htl_audit.proofs.Rounds.{accepted_range, accepted_kept, first_rules, have_rounds}
-use Rattle.htl_audit.proofs.StandingJobs.{HasJobFrom, stands_order}
 
 module _ (t : Tables) (lists : List (List SInstr)) (range : AreInRange t) (kept16 : KeptApart t 16) (feasible : AreFeasible t lists) (rounds : HaveRounds t) (es : List Event) (within : AreTookWithin t es) (end : ℕ) (log : List Slice) (legal : IsLegal t es end log) where
   first12 : KeptApart t 12
@@ -61,11 +59,7 @@ module _ (t : Tables) (lists : List (List SInstr)) (range : AreInRange t) (kept1
             finished_is t es stays i s x st job lines ∙ ap (λ k. eqb k (job_length r job.position)) (sym same ∙ with_line) ∙ sym (finished_is t es stays i s x st job (ended (suc (suc n)) log))
           where
             out : lies_in (round_of t es s) job.job y ≡ false
-            out = by (lies_in (round_of t es s) job.job y) refl
-              where
-                by : (b : Bool) → lies_in (round_of t es s) job.job y ≡ b → lies_in (round_of t es s) job.job y ≡ false
-                by false e = e
-                by true e = absurd (other ((lies (round_of t es s) job.job y e).inv ∙ job.inv))
+            out = false_from_ne_true (lies_in (round_of t es s) job.job y) (λ e. other ((lies (round_of t es s) job.job y e).inv ∙ job.inv))
 
         -- its own has fewer before the line than it takes
         open_yet : y.inv ≡ i → finished (suc n) (suc n) i ≡ false

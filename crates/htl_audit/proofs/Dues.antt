@@ -1,9 +1,7 @@
 -- From when on a job may fall short that isn't noted yet.
 use Rattle.std.proofs.Common.{◌≡◌, ◌≤◌, ◌<◌, ◌⊎◌, inl, inr, ℕ, zero, suc, ◌+◌, Bool, true, false, cond, ◌&&◌, ◌||◌, eqb, leb, ltb, min, List, [], ◌∷◌, length, get_or, set, Option, Some, None, refl, sym, ◌∙◌, ap, subst, arith}
 use Rattle.htl_audit.proofs.Words.{eqb-true, lt-ltb, ltb-true, and_from, and_parts, Tables, Slice, LogKind, LogFault, AreDue, Kept, Roster, has_job, sum_at, length_at, start_at, end_at, release_at, ticks_of, kind_of, with_kind, judged, judged_to, fell_short, any_fell_short, settled, inv_takes, marked_within, or_with_false, cases_below_next}
-use Rattle.htl_audit.proofs.Passing.{judged_leaves}
-use Rattle.htl_audit.proofs.Settling.{short_found, short_there}
-use Rattle.htl_audit.proofs.Taking.{taken_leaves, taken_length}
+use Rattle.htl_audit.proofs.{Passing.judged_leaves, Settling.short_found, Settling.short_there, Taking.taken_leaves, Taking.taken_length}
 
 -- ---- lines
 
@@ -50,14 +48,10 @@ none_due t now due k d soon = by (any_fell_short t now k) refl
     by : (b : Bool) → any_fell_short t now k ≡ b → settled t now k ≡ k
     by false e = none_noted t now k e
     by true e =
-        let f = short_found t now k 0 t.invs e in
-        let two = and_parts (has_job k.roster f.0 && ltb (start_at k.roster f.0 + end_at t f.0) now) (ltb (sum_at k.sums f.0) (length_at k.roster f.0)) f.1 in
-        let one = and_parts (has_job k.roster f.0) (ltb (start_at k.roster f.0 + end_at t f.0) now) two.0 in
-        elim (d f.0 one.0) [
-          | inl later ↦ absurd (omega (arith, later, soon, ltb-true (start_at k.roster f.0 + end_at t f.0) now one.1))
-          | inr noted ↦
-              (let short = noted (ltb-true (sum_at k.sums f.0) (length_at k.roster f.0) two.1) in
-              ap (λ b. record k { short = b }) (ap (λ b. b || any_fell_short t now k) short ∙ sym short))
+        let f = short_found t now k e in
+        elim (d f.0 f.1) [
+          | inl later ↦ absurd (omega (arith, later, soon, f.2))
+          | inr noted ↦ (let short = noted f.3 in ap (λ b. record k { short = b }) (ap (λ b. b || any_fell_short t now k) short ∙ sym short))
         ]
 
 -- once it is noted who fell short before the instant
@@ -65,14 +59,7 @@ pub settled_due : (t : Tables) (now due : ℕ) (k : Kept) → length k.roster.st
     → ((i : ℕ) → has_job k.roster i ≡ true → (start_at k.roster i + end_at t i < now) ⊎ (due ≤ start_at k.roster i + end_at t i)) → AreDue t due (settled t now k)
 settled_due t now due k rows next i e = elim (next i e) [
   | inl past ↦
-      inr
-      (λ less.
-      let within = marked_within k.roster.stands i e in
-      let fell : fell_short t now k i ≡ true =
-      and_from (has_job k.roster i && ltb (start_at k.roster i + end_at t i) now) (ltb (sum_at k.sums i) (length_at k.roster i)) (and_from (has_job k.roster i) (ltb (start_at k.roster i + end_at t i) now) e (lt-ltb (start_at k.roster i + end_at t i) now past))
-      (lt-ltb (sum_at k.sums i) (length_at k.roster i) less) in
-      let any : any_fell_short t now k ≡ true = short_there t now k 0 t.invs i (omega (arith, within, rows)) (subst (λ z. fell_short t now k z ≡ true) (let z : i ≡ 0 + i = omega arith in z) fell) in
-      ap (λ b. k.short || b) any ∙ or_true k.short)
+      inr (λ less. ap (λ b. k.short || b) (short_there t now k i (omega (arith, marked_within k.roster.stands i e, rows)) e past less) ∙ or_true k.short)
   | inr later ↦ inl later
 ]
   where

@@ -4,10 +4,9 @@ use Rattle.htl_audit.proofs.Words.{eqb-true, eq-eqb, ne_eqb, and_from, and_parts
 use Rattle.htl_model.specs.declared.parts.End.{End}
 use Rattle.htl_model.specs.declared.parts.End.TheVariants as E
 use Rattle.htl_model.specs.Meaning as meaning
-use Rattle.htl_audit.proofs.JobTests.{item_found, item_there, IsJobOf, job_found}
-use Rattle.htl_audit.proofs.Judging.{Lies, lies}
+use Rattle.htl_audit.proofs.{JobTests.item_found, JobTests.item_there, JobTests.IsJobOf, JobTests.job_found, Judging.Lies, Judging.lies, StandingJobs.HasJobFrom, StandingJobs.stands_job, StandingJobs.stands_fed, StandingJobs.same_start}
 use Rattle.htl_audit.proofs.LegalLogs.{ended_less, ended_front, ended_all, ended_some, kept, ordered, never_more, window_done, waited}
-use Rattle.htl_audit.proofs.StandingJobs.{HasJobFrom, stands_job, stands_fed, same_start}
+use Rattle.htl_runs.proofs.values.DueWrites.{stands_round}
 
 -- ---- whoever stands is finished where the slices of his job add up
 
@@ -15,8 +14,7 @@ module _ (t : Tables) (es : List Event) (stays : List (Option Stay)) (i s : ℕ)
   pub done_from : (lines : List Slice) → is_finished t es stays lines i ≡ is_done_in t es s lines i
   done_from lines =
       ap (λ (o : Option Inv). elim o as (λ _. Bool) [ Some y ↦ is_done_from t es lines i (meaning.round_start t stays y) | None ↦ false ]) st.known
-      ∙ ap (is_done_from t es lines i)
-      (ap₂ (λ (b : Bool) (o : Option Stay). cond b (in_round o x.mode) None) st.concrete st.in_round ∙ ap (λ (b : Bool). cond b (Some s) None) (eq-eqb x.mode x.mode refl))
+      ∙ ap (is_done_from t es lines i) (stands_round t stays i s x st)
 
   module _ (j : HasJobFrom t es s i x) (lines : List Slice) where
     abbrev test : ℕ × Job → Bool

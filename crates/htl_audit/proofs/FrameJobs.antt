@@ -2,15 +2,8 @@
 use Rattle.std.proofs.Common.{◌≡◌, ◌≤◌, ◌<◌, ℕ, zero, suc, ◌+◌, ◌-◌, ◌*◌, ◌/◌, ◌%◌, max, Bool, true, false, ◌&&◌, eqb, List, [], ◌∷◌, cond, length, get_or, map, take, slice_get, Option, Some, None, option_map, refl, sym, ap, ap₂, ◌∙◌, subst, arith}
 use Rattle.htl_audit.proofs.Words.{div-add-mod, mul-mod_right, eq-eqb, and_from, get_or_from_slice_get, slice_get_within, none-some, same_Some, Event, Place, FrameRound, Inv, Stay, frame_of, root_periods, unit_period, starts, rounds, rounds_at, rounds_of, known_by, no_place, state, stay_of, feeds, root_modules, Tables, mode_module, mode_period, release, window_end, frame_divided, Job, SInstr, is_fed_by, precedes, job_in, placed_job, end_to_end, walks_from, first_point, walk_from, met_same, form_joined, mask_bit, get_mapped, derived_place, place, standing_places, AreOrdered, frame_modes, frame_places, frame_jobs, frame_at, took, lengths_of, IsServing, IsFeasibleRun, front_there, mapped, of_flat, own_starts, placed_present, places_ordered, times_within, run_of, frames_are_served, AreJobsSoFar, frame_start, begun_by, AreFrames, now_of, InvStands, entry_is, there_front, feasible_runs, HaveRounds, round_of, job_length, and_none}
 use Rattle.htl_walk.proofs.Joining.{joined, show_joined}
-use Rattle.htl_audit.proofs.Beginning.{multiples}
-use Rattle.htl_audit.proofs.FrameSlices.{frame_plan}
-use Rattle.htl_audit.proofs.Growing.{start_is, length_is}
-use Rattle.htl_audit.proofs.OnePosition.{one_position}
-use Rattle.htl_audit.proofs.OwnSoFar.{start_of, same_round, IsRun}
-use Rattle.htl_audit.proofs.OwnTicks.{IsSound}
-use Rattle.htl_audit.proofs.RoundJobs.{fresh, precedes_is}
-use Rattle.htl_audit.proofs.Rounds.{first_rules}
-use Rattle.htl_audit.proofs.StandingJobs.{stands_job}
+use Rattle.htl_audit.proofs.{Beginning.multiples, FrameSlices.frame_plan, Growing.start_is, Growing.length_is, OnePosition.one_position, OwnSoFar.start_of, OwnSoFar.same_round, OwnSoFar.IsRun, OwnTicks.IsSound, Rounds.first_rules}
+use Rattle.htl_audit.proofs.{RoundJobs.fresh, RoundJobs.precedes_is, StandingJobs.stands_job}
 
 -- the rounds at a start begin there
 starts_there : (t : Tables) (a : ℕ) (us : List ℕ) (q : ℕ) (r : FrameRound) → slice_get (rounds_of t a us) q ≡ Some r → r.at ≡ a

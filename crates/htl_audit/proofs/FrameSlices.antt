@@ -2,8 +2,7 @@
 use Rattle.std.proofs.Common.{◌≡◌, ◌≤◌, ◌<◌, ℕ, suc, ◌+◌, ◌*◌, Bool, true, false, cond, eqb, ltb, List, [], ◌∷◌, ◌++◌, length, slice_get, Option, Some, None, refl, sym, ap, ap₂, ◌∙◌, arith}
 use Rattle.htl_audit.proofs.Words.{filter, ltb-false, ne_eqb, Event, frame_of, node, all_some, joined, up_to, Tables, up_to_same, Job, SInstr, Dispatch, Idle, End, Leg, list_point, walks_from, end_to_end, AreInForm, AreChained, Point, Left, next_point, walk_from, last_point, first_point, slice_of, body, begun_idle, stays, RunningList, lists_from, begun_before, left_in, Frame, frame_modes, path_of, frame_at, rounds_before, IsServing, Slice, own_slice, own_of, own_at, cond_same}
 use Rattle.htl_walk.proofs.Joining as joining
-use Rattle.htl_audit.proofs.ClosedSlices.{mine, onto, closed, closed_is, none_closed}
-use Rattle.htl_audit.proofs.OwnTicks.{Plan, walk_of}
+use Rattle.htl_audit.proofs.{ClosedSlices.mine, ClosedSlices.onto, ClosedSlices.closed, ClosedSlices.closed_is, ClosedSlices.none_closed, OwnTicks.Plan, OwnTicks.walk_of}
 
 -- the lists of a frame as one
 abbrev pub plan_in : Frame → Plan

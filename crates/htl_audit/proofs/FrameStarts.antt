@@ -2,12 +2,8 @@
 use Rattle.std.proofs.Common.{◌≡◌, ◌<◌, ℕ, zero, suc, ◌+◌, ◌*◌, ◌/◌, ◌%◌, ◌||◌, Bool, true, false, ◌&&◌, cond, eqb, List, [], ◌∷◌, ◌++◌, length, get_or, map, take, drop, replicate, slice_get, Option, Some, None, refl, sym, ap, ap₂, ◌∙◌, subst, arith}
 use Rattle.std.specs.Prelude.{◌^◌}
 use Rattle.htl_model.specs.Frames.{places_of}
-use Rattle.htl_walk.specs.Jobs.{job_among}
-use Rattle.htl_walk.specs.PathJobs.{placed_jobs}
-use Rattle.htl_walk.specs.Walk.{work}
-use Rattle.htl_refine.specs.BegunJobs.{nowhere, new_jobs}
-use Rattle.htl_refine.specs.DerivedPaths.{start_places, standing_place}
-use Rattle.htl_refine.specs.ListPlans.{leg_at}
+use Rattle.htl_walk.specs.{Jobs.job_among, PathJobs.placed_jobs, Walk.work}
+use Rattle.htl_refine.specs.{BegunJobs.nowhere, BegunJobs.new_jobs, DerivedPaths.start_places, DerivedPaths.standing_place, ListPlans.leg_at}
 use Rattle.htl_audit.specs.FrameStarts.{known_before, part_of, job_behind, IsAtStart, AuditedJobsAreTheFrames}
 use Rattle.htl_audit.proofs.Words.{filter, flat_map, div-add-mod, mod-lt, mul_assoc, add-mul-mod_self_left, two-pow-succ, take-map, drop-map, eq-eqb, and_none, get_or_from_slice_get, slice_get-get_or, slice_get_within, Event, Place, Inv, chosen, entry, root_modules, invs_of, unit_period, root_periods, frame_of, starts, starts_below, begins, release, window_end, task_worst, frame_divided, Tables, Job, SInstr, is_fed_by, mask, job_of, job_in, placed_job, running_invs, took, lengths_of, modes_at, frame_modes, frame_places, frame_jobs, frame_at, leg_from, leg_knows, first_jobs, next_jobs, below_start, BeginningJobs, beginning, jobs_from, round_of, starts_before, mapped, mapped_at, mul-mod_right, starts_rise, starts_order, rises_next}
 use Rattle.htl_audit.proofs.Growing.{start_is}

@@ -4,12 +4,8 @@ use mathlib.Core.Path.{fun_ext}
 use Rattle.htl_audit.proofs.Words.{Event, State, Stay, root_periods, begins, up_to, Object, IsAccepted, Shown, Values, Puts, append_known-start, Puts-second, Puts-failed, append_known, modes_at, took, AreTookWithin, text_between, lines_of, state_same, reading_more, sense_at, took_at, up_to_more, Audit, AuditFollows, IsStopped, IsAudited, AreSized, all_rounds, Kept, passed, lengths_begun, LogFollows, LogEnds, option_map}
 use Rattle.htl_model.specs.declared.event.Event.TheVariants as V
 use Rattle.htl_machine.specs.Calls as machines
-use Rattle.htl_audit.proofs.Begun.{agrees, begun_follows, ends}
-use Rattle.htl_audit.proofs.Between.{text_same, passes_between, reads_again, ends_between, modes_before}
-use Rattle.htl_audit.proofs.Growing.{rounds_agree, rounds_still, rounds_same}
-use Rattle.htl_audit.proofs.Keepers.{passed_sized}
-use Rattle.htl_audit.proofs.Passing.{passed_follows}
-use Rattle.htl_audit.proofs.Rounds.{accepted_range, accepted_kept, have_rounds}
+use Rattle.htl_audit.proofs.{Begun.agrees, Begun.begun_follows, Begun.ends, Between.text_same, Between.passes_between, Between.reads_again, Between.ends_between, Between.modes_before, Keepers.passed_sized, Passing.passed_follows}
+use Rattle.htl_audit.proofs.{Growing.rounds_agree, Growing.rounds_still, Growing.rounds_same, Rounds.accepted_range, Rounds.accepted_kept, Rounds.have_rounds}
 
 -- ---- the text of two stretches
 

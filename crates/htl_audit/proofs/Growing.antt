@@ -33,17 +33,18 @@ abbrev pub placed : Tables → List (Option ℕ) → ℕ → Inv → Job
 placed t standing k i =
     record { present = true; inv = k; release = release t i; end = window_end t i; worst = task_worst t i.task; preds = mask (map (is_fed_by t k) standing) }
 
-job_parts : (t : Tables) (standing : List (Option ℕ)) (o : Option ℕ) (j : Job) → job_of t standing o ≡ j → j.present ≡ true → (x : Inv) × (slice_get t.invs j.inv ≡ Some x) × (j.release ≡ release t x) × (j.end ≡ window_end t x)
+-- a job that is present is of the invocation that stands there
+pub job_parts : (t : Tables) (standing : List (Option ℕ)) (o : Option ℕ) (j : Job) → job_of t standing o ≡ j → j.present ≡ true → (x : Inv) × (slice_get t.invs j.inv ≡ Some x) × (j.release ≡ release t x) × (j.end ≡ window_end t x) × (o ≡ Some j.inv)
 job_parts t standing None j e here = absurd (let z : false ≡ true = ap (λ (y : Job). y.present) e ∙ here in cc)
 job_parts t standing (Some k) j e here = by (slice_get t.invs k) refl
   where
-    by : (o : Option Inv) → slice_get t.invs k ≡ o → (x : Inv) × (slice_get t.invs j.inv ≡ Some x) × (j.release ≡ release t x) × (j.end ≡ window_end t x)
+    by : (o : Option Inv) → slice_get t.invs k ≡ o → (x : Inv) × (slice_get t.invs j.inv ≡ Some x) × (j.release ≡ release t x) × (j.end ≡ window_end t x) × (Some k ≡ Some j.inv)
     by None at =
         let absent : job_of t standing (Some k) ≡ absent_job = ap (λ (o : Option Inv). elim o [ None ↦ absent_job | Some x ↦ placed t standing k x ]) at in
         absurd (let z : false ≡ true = ap (λ (z : Job). z.present) (sym absent ∙ e) ∙ here in cc)
     by (Some x) at =
         let is : placed t standing k x ≡ j = sym (ap (λ (o : Option Inv). elim o [ None ↦ absent_job | Some x ↦ placed t standing k x ]) at) ∙ e in
-        (x, subst (λ n. slice_get t.invs n ≡ Some x) (ap (λ (z : Job). z.inv) is) at, sym (ap (λ (z : Job). z.release) is), sym (ap (λ (z : Job). z.end) is))
+        (x, subst (λ n. slice_get t.invs n ≡ Some x) (ap (λ (z : Job). z.inv) is) at, sym (ap (λ (z : Job). z.release) is), sym (ap (λ (z : Job). z.end) is), ap (λ (z : Job). Some z.inv) is)
 
 -- a job of a round
 pub round_job : (t : Tables) (modes : List (Option ℕ)) (us : List ℕ) (p : ℕ) (j : Job) → slice_get (jobs_from t modes us) p ≡ Some j → j.present ≡ true
@@ -51,7 +52,8 @@ pub round_job : (t : Tables) (modes : List (Option ℕ)) (us : List ℕ) (p : �
 round_job t modes us p j at here =
     let standing = map (chosen t modes) (flat_map (running_invs t modes) us) in
     let o = mapped (job_of t standing) standing p j at in
-    job_parts t standing o.0 j o.2 here
+    let x = job_parts t standing o.0 j o.2 here in
+    (x.0, x.1, x.2, x.3)
 
 -- how long it takes
 pub length_is : (t : Tables) (es : List Event) (start p : ℕ) (js : List Job) (j : Job) → slice_get js p ≡ Some j → get_or (lengths_of t es start js) p 0 ≡ took t es j.inv (start + j.release)

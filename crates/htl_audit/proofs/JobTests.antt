@@ -1,6 +1,6 @@
 -- Tests over the jobs of rounds.
-use Rattle.std.proofs.Common.{◌≡◌, ℕ, zero, suc, ◌+◌, Bool, true, false, ◌||◌, List, [], ◌∷◌, Some, refl, sym, ◌∙◌, ap, subst, arith}
-use Rattle.htl_audit.proofs.Words.{slice_get, list_all, list_any, numbered, Job, BeginningJobs, any_job, and_from, and_parts, or_left, or_right, none-some}
+use Rattle.std.proofs.Common.{◌≡◌, ℕ, zero, suc, ◌+◌, Bool, true, false, ◌||◌, List, [], ◌∷◌, Some, refl, sym, ◌∙◌, ap, subst, arith, ◌<◌, ◌&&◌, cond, ltb, eqb, inl, inr}
+use Rattle.htl_audit.proofs.Words.{slice_get, list_all, list_any, numbered, Job, BeginningJobs, any_job, and_from, and_parts, or_left, or_right, none-some, false_from_ne_true, lt-ltb, le-ltb, ltb-true, ne_eqb, eq-eqb, cases_less_more}
 
 -- an item of a list that passes
 pub item_found : {A : Type 0} (test : ℕ × A → Bool) (q : ℕ) (js : List A) → list_any test (numbered q js) ≡ true → (d : ℕ) × (j : A) × (slice_get js d ≡ Some j) × (test (q + d, j) ≡ true)
@@ -79,3 +79,28 @@ job_there test rounds r p j is e = by rounds is.number is.at
         let one : x ≡ r = cc in
         or_left (list_any (test x) (numbered 0 x.jobs)) (any_job test rs) (ap (λ (z : BeginningJobs). list_any (test z) (numbered 0 z.jobs)) one ∙ item_there (test r) 0 r.jobs p j is.job (subst (λ z. test r (z, j) ≡ true) (let z : p ≡ 0 + p = omega arith in z) e))
     by (x ∷ rs) (suc n) at = or_right (list_any (test x) (numbered 0 x.jobs)) (any_job test rs) (by rs n at)
+
+-- a test that no job passes
+pub none_passes : (test : BeginningJobs → ℕ × Job → Bool) (rounds : List BeginningJobs) (r : BeginningJobs) (p : ℕ) (j : Job) → any_job test rounds ≡ false → IsJobOf rounds r p j → test r (p, j) ≡ false
+none_passes test rounds r p j none is = false_from_ne_true (test r (p, j)) (λ e. let z : true ≡ false = sym (job_there test rounds r p j is e) ∙ none in let y : ⊥ = cc in y)
+
+-- ---- what is short
+
+-- whoever is there, whose window ended, and who has fewer ticks than it takes
+pub short_parts : (a : Bool) (m n p q : ℕ) → (a && ltb m n && ltb p q) ≡ true → (a ≡ true) × (m < n) × (p < q)
+short_parts a m n p q e =
+    let two = and_parts (a && ltb m n) (ltb p q) e in
+    let one = and_parts a (ltb m n) two.0 in
+    (one.0, ltb-true m n one.1, ltb-true p q two.1)
+
+pub short_from : (a : Bool) (m n p q : ℕ) → a ≡ true → m < n → p < q → (a && ltb m n && ltb p q) ≡ true
+short_from a m n p q here late few = and_from (a && ltb m n) (ltb p q) (and_from a (ltb m n) here (lt-ltb m n late)) (lt-ltb p q few)
+
+-- ---- what counts before the next instant counts before this one or at it
+
+pub next_counts : (m n v : ℕ) → cond (ltb m (suc n)) v 0 ≡ cond (ltb m n) v 0 + cond (eqb m n) v 0
+next_counts m n v = elim (cases_less_more m n) [
+  | inl less ↦ omega (arith, ap (λ b. cond {A = ℕ} b v 0) (lt-ltb m (suc n) (omega (arith, less))), ap (λ b. cond {A = ℕ} b v 0) (lt-ltb m n less), ap (λ b. cond {A = ℕ} b v 0) (ne_eqb m n (λ e. omega (arith, e, less))))
+  | inr (inl more) ↦ omega (arith, ap (λ b. cond {A = ℕ} b v 0) (le-ltb m (suc n) (omega (arith, more))), ap (λ b. cond {A = ℕ} b v 0) (le-ltb m n (omega (arith, more))), ap (λ b. cond {A = ℕ} b v 0) (ne_eqb m n (λ e. omega (arith, e, more))))
+  | inr (inr same) ↦ omega (arith, ap (λ b. cond {A = ℕ} b v 0) (lt-ltb m (suc n) (omega (arith, same))), ap (λ b. cond {A = ℕ} b v 0) (le-ltb m n (omega (arith, same))), ap (λ b. cond {A = ℕ} b v 0) (eq-eqb m n same))
+]

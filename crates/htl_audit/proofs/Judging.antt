@@ -1,6 +1,6 @@
 -- The auditor judges the next line by what it keeps as the definition does by all lines before.
 use Rattle.std.proofs.Common.{◌≡◌, ℕ, zero, suc, ◌+◌, ◌-◌, ◌≤◌, ◌<◌, inl, inr, Bool, true, false, cond, not, ◌&&◌, ◌||◌, eqb, leb, ltb, List, [], ◌∷◌, ◌++◌, Option, Some, None, refl, sym, ◌∙◌, ap, ap₂, subst, arith}
-use Rattle.htl_audit.proofs.Words.{slice_get, eqb-true, leb-true, and_from, and_parts, or_parts, eq-eqb, leb-false, ltb-false, Inv, feeds, feeds_at, Tables, Job, precedes, Slice, LogKind, BeginningJobs, lies_in, ticks, is_done, is_free, is_over, any_job, last_end, slice_is_out_of_order, line_fault, Roster, Kept, has_job, sum_at, length_at, start_at, release_at, end_at, is_inside, is_full, is_clear_of, is_free_from, is_free_at, ticks_of, kind_of, IsIn, IsCurrent, AreKept, AreSummed, none-some, same_truth}
+use Rattle.htl_audit.proofs.Words.{slice_get, eqb-true, leb-true, and_from, and_parts, or_parts, eq-eqb, leb-false, ltb-false, Inv, feeds, feeds_at, Tables, Job, precedes, Slice, LogKind, BeginningJobs, lies_in, ticks, is_done, is_free, is_over, any_job, last_end, slice_is_out_of_order, line_fault, Roster, Kept, has_job, sum_at, length_at, start_at, release_at, end_at, is_inside, is_full, is_clear_of, is_free_from, is_free_at, ticks_of, kind_of, IsIn, IsCurrent, AreKept, AreSummed, none-some, same_truth, list_all, numbered, false_from_ne_true}
 use Rattle.htl_audit.specs.declared.slice.LogKind.TheVariants as kind
 use Rattle.htl_audit.specs.Legal as rules
 use Rattle.htl_audit.proofs.JobTests.{all_at_0, all_pass_0, IsJobOf, job_found, job_there}
@@ -30,21 +30,9 @@ abbrev waits_for : BeginningJobs → List Slice → Job → ℕ × Job → Bool
 waits_for r log j h = not (precedes h.0 j && h.1.present) || is_done r log h
 
 -- the test of the invocations, as a test of each
-free_pass : (t : Tables) (o : Roster) (sums : List ℕ) (i n : ℕ) (xs : List Inv) → ((d : ℕ) (y : Inv) → slice_get xs d ≡ Some y → is_clear_of t o sums i (n + d) ≡ true) → is_free_from t o sums i n xs ≡ true
-free_pass t o sums i n [] h = refl
-free_pass t o sums i n (x ∷ xs) h =
-    and_from (is_clear_of t o sums i n) (is_free_from t o sums i (suc n) xs) (subst (λ z. is_clear_of t o sums i z ≡ true) (let z : n + 0 ≡ n = omega arith in z) (h 0 x refl))
-    (free_pass t o sums i (suc n) xs (λ d y at. subst (λ z. is_clear_of t o sums i z ≡ true) (let z : n + suc d ≡ suc n + d = omega arith in z) (h (suc d) y at)))
-
-free_all : (t : Tables) (o : Roster) (sums : List ℕ) (i n : ℕ) (xs : List Inv) → is_free_from t o sums i n xs ≡ true → (d : ℕ) (y : Inv) → slice_get xs d ≡ Some y → is_clear_of t o sums i (n + d) ≡ true
-free_all t o sums i n [] e d y at = absurd (none-some y at)
-free_all t o sums i n (x ∷ xs) e zero y at =
-    subst (λ z. is_clear_of t o sums i z ≡ true) (let z : n ≡ n + 0 = omega arith in z) (and_parts (is_clear_of t o sums i n) (is_free_from t o sums i (suc n) xs) e).0
-free_all t o sums i n (x ∷ xs) e (suc d) y at =
-    subst (λ z. is_clear_of t o sums i z ≡ true) (let z : suc n + d ≡ n + suc d = omega arith in z) (free_all t o sums i (suc n) xs (and_parts (is_clear_of t o sums i n) (is_free_from t o sums i (suc n) xs) e).1 d y at)
-
-free_at : (t : Tables) (o : Roster) (sums : List ℕ) (i : ℕ) (xs : List Inv) → is_free_from t o sums i 0 xs ≡ true → (d : ℕ) (y : Inv) → slice_get xs d ≡ Some y → is_clear_of t o sums i d ≡ true
-free_at t o sums i xs e d y at = subst (λ z. is_clear_of t o sums i z ≡ true) (let z : 0 + d ≡ d = omega arith in z) (free_all t o sums i 0 xs e d y at)
+free_is_all : (t : Tables) (o : Roster) (sums : List ℕ) (i n : ℕ) (xs : List Inv) → is_free_from t o sums i n xs ≡ list_all (λ (z : ℕ × Inv). is_clear_of t o sums i z.0) (numbered n xs)
+free_is_all t o sums i n [] = refl
+free_is_all t o sums i n (x ∷ xs) = ap (λ b. is_clear_of t o sums i n && b) (free_is_all t o sums i (suc n) xs)
 
 pub implied : (a b : Bool) → (a ≡ true → b ≡ true) → (not a || b) ≡ true
 implied true b f = f refl
@@ -54,10 +42,62 @@ pub applied : (a b : Bool) → (not a || b) ≡ true → a ≡ true → b ≡ tr
 applied true b e f = e
 applied false b e f = absurd (let z : ⊥ = cc in z)
 
--- the ticks with one slice more
+-- the ticks of two stretches, and with one slice more
+pub ticks_both : (r : BeginningJobs) (j : Job) (xs ys : List Slice) → ticks r j (xs ++ ys) ≡ ticks r j xs + ticks r j ys
+ticks_both r j [] ys = omega arith
+ticks_both r j (x ∷ xs) ys = omega (arith, ticks_both r j xs ys)
+
 pub ticks_more : (r : BeginningJobs) (j : Job) (log : List Slice) (x : Slice) → ticks r j (log ++ x ∷ []) ≡ ticks r j log + cond (lies_in r j x) (x.to - x.from) 0
-ticks_more r j [] x = omega arith
-ticks_more r j (y ∷ ys) x = omega (arith, ticks_more r j ys x)
+ticks_more r j log x = omega (arith, ticks_both r j log (x ∷ []))
+
+-- without a slice of the job there are none
+pub no_ticks : (r : BeginningJobs) (j : Job) (xs : List Slice) → ((i : ℕ) (x : Slice) → slice_get xs i ≡ Some x → lies_in r j x ≡ true → ⊥) → ticks r j xs ≡ 0
+no_ticks r j [] out = refl
+no_ticks r j (x ∷ xs) out = ap₂ (λ b n. cond b (x.to - x.from) 0 + n) (false_from_ne_true (lies_in r j x) (out 0 x refl)) (no_ticks r j xs (λ i y at. out (suc i) y at))
+
+-- ---- the rules, one behind the other
+
+-- what a line in order says
+pub in_order : (now end : ℕ) (x : Slice) → (leb x.to x.from || ltb x.from end || leb now x.to) ≡ false → (x.from < x.to) × (end ≤ x.from) × (x.to < now)
+in_order now end x e =
+    let two = or_parts (leb x.to x.from || ltb x.from end) (leb now x.to) e in
+    let ends = or_parts (leb x.to x.from) (ltb x.from end) two.0 in
+    (leb-false x.to x.from ends.0, ltb-false x.from end ends.1, leb-false now x.to two.1)
+
+-- out of order is broken alike, and the other rules count where a line is in order
+pub order_first : (a b : Bool) (p q : Option LogKind) → a ≡ b → (a ≡ false → p ≡ q) → cond a (Some kind.Order) p ≡ cond b (Some kind.Order) q
+order_first true b p q e same = ap (λ c. cond c (Some kind.Order) q) e
+order_first false b p q e same = same refl ∙ ap (λ c. cond c (Some kind.Order) q) e
+
+-- the rules behind that of being in a window count where a line is in one
+rest_first : (a b c d e f : Bool) → a ≡ d → (d ≡ true → (b ≡ e) × (c ≡ f)) → rest a b c ≡ rest d e f
+rest_first a b c true e f is same = let two = same refl in ap (λ z. rest z b c) is ∙ ap₂ (λ y z. rest true y z) two.0 two.1
+rest_first a b c false e f is same = ap (λ z. rest z b c) is
+
+-- where none is broken
+pub none_broken : (o a b c : Bool) → cond o (Some kind.Order) (rest a b c) ≡ None → (o ≡ false) × (a ≡ true) × (b ≡ false) × (c ≡ false)
+none_broken true a b c n = absurd (none-some kind.Order (sym n))
+none_broken false false b c n = absurd (none-some kind.Outside (sym n))
+none_broken false true true c n = absurd (none-some kind.Over (sym n))
+none_broken false true false true n = absurd (none-some kind.Before (sym n))
+none_broken false true false false n = (refl, refl, refl, refl)
+
+-- a line that breaks no rule
+pub record IsKept (rounds : List BeginningJobs) (now : ℕ) (before : List Slice) (x : Slice) : Type 0 where
+  pub room : x.from < x.to
+  pub order : last_end before ≤ x.from
+  pub soon : x.to < now
+  pub inside : any_job (λ r j. lies_in r j.1 x) rounds ≡ true
+  pub most : any_job (λ r j. lies_in r j.1 x && is_over r (before ++ x ∷ []) j) rounds ≡ false
+  pub free : any_job (λ r j. lies_in r j.1 x && not (is_free r before j.1)) rounds ≡ false
+
+pub kept_line : (rounds : List BeginningJobs) (now : ℕ) (before : List Slice) (x : Slice) → line_fault rounds now before x ≡ None → IsKept rounds now before x
+kept_line rounds now before x e =
+    let k =
+    none_broken (slice_is_out_of_order now before x) (any_job (λ r j. lies_in r j.1 x) rounds) (any_job (λ r j. lies_in r j.1 x && is_over r (before ++ x ∷ []) j) rounds)
+    (any_job (λ r j. lies_in r j.1 x && not (is_free r before j.1)) rounds) e in
+    let o = in_order now (last_end before) x k.0 in
+    record { room = o.0; order = o.1; soon = o.2; inside = k.1; most = k.2; free = k.3 }
 
 module _ (t : Tables) (rounds : List BeginningJobs) (o : Roster) (kept : AreKept t rounds o) (x : Slice) (later : start_at o x.inv < x.to) where
   -- a job in whose window the slice lies is current
@@ -134,7 +174,9 @@ module _ (t : Tables) (rounds : List BeginningJobs) (o : Roster) (kept : AreKept
     free_is r p j i c = same_truth _ _ there back
       where
         there : is_free r log j ≡ true → is_free_at t o sums j.inv ≡ true
-        there e = free_pass t o sums j.inv 0 t.invs (λ n y at. implied (has_job o (0 + n) && feeds t (0 + n) j.inv) (is_full o sums (0 + n)) (λ g. one (0 + n) (and_parts (has_job o (0 + n)) (feeds t (0 + n) j.inv) g)))
+        there e =
+            free_is_all t o sums j.inv 0 t.invs
+            ∙ all_pass_0 (λ (z : ℕ × Inv). is_clear_of t o sums j.inv z.0) t.invs (λ n y at. implied (has_job o n && feeds t n j.inv) (is_full o sums n) (λ g. one n (and_parts (has_job o n) (feeds t n j.inv) g)))
           where
             one : (n : ℕ) → (has_job o n ≡ true) × (feeds t n j.inv ≡ true) → is_full o sums n ≡ true
             one n two =
@@ -152,7 +194,7 @@ module _ (t : Tables) (rounds : List BeginningJobs) (o : Roster) (kept : AreKept
             full n s f = by (slice_get t.invs n) refl
               where
                 by : (y : Option Inv) → slice_get t.invs n ≡ y → is_full o sums n ≡ true
-                by (Some y) at = applied (has_job o n && feeds t n j.inv) (is_full o sums n) (free_at t o sums j.inv t.invs e n y at) (and_from (has_job o n) (feeds t n j.inv) s f)
+                by (Some y) at = applied (has_job o n && feeds t n j.inv) (is_full o sums n) (all_at_0 (λ (z : ℕ × Inv). is_clear_of t o sums j.inv z.0) t.invs (sym (free_is_all t o sums j.inv 0 t.invs) ∙ e) n y at) (and_from (has_job o n) (feeds t n j.inv) s f)
                 by None at = absurd (let z : false ≡ true = sym (ap (λ (y : Option Inv). feeds_at y (slice_get t.invs j.inv)) at) ∙ f in cc)
 
             one : (q : ℕ) (h : Job) → slice_get r.jobs q ≡ Some h → (precedes q j ≡ true) × (h.present ≡ true) → is_done r log (q, h) ≡ true
@@ -167,39 +209,13 @@ module _ (t : Tables) (rounds : List BeginningJobs) (o : Roster) (kept : AreKept
 
     rest_is : rest (any_job (λ r j. lies_in r j.1 x) rounds) (any_job (λ r j. lies_in r j.1 x && is_over r (log ++ x ∷ []) j) rounds) (any_job (λ r j. lies_in r j.1 x && not (is_free r log j.1)) rounds)
         ≡ rest (is_inside t o x) (ltb (length_at o x.inv) (sum_at sums x.inv + ticks_of x)) (not (is_free_at t o sums x.inv))
-    rest_is = by_inside (is_inside t o x) refl
-      where
-        by_inside : (a : Bool) → is_inside t o x ≡ a
-            → rest (any_job (λ r j. lies_in r j.1 x) rounds) (any_job (λ r j. lies_in r j.1 x && is_over r (log ++ x ∷ []) j) rounds) (any_job (λ r j. lies_in r j.1 x && not (is_free r log j.1)) rounds)
-            ≡ rest (is_inside t o x) (ltb (length_at o x.inv) (sum_at sums x.inv + ticks_of x)) (not (is_free_at t o sums x.inv))
-        by_inside true e =
-            ap (λ a. rest a (any_job (λ r j. lies_in r j.1 x && is_over r (log ++ x ∷ []) j) rounds) (any_job (λ r j. lies_in r j.1 x && not (is_free r log j.1)) rounds)) inside_is
-            ∙ ap₂ (λ b c. rest (is_inside t o x) b c) (over_is e) (before_is e)
-        by_inside false e =
-            let over = any_job (λ r j. lies_in r j.1 x && is_over r (log ++ x ∷ []) j) rounds in
-            let early = any_job (λ r j. lies_in r j.1 x && not (is_free r log j.1)) rounds in
-            ap (λ a. rest a over early) (inside_is ∙ e) ∙ sym (ap (λ a. rest a (ltb (length_at o x.inv) (sum_at sums x.inv + ticks_of x)) (not (is_free_at t o sums x.inv))) e)
+    rest_is =
+        rest_first (any_job (λ r j. lies_in r j.1 x) rounds) (any_job (λ r j. lies_in r j.1 x && is_over r (log ++ x ∷ []) j) rounds) (any_job (λ r j. lies_in r j.1 x && not (is_free r log j.1)) rounds)
+        (is_inside t o x) (ltb (length_at o x.inv) (sum_at sums x.inv + ticks_of x)) (not (is_free_at t o sums x.inv)) inside_is (λ e. (over_is e, before_is e))
 
 -- the line breaks the same rule, if any
 pub kind_is : (t : Tables) (rounds : List BeginningJobs) (now : ℕ) (log : List Slice) (k : Kept) (x : Slice) → AreSummed t rounds log k → (x.from < x.to → k.end ≤ x.from → start_at k.roster x.inv < x.to)
     → line_fault rounds now log x ≡ kind_of t now k x
-kind_is t rounds now log k x s later = by (slice_is_out_of_order now log x) refl
-  where
-    sorted : slice_is_out_of_order now log x ≡ (leb x.to x.from || ltb x.from k.end || leb now x.to)
-    sorted = ap (λ z. leb x.to x.from || ltb x.from z || leb now x.to) (sym s.end)
-
-    broken : slice_is_out_of_order now log x ≡ true → line_fault rounds now log x ≡ Some kind.Order
-    broken g =
-        ap (λ z. cond z (Some kind.Order) (rest (any_job (λ r j. lies_in r j.1 x) rounds) (any_job (λ r j. lies_in r j.1 x && is_over r (log ++ x ∷ []) j) rounds) (any_job (λ r j. lies_in r j.1 x && not (is_free r log j.1)) rounds))) g
-
-    broken_too : (leb x.to x.from || ltb x.from k.end || leb now x.to) ≡ true → kind_of t now k x ≡ Some kind.Order
-    broken_too g =
-        ap (λ z. cond z (Some kind.Order) (rest (is_inside t k.roster x) (ltb (length_at k.roster x.inv) (sum_at k.sums x.inv + ticks_of x)) (not (is_free_at t k.roster k.sums x.inv)))) g
-
-    by : (b : Bool) → slice_is_out_of_order now log x ≡ b → line_fault rounds now log x ≡ kind_of t now k x
-    by true e = broken e ∙ sym (broken_too (sym sorted ∙ e))
-    by false e =
-        let two = or_parts (leb x.to x.from || ltb x.from (last_end log)) (leb now x.to) e in
-        let ends = or_parts (leb x.to x.from) (ltb x.from (last_end log)) two.0 in
-        ap₂ (λ p q. cond p (Some kind.Order) q) sorted
-        (rest_is t rounds k.roster s.kept x (later (leb-false x.to x.from ends.0) (ltb-false x.from k.end (ap (ltb x.from) s.end ∙ ends.1))) log k.sums s.sums)
+kind_is t rounds now log k x s later =
+    order_first (slice_is_out_of_order now log x) (leb x.to x.from || ltb x.from k.end || leb now x.to) _ _ (ap (λ z. leb x.to x.from || ltb x.from z || leb now x.to) (sym s.end))
+    (λ e. let o = in_order now (last_end log) x e in rest_is t rounds k.roster s.kept x (later o.0 (omega (arith, o.1, s.end))) log k.sums s.sums)

@@ -3,11 +3,8 @@ use Rattle.std.proofs.Common.{◌≡◌, ℕ, zero, suc, ◌≤◌, ◌<◌, inr
 use Rattle.htl_audit.proofs.Words.{slice_get, eqb-true, nat_tests, get_or-set_same, get_or-set_other, length-set, length-drop, get_or_from_slice_get, slice_get_within, none-some, Event, Inv, Task, AreInRange, IsInvInRange, IsTaskInRange, Tables, task_worst, Object, IsAccepted, took, IsTookWithin, map_at, worst_some, Values, IsLength, reading_of, taken_as, took_took, Slice, LogKind, LogFault, Audit, AuditFollows, IsAuditor, all_rounds, Kept, judged_to, judged, with_kind, kind_of, passed, lengths_begun, inv_takes, first_kept, AreKept, AreSummed, IsSized, LogFollows, all_zero, each_at, item_at, length_mapped, none_marked}
 use Rattle.htl_model.specs.declared.event.Event.TheVariants as V
 use Rattle.htl_machine.specs.Calls as machines
-use Rattle.htl_audit.proofs.Passing.{judged_leaves}
-use Rattle.htl_audit.proofs.Renewing.{renewed_sized, renewed_else}
-use Rattle.htl_audit.proofs.Rounds.{accepted_range, have_rounds}
-use Rattle.htl_audit.proofs.Steps.{judged_within}
-use Rattle.htl_audit.proofs.Taking.{taken_leaves, taken_follows}
+use Rattle.htl_audit.proofs.{Passing.judged_leaves, Renewing.renewed_sized, Renewing.renewed_else, Rounds.accepted_range, Rounds.have_rounds, Steps.judged_within, Taking.taken_leaves, Taking.taken_follows}
+use Rattle.std.proofs.lemmas.List.{length-replicate}
 
 -- ---- a beginning
 
@@ -31,23 +28,10 @@ begun_auditor o m takes log k t modes lengths s i =
 pub passed_rows : (t : Tables) (now : ℕ) (xs : List Slice) (k : Kept) → length (judged_to t now xs k).roster.stands ≡ length k.roster.stands
 passed_rows t now xs k = ap (λ o. length o.stands) (judged_leaves t now xs k).roster
 
-judged_sums : (t : Tables) (now : ℕ) (xs : List Slice) (k : Kept) → length (judged_to t now xs k).sums ≡ length k.sums
-judged_sums t now [] k = refl
-judged_sums t now (x ∷ xs) k = by k.fault (ltb x.to now) (judged_sums t now xs (judged t now x k))
-  where
-    one : (o : Option LogKind) → length (with_kind x o k).sums ≡ length k.sums
-    one (Some c) = refl
-    one None = length-set k.sums x.inv _
-
-    by : (o : Option LogFault) (b : Bool) → length (judged_to t now xs (judged t now x k)).sums ≡ length (judged t now x k).sums → length (elim o as (λ _. Kept) [ Some f ↦ k | None ↦ cond b (judged_to t now xs (judged t now x k)) k ]).sums ≡ length k.sums
-    by (Some f) b h = refl
-    by None false h = refl
-    by None true h = h ∙ one (kind_of t now k x)
-
 pub passed_sized : (n : ℕ) (t : Tables) (now : ℕ) (xs : List Slice) (k : Kept) → IsSized n k → IsSized n (passed t now xs k)
 passed_sized n t now xs k z =
-    let r = (judged_leaves t now xs k).roster in
-    record { stands = ap (λ o. length o.stands) r ∙ z.stands; starts = ap (λ o. length o.starts) r ∙ z.starts; lengths = ap (λ o. length o.lengths) r ∙ z.lengths; sums = judged_sums t now xs k ∙ z.sums }
+    let l = judged_leaves t now xs k in
+    record { stands = ap (λ o. length o.stands) l.roster ∙ z.stands; starts = ap (λ o. length o.starts) l.roster ∙ z.starts; lengths = ap (λ o. length o.lengths) l.roster ∙ z.lengths; sums = l.sums ∙ z.sums }
 
 pub passed_auditor : (o : Object) (m : machines.Seen) (takes : List ℕ) (log : List Slice) (k : Kept) (t : Tables) (now : ℕ) → IsAuditor o m takes log k → IsAuditor o m takes log (passed t now (drop k.place log) k)
 passed_auditor o m takes log k t now i =
@@ -56,7 +40,7 @@ passed_auditor o m takes log k t now i =
       rows = passed_rows t now (drop k.place log) k ∙ i.rows;
       starts = ap (λ o. length o.starts) (judged_leaves t now (drop k.place log) k).roster ∙ i.starts;
       lengths = ap (λ o. length o.lengths) (judged_leaves t now (drop k.place log) k).roster ∙ i.lengths;
-      sums = judged_sums t now (drop k.place log) k ∙ i.sums;
+      sums = (judged_leaves t now (drop k.place log) k).sums ∙ i.sums;
       count = i.count;
       small = i.small;
       lines = i.lines;
@@ -102,10 +86,6 @@ taken_auditor o m new takes log k t now i n few same a =
 
 -- ---- nothing is followed yet
 
-length_of : {A : Type 0} (n : ℕ) (x : A) → length (replicate n x) ≡ n
-length_of zero x = refl
-length_of (suc n) x = ap suc (length_of n x)
-
 first_roster : (t : Tables) (n : ℕ) → AreKept t [] (first_kept n).roster
 first_roster t n =
     record {
@@ -131,7 +111,7 @@ first_follows t log n =
           kept = first_roster t n;
           place = refl;
           end = refl;
-          room = length_of n 0 ∙ sym (length_of n false);
+          room = length-replicate n 0 ∙ sym (length-replicate n false);
           sums = λ r p j i c. absurd (none-some r i.at);
           done = refl;
         }
@@ -158,10 +138,10 @@ first_auditor o accepted m takes log k object takes_are kept lines =
     (subst (λ z. IsAuditor o m (map (λ (x : Inv). task_worst o.tables x.task) o.tables.invs) log z) (sym kept)
     (record {
       object = object;
-      rows = length_of (length o.tables.invs) false;
-      starts = length_of (length o.tables.invs) 0;
-      lengths = length_of (length o.tables.invs) 0;
-      sums = length_of (length o.tables.invs) 0;
+      rows = length-replicate (length o.tables.invs) false;
+      starts = length-replicate (length o.tables.invs) 0;
+      lengths = length-replicate (length o.tables.invs) 0;
+      sums = length-replicate (length o.tables.invs) 0;
       count = length_mapped (λ (x : Inv). task_worst o.tables x.task) o.tables.invs;
       small = worst_small o.tables range o.tables.invs each;
       lines = lines;

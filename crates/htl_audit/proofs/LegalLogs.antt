@@ -1,11 +1,9 @@
 -- Legal logs line by line: in order of time, never more ticks than a job takes, and all of them where its window ended.
-use Rattle.std.proofs.Common.{◌≡◌, ◌≤◌, ◌<◌, ◌⊎◌, inl, inr, ℕ, zero, suc, ◌+◌, ◌-◌, Bool, true, false, cond, not, ◌&&◌, ◌||◌, eqb, leb, ltb, List, [], ◌∷◌, ◌++◌, length, get_or, take, slice_get, Some, None, refl, sym, ap, ◌∙◌, arith}
+use Rattle.std.proofs.Common.{◌≡◌, ◌≤◌, ◌<◌, ◌⊎◌, inl, inr, ℕ, zero, suc, ◌+◌, ◌-◌, Bool, true, false, cond, not, ◌&&◌, ◌||◌, eqb, leb, ltb, List, [], ◌∷◌, ◌++◌, length, get_or, take, slice_get, Some, None, refl, sym, ap, ◌∙◌, arith, ap₂}
 use Rattle.htl_audit.proofs.Words.{take-length, eqb-true, eqb-false, ltb-true, ltb-false, lt-ltb, and_from, or_parts, leb-false, slice_get_cases, none-some, Job, precedes, Slice, ended, ending, BeginningJobs, lies_in, ticks, job_length, is_done, is_free, is_over, is_short, any_job, last_end, slice_is_out_of_order, line_fault, IsLegalIn, order}
-use Rattle.htl_audit.specs.declared.slice.LogKind.TheVariants as kind
-use Rattle.htl_audit.proofs.JobTests.{all_at_0, IsJobOf, job_there}
-use Rattle.htl_audit.proofs.Judging.{rest, applied, ticks_more}
-use Rattle.htl_audit.proofs.Passing.{take_next, get_before}
-use Rattle.htl_audit.proofs.Summing.{last_more}
+use Rattle.htl_audit.proofs.{JobTests.all_at_0, JobTests.IsJobOf, JobTests.none_passes, JobTests.next_counts, Judging.applied, Judging.ticks_more, Judging.IsKept, Judging.kept_line, Passing.get_before, Summing.last_more}
+use Rattle.htl_smach.proofs.RoundRecords.{take_more_get}
+use Rattle.std.proofs.{lemmas.List.take_all, lemmas.Bool.not-false}
 
 -- ---- the lines that end before an instant
 
@@ -38,17 +36,12 @@ module _ (r : BeginningJobs) (j : Job) where
 
   pub ended_next : (n : ℕ) (xs : List Slice) → ticks r j (ended (suc n) xs) ≡ ticks r j (ended n xs) + ticks r j (ending n xs)
   ended_next n [] = refl
-  ended_next n (x ∷ xs) = by (ltb x.to (suc n)) (ltb x.to n) (eqb x.to n) refl refl refl (ended_next n xs)
+  ended_next n (x ∷ xs) =
+      omega (arith, ticks_if (ltb x.to (suc n)) (ended (suc n) xs), ticks_if (ltb x.to n) (ended n xs), ticks_if (eqb x.to n) (ending n xs), next_counts x.to n (cond (lies_in r j x) (x.to - x.from) 0), ended_next n xs)
     where
-      by : (a b c : Bool) → ltb x.to (suc n) ≡ a → ltb x.to n ≡ b → eqb x.to n ≡ c → ticks r j (ended (suc n) xs) ≡ ticks r j (ended n xs) + ticks r j (ending n xs)
-          → ticks r j (cond a (x ∷ ended (suc n) xs) (ended (suc n) xs)) ≡ ticks r j (cond b (x ∷ ended n xs) (ended n xs)) + ticks r j (cond c (x ∷ ending n xs) (ending n xs))
-      by true true true e f g next = absurd (omega (arith, ltb-true x.to n f, eqb-true x.to n g))
-      by true true false e f g next = omega (arith, next)
-      by true false true e f g next = omega (arith, next)
-      by true false false e f g next = absurd (eqb-false x.to n g (omega (arith, ltb-true x.to (suc n) e, ltb-false x.to n f)))
-      by false true c e f g next = absurd (omega (arith, ltb-false x.to (suc n) e, ltb-true x.to n f))
-      by false false true e f g next = absurd (omega (arith, ltb-false x.to (suc n) e, eqb-true x.to n g))
-      by false false false e f g next = omega (arith, next)
+      ticks_if : (b : Bool) (ys : List Slice) → ticks r j (cond b (x ∷ ys) ys) ≡ cond b (cond (lies_in r j x) (x.to - x.from) 0) 0 + ticks r j ys
+      ticks_if true ys = refl
+      ticks_if false ys = omega arith
 
   -- a line of the job, where these have ticks of it
   pub ended_some : (n : ℕ) (xs : List Slice) → 0 < ticks r j (ended n xs) → (k : ℕ) × (x : Slice) × (slice_get xs k ≡ Some x) × (x.to < n) × (lies_in r j x ≡ true)
@@ -99,38 +92,6 @@ few_ending n (x ∷ xs) ordered = by (eqb x.to n) refl (few_ending n xs (λ i k 
         let none = none_ending n xs (λ i y at to. let o = ordered 0 (suc i) x y (omega arith) refl at in omega (arith, o.0, o.1, to, eqb-true x.to n e)) in
         omega (arith, ap (λ (zs : List Slice). length zs) none)
 
--- ---- a line that breaks no rule
-
-pub record IsKept (rounds : List BeginningJobs) (now : ℕ) (before : List Slice) (x : Slice) : Type 0 where
-  pub room : x.from < x.to
-  pub order : last_end before ≤ x.from
-  pub soon : x.to < now
-  pub inside : any_job (λ r j. lies_in r j.1 x) rounds ≡ true
-  pub most : any_job (λ r j. lies_in r j.1 x && is_over r (before ++ x ∷ []) j) rounds ≡ false
-  pub free : any_job (λ r j. lies_in r j.1 x && not (is_free r before j.1)) rounds ≡ false
-
-kept_line : (rounds : List BeginningJobs) (now : ℕ) (before : List Slice) (x : Slice) → line_fault rounds now before x ≡ None → IsKept rounds now before x
-kept_line rounds now before x e =
-    by (slice_is_out_of_order now before x) (any_job (λ r j. lies_in r j.1 x) rounds) (any_job (λ r j. lies_in r j.1 x && is_over r (before ++ x ∷ []) j) rounds)
-    (any_job (λ r j. lies_in r j.1 x && not (is_free r before j.1)) rounds) refl refl refl refl e
-  where
-    by : (o a b c : Bool) → slice_is_out_of_order now before x ≡ o → any_job (λ r j. lies_in r j.1 x) rounds ≡ a → any_job (λ r j. lies_in r j.1 x && is_over r (before ++ x ∷ []) j) rounds ≡ b
-        → any_job (λ r j. lies_in r j.1 x && not (is_free r before j.1)) rounds ≡ c → cond o (Some kind.Order) (rest a b c) ≡ None → IsKept rounds now before x
-    by true a b c f g h i n = absurd (none-some kind.Order (sym n))
-    by false false b c f g h i n = absurd (none-some kind.Outside (sym n))
-    by false true true c f g h i n = absurd (none-some kind.Over (sym n))
-    by false true false true f g h i n = absurd (none-some kind.Before (sym n))
-    by false true false false f g h i n =
-        let two = or_parts (leb x.to x.from || ltb x.from (last_end before)) (leb now x.to) f in
-        let ends = or_parts (leb x.to x.from) (ltb x.from (last_end before)) two.0 in
-        record { room = leb-false x.to x.from ends.0; order = ltb-false x.from (last_end before) ends.1; soon = leb-false now x.to two.1; inside = g; most = h; free = i }
-
-take_past : (xs : List Slice) (i : ℕ) → length xs ≤ i → take (suc i) xs ≡ take i xs
-take_past [] zero h = refl
-take_past [] (suc i) h = refl
-take_past (x ∷ xs) zero h = absurd (omega (arith, h))
-take_past (x ∷ xs) (suc i) h = ap (λ zs. x ∷ zs) (take_past xs i (omega (arith, h)))
-
 -- ---- a legal log
 
 module _ (rounds : List BeginningJobs) (now : ℕ) (log : List Slice) (legal : IsLegalIn rounds now log) where
@@ -143,7 +104,7 @@ module _ (rounds : List BeginningJobs) (now : ℕ) (log : List Slice) (legal : I
   ordered i (suc k) x y less at_x at_y =
       let z = get_before log k y at_y in
       let own = kept (suc k) y at_y in
-      let end : last_end (take (suc k) log) ≡ z.0.to = ap last_end (take_next log k z.0 z.1) ∙ last_more (take k log) z.0 in
+      let end : last_end (take (suc k) log) ≡ z.0.to = ap last_end (take_more_get log k z.0 z.1) ∙ last_more (take k log) z.0 in
       elim (order i k less) [
         | inl earlier ↦ (let next = ordered i k x z.0 earlier at_x z.1 in (omega (arith, next.0, next.1, end, own.order), own.room))
         | inr same ↦
@@ -167,54 +128,34 @@ module _ (rounds : List BeginningJobs) (now : ℕ) (log : List Slice) (legal : I
     never_over (suc i) = by (slice_get_cases log i).1 (never_over i)
       where
         not_over : (x : Slice) → slice_get log i ≡ Some x → lies_in r j x ≡ true → ticks r j (take i log ++ x ∷ []) ≤ job_length r p
-        not_over x at e = by_test (is_over r (take i log ++ x ∷ []) (p, j)) refl
-          where
-            by_test : (b : Bool) → is_over r (take i log ++ x ∷ []) (p, j) ≡ b → ticks r j (take i log ++ x ∷ []) ≤ job_length r p
-            by_test false f = ltb-false (job_length r p) (ticks r j (take i log ++ x ∷ [])) f
-            by_test true f =
-                let found = job_there (λ r j. lies_in r j.1 x && is_over r (take i log ++ x ∷ []) j) rounds r p j is (and_from (lies_in r j x) (is_over r (take i log ++ x ∷ []) (p, j)) e f) in
-                let z : true ≡ false = sym found ∙ (kept i x at).most in
-                let y : ⊥ = cc in
-                absurd y
+        not_over x at e =
+            ltb-false (job_length r p) (ticks r j (take i log ++ x ∷ []))
+            (ap (λ b. b && is_over r (take i log ++ x ∷ []) (p, j)) (sym e) ∙ none_passes (λ r j. lies_in r j.1 x && is_over r (take i log ++ x ∷ []) j) rounds r p j (kept i x at).most is)
 
         one : (x : Slice) → slice_get log i ≡ Some x → (b : Bool) → lies_in r j x ≡ b → ticks r j (take i log) ≤ job_length r p → ticks r j (take (suc i) log) ≤ job_length r p
-        one x at true e next = omega (arith, ap (ticks r j) (take_next log i x at), not_over x at e)
+        one x at true e next = omega (arith, ap (ticks r j) (take_more_get log i x at), not_over x at e)
         one x at false e next =
-            omega (arith, ap (ticks r j) (take_next log i x at), ticks_more r j (take i log) x, ap (λ (b : Bool). cond b (x.to - x.from) 0) e, next)
+            omega (arith, ap (ticks r j) (take_more_get log i x at), ticks_more r j (take i log) x, ap (λ (b : Bool). cond b (x.to - x.from) 0) e, next)
 
         by : ((x : Slice) × (i < length log) × (slice_get log i ≡ Some x) × (get_or log i x ≡ x)) ⊎ ((length log ≤ i) × (slice_get log i ≡ None)) → ticks r j (take i log) ≤ job_length r p → ticks r j (take (suc i) log) ≤ job_length r p
         by (inl c) next = one c.0 c.2 (lies_in r j c.0) refl next
-        by (inr c) next = omega (arith, ap (ticks r j) (take_past log i c.0), next)
+        by (inr c) next = omega (arith, ap (ticks r j) (take_all (suc i) log (omega (arith, c.0)) ∙ sym (take_all i log c.0)), next)
 
     pub never_more : ticks r j log ≤ job_length r p
     never_more = omega (arith, ap (ticks r j) (take-length log), never_over (length log))
 
     -- where its window ended by the end, it has all its ticks
     pub window_done : j.present ≡ true → r.start + j.end < now → ticks r j log ≡ job_length r p
-    window_done here late = by (ltb (ticks r j log) (job_length r p)) refl
-      where
-        by : (b : Bool) → ltb (ticks r j log) (job_length r p) ≡ b → ticks r j log ≡ job_length r p
-        by false e = omega (arith, ltb-false (ticks r j log) (job_length r p) e, never_more)
-        by true e =
-            let short : is_short now r log (p, j) ≡ true =
-            and_from (j.present && ltb (r.start + j.end) now) (ltb (ticks r j log) (job_length r p)) (and_from j.present (ltb (r.start + j.end) now) here (lt-ltb (r.start + j.end) now late)) e in
-            let found = job_there (λ r j. is_short now r log j) rounds r p j is short in
-            let z : true ≡ false = sym found ∙ legal.whole in
-            let y : ⊥ = cc in
-            absurd y
+    window_done here late =
+        let enough : ltb (ticks r j log) (job_length r p) ≡ false =
+        ap₂ (λ a b. a && b && ltb (ticks r j log) (job_length r p)) (sym here) (sym (lt-ltb (r.start + j.end) now late)) ∙ none_passes (λ r j. is_short now r log j) rounds r p j legal.whole is in
+        omega (arith, ltb-false (ticks r j log) (job_length r p) enough, never_more)
 
     -- a predecessor has all its ticks before each line of the job
     pub waited : (k : ℕ) (x : Slice) → slice_get log k ≡ Some x → lies_in r j x ≡ true → (q : ℕ) (h : Job) → slice_get r.jobs q ≡ Some h → precedes q j ≡ true → h.present ≡ true → ticks r h (take k log) ≡ job_length r q
     waited k x at e q h at_q before here =
-        let free : is_free r (take k log) j ≡ true = by (is_free r (take k log) j) refl in
-        let test = all_at_0 (λ (z : ℕ × Job). not (precedes z.0 j && z.1.present) || is_done r (take k log) z) r.jobs free q h at_q in
+        let none : not (is_free r (take k log) j) ≡ false =
+        ap (λ b. b && not (is_free r (take k log) j)) (sym e) ∙ none_passes (λ r j. lies_in r j.1 x && not (is_free r (take k log) j.1)) rounds r p j (kept k x at).free is in
+        let test = all_at_0 (λ (z : ℕ × Job). not (precedes z.0 j && z.1.present) || is_done r (take k log) z) r.jobs (not-false (is_free r (take k log) j) none) q h at_q in
         eqb-true (ticks r h (take k log)) (job_length r q)
         (applied (precedes q j && h.present) (is_done r (take k log) (q, h)) test (and_from (precedes q j) h.present before here))
-      where
-        by : (b : Bool) → is_free r (take k log) j ≡ b → is_free r (take k log) j ≡ true
-        by true f = f
-        by false f =
-            let found = job_there (λ r j. lies_in r j.1 x && not (is_free r (take k log) j.1)) rounds r p j is (and_from (lies_in r j x) (not (is_free r (take k log) j)) e (ap not f)) in
-            let z : true ≡ false = sym found ∙ (kept k x at).free in
-            let y : ⊥ = cc in
-            absurd y

@@ -1,8 +1,7 @@
 -- The lines up to an instant are judged as the definition judges them.
 use Rattle.std.proofs.Common.{◌≡◌, ℕ, zero, suc, ◌≤◌, ◌<◌, inl, inr, Bool, true, false, cond, ltb, List, [], ◌∷◌, ◌++◌, length, take, Option, Some, None, IfSome, refl, sym, ◌∙◌, ap, subst, arith}
 use Rattle.htl_audit.proofs.Words.{slice_get, append_assoc, append-nil, Tables, Slice, LogKind, LogFault, BeginningJobs, line_fault, fault_at, Kept, start_at, kind_of, with_slice, with_kind, judged, judged_to, AreSummed, IsNext, AreJudged, IsLate, BeganBefore, ltb-false, ltb-true}
-use Rattle.htl_audit.proofs.Judging.{kind_is}
-use Rattle.htl_audit.proofs.Summing.{Keeps, keeps, summed_more}
+use Rattle.htl_audit.proofs.{Judging.kind_is, Summing.Keeps, Summing.keeps, Summing.summed_more}
 
 -- behind a fault nothing is judged
 stopped : (t : Tables) (now : ℕ) (xs : List Slice) (k : Kept) (f : LogFault) → k.fault ≡ Some f → judged_to t now xs k ≡ k

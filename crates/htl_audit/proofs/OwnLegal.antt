@@ -1,18 +1,11 @@
 -- The job lines of a run make a legal log.
 use Rattle.std.proofs.Common.{◌≡◌, ◌≤◌, ◌<◌, inl, inr, ℕ, suc, ◌+◌, ◌-◌, ◌*◌, ◌/◌, Bool, true, false, cond, not, ◌&&◌, ◌||◌, eqb, leb, ltb, List, [], ◌∷◌, ◌++◌, length, map, take, slice_get, get_or, Option, Some, None, refl, sym, ap, ap₂, ◌∙◌, subst, arith}
-use Rattle.htl_audit.proofs.Words.{eq-eqb, ltb-true, and_parts, cases_lt, Event, root_periods, begins, unit_period, hyper, frame_of, multiple_of, up_to, root_modules, Tables, frame_some, up_to_same, Job, SInstr, precedes, job_at, job_is, IsFeasibleRun, frames_are_served, schedules_of, Slice, HaveRounds, BeginningJobs, round_of, all_rounds, lies_in, ticks, job_length, is_done, is_free, is_over, is_short, any_job, any_short, last_end, line_fault, IsLegal, IsLegalIn, own_at, own_log, OwnLogIsLegal, none-some, up_to_none}
-use Rattle.htl_audit.proofs.FaultLaws.{is_legal}
-use Rattle.htl_audit.proofs.ClosedSlices.{given}
-use Rattle.htl_audit.proofs.FrameJobs.{IsFramed, of_round, of_frame, framed_precedes, frames_run}
-use Rattle.htl_audit.proofs.FrameSlices.{frame_plan, frame_slices_at, slices_are}
-use Rattle.htl_audit.proofs.Growing.{start_is, round_is}
-use Rattle.htl_audit.proofs.JobTests.{all_pass_0, IsJobOf, job_found, job_there}
-use Rattle.htl_audit.proofs.Judging.{lies, implied}
+use Rattle.htl_audit.proofs.Words.{eq-eqb, ltb-true, and_parts, cases_lt, Event, root_periods, begins, unit_period, hyper, frame_of, multiple_of, up_to, root_modules, Tables, frame_some, up_to_same, Job, SInstr, precedes, job_at, job_is, IsFeasibleRun, frames_are_served, schedules_of, Slice, HaveRounds, BeginningJobs, round_of, all_rounds, lies_in, ticks, job_length, is_done, is_free, is_over, is_short, any_job, any_short, last_end, line_fault, IsLegal, IsLegalIn, own_at, own_log, OwnLogIsLegal, none-some, up_to_none, false_from_ne_true}
+use Rattle.htl_audit.proofs.{FaultLaws.is_legal, ClosedSlices.given, FrameJobs.IsFramed, FrameJobs.of_round, FrameJobs.of_frame, FrameJobs.framed_precedes, FrameJobs.frames_run, Growing.start_is, Growing.round_is, RoundJobs.fresh}
+use Rattle.htl_audit.proofs.{FrameSlices.frame_plan, FrameSlices.frame_slices_at, FrameSlices.slices_are, JobTests.all_pass_0, JobTests.IsJobOf, JobTests.job_found, JobTests.job_there, JobTests.short_parts, Judging.lies, Judging.implied}
 use Rattle.htl_audit.proofs.OwnSoFar.{start_of, cut, last_early, same_round, mod_below, keeps, IsRun, again, later_at, few, IsAt, is_at, elsewhere, ticks_before}
 use Rattle.htl_audit.proofs.OwnTicks.{Plan, walk_of, IsSound, audited, IsOwn, own, own_lies, never_over, window_given, all_given, ready, before}
-use Rattle.htl_audit.proofs.RoundJobs.{fresh}
-use Rattle.htl_audit.proofs.Rounds.{accepted_range, accepted_kept, have_rounds}
-use Rattle.htl_audit.proofs.StandingJobs.{round_there}
+use Rattle.htl_audit.proofs.{Rounds.accepted_range, Rounds.accepted_kept, Rounds.have_rounds, StandingJobs.round_there}
 
 -- ---- a job by its rounds and by its frame
 
@@ -210,19 +203,14 @@ module _ (t : Tables) (lists : List (List SInstr)) (es : List Event) (rounds_fit
       ap (λ log. line_fault (all_rounds t es (suc end)) (suc end) log x) (c.front ∙ ap (up_to at) a.next) ∙ line_keeps end a.before x (ap at (sym a.next) ∙ c.here) (omega (arith, c.below, a.next))
 
   none_short : (end : ℕ) → any_short (all_rounds t es (suc end)) (suc end) (up_to at (suc end)) ≡ false
-  none_short end = by (any_short (all_rounds t es (suc end)) (suc end) (up_to at (suc end))) refl
-    where
-      by : (b : Bool) → any_short (all_rounds t es (suc end)) (suc end) (up_to at (suc end)) ≡ b → b ≡ false
-      by false e = refl
-      by true e =
-          let f = job_found (λ r j. is_short (suc end) r (up_to at (suc end)) j) (all_rounds t es (suc end)) e in
-          let two = and_parts (f.job.present && ltb (f.round.start + f.job.end) (suc end)) (ltb (ticks f.round f.job (up_to at (suc end))) (job_length f.round f.position)) f.passes in
-          let one = and_parts f.job.present (ltb (f.round.start + f.job.end) (suc end)) two.0 in
-          let k = job_known (suc end) f.position f.round f.job f.is one.0 in
-          let late = ltb-true (f.round.start + f.job.end) (suc end) one.1 in
-          let less = ltb-true (ticks f.round f.job (up_to at (suc end))) (job_length f.round f.position) two.1 in
-          let all = window_given (plan k.frame) k.frame h (runs.sound k.frame k.whole) k.position k.job k.is.at_frame k.is.here (suc end) (omega (arith, late, k.end_is)) in
-          absurd (omega (arith, less, k.ticks_are (suc end), k.length_is, all))
+  none_short end =
+      false_from_ne_true (any_short (all_rounds t es (suc end)) (suc end) (up_to at (suc end)))
+      (λ e.
+      let f = job_found (λ r j. is_short (suc end) r (up_to at (suc end)) j) (all_rounds t es (suc end)) e in
+      let short = short_parts f.job.present (f.round.start + f.job.end) (suc end) (ticks f.round f.job (up_to at (suc end))) (job_length f.round f.position) f.passes in
+      let k = job_known (suc end) f.position f.round f.job f.is short.0 in
+      let all = window_given (plan k.frame) k.frame h (runs.sound k.frame k.whole) k.position k.job k.is.at_frame k.is.here (suc end) (omega (arith, short.1, k.end_is)) in
+      omega (arith, short.2, k.ticks_are (suc end), k.length_is, all))
 
   pub run_is_legal : (end : ℕ) → IsLegalIn (all_rounds t es (suc end)) (suc end) (up_to at (suc end))
   run_is_legal end = record { lines = lines_keep end; whole = none_short end }

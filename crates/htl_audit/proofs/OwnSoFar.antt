@@ -2,10 +2,8 @@
 use Rattle.std.proofs.Common.{◌≡◌, ◌≤◌, ◌<◌, ◌⊎◌, inl, inr, ℕ, zero, suc, ◌+◌, ◌*◌, ◌/◌, true, false, cond, not, ◌&&◌, ◌||◌, leb, List, [], ◌∷◌, ◌++◌, length, take, slice_get, Some, None, refl, sym, ap, ap₂, ◌∙◌, subst, arith}
 use Rattle.htl_audit.proofs.Words.{div-add-mod, mod-lt, mul-div-le, mul-div_cancel_left, le-ltb, lt-leb, cases_eq, false_from_ne_true, take-append-le, slice_get_within, none-some, take-append_seam, up_to, Job, first_point, none_at_first, rounds_are, up_to_last, Slice, BeginningJobs, lies_in, ticks, is_free, is_over, any_job, last_end, slice_is_out_of_order, line_fault, get_either, times_grow}
 use Rattle.htl_audit.specs.declared.slice.LogKind.TheVariants as kind
-use Rattle.htl_audit.proofs.ClosedSlices.{closed, one_closed, given, given_first}
-use Rattle.htl_audit.proofs.FrameSlices.{frame_slices_at, none_past}
-use Rattle.htl_audit.proofs.Judging.{lies, rest}
-use Rattle.htl_audit.proofs.OwnTicks.{ticks_both, no_ticks, Plan, walk_of, IsSound, audited, IsOwn, own, ticks_now}
+use Rattle.htl_audit.proofs.{ClosedSlices.closed, ClosedSlices.one_closed, ClosedSlices.given, ClosedSlices.given_first, FrameSlices.frame_slices_at, FrameSlices.none_past, Judging.lies, Judging.rest, Judging.ticks_both, Judging.no_ticks}
+use Rattle.htl_audit.proofs.OwnTicks.{Plan, walk_of, IsSound, audited, IsOwn, own, ticks_now}
 
 -- ---- lists of at most one item, end to end
 

@@ -2,7 +2,7 @@
 use Rattle.std.proofs.Common.{◌≡◌, ◌≤◌, ◌<◌, inl, inr, ℕ, zero, suc, ◌+◌, ◌-◌, Bool, true, false, cond, ◌&&◌, eqb, leb, ltb, List, [], ◌∷◌, ◌++◌, slice_get, get_or, Option, Some, None, refl, sym, ap, ap₂, ◌∙◌, subst, arith}
 use Rattle.htl_audit.proofs.Words.{eqb-true, eqb-false, eq-eqb, ltb-true, ltb-false, le-leb, and_from, Job, precedes, SInstr, Left, job_at, walk, first_point, is_position, slice_onto, slices, finish, AllWithin, Meets, job_is, job_there, work_some, work_present, slices_apart, spent_is, not_some, Slice, BeginningJobs, lies_in, ticks, cases_less_more, same_Some}
 use Rattle.htl_audit.proofs.ClosedSlices.{Runs, runs_at, mine, onto, closed, IsClosed, closed_from, gives, given, given_less, given_all}
-use Rattle.htl_audit.proofs.Judging.{lies}
+use Rattle.htl_audit.proofs.{Judging.lies, JobTests.next_counts}
 
 -- what the processor is given: jobs, how long each takes, and one list
 pub record Plan : Type 0 where
@@ -12,20 +12,6 @@ pub record Plan : Type 0 where
 
 abbrev pub walk_of : Plan → List Left
 walk_of r = walk r.jobs r.lengths r.schedule
-
--- ---- ticks of lists
-
-pub ticks_both : (r : BeginningJobs) (j : Job) (xs ys : List Slice) → ticks r j (xs ++ ys) ≡ ticks r j xs + ticks r j ys
-ticks_both r j [] ys = omega arith
-ticks_both r j (x ∷ xs) ys = omega (arith, ticks_both r j xs ys)
-
-pub no_ticks : (r : BeginningJobs) (j : Job) (xs : List Slice) → ((i : ℕ) (x : Slice) → slice_get xs i ≡ Some x → lies_in r j x ≡ true → ⊥) → ticks r j xs ≡ 0
-no_ticks r j [] out = refl
-no_ticks r j (x ∷ xs) out = by (lies_in r j x) refl (no_ticks r j xs (λ i y at. out (suc i) y at))
-  where
-    by : (b : Bool) → lies_in r j x ≡ b → ticks r j xs ≡ 0 → cond b (x.to - x.from) 0 + ticks r j xs ≡ 0
-    by true is next = absurd (out 0 x refl is)
-    by false is next = omega (arith, next)
 
 -- ---- slices of a position
 
@@ -201,25 +187,13 @@ module _ (r : Plan) (s period : ℕ) (sound : IsSound r period) where
         → ticks (audited r s) j (closed r.jobs s now ls) + given p s now ls ≡ given p s (suc now) ls
     ticks_then now [] each = refl
     ticks_then now (l ∷ ls) each =
-        by (eqb (s + l.at) now) (ltb (s + l.at) now) (ltb (s + l.at) (suc now)) refl refl refl (more (mine r.jobs s l.position l.slice)) (each 0 l refl) (ticks_then now ls (λ k m at. each (suc k) m at))
+        omega (arith, more (eqb (s + l.at) now) (mine r.jobs s l.position l.slice), ap (λ (n : ℕ). cond (eqb (s + l.at) now) n 0) (each 0 l refl), next_counts (s + l.at) now (gives p l), ticks_then now ls (λ k m at. each (suc k) m at))
       where
-        more : (o : Option Slice) → ticks (audited r s) j (onto o (closed r.jobs s now ls)) ≡ ticks (audited r s) j (onto o []) + ticks (audited r s) j (closed r.jobs s now ls)
-        more None = omega arith
-        more (Some x) = omega arith
-
-        by : (b c d : Bool) → eqb (s + l.at) now ≡ b → ltb (s + l.at) now ≡ c → ltb (s + l.at) (suc now) ≡ d
-            → ticks (audited r s) j (onto (mine r.jobs s l.position l.slice) (closed r.jobs s now ls)) ≡ ticks (audited r s) j (onto (mine r.jobs s l.position l.slice) []) + ticks (audited r s) j (closed r.jobs s now ls)
-            → ticks (audited r s) j (onto (mine r.jobs s l.position l.slice) []) ≡ gives p l
-            → ticks (audited r s) j (closed r.jobs s now ls) + given p s now ls ≡ given p s (suc now) ls
-            → ticks (audited r s) j (cond b (onto (mine r.jobs s l.position l.slice) (closed r.jobs s now ls)) (closed r.jobs s now ls)) + (cond c (gives p l) 0 + given p s now ls)
-            ≡ cond d (gives p l) 0 + given p s (suc now) ls
-        by true true d e f g split one next = absurd (omega (arith, eqb-true (s + l.at) now e, ltb-true (s + l.at) now f))
-        by true false true e f g split one next = omega (arith, split, one, next)
-        by true false false e f g split one next = absurd (omega (arith, eqb-true (s + l.at) now e, ltb-false (s + l.at) (suc now) g))
-        by false true true e f g split one next = omega (arith, next)
-        by false true false e f g split one next = absurd (omega (arith, ltb-true (s + l.at) now f, ltb-false (s + l.at) (suc now) g))
-        by false false true e f g split one next = absurd (eqb-false (s + l.at) now e (omega (arith, ltb-false (s + l.at) now f, ltb-true (s + l.at) (suc now) g)))
-        by false false false e f g split one next = omega (arith, next)
+        more : (b : Bool) (o : Option Slice)
+            → ticks (audited r s) j (cond b (onto o (closed r.jobs s now ls)) (closed r.jobs s now ls)) ≡ cond b (ticks (audited r s) j (onto o [])) 0 + ticks (audited r s) j (closed r.jobs s now ls)
+        more false o = omega arith
+        more true None = omega arith
+        more true (Some x) = omega arith
 
     pub ticks_now : (now : ℕ) → ticks (audited r s) j (closed r.jobs s now (walk_of r)) + given p s now (walk_of r) ≡ given p s (suc now) (walk_of r)
     ticks_now now = ticks_then now (walk_of r) ticks_of

@@ -1,38 +1,30 @@
 -- From an instant to a later one over the same rounds: what an auditor follows of a log carries over.
 use Rattle.std.proofs.Common.{◌≡◌, ℕ, zero, suc, ◌+◌, ◌-◌, ◌≤◌, ◌<◌, ◌⊎◌, inl, inr, Bool, true, false, cond, not, ◌&&◌, ◌||◌, ltb, List, [], ◌∷◌, ◌++◌, length, take, drop, Option, Some, None, IfSome, is_some, refl, sym, ◌∙◌, ap, subst, arith}
-use Rattle.htl_audit.proofs.Words.{slice_get, Tables, Slice, LogKind, LogFault, BeginningJobs, any_short, last_end, line_fault, slice_is_out_of_order, any_job, lies_in, is_over, is_free, Agree, Kept, start_at, kind_of, with_kind, judged, judged_to, settled, passed, any_fell_short, IsNext, AreJudged, IsLate, BeganBefore, AreSummed, LogFollows, none-some, ltb-false}
-use Rattle.htl_audit.specs.declared.slice.LogKind.TheVariants as kind
-use Rattle.htl_audit.proofs.Judging.{rest}
-use Rattle.htl_audit.proofs.Onward.{fault_stays, lines_between, take_both, get_drop, in_front, is_some_slice}
-use Rattle.htl_audit.proofs.Settling.{short_later}
-use Rattle.htl_audit.proofs.Steps.{judged_stopped, judged_roster}
-use Rattle.htl_audit.proofs.Summing.{last_more}
-use Rattle.htl_audit.proofs.Verdicts.{length_take}
+use Rattle.htl_audit.proofs.Words.{slice_get, Tables, Slice, LogKind, LogFault, BeginningJobs, any_short, last_end, line_fault, slice_is_out_of_order, any_job, lies_in, is_over, is_free, Agree, Kept, start_at, kind_of, with_kind, judged, judged_to, settled, passed, any_fell_short, IsNext, AreJudged, IsLate, BeganBefore, AreSummed, LogFollows, none-some, ltb-false, length-set, item_at, slice_get_within}
+use Rattle.htl_audit.proofs.{Judging.kept_line, Onward.fault_stays, Onward.lines_between, Onward.get_drop, Settling.short_later, Steps.judged_stopped, Summing.last_more}
+use Rattle.htl_base.proofs.Places.{from_take}
+use Rattle.std.proofs.{Math.Seq.take-add, lemmas.List.length-take-le}
+use Rattle.htl_smach.proofs.RoundRecords.{take_more_get}
 
--- ---- judging leaves the roster and the jobs that fell short, and passes on no fault
-
-judged_short : (t : Tables) (now : ℕ) (x : Slice) (k : Kept) → (judged t now x k).short ≡ k.short
-judged_short t now x k = by (kind_of t now k x)
-  where
-    by : (o : Option LogKind) → (with_kind x o k).short ≡ k.short
-    by (Some c) = refl
-    by None = refl
+-- ---- judging leaves the roster, the jobs that fell short and how many sums there are
 
 pub record IsLeft (k new : Kept) : Type 0 where
   pub roster : new.roster ≡ k.roster
   pub short : new.short ≡ k.short
+  pub sums : length new.sums ≡ length k.sums
 
 pub judged_leaves : (t : Tables) (now : ℕ) (xs : List Slice) (k : Kept) → IsLeft k (judged_to t now xs k)
-judged_leaves t now [] k = record { roster = refl; short = refl }
+judged_leaves t now [] k = record { roster = refl; short = refl; sums = refl }
 judged_leaves t now (x ∷ xs) k = by k.fault (ltb x.to now) (judged_leaves t now xs (judged t now x k))
   where
-    same : IsLeft k k
-    same = record { roster = refl; short = refl }
+    one : (o : Option LogKind) → IsLeft k (with_kind x o k)
+    one (Some c) = record { roster = refl; short = refl; sums = refl }
+    one None = record { roster = refl; short = refl; sums = length-set k.sums x.inv _ }
 
     by : (o : Option LogFault) (b : Bool) → IsLeft (judged t now x k) (judged_to t now xs (judged t now x k)) → IsLeft k (elim o as (λ _. Kept) [ Some f ↦ k | None ↦ cond b (judged_to t now xs (judged t now x k)) k ])
-    by (Some f) b l = same
-    by None false l = same
-    by None true l = record { roster = l.roster ∙ judged_roster t now x k; short = l.short ∙ judged_short t now x k }
+    by (Some f) b l = record { roster = refl; short = refl; sums = refl }
+    by None false l = record { roster = refl; short = refl; sums = refl }
+    by None true l = let z = one (kind_of t now k x) in record { roster = l.roster ∙ z.roster; short = l.short ∙ z.short; sums = l.sums ∙ z.sums }
 
 -- ---- what fell short is no part of what is judged
 
@@ -42,31 +34,8 @@ short_next t rounds now log next k b None n = (record { kept = n.0.kept; place =
 
 -- ---- lines that keep the rules end one after the other
 
-in_order : (rounds : List BeginningJobs) (now : ℕ) (log : List Slice) (x : Slice) → line_fault rounds now log x ≡ None → last_end log ≤ x.from
-in_order rounds now log x e = by (ltb x.from (last_end log)) refl
-  where
-    second : (a b c : Bool) → b ≡ true → (a || b || c) ≡ true
-    second true b c e = refl
-    second false true c e = refl
-    second false false c e = absurd (let z : ⊥ = cc in z)
-
-    by : (b : Bool) → ltb x.from (last_end log) ≡ b → last_end log ≤ x.from
-    by false g = ltb-false x.from (last_end log) g
-    by true g =
-        let out : slice_is_out_of_order now log x ≡ true = second _ (ltb x.from (last_end log)) _ g in
-        let broken : line_fault rounds now log x ≡ Some kind.Order =
-        ap (λ z. cond z (Some kind.Order) (rest (any_job (λ r j. lies_in r j.1 x) rounds) (any_job (λ r j. lies_in r j.1 x && is_over r (log ++ x ∷ []) j) rounds) (any_job (λ r j. lies_in r j.1 x && not (is_free r log j.1)) rounds))) out in
-        absurd (none-some kind.Order (sym e ∙ broken))
-
-pub take_next : (xs : List Slice) (n : ℕ) (x : Slice) → slice_get xs n ≡ Some x → take (suc n) xs ≡ take n xs ++ x ∷ []
-take_next [] n x e = absurd (none-some x e)
-take_next (y ∷ xs) zero x e = let one : y ≡ x = cc in ap (λ z. z ∷ []) one
-take_next (y ∷ xs) (suc n) x e = ap (λ z. y ∷ z) (take_next xs n x e)
-
 pub get_before : (xs : List Slice) (n : ℕ) (x : Slice) → slice_get xs (suc n) ≡ Some x → (y : Slice) × (slice_get xs n ≡ Some y)
-get_before [] n x e = absurd (none-some x e)
-get_before (y ∷ xs) zero x e = (y, refl)
-get_before (y ∷ xs) (suc n) x e = get_before xs n x e
+get_before xs n x e = item_at xs n (omega (arith, slice_get_within xs (suc n) x e))
 
 -- behind a line that ends at `at` or later, all do
 all_late : (rounds : List BeginningJobs) (now at c : ℕ) (log : List Slice) (e : ℕ) → ((i : ℕ) (x : Slice) → i < e → slice_get log i ≡ Some x → (line_fault rounds now ([] ++ take i log) x ≡ None) × (x.to < now))
@@ -77,8 +46,9 @@ all_late rounds now at c log e keep first (suc d) x h here =
     let y = get_before log (c + d) x next in
     let was : at ≤ y.0.to = all_late rounds now at c log e keep first d y.0 (omega (arith, h)) y.1 in
     let two = keep (suc (c + d)) x (omega (arith, h)) next in
-    let end : last_end (take (suc (c + d)) log) ≡ y.0.to = ap last_end (take_next log (c + d) y.0 y.1) ∙ last_more (take (c + d) log) y.0 in
-    omega (arith, was, end, in_order rounds now (take (suc (c + d)) log) x two.0, is_some_slice rounds now (take (suc (c + d)) log) x two.0)
+    let end : last_end (take (suc (c + d)) log) ≡ y.0.to = ap last_end (take_more_get log (c + d) y.0 y.1) ∙ last_more (take (c + d) log) y.0 in
+    let own = kept_line rounds now (take (suc (c + d)) log) x two.0 in
+    omega (arith, was, end, own.order, own.room)
 
 -- ---- from one instant to a later one
 
@@ -122,7 +92,7 @@ module _ (t : Tables) (rounds : List BeginningJobs) (at later : ℕ) (order : at
       now = subst (λ o. IsNext t rounds at ([] ++ take c log) (slice_get log c) k o) e f.judged.next
 
       place : k.place ≡ c
-      place = now.0.place ∙ length_take log c f.judged.few
+      place = now.0.place ∙ length-take-le c log f.judged.few
 
       late : (xs : List Slice) → slice_get xs 0 ≡ slice_get log c → IsLate at k xs
       late [] g = tt
@@ -144,11 +114,11 @@ module _ (t : Tables) (rounds : List BeginningJobs) (at later : ℕ) (order : at
       more = take (j.count - c) (drop c log)
 
       whole : take j.count log ≡ take c log ++ more
-      whole = ap (λ n. take n log) (let z : j.count ≡ c + (j.count - c) = omega (arith, between.1) in z) ∙ take_both log c (j.count - c)
+      whole = ap (λ n. take n log) (let z : j.count ≡ c + (j.count - c) = omega (arith, between.1) in z) ∙ take-add c (j.count - c) log
 
       behind : (i : ℕ) (x : Slice) → slice_get more i ≡ Some x → at ≤ x.to
       behind i x here =
-          let g = in_front (drop c log) (j.count - c) i x here in
+          let g = from_take (drop c log) (j.count - c) i x here in
           all_late rounds later at c log j.count j.keep now.1 i x (omega (arith, g.0)) (sym (get_drop log c i) ∙ g.1)
 
       short_is : k1.fault ≡ None → (k1.short || any_fell_short t later k1) ≡ any_short rounds later (take j.count log)

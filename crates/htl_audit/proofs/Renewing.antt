@@ -1,6 +1,7 @@
 -- What is kept of the invocations whose rounds begin.
 use Rattle.std.proofs.Common.{◌≡◌, ◌≢◌, ℕ, zero, suc, ◌≤◌, ◌<◌, ◌⊎◌, inl, inr, Bool, true, false, cond, ◌&&◌, eqb, List, [], ◌∷◌, length, get_or, Option, Some, None, refl, sym, ◌∙◌, ap, subst, arith}
 use Rattle.htl_audit.proofs.Words.{slice_get, eqb-true, and_from, and_parts, nat_tests, get_or-set_same, get_or-set_other, length-set, list_at, Inv, is_at, Runs, Tables, is_concrete, mode_module, Kept, has_job, sum_at, length_at, start_at, inv_runs_in, begins_round, renewed, renewed_to, IsSized, list_is, cases_below}
+use Rattle.std.proofs.lemmas.List.{get_or_past}
 
 -- ---- whose mode runs
 
@@ -28,11 +29,6 @@ runs_of t modes i e = by (slice_get t.invs i) refl e
         (x, at, two.0, list_is modes (mode_module t x.mode) ∙ found (list_at modes (mode_module t x.mode)) x.mode two.1)
 
 -- ---- the entries of an invocation
-
-get_past : {A : Type 0} (xs : List A) (i : ℕ) (d : A) → length xs ≤ i → get_or xs i d ≡ d
-get_past [] i d h = refl
-get_past (x ∷ xs) zero d h = absurd (omega (arith, h))
-get_past (x ∷ xs) (suc i) d h = get_past xs i d (omega (arith, h))
 
 module _ (t : Tables) (modes : List (Option ℕ)) (takes : List ℕ) (s count : ℕ) where
   one_sized : (m i : ℕ) (k : Kept) → IsSized count k → IsSized count (renewed t modes s m i k)
@@ -131,4 +127,4 @@ module _ (t : Tables) (modes : List (Option ℕ)) (takes : List ℕ) (s count : 
 
   -- past the last invocation there is nothing
   pub start_past : (i : ℕ) (k : Kept) → IsSized count k → count ≤ i → start_at k.roster i ≡ 0
-  start_past i k z h = get_past k.roster.starts i 0 (omega (arith, h, z.starts))
+  start_past i k z h = get_or_past k.roster.starts i 0 (omega (arith, h, z.starts))

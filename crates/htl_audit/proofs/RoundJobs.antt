@@ -2,21 +2,10 @@
 use Rattle.std.proofs.Common.{◌≡◌, ℕ, ◌+◌, ◌%◌, ◌≤◌, ◌<◌, Bool, true, false, eqb, List, map, Option, Some, None, refl, sym, ◌∙◌, ap, arith}
 use Rattle.htl_audit.proofs.Words.{slice_get, flat_map, list_any, eqb-true, eq-eqb, and_parts, get_or_from_slice_get, Event, Inv, chosen, KeptApart, root_periods, begins, unit_period, feeds, feeds_at, is_read_from, AreInRange, Runs, IsSelection, root_modules, Tables, is_concrete, mode_period, release, window_end, Job, absent_job, is_fed_by, job_of, precedes, preds_of, running_invs, took, modes_at, mapped, map_at, states_are_selections, begins_by, HaveRounds, beginning, round_of, release_at, end_at, begins_round, inv_runs_in}
 use Rattle.htl_audit.specs.Legal as rules
-use Rattle.htl_audit.proofs.Growing.{round_job, length_is, placed}
-use Rattle.htl_audit.proofs.Having.{IsRootAt, whose_round, has_position_of, one_place}
-use Rattle.htl_audit.proofs.Renewing.{runs_of}
+use Rattle.htl_audit.proofs.{Growing.round_job, Growing.length_is, Growing.placed, Growing.job_parts, Having.IsRootAt, Having.whose_round, Having.has_position_of, Having.one_place, Renewing.runs_of}
 
 made : (t : Tables) (st : List (Option ℕ)) (k : ℕ) (o : Option Inv) → slice_get t.invs k ≡ o → job_of t st (Some k) ≡ elim o as (λ _. Job) [ None ↦ absent_job | Some x ↦ placed t st k x ]
 made t st k o at = ap (λ (o : Option Inv). elim o as (λ _. Job) [ None ↦ absent_job | Some x ↦ placed t st k x ]) at
-
--- a job that is present is of the invocation that stands there
-present_of : (t : Tables) (st : List (Option ℕ)) (o : Option ℕ) (j : Job) → job_of t st o ≡ j → j.present ≡ true → o ≡ Some j.inv
-present_of t st None j e here = absurd (let z : false ≡ true = ap (λ (y : Job). y.present) e ∙ here in cc)
-present_of t st (Some k) j e here = by (slice_get t.invs k) refl
-  where
-    by : (o : Option Inv) → slice_get t.invs k ≡ o → Some k ≡ Some j.inv
-    by None at = absurd (let z : false ≡ true = ap (λ (y : Job). y.present) (sym (made t st k None at) ∙ e) ∙ here in cc)
-    by (Some x) at = ap (λ (y : Job). Some y.inv) (sym (made t st k (Some x) at) ∙ e)
 
 -- a round of an invocation begins at the multiples of its mode's period
 pub begins_is : (t : Tables) (s i : ℕ) (x : Inv) → slice_get t.invs i ≡ Some x → begins_round t s i ≡ eqb (s % mode_period t x.mode) 0
@@ -51,7 +40,7 @@ module _ (t : Tables) (range : AreInRange t) (kept : KeptApart t 16) (rounds : H
   pub fresh : (p : ℕ) (j : Job) → slice_get (round_of t es s).jobs p ≡ Some j → j.present ≡ true → IsFresh p j
   fresh p j at here =
       let o = mapped (job_of t whose) whose p j at in
-      let who : o.0 ≡ Some j.inv = present_of t whose o.0 j o.2 here in
+      let who : o.0 ≡ Some j.inv = (job_parts t whose o.0 j o.2 here).4 in
       let stands : slice_get whose p ≡ Some (Some j.inv) = o.1 ∙ ap (λ z. Some z) who in
       let r = whose_round t range kept (modes_at t es s) selection s p j.inv stands in
       let b = r.begins in

@@ -2,11 +2,7 @@
 use Rattle.std.proofs.Common.{◌≡◌, ◌≤◌, ◌<◌, inl, inr, ℕ, ◌+◌, ◌*◌, ◌/◌, ◌%◌, true, List, length, slice_get, Some, option_map, sym, ap, ap₂, ◌∙◌, arith}
 use Rattle.htl_audit.proofs.Words.{div-add-mod, mod-lt, mul-mod_right, eq-eqb, slice_get_within, same_Some, Event, Inv, Stay, KeptApart, root_periods, state, stay_of, writer_from, feeds, AreInRange, Runs, root_modules, Tables, mode_module, mode_period, release, window_end, frame_some, Job, SInstr, AreFeasible, precedes, AreTookWithin, modes_at, IsFeasibleRun, map_at, some_time, own_starts, since, rank, now_of, InvStands, Orders, entry_is, writer_is, writer_stands, in_order, fed, feasible_runs, standing_at, HaveRounds, BeginningJobs, round_of, starts_before, all_rounds, job_length, below_start, cases_less_more}
 use Rattle.htl_model.specs.declared.parts.End.TheVariants as E
-use Rattle.htl_audit.proofs.Beginning.{multiples}
-use Rattle.htl_audit.proofs.Begun.{some_took}
-use Rattle.htl_audit.proofs.Growing.{round_is}
-use Rattle.htl_audit.proofs.Renewing.{runs_is}
-use Rattle.htl_audit.proofs.Rounds.{first_rules}
+use Rattle.htl_audit.proofs.{Beginning.multiples, Begun.some_took, Growing.round_is, Renewing.runs_is, Rounds.first_rules}
 use Rattle.htl_audit.proofs.RoundJobs.{IsFresh, begins_is, fresh, fresh_start, has_fresh, once, precedes_is}
 
 -- the job of an invocation in the rounds from s

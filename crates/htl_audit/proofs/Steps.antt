@@ -1,14 +1,10 @@
 -- One step of the loops over invocations and lines.
 use Rattle.std.proofs.Common.{◌≡◌, ℕ, zero, suc, ◌+◌, ◌≤◌, ◌<◌, Bool, true, false, cond, ltb, List, [], ◌∷◌, length, drop, get_or, Option, Some, None, is_some, refl, sym, ◌∙◌, ap, arith, ◌||◌}
 use Rattle.htl_audit.proofs.Words.{Inv, Tables, Slice, LogFault, LogKind, Kept, kind_of, with_kind, judged, judged_to, fell_short, any_fell_short_from, le-ltb, lt-ltb}
-
-drop_suc : {A : Type 0} (d : A) (xs : List A) (n : ℕ) → n < length xs → drop n xs ≡ get_or xs n d ∷ drop (suc n) xs
-drop_suc d [] n h = absurd (omega arith)
-drop_suc d (x ∷ xs) zero h = refl
-drop_suc d (x ∷ xs) (suc n) h = drop_suc d xs n (omega (arith, h))
+use Rattle.std.proofs.Math.Seq.{drop-cons}
 
 pub drop_at : {A : Type 0} (d : A) (xs : List A) (n : ℕ) → n < length xs → drop n xs ≡ get_or xs n d ∷ drop (n + 1) xs
-drop_at d xs n h = drop_suc d xs n h ∙ ap (λ m. get_or xs n d ∷ drop m xs) (let z : suc n ≡ n + 1 = omega arith in z)
+drop_at d xs n h = drop-cons xs n d h ∙ ap (λ m. get_or xs n d ∷ drop m xs) (let z : suc n ≡ n + 1 = omega arith in z)
 
 -- ---- lines
 

@@ -1,9 +1,9 @@
 -- What is kept once one more line keeps the rules.
 use Rattle.std.proofs.Common.{◌≡◌, ◌≢◌, ℕ, zero, suc, ◌+◌, ◌-◌, ◌≤◌, ◌<◌, Bool, true, false, cond, not, ◌&&◌, ◌||◌, eqb, leb, ltb, List, [], ◌∷◌, ◌++◌, length, set, Some, None, refl, sym, ◌∙◌, ap, ap₂, subst, arith}
 use Rattle.htl_audit.proofs.Words.{slice_get, eqb-true, and_parts, or_parts, eq-eqb, leb-false, ltb-false, get_or-set_same, get_or-set_other, length-set, length-append, of_bool, numbered, Tables, Job, Slice, BeginningJobs, lies_in, ticks, is_done, last_end, how_many, jobs_done, Kept, has_job, sum_at, length_at, start_at, is_inside, is_free_at, ticks_of, kind_of, with_slice, IsIn, IsCurrent, HasJob, AreSummed, none-some, marked_within, eqb_less}
-use Rattle.htl_audit.specs.declared.slice.LogKind.TheVariants as kind
 use Rattle.htl_audit.specs.Legal as rules
-use Rattle.htl_audit.proofs.Judging.{lies, ticks_more, lies_current, lies_inside}
+use Rattle.htl_audit.proofs.Judging.{lies, ticks_more, lies_current, lies_inside, none_broken, in_order}
+use Rattle.std.proofs.lemmas.Bool.{not-false}
 
 -- ---- counts
 
@@ -94,25 +94,10 @@ pub record Keeps (t : Tables) (now : ℕ) (k : Kept) (x : Slice) : Type 0 where
 
 pub keeps : (t : Tables) (now : ℕ) (k : Kept) (x : Slice) → kind_of t now k x ≡ None → Keeps t now k x
 keeps t now k x e =
-    by (leb x.to x.from || ltb x.from k.end || leb now x.to) (is_inside t k.roster x) (ltb (length_at k.roster x.inv) (sum_at k.sums x.inv + ticks_of x)) (is_free_at t k.roster k.sums x.inv) refl refl refl refl e
-  where
-    by : (a b c d : Bool) → (leb x.to x.from || ltb x.from k.end || leb now x.to) ≡ a → is_inside t k.roster x ≡ b → ltb (length_at k.roster x.inv) (sum_at k.sums x.inv + ticks_of x) ≡ c → is_free_at t k.roster k.sums x.inv ≡ d
-        → cond a (Some kind.Order) (cond (not b) (Some kind.Outside) (cond c (Some kind.Over) (cond (not d) (Some kind.Before) None))) ≡ None → Keeps t now k x
-    by true b c d e f g h n = absurd (none-some kind.Order (sym n))
-    by false false c d e f g h n = absurd (none-some kind.Outside (sym n))
-    by false true true d e f g h n = absurd (none-some kind.Over (sym n))
-    by false true false false e f g h n = absurd (none-some kind.Before (sym n))
-    by false true false true e f g h n =
-        let two = or_parts (leb x.to x.from || ltb x.from k.end) (leb now x.to) e in
-        let ends = or_parts (leb x.to x.from) (ltb x.from k.end) two.0 in
-        record {
-          some = leb-false x.to x.from ends.0;
-          order = ltb-false x.from k.end ends.1;
-          ends = leb-false now x.to two.1;
-          inside = f;
-          room = ltb-false (length_at k.roster x.inv) (sum_at k.sums x.inv + ticks_of x) g;
-          free = h;
-        }
+    let n =
+    none_broken (leb x.to x.from || ltb x.from k.end || leb now x.to) (is_inside t k.roster x) (ltb (length_at k.roster x.inv) (sum_at k.sums x.inv + ticks_of x)) (not (is_free_at t k.roster k.sums x.inv)) e in
+    let o = in_order now k.end x n.0 in
+    record { some = o.0; order = o.1; ends = o.2; inside = n.1; room = ltb-false (length_at k.roster x.inv) (sum_at k.sums x.inv + ticks_of x) n.2; free = not-false (is_free_at t k.roster k.sums x.inv) n.3 }
 
 module _ (t : Tables) (rounds : List BeginningJobs) (log : List Slice) (k : Kept) (s : AreSummed t rounds log k) (x : Slice) (now : ℕ) (keep : Keeps t now k x) (later : start_at k.roster x.inv < x.to) where
   new_sums : List ℕ

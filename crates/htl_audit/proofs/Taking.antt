@@ -3,11 +3,8 @@ use Rattle.std.proofs.Common.{◌≡◌, ℕ, suc, ◌+◌, ◌≤◌, ◌<◌, 
 use Rattle.htl_audit.proofs.Words.{slice_get, eqb-true, eq-eqb, lt-leb, get_or-set_same, get_or-set_other, length-set, Event, root_periods, numbered, feeds, AreInRange, Tables, Job, precedes, took, modes_at, AreTookWithin, IsTookWithin, map_at, reading_of, sense_took, took_took, within_more, Slice, LogFault, Agree, AreEarly, Matches, AgreeBefore, HaveRounds, BeginningJobs, beginning, round_of, starts_before, all_rounds, Kept, has_job, sum_at, length_at, start_at, release_at, inv_takes, ticks, line_fault, how_many, jobs_done, IsNext, IsIn, IsCurrent, HasJob, AreKept, AreSummed, LogFollows}
 use Rattle.htl_model.specs.declared.event.Event.TheVariants as V
 use Rattle.htl_audit.specs.Legal as rules
-use Rattle.htl_audit.proofs.Agreeing.{fault_alike, short_alike, done_alike, ticks_start}
-use Rattle.htl_audit.proofs.Begun.{some_took}
-use Rattle.htl_audit.proofs.Growing.{start_is, round_is, round_job, length_is, matched, rounds_agree}
-use Rattle.htl_audit.proofs.Onward.{early, kept_then}
-use Rattle.htl_audit.proofs.Summing.{passes, count_same}
+use Rattle.htl_audit.proofs.{Agreeing.short_alike, Agreeing.done_alike, Agreeing.ticks_start, Begun.some_took, Growing.start_is, Growing.round_is, Growing.round_job, Growing.length_is, Growing.matched, Growing.rounds_agree}
+use Rattle.htl_audit.proofs.{Onward.early, Onward.kept_then, Onward.first_stays, Summing.passes, Summing.count_same}
 
 -- ---- what is kept
 
@@ -261,10 +258,7 @@ module _ (t : Tables) (range : AreInRange t) (rounds : HaveRounds t) (es : List 
       keep = kept_then t (all_rounds t es now) now now (omega arith) log k f.judged (all_rounds t fs now) now agree (omega arith)
 
       next : (o : Option LogFault) → k.fault ≡ o → IsNext t (all_rounds t fs now) now ([] ++ take c log) (slice_get log c) then o
-      next (Some g) e = by (subst (λ o. IsNext t (all_rounds t es now) now ([] ++ take c log) (slice_get log c) k o) e f.judged.next)
-        where
-          by : IsNext t (all_rounds t es now) now ([] ++ take c log) (slice_get log c) k (Some g) → IsNext t (all_rounds t fs now) now ([] ++ take c log) (slice_get log c) then (Some g)
-          by b = (b.0, b.1, b.2, sym (fault_alike now (take c log) soon (all_rounds t es now) (all_rounds t fs now) now now b.0 agree (omega arith) (omega (arith, b.2)) b.2) ∙ b.3, b.4)
+      next (Some g) e = first_stays t (all_rounds t es now) now now (omega arith) log k f.judged (all_rounds t fs now) now agree (omega arith) g e
       next None e =
           let b : AreSummed t (all_rounds t es now) (take c log) k × IfSome (slice_get log c) (λ x. now ≤ x.to) = subst (λ o. IsNext t (all_rounds t es now) now ([] ++ take c log) (slice_get log c) k o) e f.judged.next in
           (summed b.0, b.1)

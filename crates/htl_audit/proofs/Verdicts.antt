@@ -1,27 +1,11 @@
 -- The verdict is the first fault of the log, or none where the log is legal.
 use Rattle.std.proofs.Common.{◌≡◌, ℕ, zero, suc, ◌≤◌, ◌<◌, inl, inr, Bool, true, false, cond, not, ◌&&◌, ◌||◌, leb, ltb, List, [], ◌∷◌, ◌++◌, length, take, Option, Some, None, Ok, Err, IfSome, refl, sym, ◌∙◌, ap, subst, arith}
-use Rattle.htl_audit.proofs.Words.{slice_get, nat_tests, slice_get_within, none-some, Slice, LogFault, BeginningJobs, line_fault, any_short, fault_at, first_fault_in, jobs_done, last_end, any_job, lies_in, is_over, is_free, Kept, IsLast, le-leb, ltb-false, ltb-true, or_right}
+use Rattle.htl_audit.proofs.Words.{slice_get, nat_tests, slice_get_within, none-some, Slice, LogFault, BeginningJobs, line_fault, any_short, fault_at, first_fault_in, jobs_done, last_end, any_job, lies_in, is_over, is_free, Kept, IsLast, le-leb, ltb-false, ltb-true, or_right, item_at}
 use Rattle.std.specs.declared.result.Result.{Result}
 use Rattle.htl_audit.specs.declared.slice.LogKind.TheVariants as kind
 use Rattle.htl_audit.specs.Verdicts.{LogEnds, Numbers, ended, verdict_of, fault_in}
-use Rattle.htl_audit.proofs.FaultLaws.{is_fault, is_legal}
-use Rattle.htl_audit.proofs.Judging.{rest}
-
-pub whole_take : (xs : List Slice) (n : ℕ) → length xs ≤ n → take n xs ≡ xs
-whole_take [] zero h = refl
-whole_take [] (suc n) h = refl
-whole_take (x ∷ xs) zero h = absurd (omega arith)
-whole_take (x ∷ xs) (suc n) h = ap (λ z. x ∷ z) (whole_take xs n (omega (arith, h)))
-
-pub length_take : (xs : List Slice) (n : ℕ) → n ≤ length xs → length (take n xs) ≡ n
-length_take xs zero h = refl
-length_take [] (suc n) h = absurd (omega arith)
-length_take (x ∷ xs) (suc n) h = ap suc (length_take xs n (omega (arith, h)))
-
-pub there : (xs : List Slice) (n : ℕ) → n < length xs → (x : Slice) × (slice_get xs n ≡ Some x)
-there [] n h = absurd (omega arith)
-there (x ∷ xs) zero h = (x, refl)
-there (x ∷ xs) (suc n) h = there xs n (omega (arith, h))
+use Rattle.htl_audit.proofs.{FaultLaws.is_fault, FaultLaws.is_legal, Judging.rest}
+use Rattle.std.proofs.lemmas.List.{take_all, length-take-le}
 
 module _ (rounds : List BeginningJobs) (now : ℕ) (log : List Slice) (k : Kept) (f : LogEnds rounds now log k) where
   -- a line that doesn't end before `now` is out of order
@@ -31,25 +15,25 @@ module _ (rounds : List BeginningJobs) (now : ℕ) (log : List Slice) (k : Kept)
   found : (o : Option LogFault) → k.fault ≡ o → IsLast rounds now (take f.judged.count log) (slice_get log f.judged.count) k o → first_fault_in rounds now log ≡ fault_in (elim o as (λ _. Result Numbers LogFault) [ Some g ↦ Err g | None ↦ ended k (length log) ])
   found (Some g) e n =
       is_fault rounds now log g
-      (inl (record { place = f.judged.count; slice = n.0; at = n.1; earlier = λ i x below at. (f.judged.keep i x below at).0; kind = n.3; line = n.4 ∙ ap suc (length_take log f.judged.count f.judged.few) }))
+      (inl (record { place = f.judged.count; slice = n.0; at = n.1; earlier = λ i x below at. (f.judged.keep i x below at).0; kind = n.3; line = n.4 ∙ ap suc (length-take-le f.judged.count log f.judged.few) }))
   found None e n = by (ltb k.place (length log)) refl
     where
       placed : k.place ≡ f.judged.count
-      placed = n.0 ∙ length_take log f.judged.count f.judged.few
+      placed = n.0 ∙ length-take-le f.judged.count log f.judged.few
 
       by_short : length log ≤ f.judged.count → (b : Bool) → k.short ≡ b → first_fault_in rounds now log ≡ fault_in (cond b (Err (fault_at (suc (length log)) kind.Short)) (Ok (record { jobs = k.done; slices = length log })))
       by_short all true g =
-          let is : any_short rounds now log ≡ true = ap (any_short rounds now) (sym (whole_take log f.judged.count all)) ∙ sym (f.short e) ∙ g in
+          let is : any_short rounds now log ≡ true = ap (any_short rounds now) (sym (take_all f.judged.count log all)) ∙ sym (f.short e) ∙ g in
           is_fault rounds now log (fault_at (suc (length log)) kind.Short)
           (inr (record { earlier = λ i x below at. (f.judged.keep i x (omega (arith, below, all)) at).0; short = is; kind = refl; line = refl }))
       by_short all false g =
-          let is : any_short rounds now log ≡ false = ap (any_short rounds now) (sym (whole_take log f.judged.count all)) ∙ sym (f.short e) ∙ g in
+          let is : any_short rounds now log ≡ false = ap (any_short rounds now) (sym (take_all f.judged.count log all)) ∙ sym (f.short e) ∙ g in
           is_legal rounds now log (record { lines = λ i x at. (f.judged.keep i x (omega (arith, slice_get_within log i x at, all)) at).0; whole = is })
 
       by : (b : Bool) → ltb k.place (length log) ≡ b
           → first_fault_in rounds now log ≡ fault_in (cond b (Err (fault_at (suc k.place) kind.Order)) (cond k.short (Err (fault_at (suc (length log)) kind.Short)) (Ok (record { jobs = k.done; slices = length log }))))
       by true g =
-          let x = there log f.judged.count (omega (arith, ltb-true k.place (length log) g, placed)) in
+          let x = item_at log f.judged.count (omega (arith, ltb-true k.place (length log) g, placed)) in
           let last : now ≤ x.0.to = subst (λ o. IfSome o (λ y. now ≤ y.to)) x.1 n.2 in
           is_fault rounds now log (fault_at (suc k.place) kind.Order)
           (inl (record { place = f.judged.count; slice = x.0; at = x.1; earlier = λ i y below at. (f.judged.keep i y below at).0; kind = late (take f.judged.count log) x.0 last; line = ap suc placed }))
@@ -78,5 +62,5 @@ module _ (rounds : List BeginningJobs) (now : ℕ) (log : List Slice) (k : Kept)
           all true c g h = absurd (none-some (fault_at (suc k.place) kind.Order) (sym h))
           all false true g h = absurd (none-some (fault_at (suc (length log)) kind.Short) (sym h))
           all false false g h =
-              let end : length log ≤ f.judged.count = omega (arith, large k.place (length log) g, n.0, length_take log f.judged.count f.judged.few) in
-              (n.1 ∙ ap (jobs_done rounds) (whole_take log f.judged.count end), refl)
+              let end : length log ≤ f.judged.count = omega (arith, large k.place (length log) g, n.0, length-take-le f.judged.count log f.judged.few) in
+              (n.1 ∙ ap (jobs_done rounds) (take_all f.judged.count log end), refl)

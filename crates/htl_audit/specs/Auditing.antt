@@ -1,21 +1,15 @@
 -- What contracts see of an auditor, what it follows, and its verdict.
 use Rattle.std.specs.Prelude.{◌≡◌, ◌≤◌, ◌<◌, ◌⊎◌, ◌+◌, ℕ, suc, true, false, List, [], ◌∷◌, ◌++◌, length, get_or, min, Option, Some, None, All, Ok, Err}
-use Rattle.htl_model.specs.declared.event.Event.{Event}
+use Rattle.htl_model.specs.{declared.event.Event.Event, Frames.root_periods, Frames.begins, Tables.Tables}
 use Rattle.htl_console.specs.declared.shown.Shown.TheVariants.{Values}
 use Rattle.htl_machine.specs.Calls as machines
 use Rattle.htl_machine.specs.Calls.{text_between}
 use Rattle.htl_edge.specs.Content.{Puts}
 use Rattle.std.specs.declared.result.Result.{Result}
 use Rattle.htl_model.specs.declared.event.Event.TheVariants as V
-use Rattle.htl_model.specs.Frames.{root_periods, begins}
-use Rattle.htl_model.specs.Tables.{Tables}
 use Rattle.htl_object.specs.declared.object.Object.{Object}
 use Rattle.htl_refine.specs.Records.{took, AreTookWithin}
-use Rattle.htl_audit.specs.declared.slice.Slice.{Slice}
-use Rattle.htl_audit.specs.Jobs.{all_rounds}
-use Rattle.htl_audit.specs.Feeders.{all_feeders}
-use Rattle.htl_audit.specs.Keeping.{Kept, has_job, sum_at, length_at, start_at, end_at}
-use Rattle.htl_audit.specs.Rosters.{IsSized}
+use Rattle.htl_audit.specs.{declared.slice.Slice.Slice, Jobs.all_rounds, Feeders.all_feeders, Keeping.Kept, Keeping.has_job, Keeping.sum_at, Keeping.length_at, Keeping.start_at, Keeping.end_at, Rosters.IsSized}
 use Rattle.htl_audit.specs.Verdicts.{LogFollows, LogEnds}
 
 pub record Audit : Type 0 where

@@ -1,22 +1,13 @@
 -- The values that a log gives, whoever scheduled: each job is computed where its slices add up to what it takes.
 use Rattle.std.specs.Prelude.{◌≡◌, ◌≤◌, ℕ, zero, suc, Bool, false, cond, ◌&&◌, eqb, ltb, List, [], ◌∷◌, ◌++◌, slice_get, Option, Some, None}
 use Rattle.std.specs.List.{list_any}
-use Rattle.htl_model.specs.declared.event.Event.{Event}
-use Rattle.htl_model.specs.declared.state.Stay.{Stay}
-use Rattle.htl_model.specs.declared.state.State.{State}
-use Rattle.htl_model.specs.Lists.{numbered}
-use Rattle.htl_model.specs.Meaning.{before, round_start, sense, state, stays_at}
-use Rattle.htl_model.specs.Tables.{Tables}
-use Rattle.htl_object.specs.declared.object.Object.{Object}
-use Rattle.htl_object.specs.Accepted.{IsAccepted}
+use Rattle.htl_model.specs.{declared.event.Event.Event, declared.state.Stay.Stay, declared.state.State.State, Lists.numbered, Meaning.before, Meaning.round_start, Meaning.sense, Meaning.state, Meaning.stays_at, Tables.Tables}
+use Rattle.htl_object.specs.{declared.object.Object.Object, Accepted.IsAccepted}
 use Rattle.htl_walk.specs.declared.job.Job.{Job}
 use Rattle.htl_emach.specs.Contents.{Content, first_content, completed}
 use Rattle.htl_refine.specs.Records.{AreTookWithin}
-use Rattle.htl_runs.specs.values.Values.{ValuesFollow}
-use Rattle.htl_runs.specs.values.InstantEffects.{effects, all_reads, all_writes, with_sensors}
-use Rattle.htl_audit.specs.declared.slice.Slice.{Slice}
-use Rattle.htl_audit.specs.Jobs.{round_of}
-use Rattle.htl_audit.specs.Legal.{is_done, IsLegal}
+use Rattle.htl_runs.specs.{values.Values.ValuesFollow, values.InstantEffects.effects, values.InstantEffects.all_reads, values.InstantEffects.all_writes, values.InstantEffects.with_sensors}
+use Rattle.htl_audit.specs.{declared.slice.Slice.Slice, Jobs.round_of, Legal.is_done, Legal.IsLegal}
 
 -- ---- which jobs are finished
 

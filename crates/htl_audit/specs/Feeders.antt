@@ -1,9 +1,6 @@
 -- Who feeds whom, by invocation.
 use Rattle.std.specs.Prelude.{ℕ, suc, Bool, true, cond, not, ◌&&◌, ◌||◌, List, [], ◌∷◌, length}
-use Rattle.htl_model.specs.declared.parts.Inv.{Inv}
-use Rattle.htl_model.specs.Lists.{list_to}
-use Rattle.htl_model.specs.PortOrder.{feeds}
-use Rattle.htl_model.specs.Tables.{Tables}
+use Rattle.htl_model.specs.{declared.parts.Inv.Inv, Lists.list_to, PortOrder.feeds, Tables.Tables}
 use Rattle.htl_audit.specs.Keeping.{Roster, has_job, is_full}
 
 -- those of the invocations from number n on that feed invocation i

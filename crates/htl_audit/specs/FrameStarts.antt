@@ -1,13 +1,8 @@
 -- The jobs that an audit judges against are those of the frames of a run, start by start.
 use Rattle.std.specs.Prelude.{◌≡◌, ◌<◌, ℕ, zero, suc, ◌+◌, ◌*◌, ◌%◌, ◌^◌, cond, List, length, get_or, slice_get, map, take, drop, Some}
-use Rattle.htl_model.specs.declared.event.Event.{Event}
-use Rattle.htl_model.specs.Frames.{frame_of, starts}
-use Rattle.htl_model.specs.Tables.{Tables}
-use Rattle.htl_walk.specs.declared.job.Job.{Job}
-use Rattle.htl_walk.specs.declared.schedule.SInstr.{SInstr}
-use Rattle.htl_walk.specs.Walk.{work}
-use Rattle.htl_refine.specs.FrameRuns.{Frame, frame_at}
-use Rattle.htl_refine.specs.ListPlans.{leg_at}
+use Rattle.htl_model.specs.{declared.event.Event.Event, Frames.frame_of, Frames.starts, Tables.Tables}
+use Rattle.htl_walk.specs.{declared.job.Job.Job, declared.schedule.SInstr.SInstr, Walk.work}
+use Rattle.htl_refine.specs.{FrameRuns.Frame, FrameRuns.frame_at, ListPlans.leg_at}
 use Rattle.htl_audit.specs.Jobs.{BeginningJobs, all_rounds}
 
 -- how many positions the lists before list j know

@@ -1,16 +1,9 @@
 -- What an auditor keeps of a log, by invocation, and how it judges the next line.
 use Rattle.std.specs.Prelude.{zero, ℕ, suc, ◌+◌, ◌-◌, ◌%◌, Bool, true, false, cond, not, ◌&&◌, ◌||◌, eqb, leb, ltb, List, [], ◌∷◌, get_or, length, replicate, slice_get, set, Option, Some, None}
-use Rattle.htl_model.specs.declared.parts.Inv.{Inv}
-use Rattle.htl_model.specs.Functions.{of_bool}
-use Rattle.htl_model.specs.PortOrder.{feeds}
-use Rattle.htl_model.specs.Selected.{is_at}
-use Rattle.htl_model.specs.Tables.{Tables, is_concrete, mode_module, mode_period, release, window_end}
+use Rattle.htl_model.specs.{declared.parts.Inv.Inv, Functions.of_bool, PortOrder.feeds, Selected.is_at, Tables.Tables, Tables.is_concrete, Tables.mode_module, Tables.mode_period, Tables.release, Tables.window_end}
 use Rattle.htl_emach.specs.Calendars.{list_at}
-use Rattle.htl_audit.specs.declared.slice.Slice.{Slice}
-use Rattle.htl_audit.specs.declared.slice.LogKind.{LogKind}
+use Rattle.htl_audit.specs.{declared.slice.Slice.Slice, declared.slice.LogKind.LogKind, declared.slice.LogFault.LogFault, Legal.fault_at}
 use Rattle.htl_audit.specs.declared.slice.LogKind.TheVariants as kind
-use Rattle.htl_audit.specs.declared.slice.LogFault.{LogFault}
-use Rattle.htl_audit.specs.Legal.{fault_at}
 
 -- By invocation: whether it has a job in the round that began last, when this round began, and how long the job takes.
 pub record Roster : Type 0 where

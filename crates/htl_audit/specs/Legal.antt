@@ -1,16 +1,10 @@
 -- When a job log is legal for a run, and its first fault.
 use Rattle.std.specs.Prelude.{◌≡◌, ℕ, suc, ◌+◌, ◌-◌, Bool, false, cond, not, ◌&&◌, ◌||◌, eqb, leb, ltb, List, [], ◌∷◌, ◌++◌, length, get_or, slice_get, take, Option, Some, None}
 use Rattle.std.specs.List.{list_all, list_any}
-use Rattle.htl_model.specs.declared.event.Event.{Event}
-use Rattle.htl_model.specs.Lists.{numbered}
-use Rattle.htl_model.specs.Tables.{Tables}
-use Rattle.htl_walk.specs.declared.job.Job.{Job}
-use Rattle.htl_walk.specs.Jobs.{precedes}
-use Rattle.htl_audit.specs.declared.slice.Slice.{Slice}
-use Rattle.htl_audit.specs.declared.slice.LogKind.{LogKind}
+use Rattle.htl_model.specs.{declared.event.Event.Event, Lists.numbered, Tables.Tables}
+use Rattle.htl_walk.specs.{declared.job.Job.Job, Jobs.precedes}
+use Rattle.htl_audit.specs.{declared.slice.Slice.Slice, declared.slice.LogKind.LogKind, declared.slice.LogFault.LogFault, Jobs.BeginningJobs, Jobs.all_rounds}
 use Rattle.htl_audit.specs.declared.slice.LogKind.TheVariants as kind
-use Rattle.htl_audit.specs.declared.slice.LogFault.{LogFault}
-use Rattle.htl_audit.specs.Jobs.{BeginningJobs, all_rounds}
 
 -- ---- slices and jobs
 

@@ -1,15 +1,10 @@
 -- The lines of a job log, and the slices that they give.
 use Rattle.std.specs.Prelude.{◌≡◌, ℕ, suc, Bool, List, [], ◌∷◌, ◌++◌, Option, Some, None, length, nat_lt, ◌==◌, codes, if◌then◌else◌, Ok, Err}
-use Rattle.std.specs.declared.result.Result.{Result}
-use Rattle.std.specs.Str.{bytes_eq}
+use Rattle.std.specs.{declared.result.Result.Result, Str.bytes_eq}
 use Rattle.htl_base.specs.declared.limits.TheConstants.{MAX_INSTANT}
 use Rattle.htl_model.specs.Tables.{Tables}
-use Rattle.htl_script.specs.Lines.{ScriptLine, lines_of}
-use Rattle.htl_script.specs.Numbers.{number_of}
-use Rattle.htl_script.specs.Statements.{fields_of}
-use Rattle.htl_script.specs.Judging.{invocation_of}
-use Rattle.htl_audit.specs.declared.slice.Slice.{Slice}
-use Rattle.htl_audit.specs.declared.slice.LogKind.{LogKind}
+use Rattle.htl_script.specs.{Lines.ScriptLine, Lines.lines_of, Numbers.number_of, Statements.fields_of, Judging.invocation_of}
+use Rattle.htl_audit.specs.{declared.slice.Slice.Slice, declared.slice.LogKind.LogKind}
 use Rattle.htl_audit.specs.declared.slice.LogKind.TheVariants as kind
 
 -- a log is read, with its slices; or one of its lines is the first with a form or a name that is refused

@@ -1,26 +1,13 @@
 -- The job lines of a run itself, as a log.
 use Rattle.std.specs.Prelude.{◌≡◌, ℕ, suc, ◌*◌, Bool, true, false, eqb, List, [], ◌∷◌, map, Option, Some, None}
 use Rattle.std.specs.List.{filter}
-use Rattle.htl_model.specs.declared.event.Event.{Event}
-use Rattle.htl_model.specs.Frames.{hyper}
-use Rattle.htl_model.specs.Lists.{all_some, joined, up_to}
-use Rattle.htl_model.specs.Tables.{Tables}
-use Rattle.htl_object.specs.declared.object.Object.{Object}
-use Rattle.htl_object.specs.Accepted.{IsAccepted}
-use Rattle.htl_walk.specs.declared.job.Job.{Job}
-use Rattle.htl_walk.specs.declared.schedule.SInstr.{SInstr}
-use Rattle.htl_walk.specs.Walk.{Left, job_at}
-use Rattle.htl_refine.specs.FrameRecords.{RunningList, lists_at, left_in, begun_before}
-use Rattle.htl_refine.specs.FrameRuns.{frame_at}
-use Rattle.htl_refine.specs.Records.{AreTookWithin, rounds_before}
-use Rattle.htl_console.specs.declared.shown.Shown.{Shown}
-use Rattle.htl_console.specs.Lines.{slice_line}
-use Rattle.htl_console.specs.Shows.{shows_jobs}
-use Rattle.htl_runs.specs.lines.RunLines.{RunLine, printed, text_lines, HasNames}
-use Rattle.htl_runs.specs.lines.RunLines.RunLine.{SliceLine}
-use Rattle.htl_runs.specs.lines.Programs.{schedules_of, text_of}
-use Rattle.htl_audit.specs.declared.slice.Slice.{Slice}
-use Rattle.htl_audit.specs.Legal.{first_fault, IsLegal}
+use Rattle.htl_model.specs.{declared.event.Event.Event, Frames.hyper, Lists.all_some, Lists.joined, Lists.up_to, Tables.Tables}
+use Rattle.htl_object.specs.{declared.object.Object.Object, Accepted.IsAccepted}
+use Rattle.htl_walk.specs.{declared.job.Job.Job, declared.schedule.SInstr.SInstr, Walk.Left, Walk.job_at}
+use Rattle.htl_refine.specs.{FrameRecords.RunningList, FrameRecords.lists_at, FrameRecords.left_in, FrameRecords.begun_before, FrameRuns.frame_at, Records.AreTookWithin, Records.rounds_before}
+use Rattle.htl_console.specs.{declared.shown.Shown.Shown, Lines.slice_line, Shows.shows_jobs}
+use Rattle.htl_runs.specs.{lines.RunLines.RunLine, lines.RunLines.printed, lines.RunLines.text_lines, lines.RunLines.HasNames, lines.RunLines.RunLine.SliceLine, lines.Programs.schedules_of, lines.Programs.text_of}
+use Rattle.htl_audit.specs.{declared.slice.Slice.Slice, Legal.first_fault, Legal.IsLegal}
 
 -- the slice of a record, if it has one
 abbrev pub own_slice : List Job → ℕ × Left → Option Slice

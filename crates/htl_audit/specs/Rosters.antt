@@ -1,13 +1,9 @@
 -- When what is kept by invocation are the jobs of rounds.
 use Rattle.std.specs.Prelude.{◌≡◌, ◌≤◌, ◌⊎◌, ◌+◌, ℕ, true, List, length, slice_get, Some}
-use Rattle.htl_model.specs.PortOrder.{feeds}
-use Rattle.htl_model.specs.Tables.{Tables}
-use Rattle.htl_walk.specs.declared.job.Job.{Job}
-use Rattle.htl_walk.specs.Jobs.{precedes}
-use Rattle.htl_audit.specs.declared.slice.Slice.{Slice}
-use Rattle.htl_audit.specs.Jobs.{BeginningJobs}
+use Rattle.htl_model.specs.{PortOrder.feeds, Tables.Tables}
+use Rattle.htl_walk.specs.{declared.job.Job.Job, Jobs.precedes}
+use Rattle.htl_audit.specs.{declared.slice.Slice.Slice, Jobs.BeginningJobs, Legal.ticks, Legal.last_end, Legal.jobs_done}
 use Rattle.htl_audit.specs.Legal as rules
-use Rattle.htl_audit.specs.Legal.{ticks, last_end, jobs_done}
 use Rattle.htl_audit.specs.Keeping.{Roster, Kept, has_job, sum_at, length_at, start_at, release_at, end_at}
 
 -- the job j at position p of r, which is one of these rounds; it is present

@@ -2,13 +2,8 @@
 use Rattle.std.specs.Prelude.{◌≡◌, ℕ, suc, cond, ltb, List, [], take, Option, Some, None, Ok, Err}
 use Rattle.std.specs.declared.result.Result.{Result}
 use Rattle.htl_model.specs.Tables.{Tables}
-use Rattle.htl_audit.specs.declared.slice.Slice.{Slice}
+use Rattle.htl_audit.specs.{declared.slice.Slice.Slice, declared.slice.LogFault.LogFault, Jobs.BeginningJobs, Legal.any_short, Legal.fault_at, Keeping.Kept, Lines.AreJudged, Lines.AreAllJudged, Lines.BeganBefore}
 use Rattle.htl_audit.specs.declared.slice.LogKind.TheVariants as kind
-use Rattle.htl_audit.specs.declared.slice.LogFault.{LogFault}
-use Rattle.htl_audit.specs.Jobs.{BeginningJobs}
-use Rattle.htl_audit.specs.Legal.{any_short, fault_at}
-use Rattle.htl_audit.specs.Keeping.{Kept}
-use Rattle.htl_audit.specs.Lines.{AreJudged, AreAllJudged, BeganBefore}
 
 -- before instant `now`: the lines that end before it are judged, up to the first fault; where there is none, it is kept whether a
 -- job fell short whose window ended before

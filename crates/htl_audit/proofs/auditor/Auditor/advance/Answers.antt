@@ -1,8 +1,7 @@
 use Rattle.std.proofs.Common.{[], ◌∷◌, ◌++◌, drop, refl, sym, subst}
 use Rattle.htl_model.specs.declared.event.Event.TheVariants as V
 use Rattle.htl_machine.specs.Calls as machines
-use Rattle.htl_audit.proofs.Words.{Audit, passed}
-use Rattle.htl_audit.proofs.Going.{stop_first, turn_text, going_text, going_gone, advance_all}
+use Rattle.htl_audit.proofs.{Words.Audit, Words.passed, Going.stop_first, Going.turn_text, Going.going_text, Going.going_gone, Going.advance_all}
 use Rattle.htl_audit.proofs.auditor.Auditor.advance.Goals as goal
 
 pub run_to-requires-clause-follows : goal.run_to-requires-clause-follows

@@ -1,5 +1,4 @@
-use Rattle.htl_audit.proofs.Words.{sym, subst, arith, inl, IsAuditor}
-use Rattle.htl_audit.proofs.Keepers.{begun_auditor}
+use Rattle.htl_audit.proofs.{Words.sym, Words.subst, Words.arith, Words.inl, Words.IsAuditor, Keepers.begun_auditor}
 use Rattle.htl_audit.proofs.auditor.Auditor.begin.Goals as goal
 
 pub invariant_of-self : goal.invariant_of-self

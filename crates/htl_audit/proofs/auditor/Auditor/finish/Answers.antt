@@ -1,8 +1,7 @@
 use Rattle.std.proofs.Common.{◌≡◌, ◌≤◌, ◌+◌, suc, [], ◌∷◌, ◌++◌, drop, refl, sym, subst, arith}
 use Rattle.htl_model.specs.declared.event.Event.TheVariants as V
 use Rattle.htl_machine.specs.Calls as machines
-use Rattle.htl_audit.proofs.Words.{Audit, passed}
-use Rattle.htl_audit.proofs.Going.{stop_first, turn_text, going_start, going_text, going_failed, going_gone, finish_all}
+use Rattle.htl_audit.proofs.{Words.Audit, Words.passed, Going.stop_first, Going.turn_text, Going.going_start, Going.going_text, Going.going_failed, Going.going_gone, Going.finish_all}
 use Rattle.htl_audit.proofs.auditor.Auditor.finish.Goals as goal
 
 pub end_run-requires-clause-follows : goal.end_run-requires-clause-follows

@@ -1,6 +1,5 @@
 use Rattle.std.proofs.Common.{◌≡◌, ◌∙◌, List, length, drop, ap, sym, subst, arith}
-use Rattle.htl_audit.proofs.Words.{Tables, Object, Slice, Audit, AreDue, IsAuditor, Kept, judged_to, settled, passed}
-use Rattle.htl_audit.proofs.Dues.{judged_due, none_due}
+use Rattle.htl_audit.proofs.{Words.Tables, Words.Object, Words.Slice, Words.Audit, Words.AreDue, Words.IsAuditor, Words.Kept, Words.judged_to, Words.settled, Words.passed, Dues.judged_due, Dues.none_due}
 use Rattle.htl_audit.proofs.Keepers.{passed_rows, passed_auditor}
 use Rattle.htl_audit.proofs.auditor.Auditor.judge_before.Goals as goal
 

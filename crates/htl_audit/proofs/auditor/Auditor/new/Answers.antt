@@ -1,6 +1,5 @@
 use Rattle.std.proofs.Common.{◌∙◌, length, map, ap, sym, arith, inl}
-use Rattle.htl_audit.proofs.Words.{Inv, Tables, task_worst, Object, all_feeders, first_kept}
-use Rattle.htl_audit.proofs.Keepers.{first_auditor, audit_first}
+use Rattle.htl_audit.proofs.{Words.Inv, Words.Tables, Words.task_worst, Words.Object, Words.all_feeders, Words.first_kept, Keepers.first_auditor, Keepers.audit_first}
 use Rattle.htl_audit.proofs.auditor.Auditor.new.Goals as goal
 
 pub invariant_of-result : goal.invariant_of-result

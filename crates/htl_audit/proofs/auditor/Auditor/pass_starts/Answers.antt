@@ -1,6 +1,5 @@
 use Rattle.std.proofs.Common.{◌≤◌, suc, ◌∙◌, arith}
-use Rattle.htl_audit.proofs.Words.{IsAccepted, subst}
-use Rattle.htl_audit.proofs.Going.{stop_first, going_failed, going_on}
+use Rattle.htl_audit.proofs.{Words.IsAccepted, Words.subst, Going.stop_first, Going.going_failed, Going.going_on}
 use Rattle.htl_audit.proofs.auditor.Auditor.pass_starts.Goals as goal
 
 pub begin_rounds-requires-clause-stopped : goal.begin_rounds-requires-clause-stopped

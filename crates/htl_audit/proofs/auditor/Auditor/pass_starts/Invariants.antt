@@ -1,6 +1,5 @@
 use Rattle.std.proofs.Common.{◌-◌, ◌≤◌, List}
-use Rattle.htl_audit.proofs.Words.{Event, IsStopped, IsSameAudit}
-use Rattle.htl_audit.proofs.Going.{IsGoing}
+use Rattle.htl_audit.proofs.{Words.Event, Words.IsStopped, Words.IsSameAudit, Going.IsGoing}
 use Rattle.htl_audit.proofs.auditor.Auditor.pass_starts.Given as goal
 
 abbrev pub invariant-starts : goal.invariant-starts

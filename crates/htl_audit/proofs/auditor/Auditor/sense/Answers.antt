@@ -1,8 +1,7 @@
 use Rattle.std.proofs.Common.{◌≡◌, rules, List, [], ◌∷◌, ◌++◌, sym, subst}
-use Rattle.htl_audit.proofs.Words.{Event, shown_as, Audit, AuditFollows}
+use Rattle.htl_audit.proofs.{Words.Event, Words.shown_as, Words.Audit, Words.AuditFollows, Auditing.sense_follows}
 use Rattle.htl_model.specs.declared.event.Event.TheVariants as event
 use Rattle.htl_machine.specs.Calls as machines
-use Rattle.htl_audit.proofs.Auditing.{sense_follows}
 use Rattle.htl_audit.proofs.auditor.Auditor.sense.Goals as goal
 
 pub returns-clause-follows : goal.returns-clause-follows

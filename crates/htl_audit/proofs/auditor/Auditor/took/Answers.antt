@@ -1,8 +1,7 @@
 use Rattle.std.proofs.Common.{◌≡◌, ◌∙◌, ◌<◌, ◌≤◌, ◌+◌, min, [], ◌∷◌, ◌++◌, length, ap, sym, subst, arith}
-use Rattle.htl_audit.proofs.Words.{slice_get_within, Tables, Object, IsAccepted, Audit, AreDue, AuditFollows, IsAuditor, start_at, end_at, inv_takes}
+use Rattle.htl_audit.proofs.{Words.slice_get_within, Words.Tables, Words.Object, Words.IsAccepted, Words.Audit, Words.AreDue, Words.AuditFollows, Words.IsAuditor, Words.start_at, Words.end_at, Words.inv_takes, Dues.taken_due}
 use Rattle.htl_model.specs.declared.event.Event.TheVariants as V
 use Rattle.htl_machine.specs.Calls as machines
-use Rattle.htl_audit.proofs.Dues.{taken_due}
 use Rattle.htl_audit.proofs.Keepers.{length_known, length_small, taken_auditor, took_follows}
 use Rattle.htl_audit.proofs.auditor.Auditor.took.Goals as goal
 

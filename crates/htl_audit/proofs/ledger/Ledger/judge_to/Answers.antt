@@ -1,6 +1,5 @@
 use Rattle.std.proofs.Common.{◌∙◌, ◌+◌, length, get_or, is_some, sym, ap, arith}
-use Rattle.htl_audit.proofs.Words.{Slice, Kept, judged_to, drop}
-use Rattle.htl_audit.proofs.Steps.{judged_stopped, judged_late, judged_next, judged_roster, judged_place}
+use Rattle.htl_audit.proofs.{Words.Slice, Words.Kept, Words.judged_to, Words.drop, Steps.judged_stopped, Steps.judged_late, Steps.judged_next, Steps.judged_roster, Steps.judged_place}
 use Rattle.htl_audit.proofs.ledger.Ledger.judge_to.Goals as goal
 use Rattle.htl_audit.proofs.ledger.Ledger.judge_to.Goals.{then-is_some-via-then-is_some, then-is_some-via-else-is_some+then-now-log}
 

@@ -1,6 +1,5 @@
 use Rattle.std.proofs.Common.{◌≡◌, ◌<◌, ℕ, true, false, List, [], length, get_or, All, ap, sym, ◌∙◌, subst, arith}
-use Rattle.htl_audit.proofs.Words.{feeders_of, are_done, Kept, is_inside, length-list_to}
-use Rattle.htl_audit.proofs.Feeding.{row_is, feeders_within, kind_last}
+use Rattle.htl_audit.proofs.{Words.feeders_of, Words.are_done, Words.Kept, Words.is_inside, Words.length-list_to, Feeding.row_is, Feeding.feeders_within, Feeding.kind_last}
 use Rattle.htl_audit.proofs.ledger.Ledger.kind_of.Goals as goal
 
 pub row-requires : goal.row-requires
