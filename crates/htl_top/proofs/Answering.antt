@@ -1,11 +1,8 @@
 -- From what a command came to, to all that its answer says.
 use Rattle.std.proofs.Common.{◌≡◌, List, ℕ, None, sym, refl, subst}
-use Rattle.htl_top.proofs.Vocabulary.{Files, Streams, KeepsCounts, Outcome, Usage, Shelf, Read, Write, Failed, SpeaksOf}
-use Rattle.htl_top.proofs.Inputs.{taken_none}
+use Rattle.htl_top.proofs.{Vocabulary.Files, Vocabulary.Streams, Vocabulary.KeepsCounts, Vocabulary.Outcome, Vocabulary.Usage, Vocabulary.Shelf, Vocabulary.Read, Vocabulary.Write, Vocabulary.Failed, Vocabulary.SpeaksOf, Inputs.taken_none}
 use Rattle.htl_top.proofs.Stops.{unless}
-use Rattle.htl_top.specs.Calls.{IsAnswered}
-use Rattle.htl_top.specs.Stops.{Ended, ended_as}
-use Rattle.htl_top.specs.declared.answer.Answer.{Answer}
+use Rattle.htl_top.specs.{Calls.IsAnswered, Stops.Ended, Stops.ended_as, declared.answer.Answer.Answer}
 
 -- the counts of faults, by the stops that they are the causes of
 pub counted : {A : Type 0} (of : A → Outcome) (failed unread cut : Ended A) (shelf : Files) (old new : Streams) (r : Ended A) (outcome : Outcome) → outcome ≡ ended_as of r

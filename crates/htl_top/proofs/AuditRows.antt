@@ -1,27 +1,11 @@
 -- From the answer of `audit` to its rows.
 use Rattle.std.proofs.Common.{◌≡◌, ℕ, List, Option, None, Some, subst, inl, inr}
-use Rattle.htl_top.proofs.Vocabulary.{check_text, show_text, LogFault, Values, Rose, Object, Files, Streams, AreFilesOf, IsReadyFile, HasLog, HasSlices, IsAuditOf, IsCutAudit, IsLogCause, IsLogFault, IsUntouched, IsWholeAudit, IsOrMemory, IsAcceptedFile, IsReadyObject, IsFaultyRun, Command, Go, Compile, CompileWith, Run, Check, Plan, Show, Bulk, Slack, Audit, Patch, Outcome, Done, Usage, Log, Faulty, Read, Write}
+use Rattle.htl_top.proofs.Vocabulary.{LogFault, Values, Rose, Object, Files, Streams, AreFilesOf, IsReadyFile, HasLog, HasSlices, IsAuditOf, IsCutAudit, IsLogCause, IsLogFault, IsUntouched, IsWholeAudit, IsOrMemory, IsAcceptedFile, IsReadyObject, IsFaultyRun, Command, Audit, Outcome, Done, Log, Faulty, Read, Write}
 use Rattle.htl_top.proofs.Auditing as audited
-use Rattle.htl_top.proofs.Auditing.{AuditAs, AuditOf}
+use Rattle.htl_top.proofs.{Auditing.AuditAs, Auditing.AuditOf, BothFiles.UnhadAs, Calling.tells, Seen.IsSeen, Stops.must}
 use Rattle.htl_top.proofs.AuditScripts as scripts
 use Rattle.htl_top.proofs.BothFiles as both
-use Rattle.htl_top.proofs.BothFiles.{UnhadAs}
-use Rattle.htl_top.proofs.Bulking as bulking
-use Rattle.htl_top.proofs.Going as going
-use Rattle.htl_top.proofs.ObjectAnswering as objects
-use Rattle.htl_top.proofs.Planning.{PlanOf, planning}
-use Rattle.htl_top.proofs.Running.{RunOf, running}
-use Rattle.htl_top.proofs.Seen.{IsSeen}
-use Rattle.htl_top.proofs.Slacking.{slacking}
-use Rattle.htl_top.proofs.Telling.{no_put}
-use Rattle.htl_top.proofs.Patching as patching
-use Rattle.htl_top.proofs.Stops.{must}
-use Rattle.htl_top.specs.ObjectRows.{AuditRows}
-use Rattle.htl_top.specs.Stops.{Ended, audit_as, ended_as}
-use Rattle.htl_top.specs.declared.stop.AuditStop.{AuditStop}
-
-log_usage : (f : LogFault) → Log f ≡ Usage → ⊥
-log_usage f e = cc
+use Rattle.htl_top.specs.{ObjectRows.AuditRows, Stops.Ended, Stops.audit_as, Stops.ended_as, declared.stop.AuditStop.AuditStop}
 
 module _ (shelf : Files) (old new : Streams) (outcome : Outcome) (name log : List ℕ) (call : AuditAs name log shelf old new outcome) where
   -- what was audited, where the outcome isn't one of files that weren't had
@@ -75,20 +59,11 @@ module _ (shelf : Files) (old new : Streams) (outcome : Outcome) (name log : Lis
 module _ (shelf : Files) (old new : Streams) where
   -- no other command has this answer
   pub log_cause : (command : Option Command) (f : LogFault) → IsSeen command shelf old new (Log f) → IsLogCause command shelf.holds old new f
-  log_cause None f call = log_usage f call.0
-  log_cause (Some (Go name)) f call = going.tells (Some name) shelf old new (Log f) call
-  log_cause (Some Compile) f call = call
-  log_cause (Some (CompileWith file)) f call = call
-  log_cause (Some (Bulk n)) f call = bulking.only n old new (Log f) call
-  log_cause (Some (Slack name owner task)) f call = elim call [ inl a ↦ (slacking owner task).only a.object old new (Log f) a.fact | inr s ↦ s.0 ]
-  log_cause (Some (Patch name unit mode donor)) f call = patching.stopped unit mode (Some name) (Some donor) shelf old new (Log f) call (λ w. w)
+  log_cause None f call = let e = call.0 in cc
   log_cause (Some (Audit name log)) f call = elim call [
     | inl a ↦
         both.AreFilesOf-map (Some name) (Some log) shelf (λ o bytes. AuditOf old new o bytes (Log f)) (λ o bytes. IsLogFault bytes o old new f)
         (λ o bytes d. audited.log_fault o old new bytes f d.result d.is d.came) a
     | inr s ↦ absurd s.0
   ]
-  log_cause (Some (Run show name)) f call = objects.stopped (RunOf show) (running show) (Some name) shelf old new (Log f) call (λ w. w)
-  log_cause (Some (Check name)) f call = elim call [ inl a ↦ no_put (λ (o : Object). check_text o.tables) a.object old new (Log f) a.fact | inr s ↦ s.0 ]
-  log_cause (Some (Plan name)) f call = objects.stopped PlanOf planning (Some name) shelf old new (Log f) call (λ w. w)
-  log_cause (Some (Show name)) f call = elim call [ inl a ↦ no_put show_text a.object old new (Log f) a.fact | inr s ↦ s.0 ]
+  log_cause (Some command) f call = tells shelf old new command (Log f) call (λ w. w)

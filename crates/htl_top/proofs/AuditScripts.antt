@@ -2,8 +2,7 @@
 use Rattle.std.proofs.Common.{◌≡◌, ℕ, List, Some, Ok, Err, refl, sym, ap, ◌∙◌, subst, inl, inr}
 use Rattle.htl_top.proofs.Vocabulary.{legal_without_fault, one_first_fault, IsFirstFault, IsLegal, LogOf, ReadLog, RefusedLog, log_of, LogFault, LogKind, Slice, Rose, Values, Event, Object, Whole, script_of, ScriptFault, Streams, HasSlices, IsAuditOf, IsAuditRun, IsOrMemory, IsWhole, IsBad, Done, Log, Faulty}
 use Rattle.htl_top.proofs.Running as runs
-use Rattle.htl_top.specs.Stops.{Ended, audit_as, ended_as}
-use Rattle.htl_top.specs.declared.stop.AuditStop.{AuditStop}
+use Rattle.htl_top.specs.{Stops.Ended, Stops.audit_as, Stops.ended_as, declared.stop.AuditStop.AuditStop}
 use Rattle.htl_top.specs.declared.stop.AuditStop.TheVariants as stop
 use Rattle.htl_top.specs.declared.stop.RunStop.TheVariants as running
 

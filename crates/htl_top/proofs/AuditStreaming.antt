@@ -1,20 +1,15 @@
 -- From event to event of a script that an auditor is told, and the end of its audit.
 use Rattle.std.proofs.Common.{◌≡◌, Bool, true, false, ℕ, suc, List, [], ◌∷◌, ◌++◌, Option, Some, None, Result, Ok, Err, is_some, refl, sym, ap, ◌∙◌, subst, length}
 use Rattle.htl_top.proofs.Vocabulary.{StopsAtLine, append_known, append-nil, first_fault_found, legal_without_fault, rounds_same, BeginningJobs, all_rounds, LogFault, Slice, Shown, Values, append_known-more, AppendsPrefix-more, AppendsPrefix, Puts, sense_end, took_end, text_between, before_of, Tables, Event, IsAccepted, Object, EndWith, at_first, past_after, past_of, behind, Ahead, Gives, still, at_start, IsAnswer, Goes, ScriptFault, Past, Streams, IsAuditBehind, IsAuditPlaying, IsAuditTold, IsConcluded, IsAuditRun, IsCutAudit, audit_text, audited_line, audited_text, verdict_text, HaveNoEnd, IsBehind, IsPlaying, text_more, IsFaultyRun, text_before_fault}
-use Rattle.htl_audit.specs.Auditing.{Audit, AuditFollows, IsAudited, IsSameAudit}
-use Rattle.htl_audit.specs.Legal.{first_fault, first_fault_in, jobs_done}
+use Rattle.htl_audit.specs.{Auditing.Audit, Auditing.AuditFollows, Auditing.IsAudited, Auditing.IsSameAudit, Legal.first_fault, Legal.first_fault_in, Legal.jobs_done}
 use Rattle.htl_model.specs.declared.event.Event.TheVariants as event
 use Rattle.htl_script.specs.Script.{Script, Whole, Bad, events_of, script_of}
 use Rattle.htl_script.specs.declared.fault.ScriptStop.TheVariants as stop
-use Rattle.htl_top.proofs.Playing.{past_more}
+use Rattle.htl_top.proofs.{Playing.past_more, StreamEnd.IsOver, StreamEnd.one_end, Streaming.IsHeard, Streaming.none_ended, Streaming.rose_since, Streaming.whole_text}
 use Rattle.htl_top.proofs.Streaming as streaming
 use Rattle.htl_top.proofs.StreamEnd as ending
-use Rattle.htl_top.proofs.StreamEnd.{IsOver, one_end}
-use Rattle.htl_top.specs.Stops.{Ended}
-use Rattle.htl_top.specs.declared.stop.AuditStop.{AuditStop}
+use Rattle.htl_top.specs.{Stops.Ended, declared.stop.AuditStop.AuditStop, declared.stop.RunStop.RunStop}
 use Rattle.htl_top.specs.declared.stop.AuditStop.TheVariants as audit
-use Rattle.htl_top.specs.declared.stop.RunStop.{RunStop}
-use Rattle.htl_top.proofs.Streaming.{IsHeard, none_ended, rose_since, whole_text}
 
 -- ---- the end among the events changes nothing of an audit
 

@@ -1,12 +1,9 @@
 -- What `audit` came to, by its outcome, its files and what it does with an accepted object.
 use Rattle.std.proofs.Common.{◌≡◌, ◌⊎◌, ℕ, suc, Bool, true, false, cond, not, ◌&&◌, List, [], ◌∷◌, ◌++◌, take, Some, None, Ok, Err, refl, sym, subst, inl, inr}
-use Rattle.htl_top.proofs.Vocabulary.{IsFirstFault, IsFirstFaultIn, BeginningJobs, all_rounds, any_job, is_free, slice_is_out_of_order, is_over, lies_in, line_fault, LogFault, LogKind, Slice, Values, Rose, CompileFault, ObjectFault, Tables, Event, Object, PlatformFault, ScriptFault, Files, Streams, IsBeforeRun, IsBeforeScript, IsOfReading, IsHad, HasSlices, IsAudit, IsAuditOf, IsCutAudit, IsLogFault, IsUntouched, IsWholeAudit, IsFaultyRun, IsRefusedFile, answer_of, Outcome, Done, Usage, Source, IllFormed, Unschedulable, Platform, Task, Log, Refused, Faulty, Shelf, Read, Write, Memory, ShelfCause}
+use Rattle.htl_top.proofs.Vocabulary.{IsFirstFault, IsFirstFaultIn, BeginningJobs, all_rounds, any_job, is_free, slice_is_out_of_order, is_over, lies_in, line_fault, LogFault, LogKind, Slice, Values, Rose, Tables, Event, Object, ScriptFault, Files, Streams, IsBeforeRun, IsBeforeScript, IsOfReading, HasSlices, IsAudit, IsAuditOf, IsCutAudit, IsLogFault, IsUntouched, IsWholeAudit, IsFaultyRun, Outcome, Done, Log, Faulty, Read, Write, Memory}
 use Rattle.htl_audit.specs.declared.slice.LogKind.TheVariants as kind
-use Rattle.htl_compile.specs.declared.compiling.CompileFault.TheVariants as compile
-use Rattle.htl_open.specs.Stops.{IsShelfCause}
 use Rattle.htl_top.proofs.BothFiles.{BothAs, UnhadAs, both_as}
-use Rattle.htl_top.specs.Stops.{Came, Ended, audit_as, ended_as, object_as}
-use Rattle.htl_top.specs.declared.stop.AuditStop.{AuditStop}
+use Rattle.htl_top.specs.{Stops.Came, Stops.Ended, Stops.audit_as, Stops.ended_as, Stops.object_as, declared.stop.AuditStop.AuditStop}
 use Rattle.htl_top.specs.declared.stop.AuditStop.TheVariants as stop
 use Rattle.htl_top.specs.declared.stop.RunStop.TheVariants as running
 
@@ -126,27 +123,6 @@ module _ (name log : List ℕ) (shelf : Files) (old new : Streams) where
     | inl a ↦ absurd (none (subst IsOfAudit (sym a.fact.fact.is) (ended_audit a.fact.fact.result)))
     | inr s ↦ s.0
   ]
-
-  pub no_usage : AuditAs name log shelf old new Usage → ⊥
-  no_usage audit = stopped Usage audit (λ w. w)
-
-  pub no_platform : (f : PlatformFault) → AuditAs name log shelf old new (Platform f) → ⊥
-  no_platform f audit = stopped (Platform f) audit (λ w. w)
-
-  pub no_task : AuditAs name log shelf old new Task → ⊥
-  no_task audit = stopped Task audit (λ w. w)
-
-  pub no_cause : (f : CompileFault) → (f ≡ compile.Memory → ⊥) → AuditAs name log shelf old new (answer_of f) → ⊥
-  no_cause (compile.Source f) told audit = stopped (Source f) audit (λ w. w)
-  no_cause (compile.IllFormed f) told audit = stopped (IllFormed f) audit (λ w. w)
-  no_cause (compile.Unschedulable sel a b demand) told audit = stopped (Unschedulable sel a b demand) audit (λ w. w)
-  no_cause compile.Memory told audit = told refl
-
-  pub unfetched : (cause : ShelfCause) → AuditAs name log shelf old new (Shelf cause) → IsShelfCause (Some name) shelf cause ⊎ (IsHad (Some name) shelf.holds × IsShelfCause (Some log) shelf cause)
-  unfetched cause audit = stopped (Shelf cause) audit (λ w. w)
-
-  pub object : (f : ObjectFault) → AuditAs name log shelf old new (Refused f) → IsRefusedFile (Some name) shelf.holds f
-  object f audit = (stopped (Refused f) audit (λ w. w)).0
 
   pub unread : (outcome : Outcome) → AuditAs name log shelf old new outcome → IsBeforeScript outcome → new.rest ≡ old.rest
   unread outcome audit early = elim audit [ inl a ↦ unread_by a.object old new a.fact.bytes a.fact.fact.result a.fact.fact.came (subst IsBeforeScript a.fact.fact.is early) | inr s ↦ s.1.rest ]

@@ -3,13 +3,11 @@ use Rattle.std.proofs.Common.{arith, ◌≡◌, ◌≤◌, ◌<◌, ◌⊎◌, �
 use Rattle.htl_open.proofs.GivenFiles as files
 use Rattle.htl_open.proofs.OneObject.{SpeaksOfObject-file}
 use Rattle.htl_open.specs.declared.object.ObjectStop.TheVariants as load
-use Rattle.htl_open.specs.Stops.{IsShelfCause}
-use Rattle.htl_open.specs.declared.stop.OpenStop.{OpenStop}
+use Rattle.htl_open.specs.{Stops.IsShelfCause, declared.stop.OpenStop.OpenStop}
 use Rattle.htl_open.specs.declared.stop.OpenStop.TheVariants as stop
 use Rattle.htl_top.proofs.Vocabulary.{HasBytes, RefusesBytes, ObjectFault, Files, IsAccepted, IsFaultOf, IsGiven, IsObjectFile, IsObjectRead, IsObjectTables, IsReadyObject, IsRefusedFile, Tables, Object, AreFilesOf, IsFileOf, IsHad, IsOnBoth, IsOrMemory, IsUnhad, SpeaksOf, Outcome, Done, Refused, Shelf, Memory, Failed, TooLong}
 use Rattle.htl_top.proofs.ObjectAnswering.{IsAcceptedFile-map, one_of_bytes, one_refusal, accepted_or_refused}
-use Rattle.htl_top.specs.Stops.{Came, Ended, ended_as, object_as, open_as, open_tables}
-use Rattle.htl_top.specs.declared.stop.OnObject.{OnObject}
+use Rattle.htl_top.specs.{Stops.Came, Stops.Ended, Stops.ended_as, Stops.object_as, Stops.open_as, Stops.open_tables, declared.stop.OnObject.OnObject}
 use Rattle.htl_top.specs.declared.stop.OnObject.TheVariants as on
 
 pub AreFilesOf-map : (name second : Option (List ℕ)) (shelf : Files) (Fact Other : Object → List ℕ → Type 0) → ((o : Object) (bytes : List ℕ) → Fact o bytes → Other o bytes)

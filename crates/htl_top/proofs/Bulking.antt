@@ -1,16 +1,13 @@
 -- What `bulk` writes and answers.
 use Rattle.std.proofs.Common.{◌≡◌, ◌≤◌, ℕ, zero, suc, ◌*◌, List, [], ◌∷◌, ◌++◌, length, get_or, Option, None, Result, Ok, Err, ℤ, refl, sym, ap, ap₂, ◌∙◌, subst, inl, inr}
-use Rattle.htl_top.proofs.Vocabulary.{AreSchedulable, AreTyped, Formed, IsCompileFault, IsNotCompiled, IsTablesOf, SourceStop, bulk_events, bulk_has_tables, bulk_sensor, comm_item, compile_only_memory, readings_of, sensor_comm, pos, slice_get, built_accepted, coded_runs, IsCompiledTo, bulk_bytes, built, CanBuild, coded, CompileFault, Rose, Puts, one_line, HasBytes, IsLoadedAs, sense_end, Seen, IsFinished, IsSensorValue, length-list_to, lines_text, line_text, up_to, History, first_value, history, newest, next_value, past, sense, state, Tables, Event, Line, ValueLine, State, IsAccepted, ObjectOf, flat_map, Streams, append_known, AppendsPrefix, IsBeforeRun, IsOrMemory, HasTables, answer_of, Outcome, Done, Write}
+use Rattle.htl_top.proofs.Vocabulary.{AreSchedulable, AreTyped, Formed, IsCompileFault, IsNotCompiled, IsTablesOf, SourceStop, bulk_events, bulk_has_tables, bulk_sensor, comm_item, compile_only_memory, readings_of, sensor_comm, pos, slice_get, built_accepted, coded_runs, IsCompiledTo, bulk_bytes, built, CanBuild, coded, CompileFault, Rose, Puts, one_line, HasBytes, IsLoadedAs, sense_end, Seen, IsFinished, IsSensorValue, length-list_to, lines_text, line_text, up_to, History, first_value, history, newest, next_value, past, sense, state, Tables, Event, Line, ValueLine, State, IsAccepted, ObjectOf, flat_map, Streams, append_known, AppendsPrefix, IsBeforeRun, IsOrMemory, HasTables, Outcome, Done, Write}
 use mathlib.Core.Path.{fun_ext}
 use Rattle.htl_compile.specs.declared.compiling.CompileFault.TheVariants as compile
 use Rattle.htl_compile.specs.declared.stop.SourceStop.TheVariants as stop
 use Rattle.htl_model.specs.declared.event.Event.TheVariants as event
-use Rattle.htl_top.proofs.Executing.{finished_totals}
-use Rattle.htl_top.proofs.Meaning.{line_same}
-use Rattle.htl_top.proofs.Telling.{IsOfPut}
+use Rattle.htl_top.proofs.{Executing.finished_totals, Meaning.line_same, Telling.IsOfPut}
 use Rattle.htl_top.specs.Bulk.{value_at, values_text, totals_text, object_text, rounds_text, bulk_text, value_seen, seen_text, IsOutOfMemory, IsPut, IsBulkPut, IsBulked}
-use Rattle.htl_top.specs.Stops.{Ended, ended_as, put_as}
-use Rattle.htl_top.specs.declared.stop.PutStop.{PutStop}
+use Rattle.htl_top.specs.{Stops.Ended, Stops.ended_as, Stops.put_as, declared.stop.PutStop.PutStop}
 use Rattle.htl_top.specs.declared.stop.PutStop.TheVariants as put
 
 -- ---- what a finished machine has
@@ -169,10 +166,3 @@ module _ (n : ℕ) (old new : Streams) where
 
   pub complete : (outcome : Outcome) → (Rose old.write_faults new.write_faults → ⊥) → IsBulked n old new outcome → IsOrMemory outcome Done
   complete outcome still b = complete_by b.1.result outcome b.1.is still b.1.came
-
-  -- so none of a source
-  pub no_cause : (f : CompileFault) → (f ≡ compile.Memory → ⊥) → IsBulked n old new (answer_of f) → ⊥
-  no_cause (compile.Source f) told b = only (answer_of (compile.Source f)) b
-  no_cause (compile.IllFormed f) told b = only (answer_of (compile.IllFormed f)) b
-  no_cause (compile.Unschedulable sel from to demand) told b = only (answer_of (compile.Unschedulable sel from to demand)) b
-  no_cause compile.Memory told b = told refl

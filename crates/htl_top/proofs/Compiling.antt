@@ -4,10 +4,8 @@ use Rattle.htl_top.proofs.Vocabulary.{IfSome, append_known, compile_only_memory,
 use Rattle.htl_compile.specs.declared.compiling.CompileFault.TheVariants as compile
 use Rattle.htl_compile.specs.declared.source_fault.SourceFault.TheVariants as source
 use Rattle.htl_compile.specs.declared.stop.SourceStop.TheVariants as stop
-use Rattle.htl_top.specs.Stops.{Came, Ended, compile_as, ended_as}
-use Rattle.htl_top.specs.declared.input.InputStop.{InputStop}
+use Rattle.htl_top.specs.{Stops.Came, Stops.Ended, Stops.compile_as, Stops.ended_as, declared.input.InputStop.InputStop, declared.stop.CompileStop.CompileStop}
 use Rattle.htl_top.specs.declared.input.InputStop.TheVariants as unread
-use Rattle.htl_top.specs.declared.stop.CompileStop.{CompileStop}
 use Rattle.htl_top.specs.declared.stop.CompileStop.TheVariants as stopped
 
 -- ---- from the source to the input

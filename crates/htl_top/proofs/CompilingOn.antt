@@ -6,11 +6,9 @@ use Rattle.htl_compile.specs.declared.compiling_on.WithFault.TheVariants as on
 use Rattle.htl_compile.specs.declared.source_fault.SourceFault.TheVariants as source
 use Rattle.htl_compile.specs.declared.stop.SourceStop.TheVariants as stop
 use Rattle.htl_open.specs.declared.stop.FetchStop.TheVariants as fetch
-use Rattle.htl_top.specs.Stops.{Came, Ended, compile_as, compile_with_as, ended_as}
+use Rattle.htl_top.specs.{Stops.Came, Stops.Ended, Stops.compile_as, Stops.compile_with_as, Stops.ended_as, declared.stop.CompileStop.CompileStop, declared.stop.CompileWithStop.CompileWithStop}
 use Rattle.htl_top.specs.declared.input.InputStop.TheVariants as unread
-use Rattle.htl_top.specs.declared.stop.CompileStop.{CompileStop}
 use Rattle.htl_top.specs.declared.stop.CompileStop.TheVariants as stopped
-use Rattle.htl_top.specs.declared.stop.CompileWithStop.{CompileWithStop}
 use Rattle.htl_top.specs.declared.stop.CompileWithStop.TheVariants as for_file
 
 -- ---- by outcomes

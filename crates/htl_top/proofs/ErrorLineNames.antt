@@ -1,31 +1,23 @@
 -- The line that tells of an answer has names of the tables that it speaks of.
 use Rattle.std.proofs.Common.{◌≡◌, List, ℕ, Option, Some, Err, refl, sym, ap, ◌∙◌, subst}
 use Rattle.htl_top.proofs.Vocabulary.{coded, Holdings, ObjectFault, Tables, FormFault, patched, PatchFault, with_worst, Files, Streams, HasSource, HasObject, IsAudit, IsCompiling, IsCompilingOn, IsObjectTables, IsPatchOfFiles, SpeaksOfObject, HasPatchedTables, IsPatchedTables, SpeaksOfPatch, IsGoing, IsTypedInput, IsTypedProgram, IsTypedOn, fault_line, SpeaksOf, IsFaultTold, IsPatchFaultTold, IsLineTold, Command, Go, Compile, CompileWith, Run, Check, Plan, Show, Slack, Audit, Patch, Outcome}
-use Rattle.htl_top.proofs.Telling.{IsOfPut}
+use Rattle.htl_top.proofs.{Telling.IsOfPut, BothFiles.unhad_speaks, PatchedObjects.in_both_files}
 use Rattle.htl_load.specs.declared.fault.ObjectFault.TheVariants as fault
 use Rattle.htl_patch.specs.declared.fault.PatchFault.TheVariants as patch
-use Rattle.htl_top.specs.declared.outcome.Outcome.TheVariants.{IllFormed, Patch as Unpatched, Object}
+use Rattle.htl_top.specs.{declared.outcome.Outcome.TheVariants.IllFormed, declared.outcome.Outcome.TheVariants.Patch as Unpatched, declared.outcome.Outcome.TheVariants.Object, declared.stop.AuditStop.AuditStop, declared.stop.GoStop.GoStop}
 use Rattle.htl_compile.specs.declared.stop.SourceStop.TheVariants as stop
 use Rattle.htl_open.specs.declared.stop.FetchStop.TheVariants as fetch
 use Rattle.htl_patch.specs.declared.fault.PatchStop.TheVariants as patching
-use Rattle.htl_top.proofs.BothFiles.{unhad_speaks}
-use Rattle.htl_top.proofs.PatchedObjects.{in_both_files}
 use Rattle.htl_top.specs.Stops.{Ended, audit_as, compile_as, compile_tables, compile_with_as, compile_with_tables, donor_as, donor_tables, ended_as, ended_tables, go_as, go_tables, no_tables, object_as, object_tables, run_as}
 use Rattle.htl_top.specs.declared.input.InputStop.TheVariants as input
-use Rattle.htl_top.specs.declared.stop.AuditStop.{AuditStop}
 use Rattle.htl_top.specs.declared.stop.AuditStop.TheVariants as audit
-use Rattle.htl_top.specs.declared.stop.CompileStop.{CompileStop}
+use Rattle.htl_top.specs.{declared.stop.CompileStop.CompileStop, declared.stop.CompileWithStop.CompileWithStop, declared.stop.DonorStop.DonorStop, declared.stop.OnObject.OnObject, declared.stop.RunStop.RunStop}
 use Rattle.htl_top.specs.declared.stop.CompileStop.TheVariants as compile
-use Rattle.htl_top.specs.declared.stop.CompileWithStop.{CompileWithStop}
 use Rattle.htl_top.specs.declared.stop.CompileWithStop.TheVariants as for_file
-use Rattle.htl_top.specs.declared.stop.DonorStop.{DonorStop}
 use Rattle.htl_top.specs.declared.stop.DonorStop.TheVariants as donor_stop
-use Rattle.htl_top.specs.declared.stop.OnObject.{OnObject}
 use Rattle.htl_top.specs.declared.stop.OnObject.TheVariants as on
 use Rattle.htl_top.specs.declared.stop.PutStop.TheVariants as put_stop
-use Rattle.htl_top.specs.declared.stop.GoStop.{GoStop}
 use Rattle.htl_top.specs.declared.stop.GoStop.TheVariants as go
-use Rattle.htl_top.specs.declared.stop.RunStop.{RunStop}
 use Rattle.htl_top.specs.declared.stop.RunStop.TheVariants as run_stop
 
 -- what stops a run breaks no form rule

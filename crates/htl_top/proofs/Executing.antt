@@ -3,8 +3,7 @@ use Rattle.std.proofs.Common.{◌≡◌, ℕ, suc, List, [], ◌∷◌, ◌++◌
 use Rattle.htl_top.proofs.Vocabulary.{append_known, Shown, Puts-second, Puts, Seen, IsFinished, e_done, jobs_done, s_done, before_of, schedules_of, text_of, totals_line, Event, Object, totals_text, EndsAt, text_before_fault}
 use Rattle.htl_edge.specs.declared.Failed.{Failed}
 use Rattle.htl_model.specs.declared.event.Event.TheVariants as event
-use Rattle.htl_top.proofs.Playing.{text_ended}
-use Rattle.htl_top.proofs.Totals.{totals_end}
+use Rattle.htl_top.proofs.{Playing.text_ended, Totals.totals_end}
 
 -- a whole script makes all instants up to its end
 told_whole : (o : Object) (show : Shown) (events : List Event) (end : ℕ) → EndsAt events end → text_before_fault o show events ≡ before_of o events show (suc end)

@@ -5,13 +5,9 @@ use Rattle.htl_compile.specs.declared.compiling.CompileFault.TheVariants as comp
 use Rattle.htl_compile.specs.declared.stop.SourceStop.TheVariants as stop
 use Rattle.htl_load.specs.declared.fault.LoadFault.TheVariants as load
 use Rattle.htl_open.specs.declared.stop.FetchStop.TheVariants as fetch
-use Rattle.htl_top.proofs.Running.{IsRun-source}
-use Rattle.htl_top.proofs.Stops.{must}
-use Rattle.htl_top.specs.Causes.{IsFileStop}
-use Rattle.htl_top.specs.Stops.{Came, Ended, ended_as, go_as, run_as, source_as}
-use Rattle.htl_top.specs.declared.stop.GoStop.{GoStop}
+use Rattle.htl_top.proofs.{Running.IsRun-source, Stops.must}
+use Rattle.htl_top.specs.{Causes.IsFileStop, Stops.Came, Stops.Ended, Stops.ended_as, Stops.go_as, Stops.run_as, Stops.source_as, declared.stop.GoStop.GoStop, declared.stop.RunStop.RunStop}
 use Rattle.htl_top.specs.declared.stop.GoStop.TheVariants as go
-use Rattle.htl_top.specs.declared.stop.RunStop.{RunStop}
 use Rattle.htl_top.specs.declared.stop.RunStop.TheVariants as run_stop
 
 -- ---- the bytes that were made

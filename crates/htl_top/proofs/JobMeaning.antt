@@ -1,12 +1,9 @@
 -- What `go` shows of the jobs of a source, down to the lines.
 use Rattle.std.proofs.Common.{ℕ, List, ◌++◌, None, refl, sym, ap, ◌∙◌}
 use Rattle.htl_top.proofs.Vocabulary.{built_accepted, built, coded, codes, Jobs, accepted_is_loaded, run_shows, old_alone, jobs_are_found, told_in_time, job_lines_to, schedules_of, text_of, lines_text, value_lines, hyper, whole-script, script_same, GoShowsJobLines, GoTellsJobsInTime, GoJobLinesAreFound}
-use Rattle.htl_audit.proofs.OwnLegal.{own_log_is_legal}
-use Rattle.htl_audit.proofs.OwnLines.{own_log_is_found}
+use Rattle.htl_audit.proofs.{OwnLegal.own_log_is_legal, OwnLines.own_log_is_found}
 use Rattle.htl_audit.specs.Own.{own_log}
-use Rattle.htl_top.proofs.Meaning.{go_shows}
-use Rattle.htl_top.proofs.Playing.{took_within}
-use Rattle.htl_top.proofs.SourceNames.{source_named, coded_named}
+use Rattle.htl_top.proofs.{Meaning.go_shows, Playing.took_within, SourceNames.source_named, SourceNames.coded_named}
 use Rattle.htl_top.specs.JobLaws.{GoTellsALegalLog}
 
 pub go_job_lines : GoShowsJobLines

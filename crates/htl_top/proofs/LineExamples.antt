@@ -1,7 +1,6 @@
 -- What a run of a small object writes, whole and before the fault of its script, and the lines that tell of faults, worked.
 use Rattle.std.proofs.Common.{◌≡◌, List, [], ◌∷◌, ◌++◌, Option, Some, None, pos, codes, refl}
-use Rattle.std.specs.Fmt.{digits}
-use Rattle.std.specs.Prelude.{decimal}
+use Rattle.std.specs.{Fmt.digits, Prelude.decimal}
 use Rattle.htl_compile.specs.declared.source_fault.SourceFault.TheVariants as fault
 use Rattle.htl_top.proofs.Vocabulary.{layout, Values, Jobs, doubling, empty_mode, Event, Tables, Object, sample, fault_line, place_of_fault, text_before_fault, text_of_script, Source, IllFormed, Unschedulable, Script, Dispatch, End}
 use Rattle.htl_model.proofs.Sources.{mode, call, two_periods}

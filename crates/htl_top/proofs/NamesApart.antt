@@ -5,11 +5,7 @@ use Rattle.htl_base.specs.Names.{is_name, is_word_byte}
 use Rattle.htl_console.specs.Names.{full_inv, full_mode, inv_name, task_name}
 use Rattle.htl_runs.specs.lines.RunLines.{HasNames}
 use Rattle.htl_model.proofs.Apart.{apart_names, apart_owned, apart_pairs}
-use Rattle.htl_model.specs.Lines.{mode_name, module_name}
-use Rattle.htl_model.specs.Ranges.{AreInRange, IsModeInRange, IsInvInRange, are_different}
-use Rattle.htl_model.specs.Tables.{mode_module}
-use Rattle.htl_model.specs.declared.parts.Inv.{Inv}
-use Rattle.htl_model.specs.declared.parts.Mode.{Mode}
+use Rattle.htl_model.specs.{Lines.mode_name, Lines.module_name, Ranges.AreInRange, Ranges.IsModeInRange, Ranges.IsInvInRange, Ranges.are_different, Tables.mode_module, declared.parts.Inv.Inv, declared.parts.Mode.Mode}
 use Rattle.htl_model.specs.declared.parts.Task.{Task}
 use Rattle.htl_patch.proofs.Counting.{one_key}
 use Rattle.htl_top.proofs.Vocabulary.{Tables, and_parts}

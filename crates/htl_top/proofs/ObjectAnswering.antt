@@ -1,6 +1,6 @@
 -- What a command on an object answers, by what it does with an accepted one.
-use Rattle.std.proofs.Common.{arith, ◌≡◌, ◌≤◌, ◌<◌, ◌⊎◌, ℕ, List, length, Option, refl, sym, ap, subst, inl, inr}
-use Rattle.htl_top.proofs.Vocabulary.{MAX_OBJECT, HasBytes, RefusesBytes, ObjectFault, IsAccepted, Object, Files, Streams, IsBeforeScript, IsBeforeRun, IsFaultOf, IsLongFile, IsGiven, IsOrMemory, IsRefusedFile, IsAcceptedFile, IsStopped, IsOnObject, IsReadyObject, Work, Outcome, Done, Usage, Task, Refused, Script, Shelf, Read, Write, Memory, Failed, TooLong}
+use Rattle.std.proofs.Common.{arith, ◌≡◌, ◌≤◌, ◌<◌, ◌⊎◌, ℕ, List, length, Option, refl, ap, subst, inl, inr}
+use Rattle.htl_top.proofs.Vocabulary.{HasBytes, RefusesBytes, ObjectFault, IsAccepted, Object, Files, Streams, IsBeforeScript, IsBeforeRun, IsGiven, IsOrMemory, IsAcceptedFile, IsStopped, IsOnObject, IsReadyObject, Work, Outcome, Done, Task, Refused, Script, Shelf, Read, Write, Memory, Failed, TooLong}
 pub use Rattle.htl_open.proofs.OneObject.{IsAcceptedFile-map, one_of_bytes, accepted_or_refused, object_or_bad, one_refusal}
 use Rattle.htl_open.proofs.GivenFiles as files
 
@@ -44,18 +44,6 @@ module _ (Does : Work) (work : IsWork Does) (name : Option (List ℕ)) (shelf : 
   -- an answer that no work has
   pub stopped : (outcome : Outcome) → IsOnObject Does name shelf old new outcome → (IsOfWork outcome → ⊥) → IsStopped name shelf outcome
   stopped outcome on none = elim on [ inl a ↦ absurd (none (work.only a.object old new outcome a.fact)) | inr s ↦ s.0 ]
-
-  pub object : (f : ObjectFault) → IsOnObject Does name shelf old new (Refused f) → IsRefusedFile name shelf.holds f
-  object f on = stopped (Refused f) on (λ w. w)
-
-  pub shelf_failed : IsOnObject Does name shelf old new (Shelf Failed) → IsFaultOf name shelf.before shelf.after
-  shelf_failed on = stopped (Shelf Failed) on (λ w. w)
-
-  pub shelf_long : (seen : ℕ) → IsOnObject Does name shelf old new (Shelf (TooLong seen)) → IsLongFile MAX_OBJECT name shelf.holds seen
-  shelf_long seen on = stopped (Shelf (TooLong seen)) on (λ w. w)
-
-  pub no_usage : IsOnObject Does name shelf old new Usage → ⊥
-  no_usage on = stopped Usage on (λ w. w)
 
   pub unread : (outcome : Outcome) → IsOnObject Does name shelf old new outcome → IsBeforeScript outcome → new.rest ≡ old.rest
   unread outcome on early = elim on [

@@ -1,29 +1,17 @@
 -- From the answer of a command on an object to its rows, and to those on the object itself.
 use Rattle.std.proofs.Common.{◌≡◌, ◌≤◌, ◌<◌, ◌⊎◌, ℕ, List, length, Option, None, Some, refl, sym, subst, inl, inr}
-use Rattle.htl_top.proofs.Vocabulary.{append_known, Shown, Rose, AppendsPrefix, RefusesBytes, ObjectFault, PatchFault, Object, Files, Streams, IsGiven, IsOrMemory, check_text, IsReadyFile, IsAcceptedFile, IsOnObject, IsReadyObject, Work, IsPlanned, IsCutPlan, IsBadSelection, IsRun, IsWholeRun, IsFaultyRun, IsCutRun, show_text, HasSlack, NamesNoTask, IsTaskCause, object_bytes, HasPatch, IsDonorFault, IsDonorTold, IsPatchCause, AreFilesOf, IsUntouched, Command, Go, Compile, CompileWith, Run, Check, Plan, Show, Bulk, Slack, Audit, Patch, command_object, second_file, Outcome, Done, Usage, Refused, Script, Shelf, Task, Unpatched, Read, Write, Memory, TooLong}
-use Rattle.htl_top.proofs.Auditing as auditing
-use Rattle.htl_top.proofs.Auditing.{AuditOf}
+use Rattle.htl_top.proofs.Vocabulary.{append_known, Shown, Rose, AppendsPrefix, RefusesBytes, ObjectFault, PatchFault, Object, Files, Streams, IsGiven, IsOrMemory, check_text, IsReadyFile, IsAcceptedFile, IsOnObject, IsReadyObject, Work, IsPlanned, IsCutPlan, IsBadSelection, IsRun, IsWholeRun, IsFaultyRun, IsCutRun, show_text, HasSlack, NamesNoTask, IsTaskCause, object_bytes, HasPatch, IsDonorFault, IsDonorTold, IsPatchCause, AreFilesOf, IsUntouched, Command, Go, Compile, CompileWith, Run, Check, Plan, Show, Bulk, Slack, Audit, Patch, command_object, second_file, Outcome, Done, Refused, Script, Shelf, Task, Unpatched, Read, Write, Memory, TooLong}
+use Rattle.htl_top.proofs.{Auditing.AuditOf, BothFiles.UnhadAs, Calling.DoesOf, Calling.tells, Calling.working, Calling.done_memory, Calling.write_memory, Calling.read_memory, Calling.script_memory, ObjectAnswering.IsWork, Stops.must}
 use Rattle.htl_top.proofs.BothFiles as both
-use Rattle.htl_top.proofs.BothFiles.{UnhadAs}
 use Rattle.htl_top.proofs.PatchedObjects as patched
-use Rattle.htl_top.proofs.Bulking as bulking
-use Rattle.htl_top.proofs.Calling.{checking, showing, some_not_none, done_memory, write_memory, read_memory, script_memory}
 use Rattle.htl_top.proofs.ObjectAnswering as objects
-use Rattle.htl_top.proofs.ObjectAnswering.{IsWork}
 use Rattle.htl_top.proofs.Patching as patching
-use Rattle.htl_top.proofs.Patching.{DonorOf, PatchingAs}
-use Rattle.htl_top.proofs.Going as going
-use Rattle.htl_top.proofs.Planning.{PlanOf, bad_input, done_plan, faulty_plan, planning, read_plan, whole_input, write_plan}
-use Rattle.htl_top.proofs.Running.{RunOf, bad_run, done_run, faulty_run, not_task, read_run, running, whole_run, write_run}
-use Rattle.htl_top.proofs.Seen.{IsChecked, IsSeen, IsShown}
+use Rattle.htl_top.proofs.{Patching.DonorOf, Patching.PatchingAs, Planning.PlanOf, Planning.bad_input, Planning.done_plan, Planning.faulty_plan, Planning.planning, Planning.read_plan, Planning.whole_input, Planning.write_plan}
+use Rattle.htl_top.proofs.{Running.RunOf, Running.bad_run, Running.done_run, Running.faulty_run, Running.not_task, Running.read_run, Running.running, Running.whole_run, Running.write_run, Seen.IsChecked, Seen.IsSeen, Seen.IsShown}
 use Rattle.htl_top.proofs.Slacking as slacking
-use Rattle.htl_top.proofs.Slacking.{IsSlacked, slacking as slack_work}
-use Rattle.htl_top.proofs.Stops.{must}
-use Rattle.htl_top.specs.Planned.{IsWholePlan}
-use Rattle.htl_top.specs.Stops.{Ended, donor_as, ended_as, run_as}
-use Rattle.htl_top.specs.declared.stop.DonorStop.{DonorStop}
+use Rattle.htl_top.proofs.{Slacking.IsSlacked, Slacking.slacking as slack_work, Telling.TextOf, Telling.telling}
+use Rattle.htl_top.specs.{Planned.IsWholePlan, Stops.Ended, Stops.donor_as, Stops.ended_as, Stops.run_as, declared.stop.DonorStop.DonorStop}
 use Rattle.htl_top.proofs.Telling as texts
-use Rattle.htl_top.proofs.Telling.{TextOf, telling}
 use Rattle.htl_top.specs.ObjectRows.{RunRows, CheckRows, ShowRows, SlackRows, PlanRows, PatchRows}
 
 -- ---- the object that is named
@@ -31,35 +19,31 @@ use Rattle.htl_top.specs.ObjectRows.{RunRows, CheckRows, ShowRows, SlackRows, Pl
 module _ (shelf : Files) (old new : Streams) where
   pub long_object : (command : Option Command) (bytes : List ℕ) (outcome : Outcome) → IsGiven (command_object command) shelf.holds shelf.before shelf.after bytes
       → IsSeen command shelf old new outcome → 16777216 < length bytes → IsOrMemory outcome (Shelf (TooLong (length bytes)))
-  long_object (Some (Run show name)) bytes outcome given call long = objects.long_object (RunOf show) (running show) (Some name) shelf old new bytes given outcome call long
-  long_object (Some (Check name)) bytes outcome given call long = objects.long_object IsChecked checking (Some name) shelf old new bytes given outcome call long
-  long_object (Some (Plan name)) bytes outcome given call long = objects.long_object PlanOf planning (Some name) shelf old new bytes given outcome call long
-  long_object (Some (Show name)) bytes outcome given call long = objects.long_object IsShown showing (Some name) shelf old new bytes given outcome call long
-  long_object (Some (Slack name owner task)) bytes outcome given call long = objects.long_object (IsSlacked owner task) (slack_work owner task) (Some name) shelf old new bytes given outcome call long
   long_object (Some (Audit name log)) bytes outcome given call long = both.long_object (AuditOf old new) (IsUntouched old new) (Some name) (Some log) shelf bytes given outcome call long
   long_object (Some (Patch name unit mode donor)) bytes outcome given call long = both.long_object (DonorOf unit mode old new) (new.written ≡ old.written) (Some name) (Some donor) shelf bytes given outcome call.1 long
-  long_object _ bytes outcome given call long = absurd (some_not_none (List ℕ) None given.word given.named refl)
+  long_object None bytes outcome given call long = absurd (let e = given.named in cc)
+  long_object (Some (Go name)) bytes outcome given call long = absurd (let e = given.named in cc)
+  long_object (Some Compile) bytes outcome given call long = absurd (let e = given.named in cc)
+  long_object (Some (CompileWith file)) bytes outcome given call long = absurd (let e = given.named in cc)
+  long_object (Some (Bulk n)) bytes outcome given call long = absurd (let e = given.named in cc)
+  long_object (Some command) bytes outcome given call long = objects.long_object (DoesOf command) (working command) (command_object (Some command)) shelf old new bytes given outcome call long
 
   pub faulty_object : (command : Option Command) (bytes : List ℕ) (outcome : Outcome) → IsGiven (command_object command) shelf.holds shelf.before shelf.after bytes
       → IsSeen command shelf old new outcome → ((word : List ℕ) → second_file command ≡ Some word → (others : List ℕ) × IsReadyFile (Some word) shelf.holds shelf.before shelf.after others)
       → (f : ObjectFault) → length bytes ≤ 16777216 → RefusesBytes bytes f → IsOrMemory outcome (Refused f)
-  faulty_object (Some (Run show name)) bytes outcome given call second f short refused =
-      objects.faulty_object (RunOf show) (running show) (Some name) shelf old new bytes given outcome call f short refused
-  faulty_object (Some (Check name)) bytes outcome given call second f short refused =
-      objects.faulty_object IsChecked checking (Some name) shelf old new bytes given outcome call f short refused
-  faulty_object (Some (Plan name)) bytes outcome given call second f short refused =
-      objects.faulty_object PlanOf planning (Some name) shelf old new bytes given outcome call f short refused
-  faulty_object (Some (Show name)) bytes outcome given call second f short refused =
-      objects.faulty_object IsShown showing (Some name) shelf old new bytes given outcome call f short refused
-  faulty_object (Some (Slack name owner task)) bytes outcome given call second f short refused =
-      objects.faulty_object (IsSlacked owner task) (slack_work owner task) (Some name) shelf old new bytes given outcome call f short refused
   faulty_object (Some (Audit name log)) bytes outcome given call second f short refused =
       let other = second log refl in
       both.faulty_object (AuditOf old new) (IsUntouched old new) (Some name) (Some log) shelf bytes given other.0 other.1.given other.1.short outcome call f short refused
   faulty_object (Some (Patch name unit mode donor)) bytes outcome given call second f short refused =
       let other = second donor refl in
       both.faulty_object (DonorOf unit mode old new) (new.written ≡ old.written) (Some name) (Some donor) shelf bytes given other.0 other.1.given other.1.short outcome call.1 f short refused
-  faulty_object _ bytes outcome given call second f short refused = absurd (some_not_none (List ℕ) None given.word given.named refl)
+  faulty_object None bytes outcome given call second f short refused = absurd (let e = given.named in cc)
+  faulty_object (Some (Go name)) bytes outcome given call second f short refused = absurd (let e = given.named in cc)
+  faulty_object (Some Compile) bytes outcome given call second f short refused = absurd (let e = given.named in cc)
+  faulty_object (Some (CompileWith file)) bytes outcome given call second f short refused = absurd (let e = given.named in cc)
+  faulty_object (Some (Bulk n)) bytes outcome given call second f short refused = absurd (let e = given.named in cc)
+  faulty_object (Some command) bytes outcome given call second f short refused =
+      objects.faulty_object (DoesOf command) (working command) (command_object (Some command)) shelf old new bytes given outcome call f short refused
 
 module _ (shelf : Files) (old new : Streams) (outcome : Outcome) (name : List ℕ) where
   -- ---- what is done with an accepted object
@@ -196,21 +180,9 @@ module _ (shelf : Files) (old new : Streams) (outcome : Outcome) (name : List �
 
 -- ---- answers of one command alone
 
-task_usage : Task ≡ Usage → ⊥
-task_usage e = cc
-
-unpatched_usage : (f : PatchFault) → Unpatched f ≡ Usage → ⊥
-unpatched_usage f e = cc
-
 module _ (shelf : Files) (old new : Streams) where
   pub task_cause : (command : Option Command) → IsSeen command shelf old new Task → IsTaskCause command shelf.holds
-  task_cause None call = task_usage call.0
-  task_cause (Some (Go name)) call = going.tells (Some name) shelf old new Task call
-  task_cause (Some Compile) call = call
-  task_cause (Some (CompileWith file)) call = call
-  task_cause (Some (Bulk n)) call = bulking.only n old new Task call
-  task_cause (Some (Audit name log)) call = auditing.no_task name log shelf old new call
-  task_cause (Some (Patch name unit mode donor)) call = patching.stopped unit mode (Some name) (Some donor) shelf old new Task call (λ w. w)
+  task_cause None call = let e = call.0 in cc
   task_cause (Some (Slack name owner task)) call = elim call [
     | inl a ↦
         objects.IsAcceptedFile-map (Some name) shelf.holds (λ o. IsSlacked owner task o old new Task) (λ o. NamesNoTask o.tables owner task) (λ o d. slacking.unknown owner task o old new d) a
@@ -220,22 +192,14 @@ module _ (shelf : Files) (old new : Streams) where
   task_cause (Some (Check name)) call = elim call [ inl a ↦ texts.no_put (λ (o : Object). check_text o.tables) a.object old new Task a.fact | inr s ↦ s.0 ]
   task_cause (Some (Plan name)) call = elim call [ inl a ↦ not_task a.fact.result (sym a.fact.is) | inr s ↦ s.0 ]
   task_cause (Some (Show name)) call = elim call [ inl a ↦ texts.no_put show_text a.object old new Task a.fact | inr s ↦ s.0 ]
+  task_cause (Some command) call = tells shelf old new command Task call (λ w. w)
 
   pub patch_cause : (command : Option Command) (f : PatchFault) → IsSeen command shelf old new (Unpatched f) → IsPatchCause command shelf.holds f
-  patch_cause None f call = unpatched_usage f call.0
-  patch_cause (Some (Go name)) f call = going.tells (Some name) shelf old new (Unpatched f) call
-  patch_cause (Some Compile) f call = call
-  patch_cause (Some (CompileWith file)) f call = call
-  patch_cause (Some (Bulk n)) f call = bulking.only n old new (Unpatched f) call
-  patch_cause (Some (Slack name owner task)) f call = elim call [ inl a ↦ (slack_work owner task).only a.object old new (Unpatched f) a.fact | inr s ↦ s.0 ]
-  patch_cause (Some (Audit name log)) f call = auditing.stopped name log shelf old new (Unpatched f) call (λ w. w)
+  patch_cause None f call = let e = call.0 in cc
   patch_cause (Some (Patch name unit mode donor)) f call = elim call.1 [
     | inl a ↦
         both.AreFilesOf-map (Some name) (Some donor) shelf (λ o bytes. DonorOf unit mode old new o bytes (Unpatched f)) (λ o bytes. IsDonorFault o unit mode bytes f)
         (λ o bytes d. (patched.told_fault o unit mode bytes old.written new.written old.write_faults new.write_faults f d.result d.is d.came).0) a
     | inr s ↦ absurd s.0
   ]
-  patch_cause (Some (Run show name)) f call = objects.stopped (RunOf show) (running show) (Some name) shelf old new (Unpatched f) call (λ w. w)
-  patch_cause (Some (Check name)) f call = elim call [ inl a ↦ texts.no_put (λ (o : Object). check_text o.tables) a.object old new (Unpatched f) a.fact | inr s ↦ s.0 ]
-  patch_cause (Some (Plan name)) f call = objects.stopped PlanOf planning (Some name) shelf old new (Unpatched f) call (λ w. w)
-  patch_cause (Some (Show name)) f call = elim call [ inl a ↦ texts.no_put show_text a.object old new (Unpatched f) a.fact | inr s ↦ s.0 ]
+  patch_cause (Some command) f call = tells shelf old new command (Unpatched f) call (λ w. w)

@@ -4,9 +4,7 @@ use Rattle.htl_top.proofs.Vocabulary.{append_known, Rose, AppendsPrefix, Holding
 use Rattle.htl_patch.specs.declared.fault.PatchFault.TheVariants as fault
 use Rattle.htl_patch.specs.declared.fault.PatchStop.TheVariants as stop
 use Rattle.htl_top.proofs.ObjectAnswering.{one_of_bytes, object_or_bad}
-use Rattle.htl_top.specs.declared.outcome.Outcome.TheVariants.{Done, Patch, Write}
-use Rattle.htl_top.specs.Stops.{Ended, donor_as, ended_as}
-use Rattle.htl_top.specs.declared.stop.DonorStop.{DonorStop}
+use Rattle.htl_top.specs.{declared.outcome.Outcome.TheVariants.Done, declared.outcome.Outcome.TheVariants.Patch, declared.outcome.Outcome.TheVariants.Write, Stops.Ended, Stops.donor_as, Stops.ended_as, declared.stop.DonorStop.DonorStop}
 use Rattle.htl_top.specs.declared.stop.DonorStop.TheVariants as unpatched
 use Rattle.htl_top.specs.declared.stop.PutStop.{PutStop}
 use Rattle.htl_top.specs.declared.stop.PutStop.TheVariants as put

@@ -1,15 +1,12 @@
 -- What `patch` came to, by its outcome and the two files that it names.
 use Rattle.std.proofs.Common.{◌≡◌, ◌≤◌, ◌⊎◌, ℕ, List, length, Option, Ok, Err, refl, sym, subst, inl, inr}
-use Rattle.htl_top.proofs.Vocabulary.{MAX_OBJECT, CompileFault, Rose, HasBytes, ObjectFault, Object, CanPatch, Replacement, PatchFault, Files, Streams, IsBeforeRun, IsFaultOf, IsLongFile, IsGiven, IsOrMemory, IsRefusedFile, IsReadyObject, IsDonorFault, IsDonorTold, IsPatching, answer_of, Outcome, Failed, TooLong}
-use Rattle.htl_compile.specs.declared.compiling.CompileFault.TheVariants as compile
+use Rattle.htl_top.proofs.Vocabulary.{Rose, HasBytes, Object, CanPatch, Replacement, PatchFault, Files, Streams, IsBeforeRun, IsGiven, IsOrMemory, IsReadyObject, IsDonorFault, IsDonorTold, IsPatching, Outcome}
 use Rattle.htl_patch.specs.declared.fault.PatchStop.TheVariants as refusal
 use Rattle.htl_top.proofs.BothFiles as both
-use Rattle.htl_top.proofs.BothFiles.{BothAs, UnhadAs, both_as}
+use Rattle.htl_top.proofs.{BothFiles.BothAs, BothFiles.UnhadAs, BothFiles.both_as, Stops.must}
 use Rattle.htl_top.proofs.PatchedObjects as objects
-use Rattle.htl_top.proofs.Stops.{must}
-use Rattle.htl_top.specs.Stops.{Came, Ended, donor_as, ended_as, object_as}
-use Rattle.htl_top.specs.declared.outcome.Outcome.TheVariants.{Done, Source, IllFormed, Unschedulable, Patch, Object as Refused, Shelf, Write, Memory}
-use Rattle.htl_top.specs.declared.stop.DonorStop.{DonorStop}
+use Rattle.htl_top.specs.{Stops.Came, Stops.Ended, Stops.donor_as, Stops.ended_as, Stops.object_as, declared.stop.DonorStop.DonorStop}
+use Rattle.htl_top.specs.declared.outcome.Outcome.TheVariants.{Done, Patch, Object as Refused, Write, Memory}
 use Rattle.htl_top.specs.declared.stop.DonorStop.TheVariants as unpatched
 use Rattle.htl_top.specs.declared.stop.PutStop.TheVariants as put
 
@@ -59,23 +56,6 @@ module _ (unit mode : List ℕ) (name donor : Option (List ℕ)) (shelf : Files)
     | inl a ↦ absurd (none (subst IsOfDonor (sym a.fact.fact.is) (ended_donor a.fact.fact.result)))
     | inr s ↦ s.0
   ]
-
-  pub no_source : (f : CompileFault) → (f ≡ compile.Memory → ⊥) → Called (answer_of f) → ⊥
-  no_source (compile.Source f) told call = stopped (Source f) call (λ w. w)
-  no_source (compile.IllFormed f) told call = stopped (IllFormed f) call (λ w. w)
-  no_source (compile.Unschedulable sel a b demand) told call = stopped (Unschedulable sel a b demand) call (λ w. w)
-  no_source compile.Memory told call = told refl
-
-  -- ---- of an outcome
-
-  pub shelf_failed : Called (Shelf Failed) → IsFaultOf name shelf.before shelf.after ⊎ IsFaultOf donor shelf.before shelf.after
-  shelf_failed call = elim (stopped (Shelf Failed) call (λ w. w)) [ inl h ↦ inl h | inr d ↦ inr d.1 ]
-
-  pub shelf_long : (seen : ℕ) → Called (Shelf (TooLong seen)) → IsLongFile MAX_OBJECT name shelf.holds seen ⊎ IsLongFile MAX_OBJECT donor shelf.holds seen
-  shelf_long seen call = elim (stopped (Shelf (TooLong seen)) call (λ w. w)) [ inl h ↦ inl h | inr d ↦ inr d.1 ]
-
-  pub object : (f : ObjectFault) → Called (Refused f) → IsRefusedFile name shelf.holds f
-  object f call = (stopped (Refused f) call (λ w. w)).0
 
   pub unwritten : (outcome : Outcome) → Called outcome → IsBeforeRun outcome → new.written ≡ old.written
   unwritten outcome call early = elim call.1 [

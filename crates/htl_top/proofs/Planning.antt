@@ -1,14 +1,9 @@
 -- What a plan answers, by its input.
 use Rattle.std.proofs.Common.{◌≡◌, ℕ, List, Option, Some, Ok, Err, refl, sym, ap, ◌∙◌, subst, inl, inr}
 use Rattle.htl_top.proofs.Vocabulary.{IfSome, Rose, Object, OfScript, ScriptFault, ScriptKind, Files, Streams, IsBeforeRun, IsOnObject, IsOrMemory, IsPlanned, IsCutPlan, IsBadSelection, Work, Outcome, Done, Script, Read, Write}
-use Rattle.htl_top.proofs.ObjectAnswering.{IsWork, IsOfWork}
-use Rattle.htl_top.proofs.Running.{ended_work, not_task}
-use Rattle.htl_top.proofs.Stops.{answered}
+use Rattle.htl_top.proofs.{ObjectAnswering.IsWork, ObjectAnswering.IsOfWork, Running.ended_work, Running.not_task, Stops.answered}
 use Rattle.htl_plan.specs.SelectionInput.{Input, Whole, Bad, input_of}
-use Rattle.htl_top.specs.Answers.{IsUntouched}
-use Rattle.htl_top.specs.Planned.{IsPlannedOnFile, IsWholePlan}
-use Rattle.htl_top.specs.Stops.{Came, Ended, ended_as, object_as, run_as}
-use Rattle.htl_top.specs.declared.stop.RunStop.{RunStop}
+use Rattle.htl_top.specs.{Answers.IsUntouched, Planned.IsPlannedOnFile, Planned.IsWholePlan, Stops.Came, Stops.Ended, Stops.ended_as, Stops.object_as, Stops.run_as, declared.stop.RunStop.RunStop}
 use Rattle.htl_top.specs.declared.stop.RunStop.TheVariants as stop
 
 module _ (o : Object) (old new : Streams) where

@@ -2,8 +2,7 @@
 use Rattle.std.proofs.Common.{arith, ◌≡◌, ◌≤◌, ℕ, zero, suc, ◌*◌, ◌-◌, ◌+◌, List, [], ◌∷◌, ◌++◌, Option, None, Some, Result, Ok, refl, sym, ap, ap₂, ◌∙◌, subst}
 use Rattle.htl_top.proofs.Vocabulary.{pos, Shown, Nothing, ECode, append_known-start, Puts, Seen, Follows, IsSameRun, text_between, reading_of, lines, lines_of, schedules_of, hyper, joined, Tables, Event, Object, SInstr, readings_of, round_readings, up_to_none, append_assoc}
 use Rattle.htl_model.specs.declared.event.Event.TheVariants as event
-use Rattle.htl_runs.specs.lines.RunLines.{record_text}
-use Rattle.htl_runs.specs.lines.RunRecords.{RunRecord, new_records, old_records}
+use Rattle.htl_runs.specs.{lines.RunLines.record_text, lines.RunRecords.RunRecord, lines.RunRecords.new_records, lines.RunRecords.old_records}
 
 -- ---- nothing is shown
 

@@ -2,12 +2,8 @@
 use Rattle.std.proofs.Common.{◌≡◌, ℕ, List, Option, Some, Ok, Err, refl, sym, ap, ◌∙◌, subst, inl, inr}
 use Rattle.htl_top.proofs.Vocabulary.{IfSome, coded, codes, Shown, Rose, Tables, Event, Object, script_same, OfScript, ScriptFault, ScriptKind, Files, Streams, IsBeforeRun, IsOnObject, IsOrMemory, IsRun, IsWholeRun, IsFaultyRun, IsCutRun, IsWhole, IsBad, Work, Outcome, Done, Faulty, Read, Write, Memory, Task}
 use Rattle.htl_script.specs.Script.{Script, Whole, Bad, script_of}
-use Rattle.htl_top.proofs.ObjectAnswering.{IsOfWork, IsWork}
-use Rattle.htl_top.proofs.Stops.{answered}
-use Rattle.htl_top.specs.Answers.{IsUntouched}
-use Rattle.htl_top.specs.Runs.{IsRunOnFile}
-use Rattle.htl_top.specs.Stops.{Came, Ended, ended_as, object_as, run_as}
-use Rattle.htl_top.specs.declared.stop.RunStop.{RunStop}
+use Rattle.htl_top.proofs.{ObjectAnswering.IsOfWork, ObjectAnswering.IsWork, Stops.answered}
+use Rattle.htl_top.specs.{Answers.IsUntouched, Runs.IsRunOnFile, Stops.Came, Stops.Ended, Stops.ended_as, Stops.object_as, Stops.run_as, declared.stop.RunStop.RunStop}
 use Rattle.htl_top.specs.declared.stop.RunStop.TheVariants as stop
 
 -- ---- the machine and its object

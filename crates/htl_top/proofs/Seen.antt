@@ -1,16 +1,9 @@
 -- What a command answered, as its proofs see it: by what was done, and by the answer.
 use Rattle.std.proofs.Common.{◌≡◌, Option, None, Some}
 use Rattle.htl_top.proofs.Vocabulary.{check_text, show_text, Files, Streams, IsBulked, IsCall, IsGoing, IsOnObject, Object, Work, Command, Go, Compile, CompileWith, Run, Check, Plan, Show, Bulk, Slack, Audit, Patch, Outcome, Usage}
-use Rattle.htl_top.proofs.Slacking.{IsSlacked, seen_slack}
-use Rattle.htl_top.proofs.Auditing.{AuditAs, seen_audit}
-use Rattle.htl_top.proofs.Compiling.{CompilingAs, seen_compile}
-use Rattle.htl_top.proofs.CompilingOn.{CompilingOnAs, seen_compile_with}
-use Rattle.htl_top.proofs.Patching.{PatchingAs, seen_patch}
-use Rattle.htl_top.proofs.Telling.{TextOf, seen_text}
-use Rattle.htl_top.proofs.Planning.{PlanOf, plan_answered}
-use Rattle.htl_top.proofs.Running.{RunOf, run_answered}
-use Rattle.htl_top.specs.Answers.{IsUntouched}
-use Rattle.htl_top.specs.Stops.{Came, go_as}
+use Rattle.htl_top.proofs.{Slacking.IsSlacked, Slacking.seen_slack, Auditing.AuditAs, Auditing.seen_audit, Compiling.CompilingAs, Compiling.seen_compile, CompilingOn.CompilingOnAs, CompilingOn.seen_compile_with}
+use Rattle.htl_top.proofs.{Patching.PatchingAs, Patching.seen_patch, Telling.TextOf, Telling.seen_text, Planning.PlanOf, Planning.plan_answered, Running.RunOf, Running.run_answered}
+use Rattle.htl_top.specs.{Answers.IsUntouched, Stops.Came, Stops.go_as}
 
 abbrev pub IsChecked : Work
 IsChecked = TextOf (λ (o : Object). check_text o.tables)

@@ -1,11 +1,8 @@
 -- The task of two names, and what `slack` answers.
 use Rattle.std.proofs.Common.{◌≡◌, ◌≤◌, ◌<◌, ℕ, Bool, true, false, ◌&&◌, List, length, slice_get, Option, Some, None, Ok, Err, refl, sym, ap, ◌∙◌, subst, arith, inl, inr}
 use Rattle.htl_top.proofs.Vocabulary.{append_known, AppendsPrefix, HasSlack, bytes_eq, and_parts, slice_get_within, bytes_eq-Decides, Rose, Module, TaskOf, Tables, Object, Files, Streams, IsBeforeRun, IsOrMemory, IsOnObject, IsObjectTables, SpeaksOf, IsNamed, IsRootNamed, NamesNoTask, has_names, IsSlackTold, Work, Outcome, Done, Task, Write}
-use Rattle.htl_top.proofs.ObjectAnswering.{IsWork, IsOfWork}
-use Rattle.htl_top.proofs.Stops.{SpeaksOf-object, answered}
-use Rattle.htl_top.specs.Slacked.{IsSlackCall, IsSlackOnObject}
-use Rattle.htl_top.specs.Stops.{Came, Ended, ended_as, ended_tables, no_tables, object_as, object_tables, slack_as}
-use Rattle.htl_top.specs.declared.stop.OnObject.{OnObject}
+use Rattle.htl_top.proofs.{ObjectAnswering.IsWork, ObjectAnswering.IsOfWork, Stops.SpeaksOf-object, Stops.answered}
+use Rattle.htl_top.specs.{Slacked.IsSlackCall, Slacked.IsSlackOnObject, Stops.Came, Stops.Ended, Stops.ended_as, Stops.ended_tables, Stops.no_tables, Stops.object_as, Stops.object_tables, Stops.slack_as, declared.stop.OnObject.OnObject}
 use Rattle.htl_top.specs.declared.stop.SlackStop.{SlackStop}
 use Rattle.htl_top.specs.declared.stop.SlackStop.TheVariants as slack
 

@@ -3,13 +3,10 @@ use Rattle.std.proofs.Common.{◌≡◌, ℕ, List, Some, subst}
 use Rattle.htl_top.proofs.Vocabulary.{built, Jobs, Files, Streams, IsBulked, IsGoing, IsWholeRun, IsProgram, Outcome, Done, Script, Read, Write}
 use Rattle.htl_top.proofs.Bulking as bulking
 use Rattle.htl_top.proofs.Compiling as compiling
-use Rattle.htl_top.proofs.Compiling.{CompilingAs}
+use Rattle.htl_top.proofs.{Compiling.CompilingAs, CompilingOn.CompilingOnAs, Running.bad_run, Running.whole_run}
 use Rattle.htl_top.proofs.CompilingOn as platforms
-use Rattle.htl_top.proofs.CompilingOn.{CompilingOnAs}
 use Rattle.htl_top.proofs.Going as going
-use Rattle.htl_top.proofs.Running.{bad_run, whole_run}
-use Rattle.htl_top.specs.Stops.{Came, go_as}
-use Rattle.htl_top.specs.SourceRows.{GoRows, CompileRows, CompileWithRows, BulkRows}
+use Rattle.htl_top.specs.{Stops.Came, Stops.go_as, SourceRows.GoRows, SourceRows.CompileRows, SourceRows.CompileWithRows, SourceRows.BulkRows}
 
 module _ (shelf : Files) (old new : Streams) (outcome : Outcome) where
   -- ---- `go`

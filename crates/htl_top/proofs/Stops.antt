@@ -1,14 +1,10 @@
 -- From what a command came to, to its answer.
 use Rattle.std.proofs.Common.{◌≡◌, ◌∙◌, List, ℕ, Option, Ok, Err, sym, ap, subst, inl, inr}
 use Rattle.htl_top.proofs.Vocabulary.{Tables, Object, Files, Streams, IsAcceptedFile, IsObjectTables, IsOnObject, IsOrMemory, IsStopped, SpeaksOf, Work, Outcome}
-use Rattle.htl_open.specs.Stops.{IsUnopened}
-use Rattle.htl_open.specs.declared.stop.OpenStop.{OpenStop}
+use Rattle.htl_open.specs.{Stops.IsUnopened, declared.stop.OpenStop.OpenStop}
 use Rattle.htl_open.specs.declared.stop.OpenStop.TheVariants as open_stop
 use Rattle.htl_top.proofs.ObjectAnswering.{IsAcceptedFile-map}
-use Rattle.htl_top.specs.Answers.{IsUntouched}
-use Rattle.htl_top.specs.Objects.{IsOnFile}
-use Rattle.htl_top.specs.Stops.{Came, Ended, ended_as, ended_tables, object_as, object_tables, open_as, open_tables}
-use Rattle.htl_top.specs.declared.stop.OnObject.{OnObject}
+use Rattle.htl_top.specs.{Answers.IsUntouched, Objects.IsOnFile, Stops.Came, Stops.Ended, Stops.ended_as, Stops.ended_tables, Stops.object_as, Stops.object_tables, Stops.open_as, Stops.open_tables, declared.stop.OnObject.OnObject}
 use Rattle.htl_top.specs.declared.stop.OnObject.TheVariants as on
 
 -- ---- counts of faults

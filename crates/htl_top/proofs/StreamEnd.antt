@@ -3,8 +3,7 @@ use Rattle.std.proofs.Common.{arith, ◌≡◌, true, false, ℕ, List, [], ◌�
 use Rattle.htl_top.proofs.Vocabulary.{append_known, append-nil, Puts, none_left, Seen, IsFinished, IsSameRun, totals_line, Tables, Event, past_of, OfScript, behind, Whole, script_of, Ahead, Gives, still, IsAnswer, Goes, Past, whole-script, gives_more, given_script, given_all, told_of, IsPlaying, IsTold, IsCutRun, IsWholeRun, EndsAt, text_before_fault, text_of_script}
 use Rattle.htl_edge.specs.declared.Failed.{Failed}
 use Rattle.htl_model.specs.declared.event.Event.TheVariants as event
-use Rattle.htl_top.proofs.Executing.{run_put}
-use Rattle.htl_top.proofs.Playing.{end_after, last_same}
+use Rattle.htl_top.proofs.{Executing.run_put, Playing.end_after, Playing.last_same}
 
 -- the input has ended: the machine is finished
 pub record IsOver (m0 m : Seen) (known left w0 w : Option (List ℕ)) : Type 0 where

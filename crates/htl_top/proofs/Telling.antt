@@ -1,13 +1,9 @@
 -- A text that is told: of an accepted object by `check` and `show`, of a generated program by `bulk`.
 use Rattle.std.proofs.Common.{◌≡◌, List, ℕ, Option, Ok, Err, sym, subst, inl}
 use Rattle.htl_top.proofs.Vocabulary.{append_known, Rose, AppendsPrefix, Object, Tables, IsObjectTables, SpeaksOf, Files, Streams, IsBeforeRun, IsOrMemory, IsOnObject, Work, Outcome, Done, Write, Memory}
-use Rattle.htl_edge.specs.Content.{Puts}
-use Rattle.htl_edge.specs.declared.Failed.{Failed}
-use Rattle.htl_top.proofs.ObjectAnswering.{IsOfWork, IsWork}
-use Rattle.htl_top.proofs.Stops.{SpeaksOf-object, answered}
-use Rattle.htl_top.specs.Objects.{IsTextCall, IsTextOnObject}
-use Rattle.htl_top.specs.Stops.{Came, Ended, ended_as, ended_tables, no_tables, object_as, object_tables, write_as}
-use Rattle.htl_top.specs.declared.stop.OnObject.{OnObject}
+use Rattle.htl_edge.specs.{Content.Puts, declared.Failed.Failed}
+use Rattle.htl_top.proofs.{ObjectAnswering.IsOfWork, ObjectAnswering.IsWork, Stops.SpeaksOf-object, Stops.answered}
+use Rattle.htl_top.specs.{Objects.IsTextCall, Objects.IsTextOnObject, Stops.Came, Stops.Ended, Stops.ended_as, Stops.ended_tables, Stops.no_tables, Stops.object_as, Stops.object_tables, Stops.write_as, declared.stop.OnObject.OnObject}
 
 -- answers to what writes alone
 abbrev pub IsOfPut : Outcome → Type 0

@@ -1,19 +1,13 @@
 -- What a reader finds of values and modes in the text of what `go` runs.
 use Rattle.std.proofs.Common.{◌≡◌, ◌*◌, ◌/◌, ℕ, zero, suc, Bool, true, false, cond, List, [], ◌∷◌, ◌++◌, map, Option, Some, None, refl, sym, ap, ap₂, ◌∙◌, append-nil}
 use Rattle.htl_base.proofs.Places.{map_same}
-use Rattle.htl_runs.proofs.lines.LineBytes.{lines_found}
-use Rattle.htl_runs.proofs.lines.Joined.{joined-append, joined-up_to}
+use Rattle.htl_runs.proofs.{lines.LineBytes.lines_found, lines.Joined.joined-append, lines.Joined.joined-up_to}
 use Rattle.htl_runs.specs.lines.RunLines.{RunLine, printed, text_lines, HasNames, closed_slice_line, job_done_line, job_lines, job_lines_at}
-use Rattle.htl_runs.specs.lines.RunLines.RunLine.{ChangeLine, TotalsLine}
-use Rattle.htl_runs.specs.lines.Lines.{e_done, jobs_done, s_done}
+use Rattle.htl_runs.specs.{lines.RunLines.RunLine.ChangeLine, lines.RunLines.RunLine.TotalsLine, lines.Lines.e_done, lines.Lines.jobs_done, lines.Lines.s_done}
 use Rattle.htl_runs.specs.lines.RunRecords.{RunRecord, new_records, old_records}
 use Rattle.htl_model.proofs.Locality.{up_to_same}
-use Rattle.htl_model.specs.Lists.{joined, up_to}
-use Rattle.htl_model.specs.Meaning.{run_lines}
-use Rattle.htl_model.specs.Lines.{line_text, lines_text, totals_line}
-use Rattle.htl_top.proofs.JobMeaning.{go_job_lines}
-use Rattle.htl_top.proofs.Meaning.{line_same}
-use Rattle.htl_top.proofs.SourceNames.{source_named, coded_named}
+use Rattle.htl_model.specs.{Lists.joined, Lists.up_to, Meaning.run_lines, Lines.line_text, Lines.lines_text, Lines.totals_line}
+use Rattle.htl_top.proofs.{JobMeaning.go_job_lines, Meaning.line_same, SourceNames.source_named, SourceNames.coded_named}
 use Rattle.htl_top.proofs.Vocabulary.{Event, Job, Left, Line, ValueLine, ModeLine, SInstr, Tables, built, coded, hyper, Jobs, lines_of, map-append, schedules_of, text_of, value_lines, CanBuild, Object}
 use Rattle.htl_top.specs.FoundLaws.{begins_as_change, GoValueLinesAreFound}
 use Rattle.std.proofs.lemmas.List.Elements.{filter-append}

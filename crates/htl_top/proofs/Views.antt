@@ -1,11 +1,8 @@
 -- A command on an object by its answer, as the proofs of its rows see it.
 use Rattle.std.specs.Prelude.{ℕ, ◌⊎◌, Option, List}
-use Rattle.htl_open.specs.Files.{Files}
-use Rattle.htl_open.specs.Objects.{IsAcceptedFile, IsRefusedFile}
-use Rattle.htl_open.specs.Stops.{IsShelfCause}
-use Rattle.htl_top.specs.Answers.{Streams, IsUntouched}
+use Rattle.htl_open.specs.{Files.Files, Objects.IsAcceptedFile, Objects.IsRefusedFile, Stops.IsShelfCause}
+use Rattle.htl_top.specs.{Answers.Streams, Answers.IsUntouched, declared.outcome.Outcome.Outcome}
 use Rattle.htl_object.specs.declared.object.Object.{Object}
-use Rattle.htl_top.specs.declared.outcome.Outcome.{Outcome}
 use Rattle.htl_top.specs.declared.outcome.Outcome.TheVariants.{Object as Refused, Shelf, Memory}
 
 -- why no accepted object was had, answer by answer

@@ -1,10 +1,8 @@
 -- Files and streams before and after a call, and what answers leave as it was.
 use Rattle.std.specs.Prelude.{ℕ, ◌≡◌, Option, List}
-use Rattle.htl_open.specs.Files.{Files}
-use Rattle.htl_top.specs.Common.{LogKind}
+use Rattle.htl_open.specs.{Files.Files, declared.stop.ShelfCause.TheVariants.Failed}
+use Rattle.htl_top.specs.{Common.LogKind, declared.outcome.Outcome.Outcome}
 use Rattle.htl_audit.specs.declared.slice.LogKind.TheVariants as kind
-use Rattle.htl_top.specs.declared.outcome.Outcome.{Outcome}
-use Rattle.htl_open.specs.declared.stop.ShelfCause.TheVariants.{Failed}
 use Rattle.htl_top.specs.declared.outcome.Outcome.TheVariants.{Done, Log, Script, Shelf, Read, Write, Memory}
 
 -- the input and the output at one moment: what is left, what was written, and the counts of faults

@@ -1,11 +1,8 @@
 -- The events of a script, as an auditor is told them one by one, and the end of an audit.
 use Rattle.std.specs.Prelude.{◌≡◌, ℕ, List, [], ◌∷◌, ◌++◌, Option, None, Some, Ok, Err}
-use Rattle.htl_top.specs.Common.{append_known, first_fault, Slice, Rose, AppendsPrefix, Tables, Event, past_of, Ahead}
+use Rattle.htl_top.specs.{Common.append_known, Common.first_fault, Common.Slice, Common.Rose, Common.AppendsPrefix, Common.Tables, Common.Event, Common.past_of, Common.Ahead, Audited.audited_text, Playing.IsPlaying, Stops.Ended}
 use Rattle.htl_audit.specs.Auditing.{Audit, AuditFollows, IsAudited}
 use Rattle.htl_model.specs.declared.event.Event.TheVariants as event
-use Rattle.htl_top.specs.Audited.{audited_text}
-use Rattle.htl_top.specs.Playing.{IsPlaying}
-use Rattle.htl_top.specs.Stops.{Ended}
 use Rattle.htl_top.specs.declared.stop.AuditStop.{AuditStop}
 use Rattle.htl_top.specs.declared.stop.AuditStop.TheVariants as audit
 use Rattle.htl_top.specs.declared.stop.RunStop.TheVariants as run

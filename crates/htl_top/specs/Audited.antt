@@ -1,21 +1,9 @@
 -- What `audit` comes to: of the files, of the log, and of the run that it is audited for.
 use Rattle.std.specs.Prelude.{◌≡◌, ◌⊎◌, ℕ, suc, List, [], ◌++◌, length, Option, Some, None, Ok, Err, codes, decimal}
 use Rattle.htl_top.specs.Common.{append_known, LogFault, Slice, Values, Rose, AppendsPrefix, none_left, Holdings, before_of, Tables, Event, Object, OfScript, Script, Whole, Bad, script_of}
-use Rattle.htl_audit.specs.Faults.{IsFirstFault}
-use Rattle.htl_audit.specs.Jobs.{all_rounds}
-use Rattle.htl_audit.specs.Legal.{IsLegal, first_fault, jobs_done}
-use Rattle.htl_audit.specs.Logs.{log_of, Read as ReadLog, Refused as RefusedLog}
-use Rattle.htl_open.specs.Files.{Files}
-use Rattle.htl_top.specs.Answers.{Streams, IsUntouched}
-use Rattle.htl_top.specs.Fetching.{IsOnBoth}
-use Rattle.htl_top.specs.Files.{IsFileOf}
-use Rattle.htl_open.specs.Objects.{IsAcceptedFile}
-use Rattle.htl_top.specs.Runs.{IsFaultyRun}
-use Rattle.htl_top.specs.Scripts.{IsWhole}
-use Rattle.htl_top.specs.Texts.{text_before_fault}
-use Rattle.htl_top.specs.Words.{Command, Audit}
-use Rattle.htl_top.specs.Stops.{Ended}
-use Rattle.htl_top.specs.declared.stop.AuditStop.{AuditStop}
+use Rattle.htl_audit.specs.{Faults.IsFirstFault, Jobs.all_rounds, Legal.IsLegal, Legal.first_fault, Legal.jobs_done, Logs.log_of, Logs.Read as ReadLog, Logs.Refused as RefusedLog}
+use Rattle.htl_open.specs.{Files.Files, Objects.IsAcceptedFile}
+use Rattle.htl_top.specs.{Answers.Streams, Answers.IsUntouched, Fetching.IsOnBoth, Files.IsFileOf, Runs.IsFaultyRun, Scripts.IsWhole, Texts.text_before_fault, Words.Command, Words.Audit, Stops.Ended, declared.stop.AuditStop.AuditStop}
 use Rattle.htl_top.specs.declared.stop.AuditStop.TheVariants as audit
 use Rattle.htl_top.specs.declared.stop.OnObject.{OnObject}
 use Rattle.htl_top.specs.declared.stop.RunStop.TheVariants as run

@@ -1,29 +1,11 @@
 -- What the top call answers, command by command.
 use Rattle.std.specs.Prelude.{◌≡◌, Option, None, Some, List, ℕ}
-use Rattle.htl_top.specs.Common.{Holdings, Tables}
-use Rattle.htl_open.specs.Files.{Files}
+use Rattle.htl_top.specs.{Common.Holdings, Common.Tables, Answers.Streams, Answers.IsUntouched, Answers.KeepsCounts, Audited.IsAudit, Bulk.IsBulked, Checked.check_text, Compiling.IsCompiling, CompilingOn.IsCompilingOn, Going.IsGoing}
+use Rattle.htl_open.specs.{Files.Files, Objects.IsObjectTables}
 use Rattle.htl_script.specs.Reading.{LosesFront}
-use Rattle.htl_top.specs.Answers.{Streams, IsUntouched, KeepsCounts}
-use Rattle.htl_top.specs.Audited.{IsAudit}
-use Rattle.htl_top.specs.Bulk.{IsBulked}
-use Rattle.htl_top.specs.Checked.{check_text}
-use Rattle.htl_top.specs.Compiling.{IsCompiling}
-use Rattle.htl_top.specs.CompilingOn.{IsCompilingOn}
-use Rattle.htl_top.specs.Going.{IsGoing}
-use Rattle.htl_open.specs.Objects.{IsObjectTables}
-use Rattle.htl_top.specs.Objects.{IsTextCall}
-use Rattle.htl_top.specs.PatchedFiles.{IsPatching, IsPatchedTables}
-use Rattle.htl_top.specs.Planned.{IsPlannedOnFile}
-use Rattle.htl_top.specs.Runs.{IsRunOnFile}
-use Rattle.htl_top.specs.Shown.{show_text}
-use Rattle.htl_top.specs.Slacked.{IsSlackCall}
-use Rattle.htl_top.specs.Sources.{IsTypedProgram, IsTypedInput}
-use Rattle.htl_top.specs.SourcesOn.{IsTypedOn}
-use Rattle.htl_top.specs.Stops.{Came, audit_as, compile_as, compile_with_as, donor_as, go_as, object_as, run_as}
-use Rattle.htl_top.specs.Words.{Command, Go, Compile, CompileWith, Run, Check, Plan, Show, Bulk, Slack, Audit, Patch, most_taken}
-use Rattle.htl_top.specs.ErrorLines.{SpeaksOf}
-use Rattle.htl_top.specs.declared.answer.Answer.{Answer}
-use Rattle.htl_top.specs.declared.outcome.Outcome.{Outcome}
+use Rattle.htl_top.specs.{Objects.IsTextCall, PatchedFiles.IsPatching, PatchedFiles.IsPatchedTables, Planned.IsPlannedOnFile, Runs.IsRunOnFile, Shown.show_text, Slacked.IsSlackCall, Sources.IsTypedProgram, Sources.IsTypedInput}
+use Rattle.htl_top.specs.{SourcesOn.IsTypedOn, Stops.Came, Stops.audit_as, Stops.compile_as, Stops.compile_with_as, Stops.donor_as, Stops.go_as, Stops.object_as, Stops.run_as, ErrorLines.SpeaksOf, declared.answer.Answer.Answer}
+use Rattle.htl_top.specs.{Words.Command, Words.Go, Words.Compile, Words.CompileWith, Words.Run, Words.Check, Words.Plan, Words.Show, Words.Bulk, Words.Slack, Words.Audit, Words.Patch, Words.most_taken, declared.outcome.Outcome.Outcome}
 use Rattle.htl_top.specs.declared.outcome.Outcome.TheVariants.{Usage}
 
 -- no command: nothing was read and nothing written

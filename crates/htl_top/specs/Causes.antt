@@ -1,13 +1,9 @@
 -- Sources that words name, and what must be answered.
 use Rattle.std.specs.Prelude.{ℕ, ◌≡◌, ◌≤◌, ◌⊎◌, Option, Some, List, length}
-use Rattle.htl_top.specs.Common.{MAX_SOURCE}
+use Rattle.htl_top.specs.{Common.MAX_SOURCE, declared.outcome.Outcome.Outcome, declared.outcome.Outcome.TheVariants.Memory}
 use Rattle.htl_edge.specs.Holdings.{Holdings, HoldsUnder}
-use Rattle.htl_open.specs.Files.{Files, IsFaultOf, IsLongFile}
-use Rattle.htl_open.specs.declared.stop.FetchStop.{FetchStop}
+use Rattle.htl_open.specs.{Files.Files, Files.IsFaultOf, Files.IsLongFile, declared.stop.FetchStop.FetchStop, declared.stop.ShelfCause.TheVariants.Failed, declared.stop.ShelfCause.TheVariants.TooLong}
 use Rattle.htl_open.specs.declared.stop.FetchStop.TheVariants as fetch
-use Rattle.htl_open.specs.declared.stop.ShelfCause.TheVariants.{Failed, TooLong}
-use Rattle.htl_top.specs.declared.outcome.Outcome.{Outcome}
-use Rattle.htl_top.specs.declared.outcome.Outcome.TheVariants.{Memory}
 
 -- The words name a file with these bytes, where the shelf tells what it holds; they are at most 1,048,576.
 pub record IsSource (name : Option (List ℕ)) (holds : Option Holdings) (bytes : List ℕ) : Type 0 where

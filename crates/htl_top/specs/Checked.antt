@@ -1,7 +1,6 @@
 -- What `check` answers of an accepted object.
 use Rattle.std.specs.Prelude.{ℕ, zero, suc, max, List, length, ◌++◌, codes, decimal}
-use Rattle.htl_model.specs.Frames.{paths, path_places}
-use Rattle.htl_model.specs.Tables.{Tables}
+use Rattle.htl_model.specs.{Frames.paths, Frames.path_places, Tables.Tables}
 
 -- the greatest number of positions of a path below a number; 0 without one
 abbrev pub most_positions_below : Tables → ℕ → ℕ

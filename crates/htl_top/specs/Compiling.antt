@@ -1,12 +1,7 @@
 -- What `compile` came to: the source that the input is, as the bytes of its object.
 use Rattle.std.specs.Prelude.{◌≡◌, ◌<◌, ℕ, List, IfSome, length, Ok, Err}
-use Rattle.htl_top.specs.Common.{append_known, built, MAX_SOURCE, Rose, AppendsPrefix, none_left, Tables, object_bytes}
-use Rattle.htl_compile.specs.Building.{IsCompiledTo}
-use Rattle.htl_compile.specs.Stops.{IsNotCompiled}
-use Rattle.htl_compile.specs.declared.stop.SourceStop.{SourceStop}
-use Rattle.htl_top.specs.Answers.{Streams}
-use Rattle.htl_top.specs.Sources.{IsInputOf}
-use Rattle.htl_top.specs.Stops.{Ended}
+use Rattle.htl_top.specs.{Common.append_known, Common.built, Common.MAX_SOURCE, Common.Rose, Common.AppendsPrefix, Common.none_left, Common.Tables, Common.object_bytes, Answers.Streams, Sources.IsInputOf, Stops.Ended}
+use Rattle.htl_compile.specs.{Building.IsCompiledTo, Stops.IsNotCompiled, declared.stop.SourceStop.SourceStop}
 use Rattle.htl_top.specs.declared.input.InputStop.TheVariants as input
 use Rattle.htl_top.specs.declared.stop.CompileStop.{CompileStop}
 use Rattle.htl_top.specs.declared.stop.CompileStop.TheVariants as stop

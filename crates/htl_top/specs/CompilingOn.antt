@@ -1,18 +1,10 @@
 -- What `compile with` answers: the source that the input is, as the bytes of its object on the platform that a file says.
 use Rattle.std.specs.Prelude.{ℕ, List, Option, Some, Ok, Err}
-use Rattle.htl_top.specs.Common.{CompileFault, Holdings, Tables, object_bytes, PlatformFault, PlatformOf}
-use Rattle.htl_compile.specs.OnPlatform.{built_on, IsCompiledOn}
-use Rattle.htl_compile.specs.Stops.{IsNotCompiledOn}
+use Rattle.htl_top.specs.{Common.CompileFault, Common.Holdings, Common.Tables, Common.object_bytes, Common.PlatformFault, Common.PlatformOf, Answers.Streams, Answers.IsUntouched, Causes.IsFileStop, Causes.IsSourceOf, Stops.Ended}
+use Rattle.htl_compile.specs.{OnPlatform.built_on, OnPlatform.IsCompiledOn, Stops.IsNotCompiledOn, declared.stop.SourceStop.SourceStop}
 use Rattle.htl_compile.specs.declared.compiling_on.WithFault.TheVariants as on
-use Rattle.htl_compile.specs.declared.stop.SourceStop.{SourceStop}
 use Rattle.htl_open.specs.Files.{Files}
-use Rattle.htl_top.specs.Answers.{Streams, IsUntouched}
-use Rattle.htl_top.specs.Causes.{IsFileStop, IsSourceOf}
-use Rattle.htl_top.specs.Compiling.{IsInputCompiled}
-use Rattle.htl_top.specs.Sources.{IsInputFault, IsFaultyProgram}
-use Rattle.htl_top.specs.SourcesOn.{IsInputFaultOn, IsFaultyOn}
-use Rattle.htl_top.specs.Stops.{Ended}
-use Rattle.htl_top.specs.Words.{Command, Go, Compile, CompileWith, platform_file}
+use Rattle.htl_top.specs.{Compiling.IsInputCompiled, Sources.IsInputFault, Sources.IsFaultyProgram, SourcesOn.IsInputFaultOn, SourcesOn.IsFaultyOn, Words.Command, Words.Go, Words.Compile, Words.CompileWith, Words.platform_file}
 use Rattle.htl_top.specs.declared.stop.CompileWithStop.{CompileWithStop}
 use Rattle.htl_top.specs.declared.stop.CompileWithStop.TheVariants as stop
 

@@ -1,12 +1,9 @@
 -- The line that tells of an answer, and the tables whose names it has.
 use Rattle.std.specs.Prelude.{ℕ, ◌≡◌, Option, Some, None, List}
-use Rattle.htl_top.specs.Common.{coded, ObjectFault, Tables, PatchFault}
+use Rattle.htl_top.specs.{Common.coded, Common.ObjectFault, Common.Tables, Common.PatchFault, PatchedFiles.SpeaksOfPatch, Status.fault_line, declared.outcome.Outcome.Outcome}
 use Rattle.htl_load.specs.declared.fault.ObjectFault.TheVariants as fault
 use Rattle.htl_patch.specs.declared.fault.PatchFault.TheVariants as patch
 use Rattle.htl_open.specs.Objects.{SpeaksOfObject}
-use Rattle.htl_top.specs.PatchedFiles.{SpeaksOfPatch}
-use Rattle.htl_top.specs.Status.{fault_line}
-use Rattle.htl_top.specs.declared.outcome.Outcome.{Outcome}
 use Rattle.htl_top.specs.declared.outcome.Outcome.TheVariants.{Done, Usage, Source, IllFormed, Unschedulable, Platform, Task, Log, Patch, Object, Script, Shelf, Read, Write, Memory}
 
 -- The tables that the line of an answer speaks of: those of the source, with code, of the object, or those with a donor's refinement, where

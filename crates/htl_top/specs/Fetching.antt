@@ -1,15 +1,9 @@
 -- Why files aren't had, stop by stop, and what is done with an object and a second file.
 use Rattle.std.specs.Prelude.{ℕ, ◌⊎◌, Option, List, Ok, Err}
-use Rattle.htl_open.specs.Files.{Files}
-use Rattle.htl_open.specs.Stops.{IsShelfCause, IsUnopened}
-use Rattle.htl_top.specs.Files.{IsHad, AreFilesOf}
-use Rattle.htl_top.specs.Common.{Object}
-use Rattle.htl_top.specs.Stops.{Ended}
-use Rattle.htl_open.specs.declared.stop.FetchStop.{FetchStop}
+use Rattle.htl_open.specs.{Files.Files, Stops.IsShelfCause, Stops.IsUnopened, declared.stop.FetchStop.FetchStop, declared.stop.OpenStop.OpenStop}
+use Rattle.htl_top.specs.{Files.IsHad, Files.AreFilesOf, Common.Object, Stops.Ended, declared.stop.OnObject.OnObject}
 use Rattle.htl_open.specs.declared.stop.FetchStop.TheVariants as fetch
-use Rattle.htl_open.specs.declared.stop.OpenStop.{OpenStop}
 use Rattle.htl_open.specs.declared.stop.OpenStop.TheVariants as stop
-use Rattle.htl_top.specs.declared.stop.OnObject.{OnObject}
 use Rattle.htl_top.specs.declared.stop.OnObject.TheVariants as on
 
 -- why two files weren't had: the shelf tells first of the first

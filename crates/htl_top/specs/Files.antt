@@ -1,8 +1,7 @@
 -- Files of at most 16,777,216 bytes that the words name: objects and logs.
 use Rattle.std.specs.Prelude.{◌≤◌, ℕ, List, length, Option}
 use Rattle.htl_top.specs.Common.{MAX_OBJECT, Holdings, Object}
-use Rattle.htl_open.specs.Files.{IsGiven, IsObjectFile}
-use Rattle.htl_open.specs.Objects.{IsAcceptedFile}
+use Rattle.htl_open.specs.{Files.IsGiven, Files.IsObjectFile, Objects.IsAcceptedFile}
 
 -- the words name a file of at most 16,777,216 bytes
 abbrev pub IsHad : Option (List ℕ) → Option Holdings → Type 0

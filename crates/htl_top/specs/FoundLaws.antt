@@ -4,9 +4,7 @@ use Rattle.std.specs.List.{filter}
 use Rattle.htl_top.specs.Common.{built, CanBuild, IsTablesOf, Jobs, text_of, Event, Tables}
 use Rattle.htl_console.specs.Names.{full_mode, inv_name}
 use Rattle.htl_runs.specs.lines.RunLines.{text_lines, HasNames}
-use Rattle.htl_model.specs.Lines.{comm_name, module_name, line_text}
-use Rattle.htl_model.specs.Meaning.{run_lines}
-use Rattle.htl_model.specs.Ranges.{AreInRange}
+use Rattle.htl_model.specs.{Lines.comm_name, Lines.module_name, Lines.line_text, Meaning.run_lines, Ranges.AreInRange}
 
 -- a line that begins with `v` or with `m`
 abbrev pub begins_as_change : List ℕ → Bool

@@ -2,10 +2,8 @@
 use Rattle.std.specs.Prelude.{◌≡◌, ℕ, List, ◌++◌, map}
 use Rattle.std.specs.List.{filter}
 use Rattle.htl_top.specs.Common.{Slice, built, CanBuild, IsTablesOf, Jobs, lines_of, text_of, schedules_of, Event, hyper, lines_text, value_lines, Tables}
-use Rattle.htl_audit.specs.Legal.{IsLegal}
-use Rattle.htl_audit.specs.Own.{begins_as_slice, slice_text}
-use Rattle.htl_runs.specs.lines.RunLines.{printed, job_lines_at, job_lines_to, ShowsJobs, begins_as_job, text_lines}
-use Rattle.htl_runs.specs.jobs.JobTimes.{AllToldInTime}
+use Rattle.htl_audit.specs.{Legal.IsLegal, Own.begins_as_slice, Own.slice_text}
+use Rattle.htl_runs.specs.{lines.RunLines.printed, lines.RunLines.job_lines_at, lines.RunLines.job_lines_to, lines.RunLines.ShowsJobs, lines.RunLines.begins_as_job, lines.RunLines.text_lines, jobs.JobTimes.AllToldInTime}
 use Rattle.htl_model.specs.Lists.{joined}
 use Rattle.htl_top.specs.Scripts.{IsWhole}
 

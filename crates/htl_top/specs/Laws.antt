@@ -1,14 +1,10 @@
 -- What the values and lines of a run depend on, and what `go` shows.
 use Rattle.std.specs.Prelude.{◌≡◌, ◌≤◌, ◌<◌, ℕ, Bool, cond, nat_le, nat_lt, List, [], ◌∷◌, ◌++◌, length}
-use Rattle.htl_top.specs.Common.{built, CanBuild, Jobs, lines_of, schedules_of, Event, frame_of, hyper, Tables}
+use Rattle.htl_top.specs.{Common.built, Common.CanBuild, Common.Jobs, Common.lines_of, Common.schedules_of, Common.Event, Common.frame_of, Common.hyper, Common.Tables, Scripts.IsWhole}
 use Rattle.htl_runs.specs.lines.Lines.{old_lines}
 use Rattle.htl_model.specs.declared.event.Event.TheVariants as event
-use Rattle.htl_model.specs.Lines.{lines_before_text, lines_text}
-use Rattle.htl_model.specs.Meaning.{run_lines, sense, val, value_lines}
-use Rattle.htl_model.specs.Selections.{root_modules}
-use Rattle.htl_refine.specs.FrameRuns.{frame_at}
-use Rattle.htl_refine.specs.ServedJobs.{AllServed}
-use Rattle.htl_top.specs.Scripts.{IsWhole}
+use Rattle.htl_model.specs.{Lines.lines_before_text, Lines.lines_text, Meaning.run_lines, Meaning.sense, Meaning.val, Meaning.value_lines, Selections.root_modules}
+use Rattle.htl_refine.specs.{FrameRuns.frame_at, ServedJobs.AllServed}
 
 -- two scripts with equal sensor values up to `end` give equal lines up to `end`
 abbrev pub SensorsDecideLines : Type 0

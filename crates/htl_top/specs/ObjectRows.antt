@@ -1,30 +1,16 @@
 -- What the commands on an object answer, row by row: each other answer and its cause, and where this must be the answer, or Memory.
 use Rattle.std.specs.Prelude.{◌≡◌, ℕ, List, Some, Option, ◌<◌, length, ◌≤◌}
 use Rattle.htl_top.specs.Common.{LogFault, Slice, Shown, Rose, AppendsPrefix, HasBytes, Event, object_bytes, Object, PatchFault, ScriptFault, append_known}
-use Rattle.htl_audit.specs.Faults.{IsFirstFault}
-use Rattle.htl_audit.specs.Legal.{IsLegal}
-use Rattle.htl_audit.specs.Logs.{log_of, Read as ReadLog, Refused as RefusedLog}
+use Rattle.htl_audit.specs.{Faults.IsFirstFault, Legal.IsLegal, Logs.log_of, Logs.Read as ReadLog, Logs.Refused as RefusedLog}
 use Rattle.htl_base.specs.declared.limits.TheConstants as limit
 use Rattle.htl_console.specs.declared.shown.Shown.TheVariants as shown
-use Rattle.htl_patch.specs.Combined.{Replacement}
-use Rattle.htl_patch.specs.Object.{CanPatch}
-use Rattle.htl_open.specs.Files.{Files}
-use Rattle.htl_top.specs.Answers.{Streams}
-use Rattle.htl_top.specs.Audited.{HasLog, IsWholeAudit, IsCutAudit}
-use Rattle.htl_top.specs.Causes.{IsOrMemory}
-use Rattle.htl_open.specs.Files.{IsGiven}
-use Rattle.htl_top.specs.Checked.{check_text}
-use Rattle.htl_top.specs.Files.{AreFilesOf, IsReadyFile}
-use Rattle.htl_open.specs.Objects.{IsAcceptedFile, IsReadyObject}
-use Rattle.htl_top.specs.PatchedFiles.{HasPatch, IsDonorFault}
-use Rattle.htl_top.specs.Planned.{IsWholePlan, IsCutPlan, IsBadSelection}
-use Rattle.htl_top.specs.Runs.{IsWholeRun, IsFaultyRun, IsCutRun}
-use Rattle.htl_top.specs.Scripts.{IsWhole, IsBad}
+use Rattle.htl_patch.specs.{Combined.Replacement, Object.CanPatch}
+use Rattle.htl_open.specs.{Files.Files, Files.IsGiven, Objects.IsAcceptedFile, Objects.IsReadyObject}
+use Rattle.htl_top.specs.{Answers.Streams, Audited.HasLog, Audited.IsWholeAudit, Audited.IsCutAudit, Causes.IsOrMemory, Checked.check_text, Files.AreFilesOf, Files.IsReadyFile, PatchedFiles.HasPatch, PatchedFiles.IsDonorFault}
+use Rattle.htl_top.specs.{Planned.IsWholePlan, Planned.IsCutPlan, Planned.IsBadSelection, Runs.IsWholeRun, Runs.IsFaultyRun, Runs.IsCutRun, Scripts.IsWhole, Scripts.IsBad, Shown.show_text, declared.outcome.Outcome.Outcome}
 use Rattle.htl_plan.specs.SelectionInput.{Whole, Bad, input_of}
-use Rattle.htl_top.specs.Shown.{show_text}
 use Rattle.htl_top.specs.Slacked.{HasSlack, IsRootNamed, NamesNoTask}
 use Rattle.htl_top.specs.declared.outcome.Outcome.TheVariants as answer
-use Rattle.htl_top.specs.declared.outcome.Outcome.{Outcome}
 use Rattle.htl_open.specs.declared.stop.ShelfCause.TheVariants as cause
 
 -- `run`, `jobs` and `code`

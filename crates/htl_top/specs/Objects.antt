@@ -1,16 +1,9 @@
 -- What a command on an object comes to.
 use Rattle.std.specs.Prelude.{ℕ, ◌≡◌, Option, List, Ok, Err}
-use Rattle.htl_open.specs.Files.{Files}
-use Rattle.htl_open.specs.Objects.{IsAcceptedFile}
-use Rattle.htl_open.specs.Stops.{IsUnopened}
-use Rattle.htl_edge.specs.Content.{Puts}
-use Rattle.htl_edge.specs.declared.Failed.{Failed}
-use Rattle.htl_top.specs.Common.{Object}
-use Rattle.htl_top.specs.Answers.{Streams}
-use Rattle.htl_top.specs.Stops.{Came, Ended, object_as, write_as}
-use Rattle.htl_top.specs.declared.stop.OnObject.{OnObject}
+use Rattle.htl_open.specs.{Files.Files, Objects.IsAcceptedFile, Stops.IsUnopened}
+use Rattle.htl_edge.specs.{Content.Puts, declared.Failed.Failed}
+use Rattle.htl_top.specs.{Common.Object, Answers.Streams, Stops.Came, Stops.Ended, Stops.object_as, Stops.write_as, declared.stop.OnObject.OnObject, declared.outcome.Outcome.Outcome}
 use Rattle.htl_top.specs.declared.stop.OnObject.TheVariants as on
-use Rattle.htl_top.specs.declared.outcome.Outcome.{Outcome}
 
 -- What a command on an object came to: an accepted object was had, and this was done with it, to its end or to a stop; or none was had, and
 -- this stays.

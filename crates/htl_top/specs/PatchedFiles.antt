@@ -1,26 +1,13 @@
 -- What `patch` answers of two files: an object of which a mode gets another refinement, and the donor that has it.
 use Rattle.std.specs.Prelude.{◌≡◌, ◌⊎◌, ℕ, List, Option, Some, Ok, Err}
-use Rattle.htl_top.specs.Common.{append_known, Rose, AppendsPrefix, Holdings, HasBytes, Tables, IsAccepted, Object, PatchFault}
-use Rattle.htl_object.specs.Files.{first_bad}
-use Rattle.htl_object.specs.Objects.{IsObject, object_bytes}
-use Rattle.htl_object.specs.declared.malformed.Malformed.{Malformed}
-use Rattle.htl_patch.specs.Joining.{replacement_of}
-use Rattle.htl_patch.specs.Object.{patched_object, CanPatch}
-use Rattle.htl_patch.specs.Patched.{patched}
-use Rattle.htl_patch.specs.Stops.{IsPatchFault}
-use Rattle.htl_patch.specs.Combined.{Replacement}
+use Rattle.htl_top.specs.{Common.append_known, Common.Rose, Common.AppendsPrefix, Common.Holdings, Common.HasBytes, Common.Tables, Common.IsAccepted, Common.Object, Common.PatchFault, Answers.Streams, Fetching.IsOnBoth, Files.AreFilesOf}
+use Rattle.htl_object.specs.{Files.first_bad, Objects.IsObject, Objects.object_bytes, declared.malformed.Malformed.Malformed}
+use Rattle.htl_patch.specs.{Joining.replacement_of, Object.patched_object, Object.CanPatch, Patched.patched, Stops.IsPatchFault, Combined.Replacement}
 use Rattle.htl_patch.specs.declared.fault.PatchFault.TheVariants as fault
 use Rattle.htl_patch.specs.declared.fault.PatchStop.TheVariants as patching
 use Rattle.htl_open.specs.Files.{Files}
-use Rattle.htl_top.specs.Answers.{Streams}
-use Rattle.htl_top.specs.Fetching.{IsOnBoth}
-use Rattle.htl_top.specs.Files.{AreFilesOf}
-use Rattle.htl_top.specs.Stops.{Ended}
-use Rattle.htl_top.specs.Words.{Command, Patch}
-use Rattle.htl_top.specs.declared.stop.DonorStop.{DonorStop}
+use Rattle.htl_top.specs.{Stops.Ended, Words.Command, Words.Patch, declared.stop.DonorStop.DonorStop, declared.stop.OnObject.OnObject, declared.stop.PutStop.PutStop}
 use Rattle.htl_top.specs.declared.stop.DonorStop.TheVariants as told
-use Rattle.htl_top.specs.declared.stop.OnObject.{OnObject}
-use Rattle.htl_top.specs.declared.stop.PutStop.{PutStop}
 use Rattle.htl_top.specs.declared.stop.PutStop.TheVariants as put
 
 -- ---- the donor

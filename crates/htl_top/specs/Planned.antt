@@ -1,15 +1,10 @@
 -- What `plan` answers of an accepted object.
 use Rattle.std.specs.Prelude.{ℕ, ◌≡◌, List, Option, Ok, Err}
-use Rattle.htl_top.specs.Common.{append_known, Rose, AppendsPrefix, none_left, Tables, Object, OfScript, ScriptFault}
+use Rattle.htl_top.specs.{Common.append_known, Common.Rose, Common.AppendsPrefix, Common.none_left, Common.Tables, Common.Object, Common.OfScript, Common.ScriptFault, Answers.Streams, Answers.IsUntouched, Objects.IsOnFile, Stops.Ended}
 use Rattle.htl_model.specs.Selected.{IsSelection}
 use Rattle.htl_open.specs.Files.{Files}
-use Rattle.htl_top.specs.Answers.{Streams, IsUntouched}
-use Rattle.htl_top.specs.Objects.{IsOnFile}
-use Rattle.htl_top.specs.Stops.{Ended}
-use Rattle.htl_top.specs.declared.stop.OnObject.{OnObject}
-use Rattle.htl_top.specs.declared.stop.RunStop.{RunStop}
-use Rattle.htl_plan.specs.Plans.{plan_text}
-use Rattle.htl_plan.specs.SelectionInput.{Whole, Bad, input_of}
+use Rattle.htl_top.specs.{declared.stop.OnObject.OnObject, declared.stop.RunStop.RunStop}
+use Rattle.htl_plan.specs.{Plans.plan_text, SelectionInput.Whole, SelectionInput.Bad, SelectionInput.input_of}
 use Rattle.htl_top.specs.declared.stop.RunStop.TheVariants.{Script, Read, Write, Memory}
 
 -- The input says this selection of running modes: it is some bytes that do, and where it tells what it has left, it is that.

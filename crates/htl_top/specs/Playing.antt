@@ -1,13 +1,10 @@
 -- The events of a script, as a machine is told them one by one.
 use Rattle.std.specs.Prelude.{ℕ, suc, ◌≡◌, ◌≤◌, false, List, [], ◌∷◌, ◌++◌, Option, None, Some}
-use Rattle.htl_top.specs.Common.{append_known, MAX_INSTANT, Shown, Tables, Event, Object, past_of, script_of}
+use Rattle.htl_top.specs.{Common.append_known, Common.MAX_INSTANT, Common.Shown, Common.Tables, Common.Event, Common.Object, Common.past_of, Common.script_of, Texts.text_before_fault}
 use Rattle.htl_machine.specs.Calls.{Seen, Follows, IsFinished, IsSensorValue, IsLength, IsSameRun, text_between}
 use Rattle.htl_runs.specs.events.ToldSoFar.{reading_of}
 use Rattle.htl_model.specs.declared.event.Event.TheVariants as event
-use Rattle.htl_script.specs.Events.{AreEvents}
-use Rattle.htl_script.specs.Reading.{behind}
-use Rattle.htl_script.specs.Streaming.{Ahead, Gives, still}
-use Rattle.htl_top.specs.Texts.{text_before_fault}
+use Rattle.htl_script.specs.{Events.AreEvents, Reading.behind, Streaming.Ahead, Streaming.Gives, Streaming.still}
 
 -- what a machine may be told next, whose last reading is this
 abbrev pub IsNext : Tables → ℕ → Event → Type 0

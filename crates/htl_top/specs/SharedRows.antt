@@ -1,30 +1,16 @@
 -- What all commands share, row by row: faults and their causes, the object, what stays, and the line that tells.
 use Rattle.std.specs.Prelude.{◌≡◌, ◌⊎◌, ℕ, Option, ◌≤◌, ◌<◌, List, Some, length}
-use Rattle.htl_top.specs.Common.{LogFault, ObjectFault, Tables, PatchFault, PlatformFault}
+use Rattle.htl_top.specs.{Common.LogFault, Common.ObjectFault, Common.Tables, Common.PatchFault, Common.PlatformFault, Answers.Streams, Answers.IsBeforeScript, Answers.IsBeforeRun, Audited.IsLogCause, Causes.IsOrMemory, Files.IsReadyFile}
 use Rattle.htl_base.specs.declared.limits.TheConstants as limit
 use Rattle.htl_compile.specs.declared.compiling.CompileFault.TheVariants as failing
 use Rattle.htl_compile.specs.declared.source_fault.SourceFault.{SourceFault}
 use Rattle.htl_load.specs.Loading.{RefusesBytes}
 use Rattle.htl_model.specs.declared.form_fault.FormFault.{FormFault}
-use Rattle.htl_open.specs.Files.{Files}
-use Rattle.htl_top.specs.Answers.{Streams, IsBeforeScript, IsBeforeRun}
-use Rattle.htl_open.specs.Lines.{Tells}
-use Rattle.htl_top.specs.Audited.{IsLogCause}
-use Rattle.htl_open.specs.Files.{IsFaultOf}
-use Rattle.htl_top.specs.Causes.{IsOrMemory}
-use Rattle.htl_open.specs.Files.{IsLongFile, IsGiven}
-use Rattle.htl_top.specs.CompilingOn.{IsCompileCause, IsPlatformCause}
-use Rattle.htl_top.specs.ErrorLines.{IsLineTold}
-use Rattle.htl_top.specs.Files.{IsReadyFile}
-use Rattle.htl_open.specs.Objects.{IsRefusedFile}
-use Rattle.htl_top.specs.PatchedFiles.{IsPatchCause}
-use Rattle.htl_top.specs.Slacked.{IsTaskCause}
+use Rattle.htl_open.specs.{Files.Files, Lines.Tells, Files.IsFaultOf, Files.IsLongFile, Files.IsGiven, Objects.IsRefusedFile, declared.stop.ShelfCause.ShelfCause}
+use Rattle.htl_top.specs.{CompilingOn.IsCompileCause, CompilingOn.IsPlatformCause, ErrorLines.IsLineTold, PatchedFiles.IsPatchCause, Slacked.IsTaskCause, declared.outcome.Outcome.TheVariants.Done, declared.outcome.Outcome.Outcome}
 use Rattle.htl_top.specs.Words.{source_of, command_object, platform_file, second_file, Command, Compile, CompileWith, RunsObject}
 use Rattle.htl_top.specs.declared.outcome.Outcome.TheVariants as answer
-use Rattle.htl_top.specs.declared.outcome.Outcome.TheVariants.{Done}
-use Rattle.htl_top.specs.declared.outcome.Outcome.{Outcome}
 use Rattle.htl_open.specs.declared.stop.ShelfCause.TheVariants as cause
-use Rattle.htl_open.specs.declared.stop.ShelfCause.{ShelfCause}
 
 -- the causes of faults, whatever the command
 pub record FaultRows (command : Option Command) (shelf : Files) (old new : Streams) (result : Outcome) : Type 0 where

@@ -1,25 +1,13 @@
 -- What `slack` answers of an accepted object.
 use Rattle.std.specs.Prelude.{◌≡◌, ℕ, Bool, false, ◌&&◌, List, ◌++◌, length, slice_get, Option, Some, None, Ok, Err, codes, decimal}
-use Rattle.htl_top.specs.Common.{append_known, bytes_eq, Rose, AppendsPrefix, Holdings, Module, instrs_of, Schedule}
+use Rattle.htl_top.specs.{Common.append_known, Common.bytes_eq, Common.Rose, Common.AppendsPrefix, Common.Holdings, Common.Module, Common.instrs_of, Common.Schedule, Answers.Streams, Objects.IsOnFile, Words.Command, Words.Slack}
 use Rattle.htl_console.specs.Listing.{all_lines, schedule_lines}
-use Rattle.htl_edf.specs.Greatest.{with_worst, IsGreatest}
-use Rattle.htl_edf.specs.NodePlans.{AreNodeLists}
-use Rattle.htl_model.specs.declared.parts.Task.{Task as TaskOf}
-use Rattle.htl_model.specs.Frames.{nodes}
-use Rattle.htl_model.specs.Tables.{Tables, task_worst}
-use Rattle.htl_slack.specs.RootTasks.{IsRootTask, limit_of}
-use Rattle.htl_slack.specs.Slack.{StandsAbove}
-use Rattle.htl_slack.specs.declared.report.Above.{Above}
+use Rattle.htl_edf.specs.{Greatest.with_worst, Greatest.IsGreatest, NodePlans.AreNodeLists}
+use Rattle.htl_model.specs.{declared.parts.Task.Task as TaskOf, Frames.nodes, Tables.Tables, Tables.task_worst}
+use Rattle.htl_slack.specs.{RootTasks.IsRootTask, RootTasks.limit_of, Slack.StandsAbove, declared.report.Above.Above}
 use Rattle.htl_walk.specs.Feasible.{AreFeasible}
-use Rattle.htl_open.specs.Files.{Files}
-use Rattle.htl_open.specs.Objects.{IsAcceptedFile}
-use Rattle.htl_top.specs.Answers.{Streams}
-use Rattle.htl_top.specs.Objects.{IsOnFile}
-use Rattle.htl_top.specs.Stops.{Came, Ended, object_as, slack_as}
-use Rattle.htl_top.specs.Words.{Command, Slack}
-use Rattle.htl_top.specs.declared.outcome.Outcome.{Outcome}
-use Rattle.htl_top.specs.declared.stop.OnObject.{OnObject}
-use Rattle.htl_top.specs.declared.stop.SlackStop.{SlackStop}
+use Rattle.htl_open.specs.{Files.Files, Objects.IsAcceptedFile}
+use Rattle.htl_top.specs.{Stops.Came, Stops.Ended, Stops.object_as, Stops.slack_as, declared.outcome.Outcome.Outcome, declared.stop.OnObject.OnObject, declared.stop.SlackStop.SlackStop}
 use Rattle.htl_top.specs.declared.stop.SlackStop.TheVariants as slack
 
 -- ---- the task

@@ -1,34 +1,19 @@
 -- What the commands that compile a source answer, row by row: each other answer and its cause, and where this must be the answer, or Memory.
 use Rattle.std.specs.Prelude.{◌≡◌, ◌≤◌, ◌<◌, ℕ, List, Some, length, Ok}
-use Rattle.htl_top.specs.Common.{built, AreTyped, IsTablesOf, CompileFault, Rose, AppendsPrefix, none_left, Tables, Event, ScriptFault, append_known}
+use Rattle.htl_top.specs.{Common.built, Common.AreTyped, Common.IsTablesOf, Common.CompileFault, Common.Rose, Common.AppendsPrefix, Common.none_left, Common.Tables, Common.Event, Common.ScriptFault, Common.append_known, Answers.Streams}
 use Rattle.htl_base.specs.declared.limits.TheConstants as limit
-use Rattle.htl_compile.specs.Building.{IsCompileFault}
-use Rattle.htl_compile.specs.Built.{AreSchedulable}
+use Rattle.htl_compile.specs.{Building.IsCompileFault, Built.AreSchedulable, OnPlatform.IsWithFault, declared.compiling_on.WithFault.WithFault}
 use Rattle.htl_bulk.specs.BulkTree.{bulk_bytes}
-use Rattle.htl_compile.specs.OnPlatform.{IsWithFault}
 use Rattle.htl_compile.specs.declared.compiling.CompileFault.TheVariants as failing
 use Rattle.htl_compile.specs.declared.compiling_on.WithFault.TheVariants as on
-use Rattle.htl_compile.specs.declared.compiling_on.WithFault.{WithFault}
 use Rattle.htl_compile.specs.declared.source_fault.SourceFault.TheVariants as fault_of
 use Rattle.htl_console.specs.declared.shown.Shown.TheVariants as shown
 use Rattle.htl_model.specs.Broken.{Formed}
-use Rattle.htl_platform.specs.Applied.{with_worst}
-use Rattle.htl_platform.specs.Platforms.{platform_of}
-use Rattle.htl_platform.specs.declared.platform.Platform.{Platform}
-use Rattle.htl_open.specs.Files.{Files}
-use Rattle.htl_top.specs.Answers.{Streams}
-use Rattle.htl_top.specs.Bulk.{bulk_text}
-use Rattle.htl_open.specs.Files.{IsGiven}
-use Rattle.htl_top.specs.Causes.{IsOrMemory}
-use Rattle.htl_top.specs.Compiling.{compiled_bytes}
-use Rattle.htl_top.specs.CompilingOn.{compiled_on}
-use Rattle.htl_top.specs.Going.{IsReadySource}
-use Rattle.htl_top.specs.Runs.{IsFaultyRun, IsCutRun}
-use Rattle.htl_top.specs.Scripts.{IsWhole, IsBad}
-use Rattle.htl_top.specs.Sources.{IsProgram, answer_of, IsInputProgram, HasTables}
-use Rattle.htl_top.specs.SourcesOn.{IsProgramOn, answer_on}
+use Rattle.htl_platform.specs.{Applied.with_worst, Platforms.platform_of, declared.platform.Platform.Platform}
+use Rattle.htl_open.specs.{Files.Files, Files.IsGiven}
+use Rattle.htl_top.specs.{Bulk.bulk_text, Causes.IsOrMemory, Compiling.compiled_bytes, CompilingOn.compiled_on, Going.IsReadySource, Runs.IsFaultyRun, Runs.IsCutRun, Scripts.IsWhole, Scripts.IsBad, declared.outcome.Outcome.Outcome}
+use Rattle.htl_top.specs.{Sources.IsProgram, Sources.answer_of, Sources.IsInputProgram, Sources.HasTables, SourcesOn.IsProgramOn, SourcesOn.answer_on}
 use Rattle.htl_top.specs.declared.outcome.Outcome.TheVariants as answer
-use Rattle.htl_top.specs.declared.outcome.Outcome.{Outcome}
 use Rattle.htl_open.specs.declared.stop.ShelfCause.TheVariants as cause
 
 -- `go`; the row of Done is the headline, a clause of its own

@@ -1,13 +1,9 @@
 -- The source that a command compiles: where its tables are had, and why no object is built of it.
 use Rattle.std.specs.Prelude.{ℕ, ◌≡◌, ◌≤◌, ◌<◌, ◌+◌, ◌⊎◌, Option, IfSome, List, length}
-use Rattle.htl_top.specs.Common.{MAX_SOURCE, CanBuild, CompileFault, Holdings, Tables}
-use Rattle.htl_compile.specs.Building.{IsCompileFault}
-use Rattle.htl_compile.specs.Sources.{IsTablesOf}
-use Rattle.htl_compile.specs.Stops.{HasTypedTables}
+use Rattle.htl_top.specs.{Common.MAX_SOURCE, Common.CanBuild, Common.CompileFault, Common.Holdings, Common.Tables, Causes.IsSource, declared.outcome.Outcome.Outcome}
+use Rattle.htl_compile.specs.{Building.IsCompileFault, Sources.IsTablesOf, Stops.HasTypedTables}
 use Rattle.htl_compile.specs.declared.compiling.CompileFault.TheVariants as compile
 use Rattle.htl_compile.specs.declared.source_fault.SourceFault.TheVariants as source
-use Rattle.htl_top.specs.Causes.{IsSource}
-use Rattle.htl_top.specs.declared.outcome.Outcome.{Outcome}
 use Rattle.htl_top.specs.declared.outcome.Outcome.TheVariants.{Source, IllFormed, Unschedulable, Memory}
 
 -- a fault of compiling, as an answer

@@ -1,16 +1,10 @@
 -- The source that a command compiles for a platform: where its tables are had, and why no object is built of it.
 use Rattle.std.specs.Prelude.{ℕ, ◌≡◌, ◌⊎◌, Option, List, Ok}
-use Rattle.htl_top.specs.Common.{CanBuild, AreTyped, IsTablesOf, CompileFault, Holdings, Tables, PlatformOf}
-use Rattle.htl_compile.specs.OnPlatform.{IsWithFault}
-use Rattle.htl_compile.specs.Stops.{HasTypedOn}
-use Rattle.htl_compile.specs.declared.compiling_on.WithFault.{WithFault}
+use Rattle.htl_top.specs.{Common.CanBuild, Common.AreTyped, Common.IsTablesOf, Common.CompileFault, Common.Holdings, Common.Tables, Common.PlatformOf, Causes.IsSource, Sources.IsInput, Sources.IsLongInput, Sources.answer_of}
+use Rattle.htl_compile.specs.{OnPlatform.IsWithFault, Stops.HasTypedOn, declared.compiling_on.WithFault.WithFault}
 use Rattle.htl_compile.specs.declared.compiling_on.WithFault.TheVariants as on
-use Rattle.htl_platform.specs.Applied.{with_worst}
-use Rattle.htl_platform.specs.Platforms.{platform_of}
-use Rattle.htl_top.specs.Causes.{IsSource}
-use Rattle.htl_top.specs.Sources.{IsInput, IsLongInput, answer_of}
-use Rattle.htl_top.specs.declared.outcome.Outcome.{Outcome}
-use Rattle.htl_top.specs.declared.outcome.Outcome.TheVariants.{Platform}
+use Rattle.htl_platform.specs.{Applied.with_worst, Platforms.platform_of}
+use Rattle.htl_top.specs.{declared.outcome.Outcome.Outcome, declared.outcome.Outcome.TheVariants.Platform}
 
 -- a fault of compiling for a platform, as an answer
 abbrev pub answer_on : WithFault → Outcome

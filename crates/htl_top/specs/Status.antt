@@ -1,13 +1,12 @@
 -- The status of each answer, and the line that tells of it.
 use Rattle.std.specs.Prelude.{ℕ, List, [], ◌++◌, Option, codes, decimal}
 use Rattle.htl_open.specs.Lines.{field_word, form_text, object_line, shelf_line}
-use Rattle.htl_top.specs.Common.{LogFault, LogKind, Tables, ScriptFault, ScriptKind, PatchFault, PlatformFault}
+use Rattle.htl_top.specs.{Common.LogFault, Common.LogKind, Common.Tables, Common.ScriptFault, Common.ScriptKind, Common.PatchFault, Common.PlatformFault, declared.outcome.Outcome.Outcome}
 use Rattle.htl_audit.specs.declared.slice.LogKind.TheVariants as log
 use Rattle.htl_model.specs.declared.form_fault.FormFault.{FormFault}
 use Rattle.htl_script.specs.declared.fault.ScriptKind.TheVariants as kind
 use Rattle.htl_patch.specs.declared.fault.PatchFault.TheVariants as patch
 use Rattle.htl_platform.specs.declared.fault.PlatformFault.TheVariants as platform
-use Rattle.htl_top.specs.declared.outcome.Outcome.{Outcome}
 use Rattle.htl_top.specs.declared.outcome.Outcome.TheVariants.{Done, Usage, Source, IllFormed, Unschedulable, Platform, Task, Log, Patch, Object, Script, Shelf, Read, Write, Memory}
 use Rattle.htl_compile.specs.declared.source_fault.SourceFault.{SourceFault}
 use Rattle.htl_compile.specs.declared.source_fault.SourceFault.TheVariants.{TooLong as LongSource, Char, Number, NameLong, Long, Syntax, Twice, Unknown, Kind, NotATree, Limit, IllTyped, Deep}

@@ -1,38 +1,27 @@
 -- What each command came to: its stops, as outcomes, and the tables that the line of each speaks of.
 use Rattle.std.specs.Prelude.{◌≡◌, ◌+◌, Ok, Err}
-use Rattle.htl_top.specs.Common.{MAX_SOURCE, None, Option, Result, Some, Tables}
+use Rattle.htl_top.specs.{Common.MAX_SOURCE, Common.None, Common.Option, Common.Result, Common.Some, Common.Tables, declared.answer.Answer.Answer, declared.input.InputStop.InputStop, declared.outcome.Outcome.Outcome}
 use Rattle.htl_compile.specs.declared.source_fault.SourceFault.TheVariants as source_fault
 use Rattle.htl_compile.specs.declared.stop.SourceStop.{SourceStop}
 use Rattle.htl_compile.specs.declared.stop.SourceStop.TheVariants as source
 use Rattle.htl_edge.specs.declared.Failed.{Failed}
-use Rattle.htl_open.specs.declared.stop.FetchStop.{FetchStop}
+use Rattle.htl_open.specs.{declared.stop.FetchStop.FetchStop, declared.stop.OpenStop.OpenStop}
 use Rattle.htl_open.specs.declared.stop.FetchStop.TheVariants as fetch
-use Rattle.htl_open.specs.declared.stop.OpenStop.{OpenStop}
 use Rattle.htl_open.specs.declared.stop.OpenStop.TheVariants as open_stop
 use Rattle.htl_patch.specs.declared.fault.PatchStop.{PatchStop}
 use Rattle.htl_patch.specs.declared.fault.PatchStop.TheVariants as patch
-use Rattle.htl_top.specs.declared.answer.Answer.{Answer}
-use Rattle.htl_top.specs.declared.input.InputStop.{InputStop}
 use Rattle.htl_top.specs.declared.input.InputStop.TheVariants as input
-use Rattle.htl_top.specs.declared.outcome.Outcome.{Outcome}
 use Rattle.htl_top.specs.declared.outcome.Outcome.TheVariants.{Done, Source, IllFormed, Unschedulable, Object, Script, Shelf, Read, Write, Memory, Platform, Task, Log, Patch}
-use Rattle.htl_top.specs.declared.stop.AuditStop.{AuditStop}
+use Rattle.htl_top.specs.{declared.stop.AuditStop.AuditStop, declared.stop.CompileStop.CompileStop, declared.stop.DonorStop.DonorStop, declared.stop.GoStop.GoStop, declared.stop.OnObject.OnObject, declared.stop.PutStop.PutStop}
 use Rattle.htl_top.specs.declared.stop.AuditStop.TheVariants as audit
-use Rattle.htl_top.specs.declared.stop.CompileStop.{CompileStop}
 use Rattle.htl_top.specs.declared.stop.CompileStop.TheVariants as compile
-use Rattle.htl_top.specs.declared.stop.DonorStop.{DonorStop}
 use Rattle.htl_top.specs.declared.stop.DonorStop.TheVariants as donor
-use Rattle.htl_top.specs.declared.stop.GoStop.{GoStop}
 use Rattle.htl_top.specs.declared.stop.GoStop.TheVariants as go
-use Rattle.htl_top.specs.declared.stop.OnObject.{OnObject}
 use Rattle.htl_top.specs.declared.stop.OnObject.TheVariants as on
-use Rattle.htl_top.specs.declared.stop.CompileWithStop.{CompileWithStop}
+use Rattle.htl_top.specs.{declared.stop.CompileWithStop.CompileWithStop, declared.stop.RunStop.RunStop, declared.stop.SlackStop.SlackStop}
 use Rattle.htl_top.specs.declared.stop.CompileWithStop.TheVariants as compile_with
-use Rattle.htl_top.specs.declared.stop.PutStop.{PutStop}
 use Rattle.htl_top.specs.declared.stop.PutStop.TheVariants as put
-use Rattle.htl_top.specs.declared.stop.RunStop.{RunStop}
 use Rattle.htl_top.specs.declared.stop.RunStop.TheVariants as run
-use Rattle.htl_top.specs.declared.stop.SlackStop.{SlackStop}
 use Rattle.htl_top.specs.declared.stop.SlackStop.TheVariants as slack
 
 -- ---- from what a command came to, to the outcome

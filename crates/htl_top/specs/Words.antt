@@ -1,12 +1,9 @@
 -- The words of a command.
 use Rattle.std.specs.Prelude.{ℕ, zero, suc, ◌+◌, ◌≤◌, ◌==◌, Bool, cond, ◌&&◌, Option, None, Some, List, [], ◌∷◌, codes, map, take, drop, if◌then◌else◌}
-use Rattle.std.specs.Borrow.{Bor}
-use Rattle.std.specs.Fmt.{decimal}
-use Rattle.htl_top.specs.Common.{position_from, option_map, bytes_eq, Shown}
-use Rattle.htl_base.specs.Names.{is_name}
-use Rattle.htl_base.specs.declared.limits.TheConstants.{MAX_MODULES, MAX_SOURCE, MAX_SCRIPT}
+use Rattle.std.specs.{Borrow.Bor, Fmt.decimal}
+use Rattle.htl_top.specs.{Common.position_from, Common.option_map, Common.bytes_eq, Common.Shown, declared.words.Asked.Asked}
+use Rattle.htl_base.specs.{Names.is_name, declared.limits.TheConstants.MAX_MODULES, declared.limits.TheConstants.MAX_SOURCE, declared.limits.TheConstants.MAX_SCRIPT}
 use Rattle.htl_console.specs.declared.shown.Shown.TheVariants.{Values, Jobs, Code}
-use Rattle.htl_top.specs.declared.words.Asked.{Asked}
 use Rattle.htl_top.specs.declared.words.Asked.TheVariants as ask
 
 -- what the words ask for, with the names of the files that they name; `slack` asks for the task of a module, both by name, and `patch` for

@@ -1,7 +1,5 @@
 use Rattle.std.proofs.Common.{Ok, Err}
-use Rattle.htl_top.proofs.Vocabulary.{Some, files, streams, IsAuditOf}
-use Rattle.htl_top.proofs.BothFiles.{done_with_both}
-use Rattle.htl_top.proofs.Inputs.{taken_none}
+use Rattle.htl_top.proofs.{Vocabulary.Some, Vocabulary.files, Vocabulary.streams, Vocabulary.IsAuditOf, BothFiles.done_with_both, Inputs.taken_none}
 use Rattle.htl_top.proofs.audit.audit_file.Goals as goal
 
 pub returns-in_err-object-clause-taken : goal.returns-in_err-object-clause-taken

@@ -1,5 +1,4 @@
-use Rattle.htl_top.proofs.AuditFiles.{audited_here}
-use Rattle.htl_top.proofs.Inputs.{taken_none as none_taken}
+use Rattle.htl_top.proofs.{AuditFiles.audited_here, Inputs.taken_none as none_taken}
 use Rattle.htl_top.specs.Answers.{streams}
 use Rattle.htl_top.proofs.audit.audit_slices.Goals as goal
 

@@ -1,5 +1,4 @@
-use Rattle.htl_top.proofs.Vocabulary.{ℕ, List, sym, subst, IsCompiledTo, bulk_bytes}
-use Rattle.htl_top.proofs.Bulking.{bulk_put}
+use Rattle.htl_top.proofs.{Vocabulary.ℕ, Vocabulary.List, Vocabulary.sym, Vocabulary.subst, Vocabulary.IsCompiledTo, Vocabulary.bulk_bytes, Bulking.bulk_put}
 use Rattle.htl_top.proofs.bulk.bulk.Goals as goal
 
 pub run_generated-requires : goal.run_generated-requires

@@ -1,6 +1,5 @@
 use Rattle.std.proofs.Common.{◌≤◌, List, ℕ, length, ◌∙◌, sym, subst}
-use Rattle.htl_top.proofs.Bulking.{only_memory}
-use Rattle.htl_top.proofs.Vocabulary.{IsCompiledTo, IsNotCompiled, source_fits}
+use Rattle.htl_top.proofs.{Bulking.only_memory, Vocabulary.IsCompiledTo, Vocabulary.IsNotCompiled, Vocabulary.source_fits}
 use Rattle.htl_top.proofs.bulk.generated_object.Goals as goal
 
 pub compile_source-requires : goal.compile_source-requires

@@ -1,6 +1,5 @@
 use Rattle.htl_bulk.specs.BulkTree.{bulk_bytes}
-use Rattle.htl_top.proofs.Bulking.{loaded_sensor, put_built}
-use Rattle.htl_top.proofs.Going.{not_refused}
+use Rattle.htl_top.proofs.{Bulking.loaded_sensor, Bulking.put_built, Going.not_refused}
 use Rattle.htl_top.proofs.bulk.run_generated.Goals as goal
 
 pub measure-requires-clause-sensor : goal.measure-requires-clause-sensor

@@ -1,6 +1,5 @@
 use Rattle.std.proofs.Common.{ℕ, ◌*◌, List, [], refl, sym, ap, ◌∙◌, subst}
-use Rattle.htl_top.proofs.Vocabulary.{append_known-start, Puts-failed, Puts-second, Puts, Object, object_text, readings_of}
-use Rattle.htl_top.proofs.Bulking.{seen_behind, values_count}
+use Rattle.htl_top.proofs.{Vocabulary.append_known-start, Vocabulary.Puts-failed, Vocabulary.Puts-second, Vocabulary.Puts, Vocabulary.Object, Vocabulary.object_text, Vocabulary.readings_of, Bulking.seen_behind, Bulking.values_count}
 use Rattle.htl_top.proofs.bulk.write_measured.Goals as goal
 
 pub returns-in-Err : goal.returns-in-Err

@@ -1,6 +1,5 @@
 use Rattle.std.proofs.Common.{Ok}
-use Rattle.htl_top.proofs.Vocabulary.{Some, subst, Puts, files, check_text, Object, Tables}
-use Rattle.htl_top.proofs.Stops.{loaded_does}
+use Rattle.htl_top.proofs.{Vocabulary.Some, Vocabulary.subst, Vocabulary.Puts, Vocabulary.files, Vocabulary.check_text, Vocabulary.Object, Vocabulary.Tables, Stops.loaded_does}
 use Rattle.htl_top.proofs.check.check_file.Goals as goal
 
 pub returns-in-Ok-clause-answer : goal.returns-in-Ok-clause-answer

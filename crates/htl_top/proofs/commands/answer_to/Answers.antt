@@ -2,15 +2,9 @@ use Rattle.std.proofs.Common.{◌∙◌, None, Err}
 use Rattle.htl_top.proofs.Vocabulary.{Option, Command, Some, refl, sym, ap, subst, check_text, show_text, files, streams, IsRun, IsPlanned, IsObjectTables, Shelf, Failed, Read, Write, asked_for, Asked}
 use Rattle.htl_open.specs.declared.stop.FetchStop.TheVariants as fetch
 use Rattle.htl_open.specs.declared.stop.OpenStop.TheVariants as open_stop
-use Rattle.htl_top.proofs.Answering.{counted, usage_answered}
-use Rattle.htl_top.proofs.Bulking.{ended_put}
+use Rattle.htl_top.proofs.{Answering.counted, Answering.usage_answered, Bulking.ended_put, Inputs.taken_none, Slacking.SpeaksOf-slack, Stops.SpeaksOf-object, Stops.unless, Telling.IsOfPut, Telling.SpeaksOf-text}
 use Rattle.htl_top.proofs.ErrorLineNames.{SpeaksOf-audit, SpeaksOf-compile, SpeaksOf-compile-with, SpeaksOf-go, SpeaksOf-patch, SpeaksOf-put, SpeaksOf-run}
-use Rattle.htl_top.proofs.Inputs.{taken_none}
-use Rattle.htl_top.proofs.Slacking.{SpeaksOf-slack}
-use Rattle.htl_top.proofs.Stops.{SpeaksOf-object, unless}
-use Rattle.htl_top.proofs.Telling.{IsOfPut, SpeaksOf-text}
-use Rattle.htl_top.specs.Answers.{IsUntouched}
-use Rattle.htl_top.specs.Calls.{IsAnswered}
+use Rattle.htl_top.specs.{Answers.IsUntouched, Calls.IsAnswered, declared.stop.RunStop.RunStop}
 use Rattle.htl_top.specs.Stops.{audit_as, compile_as, compile_with_as, donor_as, go_as, no_tables, object_as, put_as, run_as, slack_as, write_as}
 use Rattle.htl_top.specs.declared.input.InputStop.TheVariants as input
 use Rattle.htl_top.specs.declared.stop.AuditStop.TheVariants as audit
@@ -20,7 +14,6 @@ use Rattle.htl_top.specs.declared.stop.DonorStop.TheVariants as donor
 use Rattle.htl_top.specs.declared.stop.GoStop.TheVariants as go
 use Rattle.htl_top.specs.declared.stop.OnObject.TheVariants as on
 use Rattle.htl_top.specs.declared.stop.PutStop.TheVariants as put
-use Rattle.htl_top.specs.declared.stop.RunStop.{RunStop}
 use Rattle.htl_top.specs.declared.stop.RunStop.TheVariants as run_stop
 use Rattle.htl_top.specs.declared.stop.SlackStop.TheVariants as slack
 use Rattle.htl_top.proofs.commands.answer_to.Goals as goal

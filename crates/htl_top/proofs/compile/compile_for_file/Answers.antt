@@ -1,6 +1,5 @@
 use Rattle.std.proofs.Common.{List, ℕ, Ok, Err, subst}
-use Rattle.htl_top.proofs.Vocabulary.{streams, IsBuiltOn, IsInputCompiled, IsUnbuiltOn}
-use Rattle.htl_top.proofs.Inputs.{taken_none}
+use Rattle.htl_top.proofs.{Vocabulary.streams, Vocabulary.IsBuiltOn, Vocabulary.IsInputCompiled, Vocabulary.IsUnbuiltOn, Inputs.taken_none}
 use Rattle.htl_top.proofs.compile.compile_for_file.Goals as goal
 
 pub returns-in-Err-clause-taken : goal.returns-in-Err-clause-taken

@@ -1,6 +1,5 @@
 use Rattle.std.proofs.Common.{ap, refl, Err}
-use Rattle.htl_top.proofs.Vocabulary.{streams, IsCompiledTo, IsNotCompiled}
-use Rattle.htl_top.proofs.Compiling.{unread_stop}
+use Rattle.htl_top.proofs.{Vocabulary.streams, Vocabulary.IsCompiledTo, Vocabulary.IsNotCompiled, Compiling.unread_stop}
 use Rattle.htl_top.specs.declared.input.InputStop.{InputStop}
 use Rattle.htl_top.proofs.compile.compile_input.Goals as goal
 

@@ -1,5 +1,4 @@
-use Rattle.htl_top.proofs.Inputs.{taken_none}
-use Rattle.htl_top.proofs.Running.{run_here}
+use Rattle.htl_top.proofs.{Inputs.taken_none, Running.run_here}
 use Rattle.htl_top.specs.Answers.{streams}
 use Rattle.htl_top.proofs.execute.execute.Goals as goal
 

@@ -1,6 +1,5 @@
 use Rattle.std.proofs.Common.{Err}
-use Rattle.htl_top.proofs.Vocabulary.{Some, subst, files, IsObjectRead, ObjectStop}
-use Rattle.htl_top.proofs.BothFiles.{both_had, unread_both}
+use Rattle.htl_top.proofs.{Vocabulary.Some, Vocabulary.subst, Vocabulary.files, Vocabulary.IsObjectRead, Vocabulary.ObjectStop, BothFiles.both_had, BothFiles.unread_both}
 use Rattle.htl_top.proofs.fetch.open_both.Goals as goal
 
 pub returns-in-Ok-read_object-clause-opened : goal.returns-in-Ok-read_object-clause-opened

@@ -1,6 +1,5 @@
 use Rattle.std.proofs.Common.{Ok, Err}
-use Rattle.htl_top.proofs.Vocabulary.{streams}
-use Rattle.htl_top.proofs.Going.{program_run}
+use Rattle.htl_top.proofs.{Vocabulary.streams, Going.program_run}
 use Rattle.htl_top.proofs.go.go.Goals as goal
 
 pub returns-in-Ok-run_compiled-clause-answer : goal.returns-in-Ok-run_compiled-clause-answer

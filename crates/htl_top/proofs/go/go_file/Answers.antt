@@ -1,6 +1,5 @@
 use Rattle.std.proofs.Common.{Err, ap}
-use Rattle.htl_top.proofs.Vocabulary.{List, ℕ, Some, sym, subst, files, IsSource}
-use Rattle.htl_top.proofs.Inputs.{taken_none}
+use Rattle.htl_top.proofs.{Vocabulary.List, Vocabulary.ℕ, Vocabulary.Some, Vocabulary.sym, Vocabulary.subst, Vocabulary.files, Vocabulary.IsSource, Inputs.taken_none}
 use Rattle.htl_top.specs.declared.stop.GoStop.TheVariants as go
 use Rattle.htl_top.proofs.go.go_file.Goals as goal
 

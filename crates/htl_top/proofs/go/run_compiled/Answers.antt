@@ -1,6 +1,5 @@
-use Rattle.htl_top.proofs.Going.{not_refused, run_made}
+use Rattle.htl_top.proofs.{Going.not_refused, Going.run_made, Inputs.taken_none}
 use Rattle.htl_top.specs.Answers.{streams}
-use Rattle.htl_top.proofs.Inputs.{taken_none}
 use Rattle.htl_top.proofs.go.run_compiled.Goals as goal
 
 pub unreachable-requires : goal.unreachable-requires

@@ -1,6 +1,5 @@
 use Rattle.std.proofs.Common.{Ok, Err}
-use Rattle.htl_top.proofs.Vocabulary.{Some, files, IsDonorTold}
-use Rattle.htl_top.proofs.BothFiles.{done_with_both}
+use Rattle.htl_top.proofs.{Vocabulary.Some, Vocabulary.files, Vocabulary.IsDonorTold, BothFiles.done_with_both}
 use Rattle.htl_top.proofs.patch.patch_file.Goals as goal
 
 pub returns-in-Ok-clause-answer : goal.returns-in-Ok-clause-answer

@@ -1,6 +1,5 @@
-use Rattle.htl_top.proofs.Vocabulary.{List, ℕ, append_known, AppendsPrefix}
+use Rattle.htl_top.proofs.{Vocabulary.List, Vocabulary.ℕ, Vocabulary.append_known, Vocabulary.AppendsPrefix, PatchedObjects.IsObjectPut-written}
 use Rattle.std.proofs.Common.{◌≡◌}
-use Rattle.htl_top.proofs.PatchedObjects.{IsObjectPut-written}
 use Rattle.htl_top.proofs.patch.put_object.Goals as goal
 
 pub returns-in-Ok-put_all-clause-answer : goal.returns-in-Ok-put_all-clause-answer

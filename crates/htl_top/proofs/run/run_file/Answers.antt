@@ -1,7 +1,5 @@
 use Rattle.std.proofs.Common.{Ok, Err}
-use Rattle.htl_top.proofs.Vocabulary.{Some, files, streams, IsRun, Object}
-use Rattle.htl_top.proofs.Inputs.{taken_none}
-use Rattle.htl_top.proofs.Stops.{loaded_does}
+use Rattle.htl_top.proofs.{Vocabulary.Some, Vocabulary.files, Vocabulary.streams, Vocabulary.IsRun, Vocabulary.Object, Inputs.taken_none, Stops.loaded_does}
 use Rattle.htl_top.proofs.run.run_file.Goals as goal
 
 pub returns-in_err-loaded-clause-taken : goal.returns-in_err-loaded-clause-taken

@@ -1,6 +1,5 @@
 use Rattle.std.proofs.Common.{Ok}
-use Rattle.htl_top.proofs.Vocabulary.{Some, Puts, files, show_text, Object}
-use Rattle.htl_top.proofs.Stops.{loaded_does}
+use Rattle.htl_top.proofs.{Vocabulary.Some, Vocabulary.Puts, Vocabulary.files, Vocabulary.show_text, Vocabulary.Object, Stops.loaded_does}
 use Rattle.htl_top.proofs.show.show_file.Goals as goal
 
 pub returns-in-Ok-clause-answer : goal.returns-in-Ok-clause-answer

@@ -1,6 +1,5 @@
 use Rattle.std.proofs.Common.{◌≡◌, length, true, false, Some, slice_get, refl, sym, ap, ◌∙◌, arith}
-use Rattle.htl_top.proofs.Vocabulary.{slice_get_read, Tables}
-use Rattle.htl_top.proofs.Slacking.{found, finding}
+use Rattle.htl_top.proofs.{Vocabulary.slice_get_read, Vocabulary.Tables, Slacking.found, Slacking.finding}
 use Rattle.htl_top.proofs.slack.is_asked_for.Goals as goal
 
 pub returns-then-has_names : goal.returns-then-has_names

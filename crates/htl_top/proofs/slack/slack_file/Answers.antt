@@ -1,6 +1,5 @@
 use Rattle.std.proofs.Common.{Ok, Err}
-use Rattle.htl_top.proofs.Vocabulary.{Some, files, IsSlackTold, Object}
-use Rattle.htl_top.proofs.Stops.{loaded_does}
+use Rattle.htl_top.proofs.{Vocabulary.Some, Vocabulary.files, Vocabulary.IsSlackTold, Vocabulary.Object, Stops.loaded_does}
 use Rattle.htl_top.proofs.slack.slack_file.Goals as goal
 
 pub returns-in-Ok-clause-answer : goal.returns-in-Ok-clause-answer

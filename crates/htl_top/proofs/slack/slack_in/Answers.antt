@@ -1,7 +1,6 @@
 use Rattle.std.proofs.Common.{◌≡◌, None, sym, subst}
-use Rattle.htl_top.proofs.Vocabulary.{KeptApart, frame_limit, Tables, NoneOverloaded}
+use Rattle.htl_top.proofs.{Vocabulary.KeptApart, Vocabulary.frame_limit, Vocabulary.Tables, Vocabulary.NoneOverloaded, NoneOverloaded.none_overloaded}
 use Rattle.htl_plan.proofs.PlanFrame.{keeps_apart}
-use Rattle.htl_top.proofs.NoneOverloaded.{none_overloaded}
 use Rattle.htl_top.proofs.slack.slack_in.Goals as goal
 
 pub slack-requires-clause-formed : goal.slack-requires-clause-formed

@@ -1,10 +1,9 @@
 use Rattle.std.proofs.Common.{◌≡◌, Option, Some}
 use Rattle.htl_top.proofs.AuditRows as audits
 use Rattle.htl_top.proofs.Calling as calling
-use Rattle.htl_top.proofs.Counts.{kept_done}
+use Rattle.htl_top.proofs.{Counts.kept_done, Seen.IsSeen, Seen.seen}
 use Rattle.htl_top.proofs.ErrorLineNames as line_names
 use Rattle.htl_top.proofs.ObjectRows as objects
-use Rattle.htl_top.proofs.Seen.{IsSeen, seen}
 use Rattle.htl_top.proofs.SourceRows as sources
 use Rattle.htl_top.proofs.Vocabulary.{subst, files, streams, Tells, command_in, Command, Go, Compile, CompileWith, Run, Check, Plan, Show, Bulk, Slack, Audit, Patch, Outcome, Memory}
 use Rattle.htl_compile.specs.declared.compiling.CompileFault.TheVariants as compile
