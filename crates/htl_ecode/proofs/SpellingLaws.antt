@@ -1,8 +1,7 @@
 -- E code spells tables exactly where it departs from them nowhere.
 use Rattle.std.proofs.Common.{◌≡◌, ◌↔◌, ℕ, zero, suc, ◌<◌, List, [], ◌∷◌, length, None, Result, Ok, Err, IsOk, IfOk, All, refl, sym, ap, subst, arith, inl, inr}
 use Rattle.htl_ecode.proofs.Words.{All-nil, All-cons, All-head, All-tail, Tables, ECode, EInstr, EFault, Requirement, enter_chain, begin_chain, block_chain, decide_chain, Step, read, Block, blocks, fault_of, block_faults, mode_fault, departure_before, departure, enter_fault, begin_fault, phase_fault, decide_fault, entered, block_begun, decided, HasPath, SpellsMode, Spells, HasBlocks, layout}
-use Rattle.htl_ecode.proofs.Spelled.{Reads, ModeReads, Stands, either_none, spelled_reads}
-use Rattle.htl_ecode.proofs.LayoutLaw.{either_both, layout_departs_not}
+use Rattle.htl_ecode.proofs.{Spelled.Reads, Spelled.ModeReads, Spelled.Stands, Spelled.either_none, Spelled.spelled_reads, LayoutLaw.either_both, LayoutLaw.layout_departs_not}
 use Rattle.htl_ecode.proofs.BlockLaws.{IsBlockPhase, spelled_stands, spelled_links, spelled_first, no_block}
 
 path_fault : (r : Result (List Step) EFault) → IsOk r → fault_of r ≡ None

@@ -1,11 +1,7 @@
 -- The blocks of a phase, followed by their triggers, and where E code first departs from tables.
 use Rattle.std.specs.Prelude.{ℕ, zero, suc, true, false, eqb, List, [], ◌∷◌, length, get_or, Option, Some, None, Result, Ok, Err}
 use Rattle.htl_model.specs.Tables.{Tables}
-use Rattle.htl_ecode.specs.declared.ecode.ECode.{ECode}
-use Rattle.htl_ecode.specs.declared.instr.EInstr.{EInstr}
-use Rattle.htl_ecode.specs.declared.fault.EFault.{EFault}
-use Rattle.htl_ecode.specs.Offsets.{phase_offsets, next_offset}
-use Rattle.htl_ecode.specs.Chains.{enter_chain, begin_chain, block_chain, decide_chain}
+use Rattle.htl_ecode.specs.{declared.ecode.ECode.ECode, declared.instr.EInstr.EInstr, declared.fault.EFault.EFault, Offsets.phase_offsets, Offsets.next_offset, Chains.enter_chain, Chains.begin_chain, Chains.block_chain, Chains.decide_chain}
 use Rattle.htl_ecode.specs.Steps.{read, steps_of, target_of}
 
 abbrev pub entered : ECode → ℕ → ℕ

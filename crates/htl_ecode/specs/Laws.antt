@@ -1,12 +1,8 @@
 -- The laws of E code.
 use Rattle.std.specs.Prelude.{◌≡◌, ◌↔◌, ℕ, suc, ◌<◌, true, false, length, Some, None}
 use Rattle.htl_model.specs.Tables.{Tables}
-use Rattle.htl_ecode.specs.declared.ecode.ECode.{ECode}
-use Rattle.htl_ecode.specs.Offsets.{phase_offsets, next_offset, holds}
-use Rattle.htl_ecode.specs.Chains.{block_chain}
-use Rattle.htl_ecode.specs.Departure.{departure, block_at, branch_on, first_target}
+use Rattle.htl_ecode.specs.{declared.ecode.ECode.ECode, Offsets.phase_offsets, Offsets.next_offset, Offsets.holds, Chains.block_chain, Departure.departure, Departure.block_at, Departure.branch_on, Departure.first_target, Layout.layout}
 use Rattle.htl_ecode.specs.Spelling.{HasPath, Spells}
-use Rattle.htl_ecode.specs.Layout.{layout}
 
 -- the layout of any tables spells them
 abbrev pub LayoutSpells : Type 0

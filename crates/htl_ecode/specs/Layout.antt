@@ -1,11 +1,8 @@
 -- The E code that is made for tables.
 use Rattle.std.specs.Prelude.{ℕ, zero, suc, ◌+◌, cond, eqb, List, [], ◌∷◌, ◌++◌, length, Option, Some, None}
-use Rattle.htl_model.specs.Lists.{up_to, list_to}
-use Rattle.htl_model.specs.Tables.{Tables}
-use Rattle.htl_ecode.specs.declared.ecode.ECode.{ECode}
-use Rattle.htl_ecode.specs.declared.instr.EInstr.{EInstr}
+use Rattle.htl_model.specs.{Lists.up_to, Lists.list_to, Tables.Tables}
+use Rattle.htl_ecode.specs.{declared.ecode.ECode.ECode, declared.instr.EInstr.EInstr, Offsets.phase_offsets, Offsets.next_offset}
 use Rattle.htl_ecode.specs.declared.instr.EInstr.TheVariants as I
-use Rattle.htl_ecode.specs.Offsets.{phase_offsets, next_offset}
 use Rattle.htl_ecode.specs.Chains.{Requirement, Exactly, NextBlock, EndOfRound, SwitchJump, ModeJump, AtAnchor, enter_calls, begin_chain, block_chain, asks_of, tests_of}
 
 -- a chain as instructions from an address on, with no jump between them; `to` says where the trigger of a phase leads.

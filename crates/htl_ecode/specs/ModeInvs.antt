@@ -1,7 +1,6 @@
 -- Where the invocations of a mode stand.
 use Rattle.std.specs.Prelude.{◌+◌}
-use Rattle.htl_model.specs.Starts.{IsStartOf}
-use Rattle.htl_model.specs.Tables.{Tables}
+use Rattle.htl_model.specs.{Starts.IsStartOf, Tables.Tables}
 use Rattle.htl_ecode.specs.declared.mode_invs.ModeInvs.{ModeInvs}
 
 -- no invocation outside the run is of the mode, and none inside is of another

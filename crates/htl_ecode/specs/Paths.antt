@@ -1,15 +1,9 @@
 -- The addresses that are done at each instant, by the meaning of the tables alone.
 use Rattle.std.specs.Prelude.{ℕ, ◌+◌, ◌-◌, Bool, true, false, cond, eqb, List, [], ◌∷◌, ◌++◌, length, slice_get, map, Option, Some, None, ℤ}
-use Rattle.htl_model.specs.declared.event.Event.{Event}
-use Rattle.htl_model.specs.declared.state.Stay.{Stay}
-use Rattle.htl_model.specs.declared.state.State.{State}
-use Rattle.htl_model.specs.Lists.{up_to}
-use Rattle.htl_model.specs.Tables.{Tables, mode_period}
+use Rattle.htl_model.specs.{declared.event.Event.Event, declared.state.Stay.Stay, declared.state.State.State, Lists.up_to, Tables.Tables, Tables.mode_period}
 use Rattle.htl_model.specs.Meaning.{state, before, stay_of, switch_holds, History, newest, history, sense}
-use Rattle.htl_ecode.specs.declared.ecode.ECode.{ECode}
-use Rattle.htl_ecode.specs.Chains.{Requirement, EndOfRound, SwitchJump, ModeJump, AtAnchor, enter_chain, begin_chain, block_chain, decide_chain}
-use Rattle.htl_ecode.specs.Steps.{Step, read, steps_of, passed_by}
-use Rattle.htl_ecode.specs.Departure.{block_at, entered, block_begun, decided}
+use Rattle.htl_ecode.specs.{declared.ecode.ECode.ECode, Chains.Requirement, Chains.EndOfRound, Chains.SwitchJump, Chains.ModeJump, Chains.AtAnchor, Chains.enter_chain, Chains.begin_chain, Chains.block_chain, Chains.decide_chain}
+use Rattle.htl_ecode.specs.{Steps.Step, Steps.read, Steps.steps_of, Steps.passed_by, Departure.block_at, Departure.entered, Departure.block_begun, Departure.decided}
 
 -- an address, and the module in which it is done
 pub record Done : Type 0 where

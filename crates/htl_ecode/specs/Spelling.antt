@@ -1,10 +1,7 @@
 -- When E code spells tables.
 use Rattle.std.specs.Prelude.{ℕ, ◌<◌, List, length, All, IsOk}
 use Rattle.htl_model.specs.Tables.{Tables}
-use Rattle.htl_ecode.specs.declared.ecode.ECode.{ECode}
-use Rattle.htl_ecode.specs.declared.instr.EInstr.{EInstr}
-use Rattle.htl_ecode.specs.Chains.{Requirement, enter_chain, begin_chain, block_chain, decide_chain}
-use Rattle.htl_ecode.specs.Steps.{read}
+use Rattle.htl_ecode.specs.{declared.ecode.ECode.ECode, declared.instr.EInstr.EInstr, Chains.Requirement, Chains.enter_chain, Chains.begin_chain, Chains.block_chain, Chains.decide_chain, Steps.read}
 use Rattle.htl_ecode.specs.Departure.{Block, blocks, entered, block_begun, decided}
 
 -- a chain has its path from an address: it is read there without departure

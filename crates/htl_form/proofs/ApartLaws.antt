@@ -2,9 +2,7 @@
 use Rattle.std.proofs.Common.{◌≡◌, ◌≢◌, ◌<◌, ◌≤◌, ◌⊎◌, ℕ, zero, suc, ◌+◌, ◌-◌, Bool, true, false, ◌&&◌, cond, eqb, List, [], ◌∷◌, ◌++◌, get_or, replicate, Option, Some, None, refl, sym, ◌∙◌, ap, subst, arith, inl, inr}
 use Rattle.htl_form.proofs.Words.{slice_get, list_any, IsDistinct, AllByRecursion, nat_tests, list_any-append, IsPermutation, IsSorted, IsStrictlyIncreasing, nat_cmp, IsPermutation-sym, IsNonDecreasingBy-from_sort, IsDistinct-head, IsDistinct-tail, IsDistinct-cons, IsDistinct-from_apart, IsDistinct-IsPermutation, any_passes_from_place, below_from_sorted, sorted_from_strictly_increasing, IsStrictlyIncreasing-from_distinct, Inv, End, OutputBefore, AreInRange, IsInvInRange, IsEndInRange, StandTogether, AreSameWrite, WritesBefore, Tables, is_concrete, key, instance_of, AreNear, end_keys, keys_in, inv_keys, keys_from, is_comm, takes, is_taken, is_taken_end, IsApart, AreApart, AreNoted, IsRangeOf, stand_together, rivals, outputs_before, writer_before, all_at, eq-eqb, or_cases, or_left, or_right, eqb_flips, true_not_false, eqb_less, cases_below, nothing_from}
 use Rattle.htl_model.specs.declared.parts.End.TheVariants as E
-use Rattle.htl_form.proofs.PathLaws.{true_together}
-use Rattle.htl_form.proofs.Places.{filled_at}
-use Rattle.htl_form.proofs.WriterLaws.{writes_before}
+use Rattle.htl_form.proofs.{PathLaws.true_together, Places.filled_at, WriterLaws.writes_before}
 
 -- ---- two parts of a list without repetitions
 

@@ -2,9 +2,7 @@
 use Rattle.std.proofs.Common.{◌≡◌, ◌≢◌, ℕ, ◌*◌, ◌<◌, ◌⊎◌, Bool, true, false, not, ◌&&◌, eqb, ltb, List, length, Option, Some, None, refl, sym, ◌∙◌, ap, arith, inl, inr}
 use Rattle.htl_form.proofs.Words.{slice_get, option_map, both_true, cases_Bool, not-false, nat_tests, Ty, Inv, End, Tables, mode_period, comm_period, task_worst, release, window_end, is_concrete, ReadLate, WriteOutside, CountsDiffer, TypeDiffers, WindowEmpty, WorstLong, AbstractRead, SensorWritten, input_types, output_types, type_number, end_type, is_sensor, or_else, Found, unless, is_abstractly_written, read_offset_fault, write_offset_fault, unless_equal, count_fault, unless_same, type_fault, abstract_read_fault, sensor_fault, window_fault, worst_case_fault}
 use Rattle.htl_model.specs.declared.parts.End.TheVariants as E
-use Rattle.htl_form.proofs.AbstractLaws.{written, written_test}
-use Rattle.htl_form.proofs.Finding.{Finds, finds_nothing, finds_unless}
-use Rattle.htl_form.proofs.PeriodLaws.{finds_equal, inner}
+use Rattle.htl_form.proofs.{AbstractLaws.written, AbstractLaws.written_test, Finding.Finds, Finding.finds_nothing, Finding.finds_unless, PeriodLaws.finds_equal, PeriodLaws.inner}
 
 pub read_offset_is : (t : Tables) (i : Inv) (e : End) → Finds (read_offset_fault t i e) (ReadLate t i e)
 read_offset_is t i (E.Comm c n) =

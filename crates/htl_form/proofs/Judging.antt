@@ -2,13 +2,8 @@
 use Rattle.std.proofs.Common.{◌≡◌, ℕ, Some}
 use Rattle.htl_form.proofs.Words.{slice_get, Mode, Inv, End, Tables, AreInRange, input_types, output_types, Breach, breach, law_of, Tests, tests, Rule}
 use Rattle.htl_form.specs.declared.rule.Rule.TheVariants as R
-use Rattle.htl_form.proofs.Finding.{Finds, finds_nothing}
-use Rattle.htl_form.proofs.PeriodLaws.{module_period_is, divides_is, end_divides_is}
-use Rattle.htl_form.proofs.FrameLaws.{frame_fault_is}
-use Rattle.htl_form.proofs.EndLaws.{read_offset_is, write_offset_is, count_is, type_is, window_is, worst_case_is, abstract_read_is, sensor_is}
-use Rattle.htl_form.proofs.PortLaws.{unwritten_is, rewritten_is}
-use Rattle.htl_form.proofs.CycleLaws.{cycle_is}
-use Rattle.htl_form.proofs.WriterLaws.{writer_is}
+use Rattle.htl_form.proofs.{Finding.Finds, Finding.finds_nothing, PeriodLaws.module_period_is, PeriodLaws.divides_is, PeriodLaws.end_divides_is, FrameLaws.frame_fault_is, PortLaws.unwritten_is, PortLaws.rewritten_is, CycleLaws.cycle_is}
+use Rattle.htl_form.proofs.{EndLaws.read_offset_is, EndLaws.write_offset_is, EndLaws.count_is, EndLaws.type_is, EndLaws.window_is, EndLaws.worst_case_is, EndLaws.abstract_read_is, EndLaws.sensor_is, WriterLaws.writer_is}
 
 -- the tests find what makes up the breach, part by part
 pub record Judges (t : Tables) (f : Tests) (b : Breach) : Type 0 where

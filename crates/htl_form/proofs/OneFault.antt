@@ -1,11 +1,22 @@
 -- Tables have one first fault of the rules 1 to 12 at most.
 use Rattle.std.proofs.Common.{◌≡◌, ℕ, ◌≤◌, ◌<◌, ◌⊎◌, inl, inr, Option, Some, None, refl, sym, ◌∙◌, ap, subst, arith}
 use Rattle.htl_form.proofs.Words.{slice_get, FormFault, End, Inv, Mode, Tables, mode_module, AreInRange, FormRule, number_of, Part, Itself, Input, Output, Test, Site, PartBefore, InvBefore, SiteBefore, ComesBefore, Breach, breach, PartBreaks, ModeBreaks, BreaksAt, Broken, site_of, IsFirstBroken, Found, law_of, all_rules, Tests, tests, Rule, cases_less_same}
-use Rattle.htl_form.proofs.Finding.{Finds}
-use Rattle.htl_form.proofs.Judging.{Judges, judges}
-use Rattle.htl_form.proofs.RuleOrder.{place_of}
+use Rattle.htl_form.proofs.{Finding.Finds, Judging.Judges, Judging.judges, RuleOrder.place_of}
 
 -- ---- of two places one is before the other, or they are one
+
+-- the middle of three cases may say what follows from it
+in_middle : (L S T M : Type 0) → (S → T) → L ⊎ S ⊎ M → L ⊎ T ⊎ M
+in_middle L S T M f h = elim h [ inl before ↦ inl before | inr (inl same) ↦ inr (inl (f same)) | inr (inr after) ↦ inr (inr after) ]
+
+-- a number decides, and where it is the same, what comes second
+by_number : (k l : ℕ) (L S M : Type 0) → L ⊎ S ⊎ M → ((k < l) ⊎ ((k ≡ l) × L)) ⊎ ((k ≡ l) × S) ⊎ ((l < k) ⊎ ((l ≡ k) × M))
+by_number k l L S M second =
+    elim (cases_less_same k l) [
+      | inl less ↦ inl (inl less)
+      | inr (inl same) ↦ elim second [ inl before ↦ inl (inr (same, before)) | inr (inl is) ↦ inr (inl (same, is)) | inr (inr after) ↦ inr (inr (inr (sym same, after))) ]
+      | inr (inr more) ↦ inr (inr (inl more))
+    ]
 
 part_order : (p q : Part) → PartBefore p q ⊎ (p ≡ q) ⊎ PartBefore q p
 part_order Itself Itself = inr (inl refl)
@@ -17,29 +28,16 @@ part_order (Output i) (Output j) = elim (cases_less_same i j) [ inl less ↦ inl
 part_order (Test k i) Itself = inr (inr tt)
 part_order (Test k i) (Input j) = inr (inr tt)
 part_order (Test k i) (Output j) = inr (inr tt)
-part_order (Test k i) (Test l j) = by (cases_less_same k l) (cases_less_same i j)
-  where
-    by : (k < l) ⊎ (k ≡ l) ⊎ (l < k) → (i < j) ⊎ (i ≡ j) ⊎ (j < i) → PartBefore (Test k i) (Test l j) ⊎ (Test k i ≡ Test l j) ⊎ PartBefore (Test l j) (Test k i)
-    by (inl less) place = inl (inl less)
-    by (inr (inl same)) (inl less) = inl (inr (same, less))
-    by (inr (inl same)) (inr (inl at)) = inr (inl (ap (λ n. Test n i) same ∙ ap (Test l) at))
-    by (inr (inl same)) (inr (inr more)) = inr (inr (inr (sym same, more)))
-    by (inr (inr more)) place = inr (inr (inl more))
+part_order (Test k i) (Test l j) =
+    in_middle _ _ _ _ (λ (is : (k ≡ l) × (i ≡ j)). ap (λ n. Test n i) is.0 ∙ ap (Test l) is.1) (by_number k l (i < j) (i ≡ j) (j < i) (cases_less_same i j))
 part_order _ _ = inl tt
 
 inv_order : (k l : Option ℕ) (p q : Part) → InvBefore k p l q ⊎ ((k ≡ l) × (p ≡ q)) ⊎ InvBefore l q k p
 inv_order None None p q = elim (part_order p q) [ inl less ↦ inl less | inr (inl same) ↦ inr (inl (refl, same)) | inr (inr more) ↦ inr (inr more) ]
 inv_order None (Some l) p q = inr (inr tt)
 inv_order (Some k) None p q = inl tt
-inv_order (Some k) (Some l) p q = by (cases_less_same k l) (part_order p q)
-  where
-    by : (k < l) ⊎ (k ≡ l) ⊎ (l < k) → PartBefore p q ⊎ (p ≡ q) ⊎ PartBefore q p
-        → InvBefore (Some k) p (Some l) q ⊎ ((◌≡◌ {A = Option ℕ} (Some k) (Some l)) × (p ≡ q)) ⊎ InvBefore (Some l) q (Some k) p
-    by (inl less) part = inl (inl less)
-    by (inr (inl same)) (inl less) = inl (inr (same, less))
-    by (inr (inl same)) (inr (inl is)) = inr (inl (ap (λ (n : ℕ). Some n) same, is))
-    by (inr (inl same)) (inr (inr more)) = inr (inr (inr (sym same, more)))
-    by (inr (inr more)) part = inr (inr (inl more))
+inv_order (Some k) (Some l) p q =
+    in_middle _ _ _ _ (λ (is : (k ≡ l) × (p ≡ q)). (ap (λ (n : ℕ). Some n) is.0, is.1)) (by_number k l (PartBefore p q) (p ≡ q) (PartBefore q p) (part_order p q))
 
 -- the same mode, invocation and part
 pub record SameSite (a b : Site) : Type 0 where
@@ -48,27 +46,13 @@ pub record SameSite (a b : Site) : Type 0 where
   pub part : a.part ≡ b.part
 
 site_order : (a b : Site) → SiteBefore a b ⊎ SameSite a b ⊎ SiteBefore b a
-site_order a b = by (cases_less_same a.mode b.mode) (inv_order a.inv b.inv a.part b.part)
-  where
-    by : (a.mode < b.mode) ⊎ (a.mode ≡ b.mode) ⊎ (b.mode < a.mode)
-        → InvBefore a.inv a.part b.inv b.part ⊎ ((a.inv ≡ b.inv) × (a.part ≡ b.part)) ⊎ InvBefore b.inv b.part a.inv a.part → SiteBefore a b ⊎ SameSite a b ⊎ SiteBefore b a
-    by (inl less) inv = inl (inl less)
-    by (inr (inl same)) (inl less) = inl (inr (same, less))
-    by (inr (inl same)) (inr (inl is)) = inr (inl (record { mode = same; inv = is.0; part = is.1 }))
-    by (inr (inl same)) (inr (inr more)) = inr (inr (inr (sym same, more)))
-    by (inr (inr more)) inv = inr (inr (inl more))
+site_order a b =
+    in_middle _ _ _ _ (λ (is : (a.mode ≡ b.mode) × ((a.inv ≡ b.inv) × (a.part ≡ b.part))). record { mode = is.0; inv = is.1.0; part = is.1.1 })
+    (by_number a.mode b.mode (InvBefore a.inv a.part b.inv b.part) _ (InvBefore b.inv b.part a.inv a.part) (inv_order a.inv b.inv a.part b.part))
 
 -- two rules and places: one comes before the other, or they are the same
 pub order : (r q : FormRule) (a b : Site) → ComesBefore r a q b ⊎ ((number_of r ≡ number_of q) × SameSite a b) ⊎ ComesBefore q b r a
-order r q a b = by (cases_less_same (number_of r) (number_of q)) (site_order a b)
-  where
-    by : (number_of r < number_of q) ⊎ (number_of r ≡ number_of q) ⊎ (number_of q < number_of r) → SiteBefore a b ⊎ SameSite a b ⊎ SiteBefore b a
-        → ComesBefore r a q b ⊎ ((number_of r ≡ number_of q) × SameSite a b) ⊎ ComesBefore q b r a
-    by (inl less) site = inl (inl less)
-    by (inr (inl same)) (inl less) = inl (inr (same, less))
-    by (inr (inl same)) (inr (inl is)) = inr (inl (same, is))
-    by (inr (inl same)) (inr (inr more)) = inr (inr (inr (sym same, more)))
-    by (inr (inr more)) site = inr (inr (inl more))
+order r q a b = by_number (number_of r) (number_of q) (SiteBefore a b) (SameSite a b) (SiteBefore b a) (site_order a b)
 
 -- ---- at one place the two numbers are one
 

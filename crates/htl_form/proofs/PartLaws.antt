@@ -1,8 +1,7 @@
 -- The first part of an invocation, or of a mode, at which a rule is broken.
 use Rattle.std.proofs.Common.{◌≡◌, ℕ, Bool, true, false, cond, eqb, Option, Some, None, refl, sym, ◌∙◌, ap, subst, arith, inl, inr}
 use Rattle.htl_form.proofs.Words.{slice_get, nat_tests, Inv, Mode, Switch, Tables, Part, Itself, Input, Output, Test, PartBefore, Breach, PartBreaks, ModeBreaks, first_from, Found, Tests, at_inv, at_read, at_switch, at_mode, or_else_some, or_else_none, none_at, found_at, IsFirstAt, eqb-true, none-some}
-use Rattle.htl_form.proofs.Finding.{Finds}
-use Rattle.htl_form.proofs.Judging.{Judges}
+use Rattle.htl_form.proofs.{Finding.Finds, Judging.Judges}
 
 pub eqb_is : (m : ℕ) → eqb m m ≡ true
 eqb_is m = grind (arith, nat_tests)

@@ -2,8 +2,7 @@
 use Rattle.std.proofs.Common.{◌≡◌, ℕ, zero, suc, ◌+◌, ◌<◌, ◌*◌, ◌≤◌, ◌⊎◌, Bool, true, false, ◌||◌, cond, eqb, ltb, List, [], ◌∷◌, length, get_or, take, drop, drop-cons, add-one, Option, Some, None, refl, sym, ◌∙◌, ap, subst, arith, inl, inr}
 use Rattle.htl_form.proofs.Words.{slice_get, list_any, nat_tests, list_any_more, sum_by-cons, sum_by-le, sum_by-take-le, sum_by_more_le, count_by-le-length, slice_get_within, slice_get_read, get_or_from_slice_get, get_or_past, Inv, End, is_port, port_uses, writers_in, port_writers, WritesPort, OutputBefore, Unwritten, Rewritten, AreInRange, IsInvInRange, IsEndInRange, Tables, IsFirstAt, found_at, none_at, or_else, first_from, Found, unless, port_writer, first_port_writer, is_below, unwritten_fault, rewritten_fault, writers_before, all_at, from_take, into_take, cases_lt, eqb_some}
 use Rattle.htl_model.specs.declared.parts.End.TheVariants as E
-use Rattle.htl_form.proofs.Finding.{Finds, finds_nothing, finds_unless}
-use Rattle.htl_form.proofs.AbstractLaws.{goes}
+use Rattle.htl_form.proofs.{Finding.Finds, Finding.finds_nothing, Finding.finds_unless, AbstractLaws.goes}
 
 -- ---- where a port is written
 
@@ -19,10 +18,7 @@ writers_cons p i invs = sum_by-cons (λ (x : Inv). port_uses p x.writes) i invs
 -- an end that is the port counts
 pub uses_at : (p : ℕ) (ends : List End) (place : ℕ) → slice_get ends place ≡ Some (E.Port p) → 0 < port_uses p ends
 uses_at p [] place h = cc
-uses_at p (e ∷ ends) zero h =
-    let is : e ≡ E.Port p = cc in
-    let one : ◌≡◌ {A = ℕ} (cond (is_port p e) 1 0) 1 = ap (λ (x : End). cond (is_port p x) 1 0) is ∙ ap (λ (b : Bool). cond b 1 0) (is_port_same p) in
-    omega (arith, uses_cons p e ends, one)
+uses_at p (e ∷ ends) zero h = let is : e ≡ E.Port p = cc in grind (arith, uses_cons p e ends, is_port_same p)
 uses_at p (e ∷ ends) (suc place) h = omega (arith, uses_cons p e ends, uses_at p ends place h)
 
 -- where some end is the port, there is a place
@@ -45,26 +41,24 @@ writers_at p (i ∷ invs) zero place x at h =
     omega (arith, writers_cons p i invs)
 writers_at p (i ∷ invs) (suc l) place x at h = omega (arith, writers_cons p i invs, writers_at p invs l place x at h)
 
+-- of two counts that aren't both zero one isn't
+some_of_two : (a b : ℕ) → 0 < a + b → (0 < a) ⊎ (0 < b)
+some_of_two a b h = grind arith
+
 pub at_writers : (p : ℕ) (invs : List Inv) → 0 < writers_in p invs → (l place : ℕ) × (x : Inv) × (slice_get invs l ≡ Some x) × (slice_get x.writes place ≡ Some (E.Port p))
 at_writers p [] h = absurd (omega arith)
 at_writers p (i ∷ invs) h =
-    elim (order (port_uses p i.writes) (writers_in p invs) (omega (arith, writers_cons p i invs))) [
+    elim (some_of_two (port_uses p i.writes) (writers_in p invs) (omega (arith, writers_cons p i invs))) [
       | inl here ↦ let r = at_uses p i.writes here in (0, r.0, i, refl, r.1)
       | inr later ↦ let r = at_writers p invs later in (suc r.0, r.1, r.2, r.3, r.4)
     ]
-  where
-    order : (a b : ℕ) → 0 < a + b → (0 < a) ⊎ (0 < b)
-    order a b h = grind arith
 
 -- the outputs are few
 pub writers_few : (t : Tables) (p k : ℕ) → AreInRange t → writers_in p (take k t.invs) ≤ 524288
 writers_few t p k r =
     let whole : port_writers t p ≤ length t.invs * 256 =
-    sum_by-le (λ (i : Inv). port_uses p i.writes) 256 t.invs (λ q d below. few (get_or t.invs q d) (r.invs q d below).few_writes) in
+    sum_by-le (λ (i : Inv). port_uses p i.writes) 256 t.invs (λ q d below. omega (arith, (r.invs q d below).few_writes, count_by-le-length (is_port p) (get_or t.invs q d).writes)) in
     omega (arith, sum_by-take-le (λ (i : Inv). port_uses p i.writes) t.invs k, r.few_invs)
-  where
-    few : (i : Inv) → length i.writes ≤ 256 → port_uses p i.writes ≤ 256
-    few i h = omega (arith, count_by-le-length (is_port p) i.writes)
 
 -- an output writes a port of the tables
 pub writers_past : (t : Tables) (p : ℕ) → AreInRange t → 4096 ≤ p → port_writers t p ≡ 0
@@ -94,7 +88,7 @@ room_left t invs counts k i r same below is count p =
 pub before_at : (t : Tables) (p k : ℕ) (i : Inv) (j : ℕ) → slice_get t.invs k ≡ Some i → 0 < writers_before t p k i j
     → (l place : ℕ) × OutputBefore l place k j × WritesPort t p l place
 before_at t p k i j at h =
-    elim (order (writers_in p (take k t.invs)) (port_uses p (take j i.writes)) h) [
+    elim (some_of_two (writers_in p (take k t.invs)) (port_uses p (take j i.writes)) h) [
       | inl below ↦
           let r = at_writers p (take k t.invs) below in
           let in_list = from_take t.invs k r.0 r.2 r.3 in
@@ -104,9 +98,6 @@ before_at t p k i j at h =
           let in_list = from_take i.writes j r.0 (E.Port p) r.1 in
           (k, r.0, inr (refl, in_list.0), (i, at, in_list.1))
     ]
-  where
-    order : (a b : ℕ) → 0 < a + b → (0 < a) ⊎ (0 < b)
-    order a b h = grind arith
 
 pub at_before : (t : Tables) (p k : ℕ) (i : Inv) (j l place : ℕ) → slice_get t.invs k ≡ Some i → OutputBefore l place k j → WritesPort t p l place → 0 < writers_before t p k i j
 at_before t p k i j l place at (inl less) w =
@@ -135,31 +126,13 @@ fewer_before t p k i j at out =
 -- some end is the port where the port is used
 any_uses : (p : ℕ) (ends : List End) → list_any (is_port p) ends ≡ ltb 0 (port_uses p ends)
 any_uses p [] = refl
-any_uses p (e ∷ ends) = by (is_port p e) refl (any_uses p ends)
-  where
-    some : (n m : ℕ) → n ≡ 1 + m → true ≡ ltb 0 n
-    some n m e = grind (arith, nat_tests)
-
-    by : (b : Bool) → is_port p e ≡ b → list_any (is_port p) ends ≡ ltb 0 (port_uses p ends) → (b || list_any (is_port p) ends) ≡ ltb 0 (port_uses p (e ∷ ends))
-    by true is later =
-        let one : ◌≡◌ {A = ℕ} (cond (is_port p e) 1 0) 1 = ap (λ (b : Bool). cond b 1 0) is in
-        some (port_uses p (e ∷ ends)) (port_uses p ends) (omega (arith, uses_cons p e ends, one))
-    by false is later =
-        let none : ◌≡◌ {A = ℕ} (cond (is_port p e) 1 0) 0 = ap (λ (b : Bool). cond b 1 0) is in
-        let same : port_uses p ends ≡ port_uses p (e ∷ ends) = omega (arith, uses_cons p e ends, none) in
-        later ∙ ap (ltb 0) same
+any_uses p (e ∷ ends) = grind (arith, nat_tests, uses_cons p e ends, any_uses p ends)
 
 writes_at : (p : ℕ) (x : Inv) → list_any (is_port p) x.writes ≡ true → (place : ℕ) × (slice_get x.writes place ≡ Some (E.Port p))
-writes_at p x h = at_uses p x.writes (positive (port_uses p x.writes) (sym (any_uses p x.writes) ∙ h))
-  where
-    positive : (n : ℕ) → ltb 0 n ≡ true → 0 < n
-    positive n e = grind (arith, nat_tests)
+writes_at p x h = at_uses p x.writes (grind (arith, nat_tests, any_uses p x.writes))
 
 at_writes : (p : ℕ) (x : Inv) (place : ℕ) → slice_get x.writes place ≡ Some (E.Port p) → list_any (is_port p) x.writes ≡ true
-at_writes p x place h = any_uses p x.writes ∙ positive (port_uses p x.writes) (uses_at p x.writes place h)
-  where
-    positive : (n : ℕ) → 0 < n → ltb 0 n ≡ true
-    positive n e = grind (arith, nat_tests)
+at_writes p x place h = grind (arith, nat_tests, any_uses p x.writes, uses_at p x.writes place h)
 
 pub given : (b : Bool) (l h : ℕ) → ◌≡◌ {A = Option ℕ} (cond b (Some l) None) (Some h) → (b ≡ true) × (l ≡ h)
 given true l h e = (refl, cc)

@@ -1,9 +1,7 @@
 -- The search answers the first broken rule.
 use Rattle.std.proofs.Common.{◌≡◌, ℕ, suc, ◌≤◌, Some, None, sym, ◌∙◌, ap, subst, arith, inl, inr}
 use Rattle.htl_form.proofs.Words.{slice_get, FormFault, Tables, AreInRange, FormRule, number_of, Site, ComesBefore, Broken, Formed, KeptTo, site_of, IsFirstBroken, law_of, rule_number, all_rules, tests, form_fault_of, first_form_fault, Rule, none_at, found_at, IsFirstAt}
-use Rattle.htl_form.proofs.Judging.{judges}
-use Rattle.htl_form.proofs.RuleOrder.{place_of, number_at}
-use Rattle.htl_form.proofs.SiteLaws.{rule_none, rule_first, IsFirstOfRule}
+use Rattle.htl_form.proofs.{Judging.judges, RuleOrder.place_of, RuleOrder.number_at, SiteLaws.rule_none, SiteLaws.rule_first, SiteLaws.IsFirstOfRule}
 
 -- a rule with a number up to 12, at whose place nothing is found
 kept_at : (t : Tables) → AreInRange t → (law : FormRule) → number_of law ≤ 12

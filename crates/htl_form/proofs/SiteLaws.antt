@@ -1,8 +1,7 @@
 -- The first site at which a rule is broken, for any rule whose tests find exactly what breaks it.
 use Rattle.std.proofs.Common.{◌≡◌, ℕ, ◌<◌, ◌⊎◌, true, cond, eqb, Option, Some, None, refl, sym, ◌∙◌, ap, subst, inl, inr}
 use Rattle.htl_form.proofs.Words.{slice_get, Inv, Mode, FormFault, Tables, mode_module, FormRule, Part, Site, InvBefore, SiteBefore, Breach, breach, PartBreaks, BreaksAt, Broken, site_of, first_from, Found, Tests, at_inv, at_mode, told, inv_in_mode, in_mode, or_else_some, or_else_none, none_at, found_at, IsFirstAt, eqb-true, none-some, module_is}
-use Rattle.htl_form.proofs.Judging.{Judges}
-use Rattle.htl_form.proofs.PartLaws.{eqb_is, taken, inv_none, inv_first, IsFirstPart, mode_none, mode_first, IsFirstOfMode}
+use Rattle.htl_form.proofs.{Judging.Judges, PartLaws.eqb_is, PartLaws.taken, PartLaws.inv_none, PartLaws.inv_first, PartLaws.IsFirstPart, PartLaws.mode_none, PartLaws.mode_first, PartLaws.IsFirstOfMode}
 
 -- ---- a fault told with its site
 

@@ -3,8 +3,7 @@ use Rattle.std.specs.Prelude.{◌≡◌, ℕ, Bool, true, false, List, [], ◌�
 use Rattle.htl_form.proofs.Words.{module_named, Inv, Module, Tables, unwritten_fault, rewritten_fault}
 use Rattle.htl_model.specs.declared.parts.End.TheVariants as E
 use Rattle.htl_form.proofs.WriterSamples.{call, mode, concrete, one_mode, more_modes}
-use Rattle.htl_form.specs.Cycles.{cycle_fault, precedes_itself}
-use Rattle.htl_form.specs.WriterFaults.{writer_fault, stand_together}
+use Rattle.htl_form.specs.{Cycles.cycle_fault, Cycles.precedes_itself, WriterFaults.writer_fault, WriterFaults.stand_together}
 
 -- ---- writers of ports
 

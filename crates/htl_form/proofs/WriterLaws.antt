@@ -2,9 +2,7 @@
 use Rattle.std.proofs.Common.{◌≡◌, ℕ, suc, ◌<◌, Bool, true, false, cond, not, ◌&&◌, ◌||◌, eqb, ltb, List, [], ◌∷◌, take, Option, Some, None, refl, sym, ◌∙◌, ap, subst, arith, inl, inr}
 use Rattle.htl_form.proofs.Words.{slice_get, list_any, nat_tests, any_passes_from_place, first-unique, Inv, End, OutputBefore, AreInRange, AreSameWrite, WritesBefore, SecondWriter, Tables, is_concrete, found_at, none_at, stand_together, hits, outputs_before, rivals, writer_before, first_writer, told_writer, writer_fault, eq-eqb, eqb-true, or_cases, or_left, or_right, eqb_apart, from_take, into_take}
 use Rattle.htl_model.specs.declared.parts.End.TheVariants as E
-use Rattle.htl_form.proofs.PortLaws.{given, not_given}
-use Rattle.htl_form.proofs.Finding.{Finds, finds_nothing}
-use Rattle.htl_form.proofs.PathLaws.{together_true, true_together}
+use Rattle.htl_form.proofs.{PortLaws.given, PortLaws.not_given, Finding.Finds, Finding.finds_nothing, PathLaws.together_true, PathLaws.true_together}
 
 -- ---- an end that hits
 

@@ -1,9 +1,7 @@
 -- Which ports abstract invocations write.
 use Rattle.std.specs.Prelude.{◌≡◌, ◌<◌, ℕ, Bool, false, not, ◌&&◌, List, get_or}
 use Rattle.std.specs.List.{list_any}
-use Rattle.htl_model.specs.declared.parts.Inv.{Inv}
-use Rattle.htl_model.specs.Tables.{Tables, is_concrete}
-use Rattle.htl_model.specs.PortWriters.{is_port}
+use Rattle.htl_model.specs.{declared.parts.Inv.Inv, Tables.Tables, Tables.is_concrete, PortWriters.is_port}
 
 abbrev pub writes_abstractly : Tables → ℕ → Inv → Bool
 writes_abstractly t p i = not (is_concrete t i) && list_any (is_port p) i.writes

@@ -1,10 +1,8 @@
 -- Which invocations write nothing that an earlier concrete invocation writes.
 use Rattle.std.specs.Prelude.{◌≡◌, ◌<◌, ◌≤◌, ℕ, zero, suc, ◌+◌, ◌*◌, Bool, true, false, cond, eqb, ◌&&◌, ◌||◌, List, [], ◌∷◌, ◌++◌, length, get_or, slice_get, take, All, Option, Some, None}
 use Rattle.std.specs.List.{flat_map, list_any}
-use Rattle.htl_model.specs.declared.parts.Inv.{Inv}
-use Rattle.htl_model.specs.declared.parts.End.{End}
+use Rattle.htl_model.specs.{declared.parts.Inv.Inv, declared.parts.End.End, Tables.Tables, Tables.is_concrete}
 use Rattle.htl_model.specs.declared.parts.End.TheVariants as E
-use Rattle.htl_model.specs.Tables.{Tables, is_concrete}
 use Rattle.htl_form.specs.WriterFaults.{stand_together, first_writer}
 
 -- ---- the instances that are written in one mode

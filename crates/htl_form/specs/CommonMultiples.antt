@@ -2,9 +2,7 @@
 use Rattle.std.specs.Prelude.{◌≡◌, ℕ, List, ◌∷◌}
 use Rattle.std.specs.Int.{◌∣◌}
 use Rattle.std.specs.List.{AllByRecursion}
-use Rattle.htl_model.specs.Frames.{frame_of, root_periods}
-use Rattle.htl_model.specs.Ranges.{AreInRange}
-use Rattle.htl_model.specs.Tables.{Tables}
+use Rattle.htl_model.specs.{Frames.frame_of, Frames.root_periods, Ranges.AreInRange, Tables.Tables}
 
 -- l is the least common multiple of a and b: both divide it, and it divides whatever both divide
 abbrev pub IsLcm : ℕ → ℕ → ℕ → Type 0

@@ -1,10 +1,6 @@
 -- What the test for cycles of ports finds.
 use Rattle.std.specs.Prelude.{ℕ, Bool, not, ◌&&◌, length, slice_get}
-use Rattle.htl_model.specs.declared.parts.Inv.{Inv}
-use Rattle.htl_model.specs.NumbersBelow.{count_below}
-use Rattle.htl_model.specs.PortOrder.{leads_below, feeds, is_of_mode}
-use Rattle.htl_model.specs.Tables.{Tables}
-use Rattle.htl_model.specs.Found.{Found, unless}
+use Rattle.htl_model.specs.{declared.parts.Inv.Inv, NumbersBelow.count_below, PortOrder.leads_below, PortOrder.feeds, PortOrder.is_of_mode, Tables.Tables, Found.Found, Found.unless}
 
 -- whether an invocation precedes itself by the ports
 unfoldable pub precedes_itself : Tables → ℕ → Bool

@@ -1,14 +1,10 @@
 -- What the tests of the rules on ends find.
 use Rattle.std.specs.Prelude.{ℕ, ◌*◌, not, ◌&&◌, eqb, ltb, List, length, slice_get, Option, Some, None, option_map}
 use Rattle.htl_base.specs.declared.Ty.{Ty}
-use Rattle.htl_model.specs.declared.parts.Inv.{Inv}
-use Rattle.htl_model.specs.declared.parts.End.{End}
+use Rattle.htl_model.specs.{declared.parts.Inv.Inv, declared.parts.End.End, Tables.Tables, Tables.mode_period, Tables.comm_period, Tables.is_concrete, First.or_else, Found.Found, Found.unless}
 use Rattle.htl_model.specs.declared.parts.End.TheVariants as E
-use Rattle.htl_model.specs.Tables.{Tables, mode_period, comm_period, is_concrete}
 use Rattle.htl_model.specs.EndRules.{input_types, output_types, type_number, end_type, is_sensor}
 use Rattle.htl_form.specs.AbstractWriters.{is_abstractly_written}
-use Rattle.htl_model.specs.First.{or_else}
-use Rattle.htl_model.specs.Found.{Found, unless}
 
 abbrev pub read_offset_fault : Tables → Inv → End → Found
 read_offset_fault t i (E.Comm c n) = unless (ltb (n * comm_period t c) (mode_period t i.mode)) (n * comm_period t c) (mode_period t i.mode)

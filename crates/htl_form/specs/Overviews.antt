@@ -1,9 +1,6 @@
 -- What is counted once before the rules are tried.
 use Rattle.htl_model.specs.Tables.{Tables}
-use Rattle.htl_form.specs.AbstractWriters.{is_abstractly_written, MarksPorts}
-use Rattle.htl_form.specs.FrameFaults.{IsFrameAnswer}
-use Rattle.htl_form.specs.Surveys.{IsSurveyOf}
-use Rattle.htl_form.specs.declared.overview.Overview.{Overview}
+use Rattle.htl_form.specs.{AbstractWriters.is_abstractly_written, AbstractWriters.MarksPorts, FrameFaults.IsFrameAnswer, Surveys.IsSurveyOf, declared.overview.Overview.Overview}
 
 -- The overview is that of these tables.
 pub record IsOverviewOf (t : Tables) (overview : Overview) : Type 0 where

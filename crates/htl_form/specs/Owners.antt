@@ -1,12 +1,9 @@
 -- Whose concrete invocations write each communicator.
 use Rattle.std.specs.Prelude.{◌≡◌, ◌<◌, ◌+◌, ℕ, Bool, true, false, not, eqb, List, get_or, slice_get, Some}
 use Rattle.std.specs.List.{list_any}
-use Rattle.htl_model.specs.declared.parts.Inv.{Inv}
-use Rattle.htl_model.specs.declared.parts.End.{End}
+use Rattle.htl_model.specs.{declared.parts.Inv.Inv, declared.parts.End.End, Tables.Tables, Tables.is_concrete, Tables.mode_module}
 use Rattle.htl_model.specs.declared.parts.End.TheVariants as E
-use Rattle.htl_model.specs.Tables.{Tables, is_concrete, mode_module}
-use Rattle.htl_form.specs.Apart.{is_comm, is_taken}
-use Rattle.htl_form.specs.declared.owners.Owner.{Owner}
+use Rattle.htl_form.specs.{Apart.is_comm, Apart.is_taken, declared.owners.Owner.Owner}
 use Rattle.htl_form.specs.declared.owners.Owner.TheVariants as owner
 
 -- whether a module is among those that the owner stands for

@@ -1,12 +1,7 @@
 -- What the tests of the rules on periods find.
 use Rattle.std.specs.Prelude.{ℕ, ◌%◌, Bool, ◌&&◌, eqb, ltb, Option, Some, None}
-use Rattle.htl_model.specs.declared.parts.Mode.{Mode}
-use Rattle.htl_model.specs.declared.parts.Inv.{Inv}
-use Rattle.htl_model.specs.declared.parts.End.{End}
+use Rattle.htl_model.specs.{declared.parts.Mode.Mode, declared.parts.Inv.Inv, declared.parts.End.End, Tables.Tables, Tables.mode_period, Tables.comm_period, PeriodRules.asked_period, Found.Found, Found.unless}
 use Rattle.htl_model.specs.declared.parts.End.TheVariants as E
-use Rattle.htl_model.specs.Tables.{Tables, mode_period, comm_period}
-use Rattle.htl_model.specs.PeriodRules.{asked_period}
-use Rattle.htl_model.specs.Found.{Found, unless}
 
 -- nothing where the number is the one that is asked, or none is asked
 abbrev pub unless_asked : ℕ → Option ℕ → Found

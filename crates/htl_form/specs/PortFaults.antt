@@ -1,13 +1,8 @@
 -- What the tests of a port's writers find.
 use Rattle.std.specs.Prelude.{ℕ, ◌+◌, Bool, false, cond, eqb, ltb, take, Option, Some, None}
 use Rattle.std.specs.List.{list_any}
-use Rattle.htl_model.specs.declared.parts.Inv.{Inv}
-use Rattle.htl_model.specs.declared.parts.End.{End}
+use Rattle.htl_model.specs.{declared.parts.Inv.Inv, declared.parts.End.End, PortWriters.is_port, PortWriters.port_uses, PortWriters.writers_in, PortWriters.port_writers, Tables.Tables, First.first_from, Found.Found, Found.unless}
 use Rattle.htl_model.specs.declared.parts.End.TheVariants as E
-use Rattle.htl_model.specs.PortWriters.{is_port, port_uses, writers_in, port_writers}
-use Rattle.htl_model.specs.Tables.{Tables}
-use Rattle.htl_model.specs.First.{first_from}
-use Rattle.htl_model.specs.Found.{Found, unless}
 
 -- the number of an invocation that writes the port
 abbrev pub port_writer : ℕ → ℕ → Inv → Option ℕ

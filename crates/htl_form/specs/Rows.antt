@@ -1,11 +1,7 @@
 -- What precedes what among the invocations of one mode, as rows of bits.
 use Rattle.std.specs.Prelude.{◌≡◌, ◌≤◌, ◌<◌, ℕ, zero, suc, ◌+◌, Bool, false, cond, ltb, ◌&&◌, List, get_or, map, length, slice_get, Some}
 use Rattle.std.specs.Int.Bits.{bit_or}
-use Rattle.htl_model.specs.declared.parts.Inv.{Inv}
-use Rattle.htl_model.specs.Bits.{has_bit, cell}
-use Rattle.htl_model.specs.PortOrder.{feeds}
-use Rattle.htl_model.specs.PortTable.{writes_to}
-use Rattle.htl_model.specs.Tables.{Tables}
+use Rattle.htl_model.specs.{declared.parts.Inv.Inv, Bits.has_bit, Bits.cell, PortOrder.feeds, PortTable.writes_to, Tables.Tables}
 use Rattle.htl_form.specs.Cycles.{precedes_itself}
 
 -- the invocations of mode m are the n from `base` on, at most 128

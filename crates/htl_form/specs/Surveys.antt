@@ -1,12 +1,7 @@
 -- What is counted once over the tables before their ends are judged.
 use Rattle.std.specs.Prelude.{◌≡◌, ◌<◌, ℕ, Bool, false, List, get_or, slice_get, Some, None}
-use Rattle.htl_model.specs.declared.parts.Inv.{Inv}
-use Rattle.htl_model.specs.PortWriters.{port_writers}
-use Rattle.htl_model.specs.Tables.{Tables}
-use Rattle.htl_form.specs.Apart.{AreApart}
-use Rattle.htl_form.specs.Cycles.{precedes_itself}
-use Rattle.htl_form.specs.PortFaults.{first_port_writer}
-use Rattle.htl_form.specs.declared.survey.Survey.{Survey}
+use Rattle.htl_model.specs.{declared.parts.Inv.Inv, PortWriters.port_writers, Tables.Tables}
+use Rattle.htl_form.specs.{Apart.AreApart, Cycles.precedes_itself, PortFaults.first_port_writer, declared.survey.Survey.Survey}
 
 -- the marks say of each invocation whether it precedes itself
 abbrev pub AreCycleMarks : Tables → List Bool → Type 0

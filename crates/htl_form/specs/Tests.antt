@@ -1,15 +1,8 @@
 -- What the tests of each rule find.
-use Rattle.htl_model.specs.Search.{Tests, silent}
-use Rattle.htl_model.specs.Tables.{Tables}
-use Rattle.htl_model.specs.EndRules.{input_types, output_types}
-use Rattle.htl_form.specs.FrameFaults.{frame_fault}
-use Rattle.htl_form.specs.PeriodFaults.{module_period_fault, divides_fault, end_divides_fault}
-use Rattle.htl_form.specs.EndFaults.{read_offset_fault, write_offset_fault, count_fault, type_fault, abstract_read_fault, sensor_fault}
-use Rattle.htl_form.specs.WindowFaults.{window_fault, worst_case_fault}
+use Rattle.htl_model.specs.{Search.Tests, Search.silent, Tables.Tables, EndRules.input_types, EndRules.output_types}
+use Rattle.htl_form.specs.{FrameFaults.frame_fault, PeriodFaults.module_period_fault, PeriodFaults.divides_fault, PeriodFaults.end_divides_fault, WindowFaults.window_fault, WindowFaults.worst_case_fault, Cycles.cycle_fault}
+use Rattle.htl_form.specs.{EndFaults.read_offset_fault, EndFaults.write_offset_fault, EndFaults.count_fault, EndFaults.type_fault, EndFaults.abstract_read_fault, EndFaults.sensor_fault, WriterFaults.writer_fault, declared.rule.Rule.Rule}
 use Rattle.htl_form.specs.PortFaults.{unwritten_fault, rewritten_fault}
-use Rattle.htl_form.specs.Cycles.{cycle_fault}
-use Rattle.htl_form.specs.WriterFaults.{writer_fault}
-use Rattle.htl_form.specs.declared.rule.Rule.{Rule}
 use Rattle.htl_form.specs.declared.rule.Rule.TheVariants as R
 
 abbrev pub tests : Tables → Rule → Tests

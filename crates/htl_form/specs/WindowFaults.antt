@@ -1,8 +1,6 @@
 -- What the tests of the rules on windows and worst cases find.
 use Rattle.std.specs.Prelude.{not, ltb}
-use Rattle.htl_model.specs.declared.parts.Inv.{Inv}
-use Rattle.htl_model.specs.Tables.{Tables, mode_period, task_worst, release, window_end}
-use Rattle.htl_model.specs.Found.{Found, unless}
+use Rattle.htl_model.specs.{declared.parts.Inv.Inv, Tables.Tables, Tables.mode_period, Tables.task_worst, Tables.release, Tables.window_end, Found.Found, Found.unless}
 
 abbrev pub window_fault : Tables → Inv → Found
 window_fault t i = unless (ltb (release t i) (window_end t i)) (release t i) (window_end t i)

@@ -1,13 +1,8 @@
 -- What the test for concrete writers of the same finds.
 use Rattle.std.specs.Prelude.{ℕ, zero, suc, Bool, false, cond, not, ◌&&◌, ◌||◌, eqb, ltb, List, [], ◌∷◌, take, Option, Some, None}
 use Rattle.std.specs.List.{list_any}
-use Rattle.htl_model.specs.declared.parts.Inv.{Inv}
-use Rattle.htl_model.specs.declared.parts.End.{End}
+use Rattle.htl_model.specs.{declared.parts.Inv.Inv, declared.parts.End.End, SecondWriters.parent_mode, Tables.Tables, Tables.mode_module, Tables.is_concrete, First.first_from, Found.Found}
 use Rattle.htl_model.specs.declared.parts.End.TheVariants as E
-use Rattle.htl_model.specs.SecondWriters.{parent_mode}
-use Rattle.htl_model.specs.Tables.{Tables, mode_module, is_concrete}
-use Rattle.htl_model.specs.First.{first_from}
-use Rattle.htl_model.specs.Found.{Found}
 
 -- the mode, and the modes above it, at most so many
 abbrev pub path : ℕ → Tables → ℕ → List ℕ

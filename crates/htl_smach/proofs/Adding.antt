@@ -1,8 +1,7 @@
 -- A list that goes on with further positions.
 use Rattle.std.proofs.Common.{◌≡◌, ℕ, ◌+◌, ◌-◌, ◌≤◌, ◌<◌, Bool, true, false, eqb, List, ◌++◌, length, get_or, take, replicate, refl, sym, ap, ap₂, ◌∙◌, arith, inl, inr}
 use Rattle.htl_smach.proofs.Words.{cases_lt, Job, SInstr, Point, job_at, last_point, work, left_falls_to, job_there, work_some, Pending, Round, state_by, state_of, added, Stands, IsEven, CanBegin, StandsAdded}
-use Rattle.htl_smach.proofs.Joined.{job_left, job_right, get_left, get_right, both_parts}
-use Rattle.htl_smach.proofs.RoundRecords.{IsPending, pending_is, is_pending}
+use Rattle.htl_smach.proofs.{Joined.job_left, Joined.job_right, Joined.get_left, Joined.get_right, Joined.both_parts, RoundRecords.IsPending, RoundRecords.pending_is, RoundRecords.is_pending}
 
 -- the positions so far are in the states in which they were
 pub state_added : (r : Round) (at : ℕ) (jobs : List Job) (lengths : List ℕ) → IsEven r → (p : ℕ) → p < length r.jobs → state_of (added r at jobs lengths) p ≡ state_of r p
@@ -41,8 +40,7 @@ module _ (r : Round) (s : List SInstr) (at : ℕ) (jobs : List Job) (lengths : L
             omega (arith, can.told p (is_pending r p was), ap (λ (k : Job). k.release) j)
         | inr l ↦
             let q = p - length r.jobs in
-            let is : length r.jobs + q ≡ p = omega arith in
-            let j : job_at (r.jobs ++ jobs) p ≡ job_at jobs q = ap (job_at (r.jobs ++ jobs)) (sym is) ∙ job_right r.jobs jobs q in
+            let j : job_at (r.jobs ++ jobs) p ≡ job_at jobs q = ap (job_at (r.jobs ++ jobs)) (sym (omega arith)) ∙ job_right r.jobs jobs q in
             let here : (job_at jobs q).present ≡ true = sym (ap (λ (k : Job). k.present) j) ∙ now.present in
             omega (arith, can.later q (job_at jobs q) (job_there jobs q here) here, ap (λ (k : Job). k.release) j)
       ]

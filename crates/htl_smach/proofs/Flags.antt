@@ -47,8 +47,7 @@ flags_more n k old new before none =
       | inl l ↦ before p l ∙ sym (get_left (flags n old) (replicate k false) p false (omega (arith, length-flags n old)) ∙ flag_at n old p l)
       | inr l ↦
           let j = p - n in
-          let is : n + j ≡ p = omega arith in
           let isf : length (flags n old) + j ≡ p = omega (arith, length-flags n old) in
-          ap (has_bit new) (sym is) ∙ none j (omega arith)
+          ap (has_bit new) (sym (omega arith)) ∙ none j (omega arith)
           ∙ sym (ap (λ q. get_or (flags n old ++ replicate k false) q false) (sym isf) ∙ get_right (flags n old) (replicate k false) j false ∙ none_marked k j)
     ])

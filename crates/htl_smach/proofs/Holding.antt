@@ -1,10 +1,8 @@
 -- The fields of a machine and its round.
 use Rattle.std.proofs.Common.{◌≡◌, ℕ, zero, suc, ◌+◌, ◌-◌, ◌≤◌, ◌<◌, Bool, true, false, cond, not, List, [], ◌∷◌, ◌++◌, length, get_or, set, take, replicate, Option, Some, None, IfSome, refl, sym, ap, ap₂, ◌∙◌, arith, inl, inr, ltb, eqb, add-one, get_or-set_same, get_or-set_other}
 use Rattle.htl_smach.proofs.Words.{cases_lt, cases_eq, nat_tests, length-take, ext_get_or, get_or-take, job_there, work_present, length-set, take-set-lt, take-append_seam, has_bit, Job, job_at, work, HaveLengths, Inside, Step, inside_round, Round, added_from, state_by, state_of, IsEven, flags, IsPut, state_in, HaveBegun, AreStates, PositionStates, put_work, point_of, work_length, job_front}
-use Rattle.htl_smach.proofs.Flags.{flag_at, length-flags, flags_put, flags_more}
-use Rattle.htl_smach.proofs.Joined.{job_left, job_right, get_left, get_right, behind}
+use Rattle.htl_smach.proofs.{Flags.flag_at, Flags.length-flags, Flags.flags_put, Flags.flags_more, Joined.job_left, Joined.job_right, Joined.get_left, Joined.get_right, Joined.behind, Finishing.none_left}
 use Rattle.htl_smach.proofs.RoundRecords.{with_length, with_release, absent_idle}
-use Rattle.htl_smach.proofs.Finishing.{none_left}
 
 pub below_count : {X : Type 0} (n : ℕ) (xs : List X) (p : ℕ) → p < length (take n xs) → p < n
 below_count n xs p h = omega (arith, length-take n xs)
@@ -15,8 +13,7 @@ length-set-take n p v xs h = simp (length-set, length-take) (omega arith)
 -- a place in the front part of a list is written
 set_front : (n p v : ℕ) (xs ys : List ℕ) → n ≤ length xs → take n (set (take n xs) p v ++ ys) ≡ set (take n xs) p v
 set_front n p v xs ys h =
-    let len : length (set (take n xs) p v) ≡ n = length-set-take n p v xs h in
-    ap (λ k. take k (set (take n xs) p v ++ ys)) (sym len) ∙ take-append_seam (set (take n xs) p v) ys
+    ap (λ k. take k (set (take n xs) p v ++ ys)) (sym (length-set-take n p v xs h)) ∙ take-append_seam (set (take n xs) p v) ys
 
 pub holds_length : (m : Inside) (p n : ℕ) (ys zs fs : List ℕ) → m.count ≤ length m.lengths → m.count ≤ length m.left → m.count ≤ length m.first
     → inside_round (record m { lengths = set (take m.count m.lengths) p n ++ ys; left = set (take m.count m.left) p n ++ zs; first = set (take m.count m.first) p n ++ fs }) ≡ with_length (inside_round m) p n
@@ -141,11 +138,9 @@ module _ (m : Inside) (x : PositionStates) (jobs js more_jobs : List Job) (lengt
             ∙ ap (λ (j : Job). j.present) (sym (job_left (take m.count m.jobs) (js ++ more_jobs) p (omega (arith, jobs_long)) ∙ job_front m.count m.jobs p l))
         | inr l ↦
             let k = p - m.count in
-            let is : m.count + k ≡ p = omega arith in
-            let isj : length (take m.count m.jobs) + k ≡ p = omega (arith, jobs_long) in
-            ap (has_bit x.present) (sym is) ∙ begun.present k (omega arith)
+            ap (has_bit x.present) (sym (omega arith)) ∙ begun.present k (omega arith)
             ∙ ap (λ (j : Job). j.present) (ap (λ (z : List Job). job_at z k) (sym js_is) ∙ sym (job_left js more_jobs k (omega (arith, ap length js_is))) ∙ sym (job_right (take m.count m.jobs) (js ++ more_jobs) k)
-            ∙ ap (job_at (take m.count m.jobs ++ (js ++ more_jobs))) isj)
+            ∙ ap (job_at (take m.count m.jobs ++ (js ++ more_jobs))) (omega (arith, jobs_long)))
       ]
 
       none : (b : Bool) (k : ℕ) → (job_at jobs k).present ≡ b → not b ≡ eqb (get_or (work jobs lengths) k 0) 0
@@ -161,12 +156,10 @@ module _ (m : Inside) (x : PositionStates) (jobs js more_jobs : List Job) (lengt
             ∙ ap (λ w. eqb w 0) (sym (get_left (take m.count m.left) (ws ++ more_work) p 0 (omega (arith, left_long)) ∙ get_or-take m.count m.left p 0 l))
         | inr l ↦
             let k = p - m.count in
-            let is : m.count + k ≡ p = omega arith in
-            let isl : length (take m.count m.left) + k ≡ p = omega (arith, left_long) in
             let long : length ws ≡ length jobs = ap length ws_is ∙ work_length jobs lengths in
-            ap (has_bit x.done) (sym is) ∙ begun.done k (omega arith) ∙ none (job_at jobs k).present k refl
+            ap (has_bit x.done) (sym (omega arith)) ∙ begun.done k (omega arith) ∙ none (job_at jobs k).present k refl
             ∙ ap (λ w. eqb w 0) (ap (λ (z : List ℕ). get_or z k 0) (sym ws_is) ∙ sym (get_left ws more_work k 0 (omega (arith, long))) ∙ sym (get_right (take m.count m.left) (ws ++ more_work) k 0)
-            ∙ ap (λ q. get_or all_left q 0) isl)
+            ∙ ap (λ q. get_or all_left q 0) (omega (arith, left_long)))
       ]
 
 -- ---- a length that is set, and an instruction that is left
@@ -194,8 +187,7 @@ are_left m y p rest long are below put same = record {
   where
     by_test : (q : ℕ) → q < m.count → (b : Bool) → eqb q p ≡ b → cond b (eqb rest 0) (has_bit m.states.done q) ≡ eqb (get_or (set m.left p rest) q 0) 0
     by_test q h true e =
-        let is : q ≡ p = grind (arith, nat_tests) in
-        sym (ap (λ w. eqb w 0) (ap (λ k. get_or (set m.left p rest) k 0) is ∙ get_or-set_same m.left p rest 0 (omega arith)))
+        sym (ap (λ w. eqb w 0) (ap (λ k. get_or (set m.left p rest) k 0) (grind (arith, nat_tests)) ∙ get_or-set_same m.left p rest 0 (omega arith)))
     by_test q h false e =
         are.done q h ∙ sym (ap (λ w. eqb w 0) (get_or-set_other m.left p q rest 0 (λ f. let z : ⊥ = grind (arith, nat_tests) in z)))
 

@@ -2,10 +2,7 @@
 use Rattle.std.proofs.Common.{◌≡◌, ℕ, zero, suc, ◌+◌, ◌-◌, ◌≤◌, ◌<◌, Bool, true, false, cond, ◌&&◌, eqb, List, [], ◌∷◌, ◌++◌, length, get_or, take, drop, map, Option, Some, None, is_some, refl, sym, ap, ◌∙◌, subst, arith, inl, inr, append_assoc, append-nil}
 use Rattle.htl_smach.proofs.Words.{cases_lt, ltb-false, length-append, length-drop, length-map, length-take-le, take_all, Job, SInstr, Leg, list_point, walks_from, walk_path, end_to_end, AreInForm, AreChained, path_point, AgreeAt, Point, job_at, walk_from, last_point, first_point, work, finish, is_position, InForm, left_falls_to, untouched, same_length, walk_alike, job_there, work_present, Left, after_all, PathRun, no_leg, leg_at, list_at, untils_at, list_begun, list_answers, answers_before, IsOver, told_path, IsPath, PathRecords, FinishedBefore, Round, told_from, walk_records, next_left, after, front_more, work_length, eqb_some, form_at, point_first, point_next, walk_at, get_or_from_slice_get, job_front}
 use Rattle.htl_walk.specs.Walk as walks
-use Rattle.htl_smach.proofs.Answering.{records_in_order}
-use Rattle.htl_smach.proofs.Finishing.{finished_where_none, never_finished, none_left}
-use Rattle.htl_smach.proofs.Joined.{get_left, get_right}
-use Rattle.htl_smach.proofs.RoundRecords.{absent_idle}
+use Rattle.htl_smach.proofs.{Answering.records_in_order, Finishing.finished_where_none, Finishing.never_finished, Finishing.none_left, Joined.get_left, Joined.get_right, RoundRecords.absent_idle}
 
 -- ---- lists
 
@@ -174,7 +171,6 @@ module _ (u : PathRun) (is : IsPath u) where
       let w = begins j (omega (arith, l)) (λ i k. over i (omega (arith, k))) in
       let like = like_all s b (untils_at u j) in
       let end : r.point ≡ last_point b.jobs s b.first = ended s b (untils_at u j) w.running w.place w.point (over j (omega arith)) in
-      let same = alike j b w (omega (arith, l)) in
       let some : length r.point.left ≡ n = ap (λ (x : Point). length x.left) end ∙ same_length b.jobs s b.first ∙ w.long in
       let ws = work js (drop n (take m u.lengths)) in
       let all : length (take m u.jobs) ≡ m = length-take-le m u.jobs (knows (suc j) l) in
@@ -188,13 +184,12 @@ module _ (u : PathRun) (is : IsPath u) where
           time = (let z : r.start + g.from - r.start ≡ g.from = omega arith in z) ∙ sym (ap (λ (x : Point). x.time) (next_is j l));
           left = λ p h. elim (cases_lt p n) [
             | inl k ↦
-                get_left r.point.left ws p 0 (omega (arith, k, some)) ∙ ap (λ (x : Point). get_or x.left p 0) end ∙ same.1.left p k
+                get_left r.point.left ws p 0 (omega (arith, k, some)) ∙ ap (λ (x : Point). get_or x.left p 0) end ∙ (alike j b w (omega (arith, l))).1.left p k
                 ∙ sym (ap (λ (x : Point). get_or x.left p 0) (next_is j l))
             | inr k ↦
                 let q = p - n in
                 let at : n + q ≡ p = omega (arith, k) in
-                let at_left : length r.point.left + q ≡ p = omega (arith, k, some) in
-                ap (λ i. get_or (r.point.left ++ ws) i 0) (sym at_left) ∙ get_right r.point.left ws q 0
+                ap (λ i. get_or (r.point.left ++ ws) i 0) (sym (omega (arith, k, some))) ∙ get_right r.point.left ws q 0
                 ∙ work_part n m q u.jobs u.lengths is.lengths (omega (arith, at, h)) ∙ ap (λ i. get_or (work u.jobs u.lengths) i 0) at
                 ∙ sym (fresh (suc j) p l (λ i less. let few = known_more i j (omega (arith, less)) (omega (arith, l)) in omega (arith, few, k)))
           ];
@@ -306,9 +301,8 @@ module _ (u : PathRun) (is : IsPath u) (p : ℕ) where
 
 pub finished_before : FinishedBefore
 finished_before u j p is least l over known =
-    let b = list_begun u j in
     let w = begins u is j l over in
-    ap (λ (k : Job). k.present && eqb (get_or b.first.left p 0) 0) (ap (λ js. job_at js p) w.jobs ∙ job_front (leg_at u j).known u.jobs p known)
+    ap (λ (k : Job). k.present && eqb (get_or (list_begun u j).first.left p 0) 0) (ap (λ js. job_at js p) w.jobs ∙ job_front (leg_at u j).known u.jobs p known)
     ∙ ap (λ n. (job_at u.jobs p).present && eqb n 0) (w.first.left p known)
     ∙ by (job_at u.jobs p).present refl
   where

@@ -2,8 +2,7 @@
 use Rattle.std.proofs.Common.{◌≡◌, ℕ, zero, suc, ◌+◌, ◌≤◌, ◌<◌, ◌⊎◌, Bool, true, false, cond, ◌&&◌, eqb, ltb, List, [], ◌∷◌, ◌++◌, length, get_or, slice_get, set, take, Option, Some, None, is_some, IsSome, ◌↔◌, refl, sym, ap, ap₂, ◌∙◌, subst, arith, inl, inr, get_or-set_same, get_or-set_other}
 use Rattle.htl_smach.proofs.Words.{nat_tests, Job, SInstr, Point, job_at, next_point, left_by, walk_from, last_point, first_point, work, finish, HaveLengths, AreWithinWorst, left_falls, point_step, left_falls_to, job_there, job_is, work_present, work_some, Left, Pending, Ready, Done, Round, round_begun, told, told_from, walk_records, given, left_until, next_left, moved, state_by, state_of, finish_so_far, was_finished, IsFinishedSoFar, Stands, IsTold, cases_eq, cases_lt, le-leb, lt-leb, same_Some, eqb_some, walk_take}
 use Rattle.htl_walk.specs.Walk as walks
-use Rattle.htl_smach.proofs.Lengths.{with_work, SameWalk, same_walk, some_below}
-use Rattle.htl_smach.proofs.Finishing.{finished_where_none, never_finished}
+use Rattle.htl_smach.proofs.{Lengths.with_work, Lengths.SameWalk, Lengths.same_walk, Lengths.some_below, Finishing.finished_where_none, Finishing.never_finished}
 
 -- ---- the records as a list
 
@@ -108,9 +107,7 @@ stands_next r s until i st e told by =
           let less : get_or (last_point r.jobs (take (suc r.place) s) r.first).left p 0 ≤ get_or r.point.left p 0 =
           subst (λ (v : Point). get_or v.left p 0 ≤ get_or r.point.left p 0) (sym is) (left_falls r.jobs i r.point p) in
           let was : IsPending r p = record { present = now.present; left = still _ _ less now.left; told = now.told } in
-          let bound : until ≤ r.start + (job_at r.jobs p).release = told p (is_pending r p was) in
-          let time : (last_point r.jobs (take (suc r.place) s) r.first).time ≡ y.time = ap (λ (v : Point). v.time) is in
-          omega arith;
+          omega (arith, told p (is_pending r p was), ap (λ (v : Point). v.time) is);
     }
   where
     still : (a b : ℕ) → a ≤ b → eqb a 0 ≡ false → eqb b 0 ≡ false
@@ -125,9 +122,8 @@ set_lengths : (jobs : List Job) (lengths : List ℕ) (p n : ℕ) (P : ℕ → Jo
 set_lengths jobs lengths p n P below old new q j at here =
     elim (cases_eq q p) [
       | inl e ↦
-          let same : job_at jobs p ≡ j = ap (job_at jobs) (sym e) ∙ job_is jobs q j at in
           let is : n ≡ get_or (set lengths p n) q 0 = sym (ap (λ m. get_or (set lengths p n) m 0) e ∙ get_or-set_same lengths p n 0 below) in
-          subst (λ (m : ℕ). P m j) is (subst (P n) same new)
+          subst (λ (m : ℕ). P m j) is (subst (P n) (ap (job_at jobs) (sym e) ∙ job_is jobs q j at) new)
       | inr d ↦ subst (λ (m : ℕ). P m j) (sym (get_or-set_other lengths p q n 0 d)) (old q j at here)
     ]
 
@@ -271,10 +267,9 @@ none_before r s p st first = by_present (job_at r.jobs p).present refl
     by_present : (b : Bool) → (job_at r.jobs p).present ≡ b → (b && eqb (get_or r.first.left p 0) 0) ≡ false
     by_present false e = refl
     by_present true e =
-        let its : 1 ≤ get_or r.lengths p 0 = st.lengths p (job_at r.jobs p) (job_there r.jobs p e) e in
         let work_is : get_or r.first.left p 0 ≡ get_or (work r.jobs r.lengths) p 0 = ap (λ (z : Point). get_or z.left p 0) first in
         let length_is : get_or (work r.jobs r.lengths) p 0 ≡ get_or r.lengths p 0 = work_present r.jobs r.lengths p (job_at r.jobs p) (job_there r.jobs p e) e in
-        eqb_some (get_or r.first.left p 0) (omega (arith, its, work_is, length_is))
+        eqb_some (get_or r.first.left p 0) (omega (arith, st.lengths p (job_at r.jobs p) (job_there r.jobs p e) e, work_is, length_is))
 
 -- ---- what a call answers
 

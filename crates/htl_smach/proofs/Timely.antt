@@ -30,10 +30,9 @@ front_is start m until jobs (i ∷ is) x zero by next =
     sym (ap (λ b. cond b (told start m (left_by jobs i x y) ∷ ls) ls) (lt-leb (start + y.time) until late) ∙ all_late start (suc m) until jobs is y late)
 front_is start m until jobs (i ∷ is) x (suc k) by next =
     let y = next_point jobs i x in
-    let rises : y.time ≤ (last_point jobs (take k is) y).time = time_rises_to jobs (take k is) y in
     let ls : List Left = left_by_then until (told_from start (suc m) (walk_from jobs is y)) in
     ap (λ zs. told start m (left_by jobs i x y) ∷ zs) (front_is start (suc m) until jobs is y k by (λ j e. next j e))
-    ∙ sym (ap (λ b. cond b (told start m (left_by jobs i x y) ∷ ls) ls) (le-leb (start + y.time) until (omega arith)))
+    ∙ sym (ap (λ b. cond b (told start m (left_by jobs i x y) ∷ ls) ls) (le-leb (start + y.time) until (omega (arith, time_rises_to jobs (take k is) y))))
 
 -- an instruction that isn't answered is left leb-false
 not_answered : (b : Bool) (l : Left) → cond b (Some l) None ≡ None → b ≡ false

@@ -1,8 +1,6 @@
 -- The frame so far that a machine's fields hold.
 use Rattle.std.specs.Prelude.{take}
-use Rattle.htl_smach.specs.Rounds.{Round}
-use Rattle.htl_smach.specs.States.{flags}
-use Rattle.htl_smach.specs.declared.machine.SMach.TheInside.{Inside}
+use Rattle.htl_smach.specs.{Rounds.Round, States.flags, declared.machine.SMach.TheInside.Inside}
 
 abbrev pub inside_round : Inside → Round
 inside_round m =

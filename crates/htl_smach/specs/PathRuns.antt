@@ -1,14 +1,8 @@
 -- A machine that goes through the lists of a path, one after another: `start` with the positions that the first leg knows, then `run_to`
 -- until the list is over, then `add` with those that the next leg knows further, and so on.
 use Rattle.std.specs.Prelude.{◌≡◌, ℕ, zero, suc, ◌+◌, ◌≤◌, ◌<◌, false, List, [], ◌++◌, length, get_or, take, drop, map, is_some}
-use Rattle.htl_walk.specs.declared.job.Job.{Job}
-use Rattle.htl_walk.specs.declared.schedule.SInstr.{SInstr}
-use Rattle.htl_walk.specs.Paths.{Leg, no_leg, walk_path, end_to_end, AreInForm, AreChained}
-use Rattle.htl_walk.specs.Refinement.{HaveLengths}
-use Rattle.htl_walk.specs.Walk.{finish}
-use Rattle.htl_smach.specs.declared.left.Left.{Left}
-use Rattle.htl_smach.specs.Order.{after_all, answers}
-use Rattle.htl_smach.specs.Rounds.{Round, round_begun, added, told_from, was_finished}
+use Rattle.htl_walk.specs.{declared.job.Job.Job, declared.schedule.SInstr.SInstr, Paths.Leg, Paths.no_leg, Paths.walk_path, Paths.end_to_end, Paths.AreInForm, Paths.AreChained, Refinement.HaveLengths, Walk.finish}
+use Rattle.htl_smach.specs.{declared.left.Left.Left, Order.after_all, Order.answers, Rounds.Round, Rounds.round_begun, Rounds.added, Rounds.told_from, Rounds.was_finished}
 
 -- what the machine is given
 pub record PathRun : Type 0 where

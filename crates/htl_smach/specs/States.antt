@@ -1,11 +1,8 @@
 -- The states of positions, in sets of bits.
 use Rattle.std.specs.Prelude.{◌≡◌, ℕ, zero, suc, ◌+◌, ◌<◌, Bool, false, cond, not, eqb, List, [], ◌∷◌, get_or}
 use Rattle.htl_model.specs.Bits.{has_bit}
-use Rattle.htl_walk.specs.declared.job.Job.{Job}
-use Rattle.htl_walk.specs.Walk.{job_at}
-use Rattle.htl_smach.specs.declared.position_states.PositionStates.{PositionStates}
-use Rattle.htl_smach.specs.declared.state.PosState.{PosState}
-use Rattle.htl_smach.specs.Rounds.{state_by}
+use Rattle.htl_walk.specs.{declared.job.Job.Job, Walk.job_at}
+use Rattle.htl_smach.specs.{declared.position_states.PositionStates.PositionStates, declared.state.PosState.PosState, Rounds.state_by}
 
 -- n bits of a set, from bit k on
 abbrev pub flags_from : ℕ → ℕ → ℕ → List Bool

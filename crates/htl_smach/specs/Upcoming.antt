@@ -1,10 +1,7 @@
 -- What the next instruction of a list does.
 use Rattle.std.specs.Prelude.{◌≡◌, ◌≤◌, ◌<◌, true, List, length, slice_get, IfSome, Some}
-use Rattle.htl_walk.specs.declared.schedule.SInstr.{SInstr}
-use Rattle.htl_walk.specs.Walk.{next_point, left_by}
-use Rattle.htl_smach.specs.declared.step.Step.{Step}
-use Rattle.htl_smach.specs.Rounds.{Round}
-use Rattle.htl_smach.specs.Steps.{told_of, point_of}
+use Rattle.htl_walk.specs.{declared.schedule.SInstr.SInstr, Walk.next_point, Walk.left_by}
+use Rattle.htl_smach.specs.{declared.step.Step.Step, Rounds.Round, Steps.told_of, Steps.point_of}
 
 -- x is what the next instruction does, of a list that isn't over
 pub record IsUpcoming (r : Round) (s : List SInstr) (x : Step) : Type 0 where

@@ -1,6 +1,5 @@
 use Rattle.std.proofs.Common.{ap, ◌++◌}
-use Rattle.htl_ecode.specs.Chains.{calls_of}
-use Rattle.htl_ecode.specs.Phases.{number_of}
+use Rattle.htl_ecode.specs.{Chains.calls_of, Phases.number_of}
 use Rattle.htl_ecode.proofs.ModeInvLaws.{invs_are, found_from_start, all_put, calls_of_mode}
 use Rattle.htl_ecode.proofs.calls.put_invs.Goals as goal
 

@@ -1,7 +1,6 @@
 use Rattle.std.proofs.Common.{◌<◌, ◌≤◌, ◌+◌, ℕ, refl, sym, subst, length, ap, ◌∙◌, ◌++◌}
 use Rattle.htl_ecode.specs.Layout.{mode_code}
-use Rattle.htl_ecode.proofs.Fitting.{offsets_fit}
-use Rattle.htl_ecode.proofs.AllModes.{laying_short, laying_room, laying_more, laying_ends, mode_below, at_end, up_to_end, mode_made, start_more}
+use Rattle.htl_ecode.proofs.{Fitting.offsets_fit, AllModes.laying_short, AllModes.laying_room, AllModes.laying_more, AllModes.laying_ends, AllModes.mode_below, AllModes.at_end, AllModes.up_to_end, AllModes.mode_made, AllModes.start_more}
 use Rattle.htl_ecode.proofs.layout.layout.Goals as goal
 
 pub mode_places-requires : goal.mode_places-requires

@@ -1,6 +1,5 @@
 use Rattle.std.proofs.Common.{◌+◌, sym, ◌∙◌, ap, arith}
-use Rattle.htl_form.proofs.Words.{list_any, is_taken_end}
-use Rattle.htl_form.proofs.ApartLaws.{apart_is}
+use Rattle.htl_form.proofs.{Words.list_any, Words.is_taken_end, ApartLaws.apart_is}
 use Rattle.htl_form.proofs.apart.is_apart.Goals as goal
 
 pub returns-then-once-clause-apart : goal.returns-then-once-clause-apart

@@ -1,5 +1,4 @@
-use Rattle.htl_form.proofs.Words.{arith, rules, refl, IsInvInRange, no_bits, first_start, all_at}
-use Rattle.htl_form.proofs.RangeLaws.{marked_more}
+use Rattle.htl_form.proofs.{Words.arith, Words.rules, Words.refl, Words.IsInvInRange, Words.no_bits, Words.first_start, Words.all_at, RangeLaws.marked_more}
 use Rattle.htl_form.proofs.cycles.mark_cycles.Goals as goal
 
 pub loop-m-init : goal.loop-m-init

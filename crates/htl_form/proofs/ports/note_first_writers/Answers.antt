@@ -1,6 +1,5 @@
 use Rattle.std.proofs.Common.{◌∙◌, sym, ap, arith, rules, refl, get_or, cond, Some, None}
-use Rattle.htl_form.proofs.Words.{list_any, is_port, or_else, first_from, port_writer}
-use Rattle.htl_form.proofs.PortLaws.{first_more, first_all}
+use Rattle.htl_form.proofs.{Words.list_any, Words.is_port, Words.or_else, Words.first_from, Words.port_writer, PortLaws.first_more, PortLaws.first_all}
 use Rattle.htl_form.proofs.ports.note_first_writers.Goals as goal
 
 pub loop-k-init : goal.loop-k-init

@@ -1,6 +1,5 @@
 use Rattle.std.proofs.Common.{◌<◌, sym, ◌∙◌, ap, arith, Some}
-use Rattle.htl_form.proofs.Words.{slice_get_within, port_writers, rewritten_fault}
-use Rattle.htl_form.proofs.PortLaws.{none_before}
+use Rattle.htl_form.proofs.{Words.slice_get_within, Words.port_writers, Words.rewritten_fault, PortLaws.none_before}
 use Rattle.htl_form.proofs.ports.rewritten_fault.Goals as goal
 
 pub returns-then-count-lt2 : goal.returns-then-count-lt2

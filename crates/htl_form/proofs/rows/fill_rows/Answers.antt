@@ -1,6 +1,5 @@
 use Rattle.std.proofs.Common.{◌∙◌, ap, arith, rules}
-use Rattle.htl_form.proofs.Words.{list_any, is_from, follows}
-use Rattle.htl_form.proofs.RowLaws.{one_row, row_is}
+use Rattle.htl_form.proofs.{Words.list_any, Words.is_from, Words.follows, RowLaws.one_row, RowLaws.row_is}
 use Rattle.htl_form.proofs.rows.fill_rows.Goals as goal
 
 pub loop-b-preserved : goal.loop-b-preserved

@@ -1,6 +1,5 @@
 use Rattle.std.proofs.Common.{sym, ◌∙◌, ap, arith, add-one, set, get_or}
-use Rattle.htl_form.proofs.Words.{one_shl, widened}
-use Rattle.htl_form.proofs.RowLaws.{map_step, at_step, through_empty}
+use Rattle.htl_form.proofs.{Words.one_shl, Words.widened, RowLaws.map_step, RowLaws.at_step, RowLaws.through_empty}
 use Rattle.htl_form.proofs.rows.through_one.Goals as goal
 
 pub loop-i-preserved : goal.loop-i-preserved

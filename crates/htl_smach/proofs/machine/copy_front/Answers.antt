@@ -1,5 +1,4 @@
-use Rattle.htl_smach.proofs.Words.{take, arith, length-take}
-use Rattle.htl_smach.proofs.Joined.{front}
+use Rattle.htl_smach.proofs.{Words.take, Words.arith, Words.length-take, Joined.front}
 use Rattle.htl_smach.proofs.machine.copy_front.Goals as goal
 
 pub returns : goal.returns

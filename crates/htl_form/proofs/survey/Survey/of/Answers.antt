@@ -1,6 +1,5 @@
 use Rattle.std.proofs.Common.{ℕ, Option, None}
-use Rattle.htl_form.proofs.ApartLaws.{none_marked}
-use Rattle.htl_form.proofs.Places.{filled_at}
+use Rattle.htl_form.proofs.{ApartLaws.none_marked, Places.filled_at}
 use Rattle.htl_form.proofs.survey.Survey.of.Goals as goal
 
 pub count_writers-requires : goal.count_writers-requires

@@ -1,6 +1,5 @@
 use Rattle.std.proofs.Common.{[], ap, ◌∙◌, arith, length}
-use Rattle.htl_smach.proofs.Words.{length-take, Round, added_from}
-use Rattle.htl_smach.proofs.Holding.{holds_added, are_added}
+use Rattle.htl_smach.proofs.{Words.length-take, Words.Round, Words.added_from, Holding.holds_added, Holding.are_added}
 use Rattle.htl_smach.proofs.machine.SMach.begin_list.Goals as goal
 
 pub invariant_of-self : goal.invariant_of-self

@@ -1,7 +1,6 @@
 use Rattle.std.proofs.Common.{◌≡◌, ◌<◌, false, eqb, drop, sym, ap, ◌∙◌, subst, arith}
-use Rattle.htl_smach.proofs.Words.{get_or-take, has_bit, Pending, Round, Stands, given, state_of, inside_round}
+use Rattle.htl_smach.proofs.{Words.get_or-take, Words.has_bit, Words.Pending, Words.Round, Words.Stands, Words.given, Words.state_of, Words.inside_round, Holding.holds_length, Holding.are_set, Holding.below_count}
 use Rattle.htl_smach.proofs.RoundRecords.{with_length, given_stays, stands_set, pending_is, pending_below}
-use Rattle.htl_smach.proofs.Holding.{holds_length, are_set, below_count}
 use Rattle.htl_smach.proofs.machine.SMach.set_length.Goals as goal
 
 pub invariant_of-self : goal.invariant_of-self

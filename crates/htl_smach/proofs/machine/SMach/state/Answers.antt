@@ -1,7 +1,5 @@
 use Rattle.std.proofs.Common.{◌≡◌, ◌<◌, length, take, sym, ap, ◌∙◌, subst}
-use Rattle.htl_smach.proofs.Words.{Round, state_of, inside_round}
-use Rattle.htl_smach.proofs.RoundRecords.{done_is}
-use Rattle.htl_smach.proofs.Holding.{holds_state, below_count}
+use Rattle.htl_smach.proofs.{Words.Round, Words.state_of, Words.inside_round, RoundRecords.done_is, Holding.holds_state, Holding.below_count}
 use Rattle.htl_smach.proofs.machine.SMach.state.Goals as goal
 
 pub returns-clause-state : goal.returns-clause-state
@@ -14,7 +12,6 @@ returns-clause-state c =
 
 pub returns-clause-done : goal.returns-clause-done
 returns-clause-done c = λ s st.
-    let p = c.args.position in
-    let d = done_is c.args.self.now s p st in
+    let d = done_is c.args.self.now s c.args.position st in
     let e = returns-clause-state c in
     (λ h. d.0 (sym e ∙ h), λ h. e ∙ d.1 h)

@@ -22,10 +22,9 @@ next_step-requires-clause-known c =
     let m = c.self.inside in
     let s = c.args.s.now.instrs in
     let ss = c.as_slice-instrs.result.now in
-    let v : inside_round m ≡ c.args.self.now = c.self.view_is in
     let i = get_or ss m.place (Dispatch 0 0) in
     let at : slice_get s m.place ≡ Some i = subst (λ (z : List SInstr). slice_get z m.place ≡ Some i) c.as_slice-instrs.ensures (slice_get-get_or ss m.place (Dispatch 0 0) (omega arith)) in
-    let form : IsInForm (inside_round m) s = subst (λ (r : Round). r.running ≡ true → IsInForm r s) (sym v) c.requires.form c.if-not-self.false in
+    let form : IsInForm (inside_round m) s = subst (λ (r : Round). r.running ≡ true → IsInForm r s) (sym c.self.view_is) c.requires.form c.if-not-self.false in
     let same : length (take m.count m.jobs) ≡ length (take m.count m.left) = omega (arith, length-take m.count m.jobs, length-take m.count m.left) in
     subst (λ (n : ℕ). IsKnown n i) same (known_at (length (take m.count m.jobs)) form.0 s m.place i form.1 at)
 

@@ -1,6 +1,4 @@
-use Rattle.htl_smach.proofs.Words.{ap, Job}
-use Rattle.htl_smach.proofs.Begun.{none_begun, one_more_begun}
-use Rattle.htl_smach.proofs.Joined.{job_at_is}
+use Rattle.htl_smach.proofs.{Words.ap, Words.Job, Begun.none_begun, Begun.one_more_begun, Joined.job_at_is}
 use Rattle.htl_smach.proofs.position_states.PositionStates.begin.Goals as goal
 
 pub loop-k-init : goal.loop-k-init
