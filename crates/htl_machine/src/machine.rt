@@ -1,14 +1,11 @@
-// The machine.
 ghost use Rattle.std.specs.Prelude.{◌≡◌, ◌≤◌, ◌<◌, ◌-◌, ◌+◌, ◌++◌, ℕ, suc, List, [], ◌∷◌, length, get_or, replicate, None, IfOk, IfSome, OnOk, OnErr, pos, true, false};
 ghost use Rattle.htl_base.specs.declared.limits.TheConstants as limit;
 ghost use Rattle.htl_edge.specs.Content.{Puts};
 ghost use Rattle.htl_emach.specs.Calendars.{list_at};
 ghost use Rattle.htl_model.specs.declared.event.Event.{Event as Told};
 ghost use Rattle.htl_model.specs.declared.event.Event.TheVariants as event;
-ghost use Rattle.htl_machine.specs.Calls.{Follows, IsSensorValue, IsLength, IsSameRun, IsFinished, IsUpTo, first_seen, text_between};
-ghost use Rattle.htl_runs.specs.events.ToldSoFar.{shown_as, taken_as};
-ghost use Rattle.htl_runs.specs.lines.Programs.{lines_of};
-ghost use Rattle.htl_machine.specs.Quiet.{AreQuiet};
+ghost use Rattle.htl_machine.specs.{Calls.Follows, Calls.IsSensorValue, Calls.IsLength, Calls.IsSameRun, Calls.IsFinished, Calls.IsUpTo, Calls.first_seen, Calls.text_between, Quiet.AreQuiet};
+ghost use Rattle.htl_runs.specs.{events.ToldSoFar.shown_as, events.ToldSoFar.taken_as, lines.Programs.lines_of};
 ghost use Rattle.htl_object.specs.Accepted.{IsAccepted};
 
 use crate::beginning::close_and_begin;
