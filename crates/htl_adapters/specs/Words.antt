@@ -1,11 +1,6 @@
 -- The words that the program is given.
-use Rattle.std.specs.Prelude.{ℕ, List, [], drop, map, string_bytes, Ok, Err}
-use Rattle.std.specs.Vec.Iter.{into_iter_items}
-use Rattle.std.specs.declared.alloc.Global.{Global}
-use Rattle.std.specs.declared.io.Error.{Error}
-use Rattle.std.specs.declared.result.Result.{Result}
-use Rattle.std.specs.declared.string.String.{String}
-use Rattle.std.specs.declared.vec.IntoIter.{IntoIter}
+use Rattle.std.specs.{Prelude.ℕ, Prelude.List, Prelude.[], Prelude.drop, Prelude.map, Prelude.string_bytes, Prelude.Ok, Prelude.Err, Vec.Iter.into_iter_items, declared.alloc.Global.Global, declared.io.Error.Error}
+use Rattle.std.specs.{declared.result.Result.Result, declared.string.String.String, declared.vec.IntoIter.IntoIter}
 
 -- the texts of the arguments that follow the program's name; no words where an argument isn't text
 abbrev pub words_of : Result (IntoIter (String Global) Global) Error → List (List ℕ)

@@ -1,7 +1,6 @@
 -- Plain facts of tests: what their parts tell, and tests of numbers.
 use Rattle.std.proofs.Common.{Bool, arith, cond, eqb, false, ne_eqb, refl, sym, true, ℕ, ◌&&◌, ◌<◌, ◌∙◌, ◌≡◌, ◌≢◌, ◌||◌, ltb, le-ltb}
-use Rattle.std.proofs.lemmas.Bool.{eq-eqb}
-use Rattle.std.proofs.lemmas.Cmp.{nat_eq_equiv}
+use Rattle.std.proofs.{lemmas.Bool.eq-eqb, lemmas.Cmp.nat_eq_equiv}
 
 pub and_first : (a b : Bool) → (a && b) ≡ true → a ≡ true
 and_first true b e = refl

@@ -1,11 +1,6 @@
 -- What the tests find in the tree and the tables of the generated program.
 use Rattle.std.proofs.Common.{◌≡◌, ℕ, Bool, true, List, length, Option, None}
-use Rattle.htl_bulk.proofs.Alike.{like_tree}
-use Rattle.htl_bulk.proofs.FormTests.{tried, feeds_back}
-use Rattle.htl_bulk.proofs.NameTests.{name_findings, good_names}
-use Rattle.htl_bulk.proofs.TokenTests.{are_good_tokens}
-use Rattle.htl_bulk.proofs.TypeTests.{are_typed}
-use Rattle.htl_bulk.proofs.WindowTests.{are_wide}
+use Rattle.htl_bulk.proofs.{Alike.like_tree, FormTests.tried, FormTests.feeds_back, NameTests.name_findings, NameTests.good_names, TokenTests.are_good_tokens, TypeTests.are_typed, WindowTests.are_wide}
 use Rattle.htl_bulk.proofs.Words.{FormFault, PlainProgram, Tables, bulk_tree, first_from, first_refinement_fault, form_fault_of, function_types, path_jobs, paths, refinement_rules, source_tokens, tables_of_tree, tightened}
 
 -- what they find in tables

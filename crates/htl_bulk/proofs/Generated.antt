@@ -1,14 +1,7 @@
 -- The generated source: what its programs are, and that they have no fault.
 use Rattle.std.proofs.Common.{arith, ◌≡◌, ◌<◌, ◌≤◌, ℕ, [], length, refl, sym, ap, subst, List, Some, slice_get}
-use Rattle.htl_bulk.proofs.Alike.{like_tree, alike}
-use Rattle.htl_bulk.proofs.Findings.{TableFindings, table_findings, good_tables}
-use Rattle.htl_bulk.proofs.FormTests.{kept_to_12}
-use Rattle.htl_bulk.proofs.NameTests.{name_findings, good_names, names_right}
-use Rattle.htl_bulk.proofs.Rows.{tokens_row, names_row, tables_row}
-use Rattle.htl_bulk.proofs.SourceLength.{bytes_few}
-use Rattle.htl_bulk.proofs.TokenTests.{AreGoodTokens, good_tokens}
-use Rattle.htl_bulk.proofs.TypeTests.{IsExpressionOf, typed_at}
-use Rattle.htl_bulk.proofs.WindowTests.{schedulable}
+use Rattle.htl_bulk.proofs.{Alike.like_tree, Alike.alike, Findings.TableFindings, Findings.table_findings, Findings.good_tables, FormTests.kept_to_12, NameTests.name_findings, NameTests.good_names, NameTests.names_right}
+use Rattle.htl_bulk.proofs.{Rows.tokens_row, Rows.names_row, Rows.tables_row, SourceLength.bytes_few, TokenTests.AreGoodTokens, TokenTests.good_tokens, TypeTests.IsExpressionOf, TypeTests.typed_at, WindowTests.schedulable}
 use Rattle.htl_bulk.proofs.Words.{AreAlike, AreNamesRight, AreShort, Formed, Fun, FunctionType, NoOverload, PlainProgram, Spell, TokenList, Tokens, Tokens-unique, bounded_tree, bulk_bytes, bulk_sensor, bulk_tree, comm_item, formed, function_types, kept_all, names-in-range, one_tree-law, path_jobs, paths, printed-tokens, source-again, source_tokens, tables_of_tree, tightened, tokens_numbered, tree-bounded}
 
 -- the programs keep the name rules, and their tables' functions are typed, break no form rule and overload no path

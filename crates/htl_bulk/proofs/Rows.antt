@@ -1,7 +1,6 @@
 -- The tests of the generated program, size by size: each finds nothing wrong.
 use Rattle.std.proofs.Common.{refl, arith, ◌≡◌, ◌≤◌, ◌<◌, ◌+◌, ℕ, zero, suc, List, [], ◌∷◌, subst, inl, inr}
-use Rattle.htl_bulk.proofs.Words.{cases_lt}
-use Rattle.htl_bulk.proofs.Findings.{TokensRow, NamesRow, TablesRow}
+use Rattle.htl_bulk.proofs.{Words.cases_lt, Findings.TokensRow, Findings.NamesRow, Findings.TablesRow}
 use Rattle.htl_edf.specs.Tight.{tight}
 use Rattle.htl_form.specs.WriterFaults.{stand_together}
 

@@ -1,7 +1,6 @@
 -- No interval is overloaded where all the work fits between the last start of a window and the first end.
 use Rattle.std.proofs.Common.{arith, ◌≡◌, ◌<◌, ◌≤◌, ◌*◌, ◌&&◌, cond, leb, leb-true, ℕ, zero, suc, ℤ, pos, ◌≤ℤ◌, Bool, true, false, subst}
-use Rattle.htl_bulk.proofs.Words.{NoOverload, Tables, and_parts, inside, inside_tells, int_le, ints, path_jobs, paths, sum_below, tightened}
-use Rattle.htl_bulk.proofs.Numbers.{passes, passed}
+use Rattle.htl_bulk.proofs.{Words.NoOverload, Words.Tables, Words.and_parts, Words.inside, Words.inside_tells, Words.int_le, Words.ints, Words.path_jobs, Words.paths, Words.sum_below, Words.tightened, Numbers.passes, Numbers.passed}
 use Rattle.htl_edf.specs.Windows.{Windows}
 
 -- the window has 5 ticks at most, begins by 5 and ends from 995 on

@@ -1,7 +1,6 @@
 -- The readings on which the generated program is run.
 use Rattle.std.specs.Prelude.{ℕ, ◌*◌, List, [], ◌∷◌, ◌++◌, pos}
-use Rattle.htl_model.specs.Lists.{up_to}
-use Rattle.htl_model.specs.declared.event.Event.{Event}
+use Rattle.htl_model.specs.{Lists.up_to, declared.event.Event.Event}
 use Rattle.htl_model.specs.declared.event.Event.TheVariants as event
 
 -- the clock comes to the start of a round, and the sensor, which is the first communicator, shows the round's number

@@ -3,18 +3,10 @@ use Rattle.std.specs.Prelude.{ℕ, zero, suc, ◌+◌, ◌-◌, ◌/◌, ◌%◌
 use Rattle.htl_base.specs.declared.Ty.TheVariants as ty
 use Rattle.htl_base.specs.declared.operator.BinOp.TheVariants as op
 use Rattle.htl_model.specs.Lists.{list_to}
-use Rattle.htl_text.specs.Expressions.{Expr, Number, Variable, Infix}
-use Rattle.htl_text.specs.Nodes.{PlainOut, Concrete, PlainTask, PlainMode, PlainModule, PlainProgram}
-use Rattle.htl_text.specs.PrintedBytes.{printed_bytes}
-use Rattle.htl_text.specs.PrintedTokens.{source_tokens}
-use Rattle.htl_text.specs.declared.tree.Id.{Id}
-use Rattle.htl_text.specs.declared.tree.Num.{Num}
-use Rattle.htl_text.specs.declared.tree.CommNode.{CommNode}
+use Rattle.htl_text.specs.{Expressions.Expr, Expressions.Number, Expressions.Variable, Expressions.Infix, Nodes.PlainOut, Nodes.Concrete, Nodes.PlainTask, Nodes.PlainMode, Nodes.PlainModule, Nodes.PlainProgram, PrintedBytes.printed_bytes}
+use Rattle.htl_text.specs.{PrintedTokens.source_tokens, declared.tree.Id.Id, declared.tree.Num.Num, declared.tree.CommNode.CommNode, declared.tree.ParamNode.ParamNode, declared.tree.EndNode.EndNode, declared.tree.InvokeNode.InvokeNode}
 use Rattle.htl_text.specs.declared.tree.ConstNode.TheVariants as const
-use Rattle.htl_text.specs.declared.tree.ParamNode.{ParamNode}
-use Rattle.htl_text.specs.declared.tree.EndNode.{EndNode}
 use Rattle.htl_text.specs.declared.tree.EndNode.TheVariants as end
-use Rattle.htl_text.specs.declared.tree.InvokeNode.{InvokeNode}
 
 -- names and numbers, which stand at no token
 abbrev pub named : List ℕ → Id

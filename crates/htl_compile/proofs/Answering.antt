@@ -1,7 +1,6 @@
 -- Where a cause stands, its answer comes, or want of memory.
 use Rattle.std.proofs.Common.{◌≡◌, ◌⊎◌, ℕ, List, Result, Ok, Err, IfOk, IfErr, MatchResult, refl, ◌∙◌, ap, inl, inr}
-use Rattle.htl_compile.proofs.Completeness.{back_only_memory, compile_only_memory, one_back_fault, one_compile_fault}
-use Rattle.htl_compile.proofs.SourceLaws.{tables_unique, typed_or_fault, fault_unique}
+use Rattle.htl_compile.proofs.{Completeness.back_only_memory, Completeness.compile_only_memory, Completeness.one_back_fault, Completeness.one_compile_fault, SourceLaws.tables_unique, SourceLaws.typed_or_fault, SourceLaws.fault_unique}
 use Rattle.htl_compile.proofs.Words.{IsBackFault, IsCompileFault, IsCompiledTo, built, AreSchedulable, coded, AreTyped, IsTablesOf, IsFrontFault, IsRead, BackFault, CompileFault, FrontFault, Formed, AreInRange, Tables, object_bytes, Object}
 use Rattle.htl_compile.specs.declared.building.BackFault.TheVariants as back
 use Rattle.htl_compile.specs.declared.compiling.CompileFault.TheVariants as compile

@@ -1,9 +1,7 @@
 -- What is built is accepted.
 use Rattle.std.proofs.Common.{◌≡◌, ◌≤◌, ◌<◌, ℕ, List, length, Option, None, All, sym, subst, arith}
-use Rattle.htl_compile.proofs.CodedLaws.{coded_fit, coded_in_range, codes_are_code}
-use Rattle.htl_compile.proofs.NodeSchedules.{node_lists, schedules_short}
+use Rattle.htl_compile.proofs.{CodedLaws.coded_fit, CodedLaws.coded_in_range, CodedLaws.codes_are_code, NodeSchedules.node_lists, NodeSchedules.schedules_short, SamePaths.paths_same, SamePaths.path_jobs_same}
 use Rattle.htl_compile.proofs.Words.{layout_phased, node_schedule, schedules, object_for, AreSchedulable, codes, coded, BuiltIsAccepted, layout_departs_not, modes_length, place_room, spells_or_departs, layout, enter_places, mode_place, begin_place, decide_place, Spells, nodes_accepted, ready, tightened, AreReady, NoOverload, kept_12, frames_kept, kept_apart, length-list_to, limits_same, formed_same, Formed, KeepsLimits, nodes, frame_limit, FitPlaces, AreInRange, Tables, IsAccepted, IsFunctionCode, IsInRange, AreFeasible, instrs_of, Job}
-use Rattle.htl_compile.proofs.SamePaths.{paths_same, path_jobs_same}
 
 -- ---- schedules
 

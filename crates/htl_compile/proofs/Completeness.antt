@@ -1,7 +1,6 @@
 -- What has no fault but want of memory, and that there is one fault at most.
 use Rattle.std.proofs.Common.{◌≡◌, ◌<◌, ◌⊎◌, ℕ, List, refl, sym, ◌∙◌, ap, subst, pos, inl, inr}
-use Rattle.htl_compile.proofs.SourceLaws.{tables_unique, typed_or_fault, fault_unique}
-use Rattle.htl_compile.proofs.SourceTables.{source_tables_fit}
+use Rattle.htl_compile.proofs.{SourceLaws.tables_unique, SourceLaws.typed_or_fault, SourceLaws.fault_unique, SourceTables.source_tables_fit}
 use Rattle.htl_compile.proofs.Words.{IsBackFault, IsFirstOverload, HasBackFault, unbuilt_of, FrontOnlyMemory, BackOnlyMemory, CompileOnlyMemory, OneFrontFault, OneBackFault, OneCompileFault, IsTablesOf, IsSourceFault, SourceFault, BackFault, one_report, tightened, Reported, site_of, Tables, FormFault, formed, one_first_broken, path_jobs, cases_less_same}
 use Rattle.htl_compile.specs.declared.building.BackFault.TheVariants as back
 use Rattle.htl_compile.specs.declared.compiling.CompileFault.TheVariants as compile

@@ -1,7 +1,6 @@
 -- From what the tables with code say to what their source says.
 use Rattle.std.proofs.Common.{◌≡◌, ◌≤◌, List, ℕ, length, Option, None, Result, Ok, Err, IfOk, refl, sym, ◌∙◌, ap, subst}
-use Rattle.htl_compile.proofs.CodedLaws.{first_coded}
-use Rattle.htl_compile.proofs.PlanLaws.{overload_same, free_same}
+use Rattle.htl_compile.proofs.{CodedLaws.first_coded, PlanLaws.overload_same, PlanLaws.free_same}
 use Rattle.htl_compile.proofs.Words.{IsBackFault, HasBackFault, IsCompileFault, IsCompiledTo, IsObjectOf, unbuilt_of, object_for, object_of, built, AreSchedulable, CanBuild, coded, codes, CanCode, IsFront, BackFault, formed_same, Formed, Tables, IsObject, object_bytes, Object, formed}
 use Rattle.htl_compile.specs.declared.building.BackFault.TheVariants as back
 

@@ -1,10 +1,7 @@
 -- What compiling a source on a platform answers.
 use Rattle.std.proofs.Common.{◌≡◌, ◌≤◌, ◌⊎◌, ℕ, List, length, Some, Result, Ok, Err, IfOk, IfErr, MatchResult, refl, sym, ◌∙◌, ap, subst, inl, inr}
-use Rattle.htl_compile.proofs.Completeness.{back_only_memory, one_back_fault}
-use Rattle.htl_compile.proofs.FromSource.{uncoded, uncoded_built}
-use Rattle.htl_compile.proofs.PlatformTables.{platform_spans, coded_with, source_tables_with, can_code_with}
-use Rattle.htl_compile.proofs.SourceLaws.{tables_unique, typed_or_fault, fault_unique}
-use Rattle.htl_compile.proofs.SourceTables.{source_tables_fit}
+use Rattle.htl_compile.proofs.{Completeness.back_only_memory, Completeness.one_back_fault, FromSource.uncoded, FromSource.uncoded_built, SourceLaws.tables_unique, SourceLaws.typed_or_fault, SourceLaws.fault_unique}
+use Rattle.htl_compile.proofs.{PlatformTables.platform_spans, PlatformTables.coded_with, PlatformTables.source_tables_with, PlatformTables.can_code_with, SourceTables.source_tables_fit}
 use Rattle.htl_compile.proofs.Words.{IsBackFault, IsObjectOf, unbuilt_of, object_for, AreSchedulable, coded, AreTyped, CanCode, built_on, IsOn, IsNoPlatform, IsCompiledOn, HasPlatformFault, HasBackFaultOn, IsWithFault, IsTablesOf, IsFront, IsSourceFault, BackFault, CompileFault, WithFault, SourceFault, Formed, Tables, IsObject, object_bytes, IsPlatform, with_worst, platform_of, PlatformFault, PlatformStop, Platform}
 use Rattle.htl_compile.specs.declared.building.BackFault.TheVariants as back
 use Rattle.htl_compile.specs.declared.compiling.CompileFault.TheVariants as compile

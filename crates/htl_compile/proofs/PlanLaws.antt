@@ -2,8 +2,7 @@
 use Rattle.std.proofs.Common.{◌≡◌, ◌<◌, ℕ, suc, List, [], ◌∷◌, length, get_or, slice_get, Some, refl, sym, ◌∙◌, ap, subst, arith, pos}
 use Rattle.htl_compile.proofs.Words.{slice_get_within, slice_get-get_or, IsBackFault, IsFirstOverload, unplanned_of, node_schedule, schedules, AreSchedulable, BackFault, tightened, AreNodeLists, ExplainsNodes, Reported, NoOverload, PlanFault, Overload, PlanMemory, length-list_to, Formed, with_functions, paths, nodes, AreInRange, Tables, Fun, list_read, instrs_of, path_jobs, Job, SInstr, Schedule}
 use Rattle.htl_names.proofs.FlatMaps.{list_to_at}
-use Rattle.htl_compile.proofs.NodeSchedules.{only_lists}
-use Rattle.htl_compile.proofs.SamePaths.{paths_same, path_jobs_same}
+use Rattle.htl_compile.proofs.{NodeSchedules.only_lists, SamePaths.paths_same, SamePaths.path_jobs_same}
 
 -- ---- the schedules
 

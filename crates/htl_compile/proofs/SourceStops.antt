@@ -1,12 +1,10 @@
 -- What stops a source: a fault of its own, of the platform file, or of its tables with code; with the tables and without.
 use Rattle.std.proofs.Common.{◌≡◌, ◌≤◌, ℕ, List, length, Some, Result, IfOk, IfErr, sym, subst}
 use Rattle.std.proofs.lemmas.Result.{IfErr-weaker, IfOk-weaker}
-use Rattle.htl_compile.proofs.FromSource.{back_of_source}
-use Rattle.htl_compile.proofs.OnPlatform.{placed, says, by_back, can_code_on, compiled_on, no_platform_on}
+use Rattle.htl_compile.proofs.{FromSource.back_of_source, OnPlatform.placed, OnPlatform.says, OnPlatform.by_back, OnPlatform.can_code_on, OnPlatform.compiled_on, OnPlatform.no_platform_on}
 use Rattle.htl_compile.proofs.Words.{IsBackFault, IsCompiledOn, IsObjectOf, IsOn, IsNoPlatform, IsFront, BackFault, PlatformStop, Tables}
-use Rattle.htl_compile.specs.Stops.{IsNotCompiled, IsNotCompiledOn, IsUnbuilt, unplaced_of, stop_of}
+use Rattle.htl_compile.specs.{Stops.IsNotCompiled, Stops.IsNotCompiledOn, Stops.IsUnbuilt, Stops.unplaced_of, Stops.stop_of, declared.stop.SourceStop.SourceStop}
 use Rattle.htl_compile.specs.declared.building.BackFault.TheVariants as back
-use Rattle.htl_compile.specs.declared.stop.SourceStop.{SourceStop}
 use Rattle.htl_platform.specs.declared.fault.PlatformStop.TheVariants as placing
 
 -- ---- for no platform

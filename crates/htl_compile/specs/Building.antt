@@ -1,20 +1,12 @@
 -- Why no object is built of tables, and why none is compiled of a source.
 use Rattle.std.specs.Prelude.{◌≡◌, ◌<◌, ◌≤◌, ℕ, Option, List, length, pos}
 use Rattle.htl_base.specs.declared.limits.TheConstants.{MAX_SOURCE}
-use Rattle.htl_compile.specs.Built.{object_for, built, AreSchedulable, CanBuild}
-use Rattle.htl_compile.specs.Coded.{AreTyped}
-use Rattle.htl_compile.specs.Sources.{IsTablesOf, IsSourceFault}
-use Rattle.htl_compile.specs.declared.building.BackFault.{BackFault}
+use Rattle.htl_compile.specs.{Built.object_for, Built.built, Built.AreSchedulable, Built.CanBuild, Coded.AreTyped, Sources.IsTablesOf, Sources.IsSourceFault, declared.building.BackFault.BackFault}
 use Rattle.htl_compile.specs.declared.building.BackFault.TheVariants as back
 use Rattle.htl_compile.specs.declared.compiling.CompileFault.{CompileFault}
 use Rattle.htl_compile.specs.declared.compiling.CompileFault.TheVariants as compile
-use Rattle.htl_edf.specs.Lists.{tightened}
-use Rattle.htl_edf.specs.Windows.{Reported, NoOverload}
-use Rattle.htl_edf.specs.declared.plan.PlanFault.{PlanFault}
-use Rattle.htl_edf.specs.declared.plan.PlanFault.TheVariants.{Overload, Memory as PlanMemory}
-use Rattle.htl_model.specs.Broken.{Formed, IsFirstBroken}
-use Rattle.htl_model.specs.Frames.{paths}
-use Rattle.htl_model.specs.Tables.{Tables}
+use Rattle.htl_edf.specs.{Lists.tightened, Windows.Reported, Windows.NoOverload, declared.plan.PlanFault.PlanFault, declared.plan.PlanFault.TheVariants.Overload, declared.plan.PlanFault.TheVariants.Memory as PlanMemory}
+use Rattle.htl_model.specs.{Broken.Formed, Broken.IsFirstBroken, Frames.paths, Tables.Tables}
 use Rattle.htl_object.specs.Objects.{IsObject, object_bytes}
 use Rattle.htl_walk.specs.PathJobs.{path_jobs}
 

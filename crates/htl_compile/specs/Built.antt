@@ -2,17 +2,10 @@
 use Rattle.std.specs.Prelude.{◌<◌, ◌+◌, ◌*◌, ◌/◌, ◌%◌, ℕ, zero, suc, List, [], ◌∷◌, Option, None}
 use Rattle.htl_compile.specs.Coded.{coded, CanCode}
 use Rattle.htl_ecode.specs.Layout.{layout}
-use Rattle.htl_edf.specs.Lists.{tightened}
-use Rattle.htl_edf.specs.Parts.{part}
-use Rattle.htl_edf.specs.Windows.{NoOverload}
-use Rattle.htl_model.specs.Broken.{Formed}
-use Rattle.htl_model.specs.Frames.{paths, nodes, nodes_of, radices, ways}
-use Rattle.htl_model.specs.Lists.{list_to}
-use Rattle.htl_model.specs.Tables.{Tables}
+use Rattle.htl_edf.specs.{Lists.tightened, Parts.part, Windows.NoOverload}
+use Rattle.htl_model.specs.{Broken.Formed, Frames.paths, Frames.nodes, Frames.nodes_of, Frames.radices, Frames.ways, Lists.list_to, Tables.Tables}
 use Rattle.htl_object.specs.declared.object.Object.{Object}
-use Rattle.htl_walk.specs.FrameLaws.{start_at, start_end_at}
-use Rattle.htl_walk.specs.PathJobs.{path_jobs}
-use Rattle.htl_walk.specs.declared.schedule.Schedule.{Schedule}
+use Rattle.htl_walk.specs.{FrameLaws.start_at, FrameLaws.start_end_at, PathJobs.path_jobs, declared.schedule.Schedule.Schedule}
 
 -- the first path through a node, and the node's start, where there are so many choices at each start: nodes are numbered in preorder
 abbrev pub through : List ℕ → ℕ → ℕ × ℕ

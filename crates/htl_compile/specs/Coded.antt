@@ -2,13 +2,7 @@
 use Rattle.std.specs.Prelude.{◌≡◌, ◌≤◌, ◌<◌, ℕ, List, [], length, slice_get, Option, Some, None}
 use Rattle.htl_base.specs.declared.Ty.TheVariants.{Int as IntTy}
 use Rattle.htl_func.specs.Compiled.{IsFunction}
-use Rattle.htl_model.specs.Broken.{KeepsLimits}
-use Rattle.htl_model.specs.Exchanged.{with_functions}
-use Rattle.htl_model.specs.FunctionTypes.{FunctionType, function_types, IsCodeOf}
-use Rattle.htl_model.specs.Functions.{postfix}
-use Rattle.htl_model.specs.Lists.{list_to}
-use Rattle.htl_model.specs.Ranges.{AreInRange}
-use Rattle.htl_model.specs.Small.{AreSmall}
+use Rattle.htl_model.specs.{Broken.KeepsLimits, Exchanged.with_functions, FunctionTypes.FunctionType, FunctionTypes.function_types, FunctionTypes.IsCodeOf, Functions.postfix, Lists.list_to, Ranges.AreInRange, Small.AreSmall}
 use Rattle.htl_model.specs.Tables.{Tables, Fun, Formula, Compiled}
 
 -- ---- the code of a function

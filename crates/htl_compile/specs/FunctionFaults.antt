@@ -2,12 +2,9 @@
 use Rattle.std.specs.Prelude.{◌≡◌, ◌≤◌, ◌<◌, ℕ, Some, slice_get}
 use Rattle.htl_base.specs.declared.limits.TheConstants.{MAX_STACK}
 use Rattle.htl_compile.specs.Coded.{TypedBetween}
-use Rattle.htl_func.specs.declared.compiler.FnFault.{FnFault}
+use Rattle.htl_func.specs.{declared.compiler.FnFault.FnFault, Expressions.ill_typed}
 use Rattle.htl_func.specs.declared.compiler.FnFault.TheVariants as fn_fault
-use Rattle.htl_func.specs.Expressions.{ill_typed}
-use Rattle.htl_model.specs.FunctionTypes.{FunctionType, function_types}
-use Rattle.htl_model.specs.Functions.{type_of, held}
-use Rattle.htl_model.specs.Tables.{Tables, Fun, Formula, Compiled}
+use Rattle.htl_model.specs.{FunctionTypes.FunctionType, FunctionTypes.function_types, Functions.type_of, Functions.held, Tables.Tables, Tables.Fun, Tables.Formula, Tables.Compiled}
 
 -- the cause of a function's fault; want of memory is free
 abbrev pub IsFaultOf : FunctionType → Fun → FnFault → Type 0

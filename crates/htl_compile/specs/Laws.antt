@@ -2,24 +2,13 @@
 use Rattle.std.specs.Prelude.{◌≡◌, ◌<◌, ◌≤◌, ℕ, ℤ, Option, List, length}
 use Rattle.htl_base.specs.declared.limits.TheConstants.{MAX_MODULES, MAX_SOURCE}
 use Rattle.htl_bulk.specs.BulkTree.{bulk_bytes}
-use Rattle.htl_compile.specs.Built.{built_with, AreSchedulable, CanBuild}
-use Rattle.htl_compile.specs.Building.{IsBackFault, IsCompileFault}
-use Rattle.htl_compile.specs.Coded.{coded, AreTyped, AreSourceTables}
-use Rattle.htl_compile.specs.Sources.{IsTablesOf, IsFrontFault}
-use Rattle.htl_compile.specs.declared.building.BackFault.{BackFault}
+use Rattle.htl_compile.specs.{Built.built_with, Built.AreSchedulable, Built.CanBuild, Building.IsBackFault, Building.IsCompileFault, Coded.coded, Coded.AreTyped, Coded.AreSourceTables, Sources.IsTablesOf, Sources.IsFrontFault}
+use Rattle.htl_compile.specs.{declared.building.BackFault.BackFault, declared.compiling.CompileFault.CompileFault, declared.source.FrontFault.FrontFault}
 use Rattle.htl_compile.specs.declared.building.BackFault.TheVariants as back
-use Rattle.htl_compile.specs.declared.compiling.CompileFault.{CompileFault}
 use Rattle.htl_compile.specs.declared.compiling.CompileFault.TheVariants as compile
-use Rattle.htl_compile.specs.declared.source.FrontFault.{FrontFault}
 use Rattle.htl_compile.specs.declared.source.FrontFault.TheVariants as front
-use Rattle.htl_edf.specs.Lists.{tightened}
-use Rattle.htl_edf.specs.PartLaws.{NoneAreAccepted}
-use Rattle.htl_edf.specs.Windows.{Overloaded}
-use Rattle.htl_model.specs.Broken.{Formed}
-use Rattle.htl_model.specs.Exchanged.{SameRuns}
-use Rattle.htl_model.specs.Frames.{paths}
-use Rattle.htl_model.specs.Ranges.{AreInRange}
-use Rattle.htl_model.specs.Tables.{Tables}
+use Rattle.htl_edf.specs.{Lists.tightened, PartLaws.NoneAreAccepted, Windows.Overloaded}
+use Rattle.htl_model.specs.{Broken.Formed, Exchanged.SameRuns, Frames.paths, Ranges.AreInRange, Tables.Tables}
 use Rattle.htl_object.specs.Accepted.{IsAccepted}
 use Rattle.htl_walk.specs.PathJobs.{path_jobs, legs}
 

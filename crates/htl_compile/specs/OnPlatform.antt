@@ -1,24 +1,14 @@
 -- The object of a source on a platform, and why there is none.
 use Rattle.std.specs.Prelude.{◌≡◌, ◌≤◌, ℕ, List, Some, Ok, Err, length}
 use Rattle.htl_base.specs.declared.limits.TheConstants.{MAX_SOURCE}
-use Rattle.htl_compile.specs.Building.{IsBackFault}
-use Rattle.htl_compile.specs.Built.{built_with, CanBuild}
-use Rattle.htl_compile.specs.Coded.{AreTyped}
-use Rattle.htl_compile.specs.Sources.{IsTablesOf, IsSourceFault}
-use Rattle.htl_compile.specs.declared.building.BackFault.{BackFault}
+use Rattle.htl_compile.specs.{Building.IsBackFault, Built.built_with, Built.CanBuild, Coded.AreTyped, Sources.IsTablesOf, Sources.IsSourceFault, declared.building.BackFault.BackFault, declared.compiling_on.WithFault.WithFault}
 use Rattle.htl_compile.specs.declared.building.BackFault.TheVariants as back
 use Rattle.htl_compile.specs.declared.compiling.CompileFault.TheVariants as compile
-use Rattle.htl_compile.specs.declared.compiling_on.WithFault.{WithFault}
 use Rattle.htl_compile.specs.declared.compiling_on.WithFault.TheVariants as on
 use Rattle.htl_model.specs.Tables.{Tables}
-use Rattle.htl_object.specs.Objects.{IsObject, object_bytes}
-use Rattle.htl_object.specs.declared.object.Object.{Object}
-use Rattle.htl_platform.specs.Applied.{with_worst}
-use Rattle.htl_platform.specs.Platforms.{platform_of}
-use Rattle.htl_platform.specs.declared.fault.PlatformFault.{PlatformFault}
-use Rattle.htl_platform.specs.declared.fault.PlatformStop.{PlatformStop}
+use Rattle.htl_object.specs.{Objects.IsObject, Objects.object_bytes, declared.object.Object.Object}
+use Rattle.htl_platform.specs.{Applied.with_worst, Platforms.platform_of, declared.fault.PlatformFault.PlatformFault, declared.fault.PlatformStop.PlatformStop, declared.platform.Platform.Platform}
 use Rattle.htl_platform.specs.declared.fault.PlatformStop.TheVariants as stop
-use Rattle.htl_platform.specs.declared.platform.Platform.{Platform}
 
 -- ---- of tables
 

@@ -1,23 +1,15 @@
 -- The tables of a source, and its one fault where it has none or their functions aren't compiled.
 use Rattle.std.specs.Prelude.{ℕ, ◌≡◌, Some, List, [], ◌∷◌, ◌++◌, slice_get, Result, Ok, Err}
-use Rattle.htl_compile.specs.Coded.{CanCode, coded}
-use Rattle.htl_compile.specs.FunctionFaults.{IsFirstFault}
-use Rattle.htl_compile.specs.declared.source.FrontFault.{FrontFault}
+use Rattle.htl_compile.specs.{Coded.CanCode, Coded.coded, FunctionFaults.IsFirstFault, declared.source.FrontFault.FrontFault, declared.source_fault.SourceFault.SourceFault}
 use Rattle.htl_compile.specs.declared.source.FrontFault.TheVariants as front
-use Rattle.htl_compile.specs.declared.source_fault.SourceFault.{SourceFault}
 use Rattle.htl_compile.specs.declared.source_fault.SourceFault.TheVariants as fault
 use Rattle.htl_func.specs.declared.compiler.FnFault.{FnFault}
 use Rattle.htl_func.specs.declared.compiler.FnFault.TheVariants as fn_fault
 use Rattle.htl_model.specs.Tables.{Tables}
-use Rattle.htl_names.specs.Flat.{tables_of_tree}
-use Rattle.htl_names.specs.NameRules.{AreNamesRight, IsFirstNameFault}
-use Rattle.htl_names.specs.declared.fault.NameFault.{NameFault}
+use Rattle.htl_names.specs.{Flat.tables_of_tree, NameRules.AreNamesRight, NameRules.IsFirstNameFault, declared.fault.NameFault.NameFault}
 use Rattle.htl_names.specs.declared.fault.NameFault.TheVariants as name
-use Rattle.htl_parse.specs.Answers.{Spell, SpellNone, IsMisfit}
-use Rattle.htl_parse.specs.Runs.{AreShort, IsFirstLong}
-use Rattle.htl_text.specs.TokenLists.{TokenList}
-use Rattle.htl_text.specs.Spans.{Tokens, Faults}
-use Rattle.htl_text.specs.Nodes.{PlainProgram}
+use Rattle.htl_parse.specs.{Answers.Spell, Answers.SpellNone, Answers.IsMisfit, Runs.AreShort, Runs.IsFirstLong}
+use Rattle.htl_text.specs.{TokenLists.TokenList, Spans.Tokens, Spans.Faults, Nodes.PlainProgram}
 use Rattle.htl_text.specs.declared.lexer.LexFault.TheVariants as lex
 
 -- the tokens of the text, none of whose runs is too long

@@ -1,24 +1,15 @@
 -- Why no object is built of a source, with the tables that the fault speaks of.
 use Rattle.std.specs.Prelude.{◌≡◌, List, ℕ, Ok}
-use Rattle.htl_compile.specs.Building.{IsBackFault, IsCompileFault}
-use Rattle.htl_compile.specs.Coded.{CanCode, coded}
-use Rattle.htl_compile.specs.OnPlatform.{IsWithFault}
-use Rattle.htl_compile.specs.Sources.{IsTablesOf}
-use Rattle.htl_compile.specs.declared.building.BackFault.{BackFault}
+use Rattle.htl_compile.specs.{Building.IsBackFault, Building.IsCompileFault, Coded.CanCode, Coded.coded, OnPlatform.IsWithFault, Sources.IsTablesOf, declared.building.BackFault.BackFault, declared.compiling_on.WithFault.WithFault}
 use Rattle.htl_compile.specs.declared.building.BackFault.TheVariants as back
 use Rattle.htl_compile.specs.declared.compiling.CompileFault.TheVariants as compile
-use Rattle.htl_compile.specs.declared.compiling_on.WithFault.{WithFault}
 use Rattle.htl_compile.specs.declared.compiling_on.WithFault.TheVariants as on
-use Rattle.htl_compile.specs.declared.source.FrontFault.{FrontFault}
+use Rattle.htl_compile.specs.{declared.source.FrontFault.FrontFault, declared.stop.SourceStop.SourceStop}
 use Rattle.htl_compile.specs.declared.source.FrontFault.TheVariants as front
-use Rattle.htl_compile.specs.declared.stop.SourceStop.{SourceStop}
 use Rattle.htl_compile.specs.declared.stop.SourceStop.TheVariants as stop
 use Rattle.htl_model.specs.Tables.{Tables}
-use Rattle.htl_platform.specs.Applied.{with_worst}
-use Rattle.htl_platform.specs.Platforms.{platform_of}
-use Rattle.htl_platform.specs.declared.fault.PlatformStop.{PlatformStop}
+use Rattle.htl_platform.specs.{Applied.with_worst, Platforms.platform_of, declared.fault.PlatformStop.PlatformStop, declared.platform.Platform.Platform}
 use Rattle.htl_platform.specs.declared.fault.PlatformStop.TheVariants as placing
-use Rattle.htl_platform.specs.declared.platform.Platform.{Platform}
 
 -- ---- of a source, for no platform
 

@@ -1,7 +1,6 @@
 -- Functions whose tokens are tokens of a source.
 use Rattle.std.specs.Prelude.{◌≡◌, ◌<◌, ℕ, Some, slice_get}
-use Rattle.htl_model.specs.Functions.{Term, Unary, Binary, Choose}
-use Rattle.htl_model.specs.Tables.{Tables, Fun, Formula, Compiled}
+use Rattle.htl_model.specs.{Functions.Term, Functions.Unary, Functions.Binary, Functions.Choose, Tables.Tables, Tables.Fun, Tables.Formula, Tables.Compiled}
 
 -- the tokens of an expression's operators are among so many
 abbrev pub AreOperatorsBelow : ℕ → Term → Type 0

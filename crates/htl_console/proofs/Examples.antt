@@ -5,15 +5,10 @@ use Rattle.htl_base.specs.declared.Ty.TheVariants.{Int as IntTy}
 use Rattle.htl_ecode.specs.declared.instr.EInstr.TheVariants as I
 use Rattle.htl_ecode.specs.Layout.{layout}
 use Rattle.htl_model.specs.declared.function.FInstr.TheVariants as F
-use Rattle.htl_model.specs.declared.line.Line.TheVariants.{ValueLine, ModeLine}
-use Rattle.htl_model.specs.Lines.{line_text, totals_line}
-use Rattle.htl_model.specs.Tables.{Tables, Compiled}
+use Rattle.htl_model.specs.{declared.line.Line.TheVariants.ValueLine, declared.line.Line.TheVariants.ModeLine, Lines.line_text, Lines.totals_line, Tables.Tables, Tables.Compiled}
 use Rattle.htl_model.proofs.Sources.{plain, int_one, doubling, refined}
-use Rattle.htl_walk.specs.declared.schedule.SInstr.TheVariants.{Dispatch, Idle, End}
-use Rattle.htl_walk.specs.declared.schedule.Schedule.{Schedule}
-use Rattle.htl_console.specs.Instrs.{instr_text, step_text}
-use Rattle.htl_console.specs.Lines.{slice_line, done_line, instr_line, step_line, plan_line}
-use Rattle.htl_console.specs.Listing.{listing, tables_lines}
+use Rattle.htl_walk.specs.{declared.schedule.SInstr.TheVariants.Dispatch, declared.schedule.SInstr.TheVariants.Idle, declared.schedule.SInstr.TheVariants.End, declared.schedule.Schedule.Schedule}
+use Rattle.htl_console.specs.{Instrs.instr_text, Instrs.step_text, Lines.slice_line, Lines.done_line, Lines.instr_line, Lines.step_line, Lines.plan_line, Listing.listing, Listing.tables_lines}
 
 -- a task that doubles what a sensor shows, its function as code
 abbrev doubling_coded : Tables

@@ -3,8 +3,7 @@ use Rattle.std.specs.Prelude.{ℕ, List, ◌++◌, codes, decimal}
 use Rattle.htl_model.specs.Tables.{Tables}
 use Rattle.htl_walk.specs.declared.schedule.SInstr.{SInstr}
 use Rattle.htl_ecode.specs.declared.instr.EInstr.{EInstr}
-use Rattle.htl_console.specs.Names.{inv_name}
-use Rattle.htl_console.specs.Instrs.{instr_text, step_text}
+use Rattle.htl_console.specs.{Names.inv_name, Instrs.instr_text, Instrs.step_text}
 
 -- `j A B NAME`: a slice
 abbrev pub slice_line : Tables → ℕ → ℕ → ℕ → List ℕ

@@ -3,19 +3,11 @@ use Rattle.std.specs.Prelude.{ℕ, cond, List, [], ◌++◌, length, slice_get, 
 use Rattle.std.specs.Fmt.{signed_decimal}
 use Rattle.htl_base.specs.declared.Ty.{Ty}
 use Rattle.htl_base.specs.declared.Ty.TheVariants as ty
-use Rattle.htl_model.specs.declared.parts.Comm.{Comm}
-use Rattle.htl_model.specs.declared.parts.Inv.{Inv}
-use Rattle.htl_model.specs.declared.parts.Mode.{Mode}
-use Rattle.htl_model.specs.declared.parts.Module.{Module}
-use Rattle.htl_model.specs.Lines.{mode_name, module_name}
-use Rattle.htl_model.specs.Lists.{up_to}
+use Rattle.htl_model.specs.{declared.parts.Comm.Comm, declared.parts.Inv.Inv, declared.parts.Mode.Mode, declared.parts.Module.Module, Lines.mode_name, Lines.module_name, Lists.up_to}
 use Rattle.htl_model.specs.Tables.{Tables, Fun, Formula, Compiled, task_worst, task_is_abstract, release, window_end}
-use Rattle.htl_walk.specs.declared.schedule.SInstr.{SInstr}
-use Rattle.htl_walk.specs.declared.schedule.Schedule.{Schedule}
-use Rattle.htl_ecode.specs.declared.ecode.ECode.{ECode}
-use Rattle.htl_ecode.specs.declared.instr.EInstr.{EInstr}
-use Rattle.htl_console.specs.Names.{full_inv, inv_name, mode_text}
-use Rattle.htl_console.specs.Instrs.{instr_text, step_text}
+use Rattle.htl_walk.specs.{declared.schedule.SInstr.SInstr, declared.schedule.Schedule.Schedule}
+use Rattle.htl_ecode.specs.{declared.ecode.ECode.ECode, declared.instr.EInstr.EInstr}
+use Rattle.htl_console.specs.{Names.full_inv, Names.inv_name, Names.mode_text, Instrs.instr_text, Instrs.step_text}
 
 -- ---- the lines
 

@@ -1,8 +1,6 @@
 -- The full names of items, or their numbers where there is no such item.
 use Rattle.std.specs.Prelude.{ℕ, List, [], ◌++◌, slice_get, Some, None, codes, decimal}
-use Rattle.htl_model.specs.declared.parts.Inv.{Inv}
-use Rattle.htl_model.specs.Lines.{mode_name, module_name}
-use Rattle.htl_model.specs.Tables.{Tables, mode_module}
+use Rattle.htl_model.specs.{declared.parts.Inv.Inv, Lines.mode_name, Lines.module_name, Tables.Tables, Tables.mode_module}
 
 abbrev pub task_name : Tables → ℕ → List ℕ
 task_name t k = elim (slice_get t.tasks k) [ Some x ↦ x.name | None ↦ [] ]

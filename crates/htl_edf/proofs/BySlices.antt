@@ -1,9 +1,7 @@
 -- A list of slices as ticks: the law of refusal on slices alone.
 use Rattle.std.proofs.Common.{◌≡◌, ℕ, zero, suc, ◌+◌, ◌-◌, ◌<◌, ◌≤◌, max, min, Bool, true, false, cond, ◌&&◌, ◌||◌, refl, sym, ap, ap₂, le_refl, ◌∙◌, arith, eqb, eqb-true, leb, ltb, leb-true, ltb-true, ⊎_elim, ℤ, List, [], ◌∷◌}
 use Rattle.htl_edf.proofs.Words.{both_ways, and_parts, or_cases, nat_tests, sum_below, bit, given, OneATick, Overloaded, Jobs, NoCycle, TicksMeet, tight, Slice, Each, Apart, DoNotOverlap, ticks_of, covers, on_slices, SlicesMeet}
-use Rattle.htl_edf.proofs.Counting.{sum_below-same, sum_below-add, sum_below-none}
-use Rattle.htl_edf.proofs.Optimal.{given-mono}
-use Rattle.htl_edf.proofs.Tightened.{refuses}
+use Rattle.htl_edf.proofs.{Counting.sum_below-same, Counting.sum_below-add, Counting.sum_below-none, Optimal.given-mono, Tightened.refuses}
 
 covers_tells : (s : Slice) (x q : ℕ) → covers s x q ≡ true → (s.position ≡ q) × (s.start ≤ x) × (x < s.end)
 covers_tells s x q e = let a = and_parts _ _ e in let b = and_parts _ _ a.1 in (eqb-true _ _ a.0, leb-true _ _ b.0, ltb-true _ _ b.1)

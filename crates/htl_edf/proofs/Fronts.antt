@@ -1,8 +1,7 @@
 -- Two lists of jobs with the same positions released before t make the same choices before t.
 use Rattle.std.proofs.Common.{◌≡◌, ℕ, zero, suc, ◌<◌, ◌≤◌, Bool, true, ◌&&◌, refl, sym, ap, ◌∙◌, arith, leb, ltb, leb-true, ltb-true, le-leb, lt-ltb, le_antisymm, ℤ, Option, Some, None}
-use Rattle.htl_edf.proofs.Words.{and_parts, and_from, ints, bit, Windows, IsFrontOf}
+use Rattle.htl_edf.proofs.{Words.and_parts, Words.and_from, Words.ints, Words.bit, Words.Windows, Words.IsFrontOf, Ticks.Earliest, Ticks.earliest_is, Ticks.left_more, Ticks.left_start}
 use Rattle.htl_edf.specs.Edf.{runs, left, edf, edf_on}
-use Rattle.htl_edf.proofs.Ticks.{Earliest, earliest_is, left_more, left_start}
 
 abbrev Passes : (ℕ → Bool) → ℕ → ℕ → Type 0
 Passes s n q = (q < n) × (s q ≡ true)

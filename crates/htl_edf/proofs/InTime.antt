@@ -2,9 +2,7 @@
 use Rattle.std.proofs.Common.{◌≡◌, ℕ, ◌+◌, ◌-◌, ◌<◌, ◌≤◌, sym, ap, ◌∙◌, arith, ⊎_elim, pos, ◌≤ℤ◌, ◌<ℤ◌, List, length, get_or, Option, Some, None, IfSome}
 use Rattle.htl_edf.proofs.Words.{cases_lt, same_Some, ints, absent_job, Job, jobs_of, AreWellFormed, end_at, edf, edf_on, left, Served, NoOverload, AreInTime, LeftAt}
 use Rattle.htl_edf.specs.Tight.{tight}
-use Rattle.htl_edf.proofs.Optimal.{given-mono}
-use Rattle.htl_edf.proofs.Refusal.{refused}
-use Rattle.htl_edf.proofs.Ticks.{edf_is, on_is, left_is}
+use Rattle.htl_edf.proofs.{Optimal.given-mono, Refusal.refused, Ticks.edf_is, Ticks.on_is, Ticks.left_is}
 
 module _ (js : List Job) where
   -- nothing has run yet

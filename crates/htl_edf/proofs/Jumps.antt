@@ -1,10 +1,8 @@
 -- The event scheduler's steps over lists.
 use Rattle.std.proofs.Common.{arith, ◌≡◌, ℕ, zero, suc, pos, ◌-ℤ◌, ◌+◌, ◌-◌, ◌<◌, ◌≤◌, length, get_or, set, List, leb, ltb, eqb, ◌&&◌, cond, true, false, sym, ap, ◌∙◌, refl, Option, Some, None, subst, IfSome, get_or-set_same, get_or-set_other, eq-eqb, ne_eqb, ◌⊎◌, inl, inr}
 use Rattle.htl_edf.proofs.Words.{cases_eq, has_bit, has_no_bit, absent_job, Tight, jobs_of, HoldsAfter, AreTightened, LeftAt, QuietFrom, Job}
-use Rattle.htl_edf.specs.Tight.{release_at, end_at, tight}
-use Rattle.htl_edf.specs.Edf.{earliest, edf, left}
-use Rattle.htl_edf.proofs.Tightening.{greatest_skipped, least_skipped}
-use Rattle.htl_edf.proofs.Ticks.{earliest-same, jump, jump_runs, wait, wait_idles, chosen, Quiet, left_start}
+use Rattle.htl_edf.specs.{Tight.release_at, Tight.end_at, Tight.tight, Edf.earliest, Edf.edf, Edf.left}
+use Rattle.htl_edf.proofs.{Tightening.greatest_skipped, Tightening.least_skipped, Ticks.earliest-same, Ticks.jump, Ticks.jump_runs, Ticks.wait, Ticks.wait_idles, Ticks.chosen, Ticks.Quiet, Ticks.left_start}
 
 pub edf_from_list : (js : List Job) (ls : List ℕ) (t : ℕ) → LeftAt js ls t → earliest (λ q. leb (release_at (jobs_of js) (length js) q) t && ltb 0 (get_or ls q 0)) (end_at (jobs_of js) (length js)) (length js) ≡ edf (tight (jobs_of js)) t
 unfolding tight edf

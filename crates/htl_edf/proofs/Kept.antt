@@ -2,9 +2,7 @@
 use Rattle.std.proofs.Common.{◌≡◌, ℕ, ◌-◌, ◌<◌, ◌≤◌, true, refl, sym, ap, ◌∙◌, subst, arith, eq-eqb, le-leb, lt-ltb, ℤ, pos, ◌≤ℤ◌, ◌<ℤ◌, List, [], ◌∷◌}
 use Rattle.htl_edf.proofs.Words.{and_from, or_right, or_left, ints, Windows, demand_of, Overloaded, Reported, Slice, Each, covers, on_slices, HaveTicks, SlicesMeetIn, SlicesMeet, HaveWork, Tightening, OneReport, TightWindows}
 use Rattle.htl_edf.specs.Tight.{Jobs, NoCycle, tight}
-use Rattle.htl_edf.proofs.BySlices.{Each-map, Each-zip, by_slices, last_end}
-use Rattle.htl_edf.proofs.Tightened.{tightened}
-use Rattle.htl_edf.proofs.Tightening.{tight_is, release_at_is, end_at_is}
+use Rattle.htl_edf.proofs.{BySlices.Each-map, BySlices.Each-zip, BySlices.by_slices, BySlices.last_end, Tightened.tightened, Tightening.tight_is, Tightening.release_at_is, Tightening.end_at_is}
 
 covers_from : (s : Slice) (x : ℕ) → s.start ≤ x → x < s.end → covers s x s.position ≡ true
 covers_from s x a b = and_from _ _ (eq-eqb s.position s.position refl) (and_from _ _ (le-leb s.start x a) (lt-ltb x s.end b))

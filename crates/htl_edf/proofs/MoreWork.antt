@@ -2,9 +2,7 @@
 use Rattle.std.proofs.Common.{◌≡◌, ℕ, zero, suc, ◌+◌, ◌<◌, ◌≤◌, Bool, true, false, cond, refl, sym, ap, ◌∙◌, subst, arith, ⊎_elim, List, ℤ, pos, ◌≤ℤ◌, ◌-ℤ◌}
 use Rattle.htl_edf.proofs.Words.{ints, has_bit, Job, sum_below, Windows, inside, demand_of, Overloaded, jobs_of, AsksMore, StaysOverloaded, MoreWork, AreLonger, LongerOverload, ShorterFit}
 use Rattle.htl_edf.specs.Tight.{Jobs, greatest_below, least_below, release_at, end_at, tight}
-use Rattle.htl_edf.proofs.Counting.{sum_below-le}
-use Rattle.htl_edf.proofs.Refusal.{inside_from, inside_tells}
-use Rattle.htl_edf.proofs.Tightening.{greatest-least, greatest-le, greatest_is, least-z, least-le, least_is}
+use Rattle.htl_edf.proofs.{Counting.sum_below-le, Refusal.inside_from, Refusal.inside_tells, Tightening.greatest-least, Tightening.greatest-le, Tightening.greatest_is, Tightening.least-z, Tightening.least-le, Tightening.least_is}
 
 -- ---- the greatest grows, the least falls
 

@@ -1,8 +1,7 @@
 -- Earliest deadline first meets every window unless an interval is overloaded.
 use Rattle.std.proofs.Common.{◌≡◌, ℕ, zero, suc, ◌<◌, ◌≤◌, Bool, true, false, cond, ◌&&◌, refl, sym, ap, ◌∙◌, subst, arith, ltb, lt-ltb, ltb-true, ⊎_elim, ℤ, pos, ◌≤ℤ◌, int_le}
 use Rattle.htl_edf.proofs.Words.{cases_lt, and_parts, and_from, cases_Bool, both_ways, ints, sum_below, bit, Windows, inside, demand_of, Overloaded, given, Ready, IsEdf}
-use Rattle.htl_edf.proofs.Counting.{sum_below-lt, sum_below-term, sum_below-some, sum_below-full}
-use Rattle.htl_edf.proofs.Refusal.{bit-some, bit-le, given-set, inside_from, int_le-yes, term}
+use Rattle.htl_edf.proofs.{Counting.sum_below-lt, Counting.sum_below-term, Counting.sum_below-some, Counting.sum_below-full, Refusal.bit-some, Refusal.bit-le, Refusal.given-set, Refusal.inside_from, Refusal.int_le-yes, Refusal.term}
 
 -- ---- the last place before d at which a test fails
 

@@ -1,9 +1,7 @@
 -- The lowest rank that is ready is that of the position that runs.
 use Rattle.std.proofs.Common.{◌≡◌, ◌≢◌, ℕ, ◌+◌, ◌<◌, ◌≤◌, Bool, true, false, cond, ◌&&◌, ◌||◌, eqb, leb, ltb, List, length, get_or, set, Option, Some, None, refl, sym, ap, ◌∙◌, subst, arith, ⊎_elim, ℤ, ◌≤ℤ◌, get_or-set_same, get_or-set_other, eq-eqb, eqb-true, ne_eqb}
 use Rattle.htl_edf.proofs.Words.{ints, cases_lt, both_ways, nat_tests, has_bit, has_no_bit, Job, earliest, edf, jobs_of, LeftAt, QuietFrom, number_of, time_of, end_time, release_time, AreRanked, IsAhead, IsReleased, release_at, end_at, tight, and_first, none_below}
-use Rattle.htl_edf.proofs.Jumps.{edf_from_list}
-use Rattle.htl_edf.proofs.Ticks.{Earliest, earliest_is}
-use Rattle.htl_edf.proofs.Ranking.{one_place}
+use Rattle.htl_edf.proofs.{Jumps.edf_from_list, Ticks.Earliest, Ticks.earliest_is, Ranking.one_place}
 
 -- ---- the earliest, from what it is
 

@@ -1,11 +1,7 @@
 -- Which overloaded interval is reported.
 use Rattle.std.proofs.Common.{◌≡◌, ℕ, zero, suc, ◌+◌, ◌<◌, ◌≤◌, Bool, true, false, cond, refl, ap, arith, ◌⊎◌, inl, inr, ⊎_elim, ℤ, pos, ◌<ℤ◌, ◌≤ℤ◌, int_le, neg_ℤ, Option, Some, None}
-use Rattle.htl_edf.proofs.Words.{cases_Bool, ints, Windows, inside, demand_of, Overloaded, Reported, Jobs, NoCycle, earliest}
-use Rattle.htl_edf.proofs.Counting.{sum_below-le, sum_below-term}
-use Rattle.htl_edf.proofs.Refusal.{inside_tells, inside_from}
-use Rattle.htl_edf.proofs.Optimal.{le_z_refl}
-use Rattle.htl_edf.proofs.Ticks.{Earliest, earliest_is}
-use Rattle.htl_edf.proofs.Tightening.{IsTight}
+use Rattle.htl_edf.proofs.{Words.cases_Bool, Words.ints, Words.Windows, Words.inside, Words.demand_of, Words.Overloaded, Words.Reported, Words.Jobs, Words.NoCycle, Words.earliest, Counting.sum_below-le, Counting.sum_below-term}
+use Rattle.htl_edf.proofs.{Refusal.inside_tells, Refusal.inside_from, Optimal.le_z_refl, Ticks.Earliest, Ticks.earliest_is, Tightening.IsTight}
 
 -- a narrower interval that holds the same windows demands no less
 grows : (s r : Bool) (w : ℕ) → (s ≡ true → r ≡ true) → cond s w 0 ≤ cond r w 0

@@ -1,7 +1,6 @@
 -- Windows that a round doesn't change are the tightened ones.
 use Rattle.std.proofs.Common.{◌≡◌, ◌∙◌, ℕ, zero, suc, ◌+◌, ◌-◌, ◌<◌, ◌≤◌, List, length, ap, arith, sym, pos, ◌-ℤ◌}
-use Rattle.htl_edf.proofs.Words.{ints, Job, Tight, jobs_of, HoldsAfter, AgreeBelow, AreTightened, Jobs, release_at, end_at}
-use Rattle.htl_edf.proofs.Jumps.{are_tightened}
+use Rattle.htl_edf.proofs.{Words.ints, Words.Job, Words.Tight, Words.jobs_of, Words.HoldsAfter, Words.AgreeBelow, Words.AreTightened, Words.Jobs, Words.release_at, Words.end_at, Jumps.are_tightened}
 use Rattle.htl_edf.proofs.Tightening.{greatest-same, least-same}
 
 module _ (j : Jobs) (k : ℕ) where

@@ -2,10 +2,8 @@
 use Rattle.std.proofs.Common.{◌≡◌, ℕ, zero, suc, ◌+◌, ◌-◌, ◌<◌, ◌≤◌, min, Bool, true, cond, refl, ap, arith, ⊎_elim, ℤ, pos, negsuc, ◌<ℤ◌}
 use Rattle.htl_edf.proofs.Words.{cases_lt, cases_Bool, ints, bit, Windows, inside, demand_of, Overloaded, given, Served, Ready, IsEdf, NoOverload, Jobs, tight, NoCycle, TicksMeet}
 use borrow.Author.Differences.{up}
-use Rattle.htl_edf.proofs.Counting.{sum_below-within, sum_below-term}
-use Rattle.htl_edf.proofs.Refusal.{bit-some, bit-le, one_part, inside_from, refused}
+use Rattle.htl_edf.proofs.{Counting.sum_below-within, Counting.sum_below-term, Refusal.bit-some, Refusal.bit-le, Refusal.one_part, Refusal.inside_from, Refusal.refused, Tightening.IsTight, Tightening.tight_is}
 use Rattle.htl_edf.proofs.Optimal.{given-mono, given-more, given-le, missed, le_z_refl}
-use Rattle.htl_edf.proofs.Tightening.{IsTight, tight_is}
 
 -- ticks of q from a on and below b are at most b - a
 pub given-within : (on : ℕ → ℕ → Bool) (q a b t : ℕ) → ((x : ℕ) → on x q ≡ true → (a ≤ x) × (x < b)) → given on q t ≤ min t b - a

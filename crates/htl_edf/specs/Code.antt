@@ -1,10 +1,7 @@
 -- The schedule of earliest deadline first.
 use Rattle.std.specs.Prelude.{ℕ, List, [], ◌∷◌, ◌++◌, Option, Some, None}
-use Rattle.htl_walk.specs.declared.job.Job.{Job}
-use Rattle.htl_walk.specs.declared.schedule.SInstr.{SInstr}
-use Rattle.htl_walk.specs.declared.schedule.SInstr.TheVariants.{Dispatch, End}
-use Rattle.htl_edf.specs.Edf.{Slice, edf, maximal_slices}
-use Rattle.htl_edf.specs.Lists.{tightened}
+use Rattle.htl_walk.specs.{declared.job.Job.Job, declared.schedule.SInstr.SInstr, declared.schedule.SInstr.TheVariants.Dispatch, declared.schedule.SInstr.TheVariants.End}
+use Rattle.htl_edf.specs.{Edf.Slice, Edf.edf, Edf.maximal_slices, Lists.tightened}
 
 -- a dispatch for each of the slices, which are listed last first
 abbrev pub dispatches_of : List Slice → List SInstr

@@ -1,7 +1,6 @@
 -- Earliest deadline first: every tick is asked, and each maximal interval in which one position runs is a slice.
 use Rattle.std.specs.Prelude.{ℕ, zero, suc, ◌-◌, Bool, false, cond, ◌&&◌, leb, ltb, eqb, Option, Some, None, List, [], ◌∷◌, ℤ, int_lt}
-use Rattle.htl_edf.specs.Sums.{bit}
-use Rattle.htl_edf.specs.Windows.{Windows}
+use Rattle.htl_edf.specs.{Sums.bit, Windows.Windows}
 
 -- of the position taken so far, and position n after it
 abbrev pub better : (ℕ → ℤ) → Option ℕ → ℕ → Option ℕ

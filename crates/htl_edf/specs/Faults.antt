@@ -1,13 +1,8 @@
 -- What a fault of the scheduler says.
 use Rattle.std.specs.Prelude.{ℕ, List, Option, MatchOption, pos}
-use Rattle.htl_walk.specs.declared.job.Job.{Job}
-use Rattle.htl_walk.specs.declared.schedule.SInstr.{SInstr}
-use Rattle.htl_walk.specs.Walk.{ScheduleIsAccepted}
-use Rattle.htl_edf.specs.declared.overload.Overload.{Overload as Interval}
-use Rattle.htl_edf.specs.declared.scheduler.EdfFault.{EdfFault}
-use Rattle.htl_edf.specs.declared.scheduler.EdfFault.TheVariants.{Overload, Memory}
+use Rattle.htl_walk.specs.{declared.job.Job.Job, declared.schedule.SInstr.SInstr, Walk.ScheduleIsAccepted}
+use Rattle.htl_edf.specs.{declared.overload.Overload.Overload as Interval, declared.scheduler.EdfFault.EdfFault, declared.scheduler.EdfFault.TheVariants.Overload, declared.scheduler.EdfFault.TheVariants.Memory, Lists.tightened}
 use Rattle.htl_edf.specs.Windows.{Windows, Reported, NoOverload}
-use Rattle.htl_edf.specs.Lists.{tightened}
 
 -- the interval that is reported for windows; None where none is overloaded
 abbrev pub IsReport : Windows → Option Interval → Type 0

@@ -3,15 +3,8 @@
 -- second of u, b the third of w.
 use Rattle.std.specs.Prelude.{◌≡◌, ◌<◌, ℕ, true, false, List, [], ◌∷◌, None, codes, pos}
 use Rattle.htl_base.specs.declared.Ty.TheVariants as ty
-use Rattle.htl_model.specs.declared.parts.Comm.{Comm}
-use Rattle.htl_model.specs.declared.parts.Mode.{Mode}
-use Rattle.htl_model.specs.declared.parts.Module.{Module}
-use Rattle.htl_model.specs.declared.parts.Task.{Task}
-use Rattle.htl_model.specs.declared.parts.Inv.{Inv}
+use Rattle.htl_model.specs.{declared.parts.Comm.Comm, declared.parts.Mode.Mode, declared.parts.Module.Module, declared.parts.Task.Task, declared.parts.Inv.Inv, FrameRules.KeptApart, Frames.frame_limit, Frames.paths, Tables.Tables}
 use Rattle.htl_model.specs.declared.parts.End.TheVariants as E
-use Rattle.htl_model.specs.FrameRules.{KeptApart}
-use Rattle.htl_model.specs.Frames.{frame_limit, paths}
-use Rattle.htl_model.specs.Tables.{Tables}
 
 abbrev pub frame_comm : List ℕ → Comm
 frame_comm name = record { name = name; ty = ty.Int; sensor = false; period = 10; init = pos 0 }

@@ -1,14 +1,8 @@
 -- How far the worst case of a task can be raised.
 use Rattle.std.specs.Prelude.{◌≡◌, ℕ, zero, suc, ◌<◌, ◌≤◌, List, [], ◌∷◌}
-use Rattle.htl_model.specs.declared.parts.Task.{Task}
-use Rattle.htl_model.specs.Tables.{Tables, task_worst}
-use Rattle.htl_model.specs.declared.frame.Frame.{Frame}
-use Rattle.htl_model.specs.Frames.{paths, frame_limit}
-use Rattle.htl_model.specs.FrameTables.{IsFrame}
+use Rattle.htl_model.specs.{declared.parts.Task.Task, Tables.Tables, Tables.task_worst, declared.frame.Frame.Frame, Frames.paths, Frames.frame_limit, FrameTables.IsFrame}
 use Rattle.htl_walk.specs.PathJobs.{path_jobs}
-use Rattle.htl_edf.specs.Windows.{NoOverload}
-use Rattle.htl_edf.specs.Lists.{tightened}
-use Rattle.htl_edf.specs.NodePlans.{AreReady}
+use Rattle.htl_edf.specs.{Windows.NoOverload, Lists.tightened, NodePlans.AreReady}
 
 -- the tasks with worst case w at place k
 abbrev pub worst_in : ℕ → ℕ → List Task → List Task

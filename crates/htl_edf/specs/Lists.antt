@@ -1,12 +1,8 @@
 -- Jobs of a list, by position, and what is asked of them.
 use Rattle.std.specs.Prelude.{◌≡◌, ℕ, ◌<◌, ◌≤◌, List, length, get_or, Some, pos, ◌<ℤ◌}
 use Rattle.htl_model.specs.Bits.{cell}
-use Rattle.htl_walk.specs.declared.job.Job.{Job}
-use Rattle.htl_walk.specs.Jobs.{absent_job, precedes}
-use Rattle.htl_edf.specs.declared.rounds.Tight.{Tight}
-use Rattle.htl_edf.specs.Tight.{Jobs, tight, release_at, end_at}
-use Rattle.htl_edf.specs.Windows.{Windows}
-use Rattle.htl_edf.specs.Edf.{edf, left}
+use Rattle.htl_walk.specs.{declared.job.Job.Job, Jobs.absent_job, Jobs.precedes}
+use Rattle.htl_edf.specs.{declared.rounds.Tight.Tight, Tight.Jobs, Tight.tight, Tight.release_at, Tight.end_at, Windows.Windows, Edf.edf, Edf.left}
 
 abbrev pub jobs_of : List Job → Jobs
 jobs_of js = record {

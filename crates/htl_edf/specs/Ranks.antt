@@ -2,8 +2,7 @@
 use Rattle.std.specs.Prelude.{◌≡◌, ℕ, ◌+◌, ◌*◌, ◌/◌, ◌%◌, ◌<◌, ◌≤◌, ◌&&◌, ltb, List, length, get_or, pos, ◌+ℤ◌, nat_abs}
 use Rattle.htl_model.specs.Bits.{has_bit}
 use Rattle.htl_walk.specs.declared.job.Job.{Job}
-use Rattle.htl_edf.specs.Lists.{jobs_of}
-use Rattle.htl_edf.specs.Tight.{release_at, end_at}
+use Rattle.htl_edf.specs.{Lists.jobs_of, Tight.release_at, Tight.end_at}
 
 -- an item is a time and a number below 128 in one
 abbrev pub item : ℕ → ℕ → ℕ

@@ -1,10 +1,7 @@
 -- The search for an overloaded interval.
 use Rattle.std.specs.Prelude.{ℕ, zero, suc, ◌+◌, Bool, false, cond, ◌&&◌, ◌||◌, leb, ltb, List, length, pos, int_le, int_lt, Option, neg_ℤ}
 use Rattle.htl_walk.specs.declared.job.Job.{Job}
-use Rattle.htl_edf.specs.Sums.{sum_below}
-use Rattle.htl_edf.specs.Tight.{release_at, end_at}
-use Rattle.htl_edf.specs.Edf.{earliest}
-use Rattle.htl_edf.specs.Lists.{jobs_of}
+use Rattle.htl_edf.specs.{Sums.sum_below, Tight.release_at, Tight.end_at, Edf.earliest, Lists.jobs_of}
 
 -- the demand of the positions below n in the interval from the release of p to the end of q
 abbrev pub demand_below : List Job → ℕ → ℕ → ℕ → ℕ

@@ -1,8 +1,6 @@
 -- A schedule as a list of slices, in any order.
 use Rattle.std.specs.Prelude.{◌≡◌, ℕ, ◌+◌, ◌-◌, ◌<◌, ◌≤◌, Bool, true, false, cond, ◌&&◌, ◌||◌, leb, ltb, eqb, pos, ◌≤ℤ◌, List, [], ◌∷◌, ◌⊎◌}
-use Rattle.htl_edf.specs.Windows.{Windows}
-use Rattle.htl_edf.specs.Tight.{Jobs}
-use Rattle.htl_edf.specs.Edf.{Slice}
+use Rattle.htl_edf.specs.{Windows.Windows, Tight.Jobs, Edf.Slice}
 
 -- P holds of each slice
 abbrev pub Each : (Slice → Type 0) → List Slice → Type 0

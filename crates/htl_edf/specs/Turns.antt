@@ -2,9 +2,7 @@
 use Rattle.std.specs.Prelude.{◌≡◌, ℕ, ◌<◌, ◌≤◌, false, List, length, get_or, pos}
 use Rattle.htl_model.specs.Bits.{has_bit, cell}
 use Rattle.htl_walk.specs.declared.job.Job.{Job}
-use Rattle.htl_edf.specs.declared.rounds.Tight.{Tight}
-use Rattle.htl_edf.specs.Tight.{release_at, end_at}
-use Rattle.htl_edf.specs.Lists.{jobs_of, no_window}
+use Rattle.htl_edf.specs.{declared.rounds.Tight.Tight, Tight.release_at, Tight.end_at, Lists.jobs_of, Lists.no_window}
 
 -- the rows have for each position a bit for each of its predecessors
 abbrev pub ArePredecessors : List Job → List ℕ → Type 0

@@ -1,11 +1,7 @@
 -- What a drawer answers.
 use Rattle.std.proofs.Common.{ℕ, ◌≤◌, List, length, Ok, Err, sym, subst}
-use Rattle.std.specs.declared.alloc.Global.{Global}
-use Rattle.std.specs.declared.result.Result.{Result}
-use Rattle.std.specs.declared.vec.Vec.{Vec}
-use Rattle.htl_edge.specs.Entries.{IsCopy}
-use Rattle.htl_edge.specs.Fakes.{DrawerState, Finds, IsDrawerFetch}
-use Rattle.htl_edge.specs.declared.shelf.ShelfFault.{ShelfFault}
+use Rattle.std.specs.{declared.alloc.Global.Global, declared.result.Result.Result, declared.vec.Vec.Vec}
+use Rattle.htl_edge.specs.{Entries.IsCopy, Fakes.DrawerState, Fakes.Finds, Fakes.IsDrawerFetch, declared.shelf.ShelfFault.ShelfFault}
 use Rattle.htl_edge.specs.declared.shelf.ShelfFault.TheVariants.{Failed, TooLong, Memory}
 
 -- a copy of the bytes that were found is what a fetch answers

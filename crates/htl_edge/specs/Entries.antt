@@ -1,17 +1,8 @@
 -- Names and bytes as a shelf in memory keeps them.
 use Rattle.std.specs.Prelude.{ℕ, Bool, true, ◌&&◌, not, ◌≡◌, ◌<◌, ◌≤◌, List, [], ◌∷◌, length, map, string_bytes, Ok, Err}
-use Rattle.std.specs.declared.option.Option.{Option}
-use Rattle.std.specs.FinMap.{from_entries, get}
-use Rattle.std.specs.Ordering.{nat_cmp}
-use Rattle.std.specs.Cmp.Lexicographic.{slice_cmp}
-use Rattle.std.specs.List.{list_any}
-use Rattle.std.specs.Str.{bytes_eq}
-use Rattle.std.specs.declared.string.String.{String}
-use Rattle.std.specs.declared.vec.Vec.{Vec}
-use Rattle.std.specs.declared.alloc.Global.{Global}
-use Rattle.std.specs.declared.result.Result.{Result}
-use Rattle.htl_edge.specs.declared.shelf.ShelfFault.{ShelfFault}
-use Rattle.htl_edge.specs.declared.shelf.ShelfFault.TheVariants.{Failed, TooLong, Memory}
+use Rattle.std.specs.{declared.option.Option.Option, FinMap.from_entries, FinMap.get, Ordering.nat_cmp, Cmp.Lexicographic.slice_cmp, List.list_any, Str.bytes_eq, declared.string.String.String, declared.vec.Vec.Vec}
+use Rattle.std.specs.{declared.alloc.Global.Global, declared.result.Result.Result}
+use Rattle.htl_edge.specs.{declared.shelf.ShelfFault.ShelfFault, declared.shelf.ShelfFault.TheVariants.Failed, declared.shelf.ShelfFault.TheVariants.TooLong, declared.shelf.ShelfFault.TheVariants.Memory}
 
 -- each name's bytes, and the bytes under it
 abbrev pub entries_of : List (String Global × Vec ℕ Global) → List (List ℕ × List ℕ)

@@ -1,11 +1,7 @@
 -- What the sources, sinks and shelves in memory hold, and exactly what each call of them does.
 use Rattle.std.specs.Prelude.{ℕ, ◌+◌, ◌-◌, ◌^◌, ◌<◌, ◌≤◌, ◌≡◌, ◌⊎◌, min, List, ◌++◌, length, take, drop, Contains, None, Some, Ok, Err}
-use Rattle.std.specs.declared.alloc.Global.{Global}
-use Rattle.std.specs.declared.result.Result.{Result}
-use Rattle.std.specs.declared.vec.Vec.{Vec}
-use Rattle.htl_edge.specs.Entries.{bytes_under}
-use Rattle.htl_edge.specs.declared.Failed.{Failed}
-use Rattle.htl_edge.specs.declared.shelf.ShelfFault.{ShelfFault}
+use Rattle.std.specs.{declared.alloc.Global.Global, declared.result.Result.Result, declared.vec.Vec.Vec}
+use Rattle.htl_edge.specs.{Entries.bytes_under, declared.Failed.Failed, declared.shelf.ShelfFault.ShelfFault}
 use Rattle.htl_edge.specs.declared.shelf.ShelfFault.TheVariants as fault
 
 -- one more, where the type has one

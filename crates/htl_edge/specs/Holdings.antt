@@ -1,11 +1,7 @@
 -- What a shelf holds, where it tells it.
 use Rattle.std.specs.Prelude.{ℕ, ◌≡◌, ◌<◌, Option, Some, Err, List, length, IfSome}
-use Rattle.std.specs.declared.result.Result.{Result}
-use Rattle.std.specs.Ordering.{nat_cmp}
-use Rattle.std.specs.Cmp.Lexicographic.{slice_cmp}
-use Rattle.std.specs.FinMap.{FinMap, get, from_entries}
-use Rattle.htl_edge.specs.declared.shelf.ShelfFault.{ShelfFault}
-use Rattle.htl_edge.specs.declared.shelf.ShelfFault.TheVariants.{Failed, TooLong}
+use Rattle.std.specs.{declared.result.Result.Result, Ordering.nat_cmp, Cmp.Lexicographic.slice_cmp, FinMap.FinMap, FinMap.get, FinMap.from_entries}
+use Rattle.htl_edge.specs.{declared.shelf.ShelfFault.ShelfFault, declared.shelf.ShelfFault.TheVariants.Failed, declared.shelf.ShelfFault.TheVariants.TooLong}
 
 -- bytes by name
 abbrev pub Holdings : Type 0

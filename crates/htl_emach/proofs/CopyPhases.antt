@@ -1,9 +1,7 @@
 -- What holds of each module in the write phase and in the read phase.
 use Rattle.std.proofs.Common.{◌≡◌, ℕ, suc, ◌+◌, ◌-◌, ◌<◌, ◌≤◌, Bool, true, false, cond, List, [], length, Option, Some, None, refl, sym, ap, ◌∙◌, subst, arith, ◌⊎◌, inl, inr}
 use Rattle.htl_emach.proofs.Words.{eq-eqb, ne_eqb, Event, Stay, Tables, ECode, next_offset, least_from, phase_offsets, holds, block_chain, block_at, on, chain_path, due_path, IsLeast, least_is, ModeReads, IsBlockPhase, no_block, Trigger, Calendar, goes, with_trigger, target_at, Ends, AreAllowed, trigger_at, next_block, awaited, Between, IsSized, Entry, entry_at, entry_before, entry_after, opening, switched, old_stay, new_stay, calendar_replay, none-some, true_not_false, cases_below}
-use Rattle.htl_emach.proofs.ModuleLaws.{ModuleLaws}
-use Rattle.htl_emach.proofs.Effects.{entry_with, with_next, next_here, next_other, next_sized}
-use Rattle.htl_emach.proofs.WriteRead.{BlockIs, phase_block}
+use Rattle.htl_emach.proofs.{ModuleLaws.ModuleLaws, Effects.entry_with, Effects.with_next, Effects.next_here, Effects.next_other, Effects.next_sized, WriteRead.BlockIs, WriteRead.phase_block}
 
 -- the blocks of a phase in a mode, for module k
 pub record PhaseIs (t : Tables) (code : ECode) (p m k : ℕ) : Type 0 where

@@ -2,8 +2,7 @@
 use Rattle.std.proofs.Common.{◌≡◌, ℕ, suc, ◌+◌, ◌<◌, Bool, true, false, cond, ◌&&◌, eqb, List, [], ◌∷◌, ◌++◌, length, slice_get, Option, Some, None, Result, Ok, Err, ℤ, refl, sym, ap, ◌∙◌, subst, arith, append_assoc, append-nil}
 use Rattle.htl_emach.proofs.Words.{eq-eqb, Switch, joined, numbered, Tables, mode_period, mode_module, switch_holds, target, target_from, ECode, EInstr, EFault, Action, parent_of, next_offset, same_instr, Requirement, Exactly, NextBlock, EndOfRound, SwitchJump, ModeJump, AtAnchor, waits_for, begin_chain, decide_chain, tests_of, asks_for, branch_target, test_of, Resolved, bind, resolved, fault, jump_to, Step, Reached, pass, leaving, reach, read, steps_of, block_begun, entered, decided, begin_path, enter_path, decide_path, followed, round_end, step_from, turn_step, holds_in, Jumps, IsResolved, IsReached, bind_ok, resolve_is, same_is, reach_is, anchor_is, read_is, kept, kept_one, kept_jumps, kept_reached, instr_of, ModeReads, Calendar, goes, Leads, IsAllowed}
 use Rattle.htl_ecode.specs.declared.instr.EInstr.TheVariants as I
-use Rattle.htl_emach.proofs.Blocks.{jumps_lead, then_at, reached_leads, test_leads}
-use Rattle.htl_emach.proofs.Effects.{calendar_after, AllAllowed}
+use Rattle.htl_emach.proofs.{Blocks.jumps_lead, Blocks.then_at, Blocks.reached_leads, Blocks.test_leads, Effects.calendar_after, Effects.AllAllowed}
 use Rattle.htl_emach.proofs.Rounds.{Passes, begun_calendar, entered_calendar, with_mode, begin_passes, enter_passes, leads_then}
 
 -- ---- from the trigger of the round's end to the decide list

@@ -1,8 +1,7 @@
 -- The earliest trigger, and that there is one where there are modules.
 use Rattle.std.proofs.Common.{◌≡◌, ℕ, zero, suc, ◌≤◌, ◌<◌, Bool, true, false, cond, eqb, leb, ltb, List, [], ◌∷◌, length, Option, Some, None, IfSome, refl, sym, ap, ◌∙◌, subst, arith, ◌⊎◌, inl, inr}
 use Rattle.htl_emach.proofs.Words.{nat_tests, Event, Module, Stay, AreInRange, IsModeThat, parent_of, Tables, mode_module, ECode, entered, Done, Trigger, Block, Calendar, Standing, list_at, triggers_of, IsDueAt, IsEarliest, IsNext, IsNextOf, IsUpToNext, LacksModules, NoneBefore, earlier, earliest, earliest_of, Entry, entry_at, entry_before, entry_after, opening, pending_entry, switched, closed, turning, is_called, entering, ending, old_stay, new_stay, Between, PhaseStands, none-some, same_Some}
-use Rattle.htl_emach.proofs.States.{module_at, parent_at}
-use Rattle.htl_emach.proofs.Instants.{roots_run}
+use Rattle.htl_emach.proofs.{States.module_at, States.parent_at, Instants.roots_run}
 
 -- an instant that is there and no later
 abbrev pub NoLater : Option ℕ → ℕ → Type 0

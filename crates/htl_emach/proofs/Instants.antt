@@ -1,12 +1,8 @@
 -- A machine that follows is anywhere inside an instant where the meaning says, and after it before the next one.
 use Rattle.std.proofs.Common.{◌≡◌, ℕ, zero, suc, ◌<◌, Bool, true, false, cond, eqb, ltb, List, [], ◌∷◌, ◌++◌, length, slice_get, map, replicate, Option, Some, None, ℤ, refl, sym, ap, ◌∙◌, subst, arith, ◌⊎◌, inl, inr}
 use Rattle.htl_emach.proofs.Words.{Event, Module, Stay, Tables, mode_module, state, runs, ECode, entered, Done, e_path, nat_tests, Trigger, Block, length-map, length-replicate, Calendar, Standing, list_at, done_in, standing_after, first_calendar, first_trigger, Between, Entry, entry_at, opening, turning, entering, old_stay, new_stay, Midway, Onward, FollowsCode, phase_path, PassesInstant, AreInRange}
-use Rattle.htl_emach.proofs.ModuleLaws.{ModuleLaws}
-use Rattle.htl_emach.proofs.CopyPhases.{module_writes, module_reads, none_laws, stay_laws, phase_are, StayLaws}
-use Rattle.htl_emach.proofs.Switching.{Sound}
-use Rattle.htl_emach.proofs.SwitchPhase.{module_switches}
-use Rattle.htl_emach.proofs.States.{old_stays, new_stays, module_at, parent_at, option_cases, active_some, begins_now, parent_runs, none_stay}
-use Rattle.htl_emach.proofs.Onward.{onward}
+use Rattle.htl_emach.proofs.{ModuleLaws.ModuleLaws, CopyPhases.module_writes, CopyPhases.module_reads, CopyPhases.none_laws, CopyPhases.stay_laws, CopyPhases.phase_are, CopyPhases.StayLaws, Switching.Sound, SwitchPhase.module_switches}
+use Rattle.htl_emach.proofs.{States.old_stays, States.new_stays, States.module_at, States.parent_at, States.option_cases, States.active_some, States.begins_now, States.parent_runs, States.none_stay, Onward.onward}
 use Rattle.htl_emach.proofs.Phases.{RootsRun, to_switches, to_reads, to_next, phase_starts}
 
 abbrev pub IsPhase : ℕ → Type 0

@@ -3,10 +3,7 @@ use Rattle.std.proofs.Common.{◌≡◌, ℕ, ◌<◌, true, eqb, List, [], ◌�
 use Rattle.htl_emach.proofs.Words.{slice_get_within, Event, Inv, End, Tables, AreInRange, IsInvInRange, IsEndInRange, state, ECode, EInstr, Done, Block, EDone, Content, comm_of, reads_at, writes_at, IsShaped, HasEnds, Calendar, Standing, taken, taken_by, block_from, first_due, triggers_of, with_trigger, done_at, done_in, stepped, standing_after, Fits, goes_at, IsAllowed, IsSized, BlockRuns, IsInBlock, PhaseStands, Midway, Onward, phase_path, each_at, nothing_ends}
 use Rattle.htl_model.specs.declared.parts.End.TheVariants as E
 use Rattle.htl_ecode.specs.declared.instr.EInstr.TheVariants as I
-use Rattle.htl_emach.proofs.ModuleLaws.{ModuleLaws}
-use Rattle.htl_emach.proofs.Inside.{next_of_block, inside}
-use Rattle.htl_emach.proofs.Beginning.{no_block, begins}
-use Rattle.htl_emach.proofs.Effects.{sized_module}
+use Rattle.htl_emach.proofs.{ModuleLaws.ModuleLaws, Inside.next_of_block, Inside.inside, Beginning.no_block, Beginning.begins, Effects.sized_module}
 
 -- the next instruction of a block, and what it may be
 pub record Next (t : Tables) (code : ECode) (phase : ℕ) (b : Block) : Type 0 where

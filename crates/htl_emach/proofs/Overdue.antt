@@ -1,9 +1,7 @@
 -- No trigger is due before the instant at which a run stands.
 use Rattle.std.proofs.Common.{◌≡◌, ℕ, zero, suc, ◌+◌, ◌-◌, ◌≤◌, ◌<◌, Bool, true, false, cond, eqb, List, length, Option, Some, None, refl, sym, ap, ◌∙◌, subst, arith, ◌⊎◌, inl, inr}
 use Rattle.htl_emach.proofs.Words.{cases_lt, none-some, same_Some, Event, Stay, AreInRange, Tables, mode_period, ECode, block_at, entered, next_offset, phase_offsets, IsLeast, least_is, Block, Trigger, Calendar, list_at, triggers_of, IsNextOf, NoneBefore, Entry, Between, IsSized, trigger_at, awaited, turning, is_called, entering, ending, ended, opening, pending_entry, switched, closed, entry_at, old_stay, new_stay, PhaseStands, NothingOverdue}
-use Rattle.htl_emach.proofs.States.{module_at, new_stays, goes_on, begins_now, option_cases}
-use Rattle.htl_emach.proofs.Switching.{positive}
-use Rattle.htl_emach.proofs.Roots.{listed_within}
+use Rattle.htl_emach.proofs.{States.module_at, States.new_stays, States.goes_on, States.begins_now, States.option_cases, Switching.positive, Roots.listed_within}
 
 instant_of : (x y : Trigger) → Some x ≡ Some y → x.at ≡ y.at
 instant_of x y e = let same : x ≡ y = cc in ap (λ (w : Trigger). w.at) same

@@ -2,8 +2,7 @@
 use Rattle.std.proofs.Common.{◌≡◌, ℕ, suc, ◌+◌, ◌-◌, ◌≤◌, Bool, true, false, cond, List, [], ◌∷◌, ◌++◌, length, slice_get, set, map, Option, Some, None, refl, sym, ap, ◌∙◌, subst, arith, inl, inr}
 use Rattle.htl_emach.proofs.Words.{Module, places_from, Tables, mode_period, ECode, EInstr, next_offset, phase_offsets, Requirement, Exactly, EndOfRound, AtAnchor, all_do, waits_for, begin_chain, enter_chain, children, is_child, jump_to, Step, steps_of, passed_by, target_of, block_begun, entered, decided, block_at, begin_path, enter_path, chain_path, round_end, turn_step, IsLeast, least_is, kept, kept_one, kept_are, instrs_of, ModeReads, spelled_stands, spelled_first, Trigger, Calendar, goes, with_trigger, entry_of, calendar_effect, Leads, Ends, trigger_at, next_block, ending}
 use Rattle.htl_ecode.specs.declared.instr.EInstr.TheVariants as I
-use Rattle.htl_emach.proofs.Blocks.{IsBlock, AllGoOn, block_ends, chain_leads, ends_on}
-use Rattle.htl_emach.proofs.Effects.{calendar_after, AllAllowed, WantsAllowed, allowed_instrs, with_next}
+use Rattle.htl_emach.proofs.{Blocks.IsBlock, Blocks.AllGoOn, Blocks.block_ends, Blocks.chain_leads, Blocks.ends_on, Effects.calendar_after, Effects.AllAllowed, Effects.WantsAllowed, Effects.allowed_instrs, Effects.with_next}
 use Rattle.htl_emach.proofs.Triggers.{set_next, length_read}
 
 -- a path of the switch phase in module k: it ends a block, holds what may stand, and does f

@@ -2,13 +2,8 @@
 use Rattle.std.proofs.Common.{◌≡◌, ℕ, zero, suc, ◌+◌, ◌<◌, ◌≤◌, Bool, true, false, cond, eqb, List, [], ◌∷◌, length, slice_get, set, map, Option, Some, None, IfSome, ℤ, refl, sym, ap, ◌∙◌, subst, arith, ◌⊎◌, inl, inr}
 use Rattle.htl_emach.proofs.Words.{slice_get_within, none-some, same_Some, length-set, length-map, length-replicate, Module, AreInRange, KeptApart, Tables, ECode, EInstr, departure, entered, holds_in, ModeReads, spelled_reads, Trigger, Block, EDone, Content, IsShaped, HasEnds, Calendar, Standing, list_at, triggers_of, target_at, first_due, block_from, block_in, taken, taken_by, with_trigger, goes, runs_in, going_on, calendar_effect, done_at, done_in, stepped, standing_after, entry_of, first_trigger, first_calendar, Fits, IsReady, IsSized, IsStart, IsFit, MayLead, IsSafe, safe, RunsSafely, LeadToBlocks, StandsSafely}
 use Rattle.htl_ecode.specs.declared.instr.EInstr.TheVariants as I
-use Rattle.htl_emach.proofs.Effects.{sized_module, trigger_set_sized}
-use Rattle.htl_emach.proofs.Beginning.{due_some, module_some, triggers_sized}
-use Rattle.htl_emach.proofs.Onward.{allowed_fits}
-use Rattle.htl_emach.proofs.Soundness.{has_ends, phase_is}
-use Rattle.htl_emach.proofs.Instants.{IsPhase, list_none}
-use Rattle.htl_emach.proofs.States.{mode_known}
-use Rattle.htl_emach.proofs.Safely.{start_safe}
+use Rattle.htl_emach.proofs.{Effects.sized_module, Effects.trigger_set_sized, Beginning.due_some, Beginning.module_some, Beginning.triggers_sized, Onward.allowed_fits, Soundness.has_ends, Soundness.phase_is, States.mode_known}
+use Rattle.htl_emach.proofs.{Instants.IsPhase, Instants.list_none, Safely.start_safe}
 
 -- what stands at a safe address
 safe_parts : (t : Tables) (code : ECode) (k : ℕ) {a : ℕ} → IsSafe t code k a → (i : EInstr) × (slice_get code.instrs a ≡ Some i) × IsFit t code k i × ((c : ℕ) → MayLead a i c → IsSafe t code k c)

@@ -2,10 +2,7 @@
 use Rattle.std.proofs.Common.{◌≡◌, ℕ, suc, ◌+◌, ◌-◌, ◌<◌, ◌≤◌, Bool, true, false, cond, eqb, List, [], ◌∷◌, ◌++◌, length, slice_get, map, drop, length-append, length-drop, Option, Some, None, Ok, refl, sym, ap, ◌∙◌, subst, arith, ◌⊎◌, inl, inr}
 use Rattle.htl_emach.proofs.Words.{eq-eqb, eqb-true, cases_Bool, slice_get_within, none-some, same_Some, Module, Switch, places_from, AreInRange, IsModeThat, IsSwitchInRange, parent_of, Tables, mode_module, mode_period, ECode, EInstr, next_offset, phase_offsets, holds, Requirement, Exactly, NextBlock, EndOfRound, SwitchJump, ModeJump, AtAnchor, all_do, waits_for, calls, block_chain, begin_chain, enter_chain, decide_chain, children, is_child, asks_for, tests_of, branch_target, bind, Step, Reached, pass, leaving, read, reach, steps_of, target_of, block_at, block_begun, entered, decided, round_end, step_from, turn_step, Jumps, reach_is, anchor_is, read_is, bind_ok, ModeReads, IsBlockPhase, spelled_stands, no_block, spelled_links, spelled_first, goes, IsStart, IsFit, IsSafe, safe, StartsIn, each_at, true_not_false}
 use Rattle.htl_ecode.specs.declared.instr.EInstr.TheVariants as I
-use Rattle.htl_emach.proofs.Deciding.{pass_ok, turn_jumps, tests_from}
-use Rattle.htl_emach.proofs.Effects.{WantAllowed, WantsAllowed}
-use Rattle.htl_emach.proofs.Triggers.{IsQuiet, AreQuiet, calls_quiet, length_read}
-use Rattle.htl_emach.proofs.WriteRead.{block_wants}
+use Rattle.htl_emach.proofs.{Deciding.pass_ok, Deciding.turn_jumps, Deciding.tests_from, Effects.WantAllowed, Effects.WantsAllowed, Triggers.IsQuiet, Triggers.AreQuiet, Triggers.calls_quiet, Triggers.length_read, WriteRead.block_wants}
 use Rattle.htl_emach.proofs.States.{mode_known}
 
 module _ (t : Tables) (code : ECode) (k : ℕ) where

@@ -3,9 +3,7 @@ use Rattle.std.proofs.Common.{◌≡◌, ℕ, zero, suc, ◌*◌, ◌<◌, ◌�
 use Rattle.htl_emach.proofs.Words.{eqb-true, eq-eqb, and_parts, cases_eq, or_cases, cases_lt, or_right, Inv, Mode, End, joined, AreInRange, IsInvInRange, Tables, mode_period, mode_module, comm_period, is_concrete, release, offsets, greatest, asked_period, first_mode, CountsDiffer, input_types, output_types, KeptApart, ECode, counts, counted_in, phase_offsets, holds, departure, Done, spelled_reads, Event, state, EDone, Standing, done_in, standing_after, Midway, Onward, HasEnds, each_at, item_at, holds_append, cases_le}
 use Rattle.htl_model.specs.declared.parts.End.TheVariants as E
 use Rattle.htl_model.specs.FormRules.{ModulePeriod, Offsets, Ends, Itself, Input, Output}
-use Rattle.htl_emach.proofs.Instants.{call_onward, IsPhase}
-use Rattle.htl_emach.proofs.States.{SamePeriods}
-use Rattle.htl_emach.proofs.Switching.{Sound, positive}
+use Rattle.htl_emach.proofs.{Instants.call_onward, Instants.IsPhase, States.SamePeriods, Switching.Sound, Switching.positive}
 
 -- ---- numbers that are equal, or not
 

@@ -1,10 +1,8 @@
 -- One module in the switch phase: it stays as it is, goes on, enters a mode or leaves.
 use Rattle.std.proofs.Common.{◌≡◌, ℕ, suc, ◌+◌, ◌<◌, ◌≤◌, Bool, true, false, cond, eqb, ltb, List, [], length, slice_get, Option, Some, None, refl, sym, ap, ◌∙◌, subst, arith, ◌⊎◌, inl, inr}
 use Rattle.htl_emach.proofs.Words.{eqb-true, eq-eqb, cases_Bool, nat_tests, slice_get_within, none-some, same_Some, Event, Module, Stay, AreInRange, IsSwitchInRange, parent_of, Tables, mode_period, mode_module, state, before, stay_of, mode_of, runs, target, ECode, is_child, children, entered, on, holds_in, switch_path, enter_path, decide_path, round_end, kept, Trigger, Calendar, with_trigger, target_at, entry_of, goes_at, awaited, ended, is_called, entering, turning, Between, IsSized, Entry, entry_at, pending_entry, switched, old_stay, new_stay, BlockRuns, phase_blocks, each_at, true_not_false, cases_below}
-use Rattle.htl_emach.proofs.ModuleLaws.{due_target, ModuleLaws}
-use Rattle.htl_emach.proofs.Effects.{replay_kept, allowed_kept, trigger_set_here, trigger_set_other, trigger_set_sized, sized_module}
-use Rattle.htl_emach.proofs.CopyPhases.{not_due, due_here, step_between}
-use Rattle.htl_emach.proofs.Rounds.{Passes, begun_calendar, entered_calendar, forked, with_mode, enter_passes}
+use Rattle.htl_emach.proofs.{ModuleLaws.due_target, ModuleLaws.ModuleLaws, Effects.replay_kept, Effects.allowed_kept, Effects.trigger_set_here, Effects.trigger_set_other, Effects.trigger_set_sized, Effects.sized_module}
+use Rattle.htl_emach.proofs.{CopyPhases.not_due, CopyPhases.due_here, CopyPhases.step_between, Rounds.Passes, Rounds.begun_calendar, Rounds.entered_calendar, Rounds.forked, Rounds.with_mode, Rounds.enter_passes}
 use Rattle.htl_emach.proofs.Deciding.{Decides, stay_passes, gone_passes, moved_calendar}
 use Rattle.htl_emach.proofs.Forks.{begun_sized, begun_other, begun_here, forked_sized, forked_at, called, mode_sized, mode_here, mode_other}
 use Rattle.htl_emach.proofs.States.{values_now, parent_runs, lower_parent, IsStay, old_stays, new_stays, goes_on, begins_now, runs_some, runs_none, ran_some, stay_runs, leaves, active_some, module_at, parent_at, parent_of_runs, option_cases, some_stay, mode_known}

@@ -2,8 +2,7 @@
 use Rattle.std.proofs.Common.{◌≡◌, ℕ, zero, suc, ◌+◌, ◌-◌, ◌<◌, ◌≤◌, Bool, true, false, cond, ltb, List, [], ◌∷◌, length, slice_get, Option, Some, None, refl, sym, ap, ◌∙◌, arith, inl, inr}
 use Rattle.htl_model.proofs.Stays.{runs_is}
 use Rattle.htl_emach.proofs.Words.{cases_Bool, lt-ltb, cases_eq, nat_tests, Event, Mode, Stay, AreInRange, IsModeInRange, parent_of, Tables, mode_period, mode_module, state, before, stay_of, mode_of, runs, ECode, next_offset, least_from, phase_offsets, holds, block_at, IsLeast, least_is, ModeReads, Trigger, trigger_at, next_block, awaited, ending, is_called, entering, turning, Entry, entry_before, pending_entry, switched, old_stay, new_stay, each_at, cond_same, true_not_false}
-use Rattle.htl_emach.proofs.CopyPhases.{off_offset}
-use Rattle.htl_emach.proofs.States.{SamePeriods, runs_some, ran_none, stay_runs, module_at, parent_at, parent_of_runs, option_cases, some_stay, none_stay}
+use Rattle.htl_emach.proofs.{CopyPhases.off_offset, States.SamePeriods, States.runs_some, States.ran_none, States.stay_runs, States.module_at, States.parent_at, States.parent_of_runs, States.option_cases, States.some_stay, States.none_stay}
 
 -- tables and code that the machine runs
 pub record Sound (t : Tables) (code : ECode) : Type 0 where

@@ -3,9 +3,8 @@ use Rattle.std.proofs.Common.{◌≡◌, ℕ, suc, ◌+◌, ◌-◌, ◌<◌, �
 use Rattle.htl_emach.proofs.Words.{Inv, End, joined, numbered, Tables, release, ECode, EInstr, counts, meets, ends_in, places_at, next_offset, phase_offsets, holds, Requirement, Exactly, NextBlock, all_do, waits_for, call_of, calls_of, release_of, releases, calls, block_chain, Step, read, steps_of, passed_by, target_of, blocks, block_at, block_path, IsLeast, least_is, kept_are, instrs_of, ModeReads, IsBlockPhase, spelled_stands, spelled_links, Trigger, Calendar, goes, with_trigger, Ends, IsAllowed, AreAllowed, HasOutput, HasInput, trigger_at, next_block, calendar_replay}
 use Rattle.htl_ecode.specs.declared.instr.EInstr.TheVariants as I
 use Rattle.htl_ecode.proofs.Spelled as spelled
-use Rattle.htl_emach.proofs.Blocks.{GoesOn, IsBlock, block_ends}
+use Rattle.htl_emach.proofs.{Blocks.GoesOn, Blocks.IsBlock, Blocks.block_ends, Triggers.IsQuiet, Triggers.AreQuiet, Triggers.set_next, Triggers.calls_quiet, Triggers.chain_sets}
 use Rattle.htl_emach.proofs.Effects.{calendar_after, replay_kept, allowed_kept, allowed_instrs, AllAllowed, WantsAllowed, requirements_more, do_more, do_cond, do_numbered, with_next}
-use Rattle.htl_emach.proofs.Triggers.{IsQuiet, AreQuiet, set_next, calls_quiet, chain_sets}
 
 -- a block of module k at an offset of mode m
 pub record BlockIs (t : Tables) (code : ECode) (m p o a k : ℕ) : Type 0 where

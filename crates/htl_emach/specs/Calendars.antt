@@ -1,16 +1,9 @@
 -- The modes of the modules, their triggers, and the block that runs.
 use Rattle.std.specs.Prelude.{ℕ, suc, ◌+◌, ◌<◌, Bool, false, cond, eqb, List, [], ◌∷◌, length, slice_get, set, map, replicate, Option, Some, None, ℤ}
-use Rattle.htl_model.specs.declared.parts.Module.{Module}
-use Rattle.htl_model.specs.Tables.{Tables, mode_module}
-use Rattle.htl_ecode.specs.declared.ecode.ECode.{ECode}
-use Rattle.htl_ecode.specs.declared.instr.EInstr.{EInstr}
+use Rattle.htl_model.specs.{declared.parts.Module.Module, Tables.Tables, Tables.mode_module}
+use Rattle.htl_ecode.specs.{declared.ecode.ECode.ECode, declared.instr.EInstr.EInstr, Departure.entered, Paths.holds_in}
 use Rattle.htl_ecode.specs.declared.instr.EInstr.TheVariants as I
-use Rattle.htl_ecode.specs.Departure.{entered}
-use Rattle.htl_ecode.specs.Paths.{holds_in}
-use Rattle.htl_emach.specs.declared.trigger.Trigger.{Trigger}
-use Rattle.htl_emach.specs.declared.trigger.Block.{Block}
-use Rattle.htl_emach.specs.declared.trigger.EDone.{EDone}
-use Rattle.htl_emach.specs.Contents.{Content, effect}
+use Rattle.htl_emach.specs.{declared.trigger.Trigger.Trigger, declared.trigger.Block.Block, declared.trigger.EDone.EDone, Contents.Content, Contents.effect}
 
 -- the mode of each module, and its trigger in each phase
 pub record Calendar : Type 0 where

@@ -1,14 +1,8 @@
 -- When a machine next has something to do.
 use Rattle.std.specs.Prelude.{◌≡◌, ℕ, ◌≤◌, cond, leb, List, [], ◌∷◌, Option, Some, None}
-use Rattle.htl_model.specs.declared.event.Event.{Event}
-use Rattle.htl_model.specs.Ranges.{AreInRange}
-use Rattle.htl_model.specs.Tables.{Tables}
-use Rattle.htl_ecode.specs.declared.ecode.ECode.{ECode}
-use Rattle.htl_ecode.specs.Paths.{Done}
-use Rattle.htl_emach.specs.declared.trigger.Trigger.{Trigger}
-use Rattle.htl_emach.specs.declared.trigger.Block.{Block}
-use Rattle.htl_emach.specs.Calendars.{Calendar, Standing, list_at, triggers_of}
-use Rattle.htl_emach.specs.Following.{Midway}
+use Rattle.htl_model.specs.{declared.event.Event.Event, Ranges.AreInRange, Tables.Tables}
+use Rattle.htl_ecode.specs.{declared.ecode.ECode.ECode, Paths.Done}
+use Rattle.htl_emach.specs.{declared.trigger.Trigger.Trigger, declared.trigger.Block.Block, Calendars.Calendar, Calendars.Standing, Calendars.list_at, Calendars.triggers_of, Following.Midway}
 
 -- a trigger is due at this instant
 abbrev pub IsDueAt : Calendar → ℕ → Type 0

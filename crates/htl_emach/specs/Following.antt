@@ -1,16 +1,8 @@
 -- Where a machine stands before an instant and inside one, by the meaning of the tables.
 use Rattle.std.specs.Prelude.{◌≡◌, ℕ, zero, suc, ◌-◌, ◌≤◌, ◌<◌, cond, eqb, List, [], ◌∷◌, ◌++◌, length, slice_get, Option, Some, None, ℤ}
-use Rattle.htl_model.specs.declared.event.Event.{Event}
-use Rattle.htl_model.specs.Lists.{up_to}
-use Rattle.htl_model.specs.Tables.{Tables}
-use Rattle.htl_model.specs.Meaning.{state, before}
-use Rattle.htl_ecode.specs.declared.ecode.ECode.{ECode}
-use Rattle.htl_ecode.specs.declared.instr.EInstr.{EInstr}
-use Rattle.htl_ecode.specs.Paths.{Done, on, writes_done, switches_done, reads_done}
-use Rattle.htl_emach.specs.declared.trigger.Block.{Block}
-use Rattle.htl_emach.specs.declared.trigger.EDone.{EDone}
-use Rattle.htl_emach.specs.Calendars.{Calendar, Standing, calendar_effect}
-use Rattle.htl_emach.specs.Leading.{Ends, goes_at, IsAllowed, AreAllowed}
+use Rattle.htl_model.specs.{declared.event.Event.Event, Lists.up_to, Tables.Tables, Meaning.state, Meaning.before}
+use Rattle.htl_ecode.specs.{declared.ecode.ECode.ECode, declared.instr.EInstr.EInstr, Paths.Done, Paths.on, Paths.writes_done, Paths.switches_done, Paths.reads_done}
+use Rattle.htl_emach.specs.{declared.trigger.Block.Block, declared.trigger.EDone.EDone, Calendars.Calendar, Calendars.Standing, Calendars.calendar_effect, Leading.Ends, Leading.goes_at, Leading.IsAllowed, Leading.AreAllowed}
 use Rattle.htl_emach.specs.Pending.{Between}
 
 -- the calendar after the instructions at these addresses are done in module k

@@ -1,12 +1,7 @@
 -- Where the tables' ports and functions stand, and which communicators are sensors.
 use Rattle.std.specs.Prelude.{ℕ, Bool, false, cond, eqb, List, length, map, slice_get, Option, Some, None}
 use Rattle.htl_base.specs.declared.Ty.{Ty}
-use Rattle.htl_model.specs.Lists.{list_to}
-use Rattle.htl_model.specs.Tables.{Tables, count_before}
-use Rattle.htl_model.specs.Meaning.{port_output, writer_from}
-use Rattle.htl_model.specs.declared.parts.Comm.{Comm}
-use Rattle.htl_model.specs.declared.parts.Port.{Port}
-use Rattle.htl_model.specs.declared.parts.End.{End}
+use Rattle.htl_model.specs.{Lists.list_to, Tables.Tables, Tables.count_before, Meaning.port_output, Meaning.writer_from, declared.parts.Comm.Comm, declared.parts.Port.Port, declared.parts.End.End}
 use Rattle.htl_model.specs.declared.parts.End.TheVariants as E
 
 -- the first function of each task, how many functions the tasks have, the writer of each port in its mode, and the type of each communicator that is a sensor

@@ -1,15 +1,8 @@
 -- The laws of the E machine.
 use Rattle.std.specs.Prelude.{◌≡◌, ℕ, suc, List, [], ◌++◌, None}
-use Rattle.htl_model.specs.declared.event.Event.{Event}
-use Rattle.htl_model.specs.FrameRules.{KeptApart}
-use Rattle.htl_model.specs.Ranges.{AreInRange}
-use Rattle.htl_model.specs.Tables.{Tables}
-use Rattle.htl_ecode.specs.declared.ecode.ECode.{ECode}
-use Rattle.htl_ecode.specs.Paths.{Done, e_path}
-use Rattle.htl_ecode.specs.Spelling.{Spells}
-use Rattle.htl_emach.specs.Calendars.{Standing}
-use Rattle.htl_emach.specs.Due.{IsUpToNext}
-use Rattle.htl_emach.specs.Following.{Midway, Onward, FollowsCode, phase_path}
+use Rattle.htl_model.specs.{declared.event.Event.Event, FrameRules.KeptApart, Ranges.AreInRange, Tables.Tables}
+use Rattle.htl_ecode.specs.{declared.ecode.ECode.ECode, Paths.Done, Paths.e_path, Spelling.Spells}
+use Rattle.htl_emach.specs.{Calendars.Standing, Due.IsUpToNext, Following.Midway, Following.Onward, Following.FollowsCode, Following.phase_path}
 
 -- a machine goes from phase to phase of an instant, and to the next instant
 pub record PassesInstant (t : Tables) (code : ECode) (es : List Event) (now : ℕ) : Type 0 where

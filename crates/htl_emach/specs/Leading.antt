@@ -1,12 +1,8 @@
 -- Where instructions lead, and what may stand in a block.
 use Rattle.std.specs.Prelude.{◌≡◌, ℕ, ◌<◌, true, eqb, List, [], ◌∷◌, ◌++◌, length, slice_get, Option, Some, None}
-use Rattle.htl_model.specs.declared.event.Event.{Event}
-use Rattle.htl_model.specs.declared.parts.Inv.{Inv}
-use Rattle.htl_model.specs.Tables.{Tables, mode_module}
-use Rattle.htl_model.specs.Meaning.{state, runs}
-use Rattle.htl_ecode.specs.declared.instr.EInstr.{EInstr}
+use Rattle.htl_model.specs.{declared.event.Event.Event, declared.parts.Inv.Inv, Tables.Tables, Tables.mode_module, Meaning.state, Meaning.runs}
+use Rattle.htl_ecode.specs.{declared.instr.EInstr.EInstr, Paths.holds_in}
 use Rattle.htl_ecode.specs.declared.instr.EInstr.TheVariants as I
-use Rattle.htl_ecode.specs.Paths.{holds_in}
 use Rattle.htl_emach.specs.Calendars.{goes}
 
 -- these addresses are passed on the way from a to b

@@ -1,9 +1,7 @@
 -- The number that holds what a node of a tournament does.
 use Rattle.std.specs.Prelude.{◌≡◌, ℕ, ◌+◌, ◌*◌, ◌/◌, ◌%◌, ◌≤◌, Bool, true, false, cond, eqb, Option, Some, None}
-use Rattle.std.proofs.Common.{refl, ap, arith}
-use Rattle.std.proofs.lemmas.Bool.Decides.{nat_tests}
-use Rattle.htl_emach.specs.declared.contender.Contender.{Contender}
-use Rattle.htl_emach.specs.declared.contender.Node.TheInside.{Inside}
+use Rattle.std.proofs.{Common.refl, Common.ap, Common.arith, lemmas.Bool.Decides.nat_tests}
+use Rattle.htl_emach.specs.{declared.contender.Contender.Contender, declared.contender.Node.TheInside.Inside}
 
 -- the number of a node without an entry
 abbrev pub greatest : ℕ

@@ -1,16 +1,8 @@
 -- What is pending: the mode and the triggers of each module, before an instant and between two blocks of it, by the meaning of the tables.
 use Rattle.std.specs.Prelude.{◌≡◌, ℕ, suc, ◌+◌, ◌-◌, ◌≤◌, ◌<◌, Bool, true, cond, eqb, ltb, List, length, Option, Some, None}
-use Rattle.htl_model.specs.declared.event.Event.{Event}
-use Rattle.htl_model.specs.declared.state.Stay.{Stay}
-use Rattle.htl_model.specs.Tables.{Tables, mode_period, mode_module}
-use Rattle.htl_model.specs.Meaning.{state, before, stay_of, mode_of}
-use Rattle.htl_ecode.specs.declared.ecode.ECode.{ECode}
-use Rattle.htl_model.specs.Ranges.{parent_of}
-use Rattle.htl_ecode.specs.Offsets.{next_offset}
-use Rattle.htl_ecode.specs.Departure.{block_at, entered}
-use Rattle.htl_ecode.specs.Paths.{round_end}
-use Rattle.htl_emach.specs.declared.trigger.Trigger.{Trigger}
-use Rattle.htl_emach.specs.Calendars.{Calendar, list_at}
+use Rattle.htl_model.specs.{declared.event.Event.Event, declared.state.Stay.Stay, Tables.Tables, Tables.mode_period, Tables.mode_module, Meaning.state, Meaning.before, Meaning.stay_of, Meaning.mode_of, Ranges.parent_of}
+use Rattle.htl_ecode.specs.{declared.ecode.ECode.ECode, Offsets.next_offset, Departure.block_at, Departure.entered, Paths.round_end}
+use Rattle.htl_emach.specs.{declared.trigger.Trigger.Trigger, Calendars.Calendar, Calendars.list_at}
 
 abbrev pub trigger_at : ℕ → Option ℕ → Option Trigger
 trigger_at at None = None

@@ -1,13 +1,9 @@
 -- When an instruction can be done.
 use Rattle.std.specs.Prelude.{◌≡◌, ◌<◌, length, slice_get, Some}
 use Rattle.htl_model.specs.Tables.{Tables}
-use Rattle.htl_ecode.specs.declared.ecode.ECode.{ECode}
-use Rattle.htl_ecode.specs.declared.instr.EInstr.{EInstr}
+use Rattle.htl_ecode.specs.{declared.ecode.ECode.ECode, declared.instr.EInstr.EInstr}
 use Rattle.htl_ecode.specs.declared.instr.EInstr.TheVariants as I
-use Rattle.htl_emach.specs.declared.trigger.Block.{Block}
-use Rattle.htl_emach.specs.Contents.{Content}
-use Rattle.htl_emach.specs.Shapes.{HasRoom}
-use Rattle.htl_emach.specs.Calendars.{Calendar, HasModule}
+use Rattle.htl_emach.specs.{declared.trigger.Block.Block, Contents.Content, Shapes.HasRoom, Calendars.Calendar, Calendars.HasModule}
 
 -- an instruction's operands are in range
 abbrev pub Fits : Tables → Calendar → Content → EInstr → Type 0

@@ -1,16 +1,9 @@
 -- That a machine can go on whatever tests answer: where triggers lead, and where a block goes.
 use Rattle.std.specs.Prelude.{◌≡◌, ℕ, ◌<◌, Bool, false, eqb, List, length, slice_get, Option, Some, None, ◌⊎◌}
 use Rattle.htl_model.specs.Tables.{Tables, mode_module}
-use Rattle.htl_ecode.specs.declared.ecode.ECode.{ECode}
-use Rattle.htl_ecode.specs.declared.instr.EInstr.{EInstr}
+use Rattle.htl_ecode.specs.{declared.ecode.ECode.ECode, declared.instr.EInstr.EInstr, Departure.block_at, Departure.entered, Paths.round_end}
 use Rattle.htl_ecode.specs.declared.instr.EInstr.TheVariants as I
-use Rattle.htl_ecode.specs.Departure.{block_at, entered}
-use Rattle.htl_ecode.specs.Paths.{round_end}
-use Rattle.htl_emach.specs.declared.trigger.Trigger.{Trigger}
-use Rattle.htl_emach.specs.declared.trigger.Block.{Block}
-use Rattle.htl_emach.specs.Calendars.{Standing, list_at, goes, entry_of}
-use Rattle.htl_emach.specs.Leading.{HasOutput, HasInput}
-use Rattle.htl_emach.specs.Pending.{IsSized}
+use Rattle.htl_emach.specs.{declared.trigger.Trigger.Trigger, declared.trigger.Block.Block, Calendars.Standing, Calendars.list_at, Calendars.goes, Calendars.entry_of, Leading.HasOutput, Leading.HasInput, Pending.IsSized}
 
 -- a block of the phase in a mode
 abbrev pub StartsIn : Tables → ECode → ℕ → ℕ → ℕ → Type 0

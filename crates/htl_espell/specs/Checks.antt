@@ -1,15 +1,9 @@
 -- What the checker answers of a part of a chain.
 use Rattle.std.specs.Prelude.{ℕ, ◌-◌, length, List, [], ◌∷◌, Option, Some, None, Result, Ok, Err}
-use Rattle.htl_model.specs.Lists.{joined, numbered}
-use Rattle.htl_model.specs.Tables.{Tables, mode_period}
-use Rattle.htl_ecode.specs.declared.instr.EInstr.{EInstr}
+use Rattle.htl_model.specs.{Lists.joined, Lists.numbered, Tables.Tables, Tables.mode_period}
+use Rattle.htl_ecode.specs.{declared.instr.EInstr.EInstr, declared.fault.EFault.EFault, Offsets.phase_offsets, Offsets.next_offset, Jumps.Resolved, Jumps.bind, Jumps.arrives, Steps.Met, Steps.Reached, Steps.reach}
 use Rattle.htl_ecode.specs.declared.instr.EInstr.TheVariants as I
-use Rattle.htl_ecode.specs.declared.fault.EFault.{EFault}
-use Rattle.htl_ecode.specs.Offsets.{phase_offsets, next_offset}
-use Rattle.htl_ecode.specs.Chains.{Requirement, Exactly, NextBlock, EndOfRound, all_do, calls, asks_of, tests_of}
-use Rattle.htl_ecode.specs.Jumps.{Resolved, bind, arrives}
-use Rattle.htl_ecode.specs.Steps.{Met, Reached, reach}
-use Rattle.htl_ecode.specs.Departure.{blocks_from, block_faults}
+use Rattle.htl_ecode.specs.{Chains.Requirement, Chains.Exactly, Chains.NextBlock, Chains.EndOfRound, Chains.all_do, Chains.calls, Chains.asks_of, Chains.tests_of, Departure.blocks_from, Departure.block_faults}
 use Rattle.htl_espell.specs.Parts.{child_wants}
 
 abbrev pub place_of : Result Resolved EFault → Result ℕ EFault

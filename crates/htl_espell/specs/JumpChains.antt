@@ -1,10 +1,7 @@
 -- Chains of plain jumps of which it is known where they lead.
 use Rattle.std.specs.Prelude.{ℕ, zero, suc, ◌≡◌, false, List, get_or, slice_get, Option, Some, None, Result, Ok, Err}
-use Rattle.htl_ecode.specs.declared.instr.EInstr.{EInstr}
-use Rattle.htl_ecode.specs.Jumps.{jump_to}
-use Rattle.htl_ecode.specs.declared.fault.EFault.{EFault}
-use Rattle.htl_espell.specs.declared.chains.JumpChain.{JumpChain}
-use Rattle.htl_espell.specs.declared.resolving.Followed.{Followed}
+use Rattle.htl_ecode.specs.{declared.instr.EInstr.EInstr, Jumps.jump_to, declared.fault.EFault.EFault}
+use Rattle.htl_espell.specs.{declared.chains.JumpChain.JumpChain, declared.resolving.Followed.Followed}
 
 abbrev pub jump_at : List EInstr → ℕ → Option ℕ
 jump_at code a = elim (slice_get code a) [ Some i ↦ jump_to i | None ↦ None ]

@@ -1,26 +1,15 @@
 -- The laws of the exchange, from what the patched tables keep of the host.
 use Rattle.std.proofs.Common.{◌≡◌, ℕ, List, sym, subst}
-use Rattle.htl_exchange.proofs.Words.{Event}
-use Rattle.htl_model.proofs.Words.{AreInRange, KeptApart}
-use Rattle.htl_model.proofs.FrameRules.{kept_apart}
+use Rattle.htl_exchange.proofs.{Words.Event, Cones.Cone, Unreached.unreached, Unreached.untouched, Matches.IsModeIn, Matches.Matches, PatchedMatches.patched_matches, RootPaths.path_same, SameRuns.is_same}
+use Rattle.htl_model.proofs.{Words.AreInRange, Words.KeptApart, FrameRules.kept_apart}
 use Rattle.htl_patch.proofs.Words.{slice_get_within, Formed, IsAccepted, IsInRange, Object, Tables, CanPatch, kept_12, new_numbers, order, patched, place_among, modes_of, root_modules, Replacement, Numbering}
-use Rattle.htl_patch.proofs.Accepting.{IsReplacementOf, can_replace, replacement_is, tables_in_range}
-use Rattle.htl_patch.proofs.Members.{Has}
-use Rattle.htl_patch.proofs.Replacing.{CanReplace, host_root}
-use Rattle.htl_patch.proofs.Renumbering.{mode_there}
+use Rattle.htl_patch.proofs.{Accepting.IsReplacementOf, Accepting.can_replace, Accepting.replacement_is, Accepting.tables_in_range, Members.Has, Replacing.CanReplace, Replacing.host_root, Renumbering.mode_there, EmbeddedPaths.jobs_alike}
 use Rattle.htl_load.specs.Alike.{AreAlike}
 use Rattle.htl_walk.specs.PathJobs.{path_jobs}
-use Rattle.htl_patch.proofs.EmbeddedPaths.{jobs_alike}
 use Rattle.htl_patch.proofs.Rooted.{embedded}
 use Rattle.htl_refine.specs.FrameRuns.{frame_modes, path_of}
-use Rattle.htl_exchange.proofs.Cones.{Cone}
 use Rattle.htl_exchange.specs.Exchange.{AreRootsUnreached, ShowsTheSame, TakesTheSamePath}
-use Rattle.htl_exchange.proofs.Unreached.{unreached, untouched}
-use Rattle.htl_exchange.proofs.Matches.{IsModeIn, Matches}
-use Rattle.htl_exchange.proofs.PatchedMatches.{patched_matches}
-use Rattle.htl_exchange.proofs.RootPaths.{path_same}
 use Rattle.htl_exchange.proofs.SameLines.{are_in, mode_at, mode_text_same, value_text_same}
-use Rattle.htl_exchange.proofs.SameRuns.{is_same}
 
 module _ (o d : Object) (unit mode : List ℕ) (g : Replacement) (accepted : IsAccepted o) (ranged : IsInRange d) (can : CanPatch o d unit mode g) where
   is : IsReplacementOf o.tables d.tables g
@@ -50,12 +39,11 @@ module _ (o d : Object) (unit mode : List ℕ) (g : Replacement) (accepted : IsA
   shows : (es : List Event) (now : ℕ) → ShowsTheSame g.host g es now
   shows es now =
       let both = is_same g.host (patched g) c.host range kept also s _ _ _ matches es now in
-      let modes = mode_text_same g.host (patched g) c.host range kept also s _ _ _ matches es now in
       record {
         values = both.values;
         stays = λ x less free. both.stays x (less, free);
         value_texts = value_text_same g.host (patched g) c.host range kept also s _ _ _ matches es now;
-        mode_texts = λ x less free. modes x (less, free);
+        mode_texts = λ x less free. mode_text_same g.host (patched g) c.host range kept also s _ _ _ matches es now x (less, free);
       }
 
   pub shows_same : (es : List Event) (now : ℕ) → ShowsTheSame o.tables g es now

@@ -5,12 +5,8 @@ use Rattle.htl_base.proofs.Places.{item_at, get_back, get_front, get_mapped, wit
 use Rattle.htl_model.specs.Tables.{fun, function_value, output_function}
 use Rattle.htl_patch.proofs.Words.{flat_map, length-map, same_Some, slice_get-get_or, get_or_from_slice_get, AreInRange, Tables, Fun, function_count, count_at, count_before, switch_function, Joins, Replacement, combined, order, new_numbers, patched, place_among, Numbering, task_at, new_task, new_switch, switch_at, tasks_of, functions_of, function_of_switch}
 use Rattle.htl_object.proofs.Each.{get_take}
-use Rattle.htl_patch.proofs.Members.{Has, none, of_flat, same_or, place_get}
-use Rattle.htl_patch.proofs.Counting.{count_shift, count_within, take_length}
-use Rattle.htl_patch.proofs.Renumbering.{task_there}
-use Rattle.htl_patch.proofs.Replacing.{CanReplace}
-use Rattle.htl_patch.proofs.CombinedTables.{combined_sound}
-use Rattle.htl_patch.proofs.FunctionParts.{functions_here, switch_front}
+use Rattle.htl_patch.proofs.{Members.Has, Members.none, Members.of_flat, Members.same_or, Members.place_get, Counting.count_shift, Counting.count_within, Counting.take_length, Renumbering.task_there, Replacing.CanReplace}
+use Rattle.htl_patch.proofs.{CombinedTables.combined_sound, FunctionParts.functions_here, FunctionParts.switch_front}
 
 -- ---- lists
 
@@ -58,10 +54,9 @@ module _ (g : Replacement) (c : CanReplace g) (j : Joins g) (range : AreInRange 
 
   functions_size : (k : ℕ) (x : Task) → slice_get u.tasks k ≡ Some x → length (functions_of u k) ≡ function_count x
   functions_size k x e =
-      let fits = count_within u.tasks k x e in
       let count = (combined_sound g c j.comms).function_count in
       ap (λ (o : Option Task). length (take (count_at o) (drop (count_before k u.tasks) u.functions))) e
-      ∙ take_length (function_count x) (count_before k u.tasks) u.functions (omega (arith, fits, count))
+      ∙ take_length (function_count x) (count_before k u.tasks) u.functions (omega (arith, count_within u.tasks k x e, count))
 
   new_size : (k : ℕ) → Has n.tasks k → length (functions_of u k) ≡ function_count (new_task n (task_at u k))
   new_size k h =
@@ -79,9 +74,8 @@ module _ (g : Replacement) (c : CanReplace g) (j : Joins g) (range : AreInRange 
       → function_value (patched g) (output_function (patched g) (place_among k n.tasks) o) args ≡ function_value t (output_function t k o) args
   output_same k o x args h at less =
       let here = functions_here g c.host c.donor k x at in
-      let fits = count_within t.tasks k x at in
       let count = c.host.function_count in
-      let size = ap length here ∙ take_length (function_count x) (count_before k t.tasks) t.functions (omega (arith, fits, count)) in
+      let size = ap length here ∙ take_length (function_count x) (count_before k t.tasks) t.functions (omega (arith, count_within t.tasks k x at, count)) in
       ap (value_of args)
       (output_new k o h (omega (arith, less, size)) ∙ ap (λ (fs : List Fun). slice_get fs o) here ∙ get_take (drop (count_before k t.tasks) t.functions) (function_count x) o less ∙ dropped (count_before k t.tasks) o t.functions)
 
@@ -92,14 +86,12 @@ module _ (g : Replacement) (c : CanReplace g) (j : Joins g) (range : AreInRange 
   switch_same k args h less =
       let outs : List Fun = flat_map (functions_of u) n.tasks in
       let rest : List Fun = map (function_of_switch u) n.switches in
-      let all = range.function_count in
       let sum = length-append outs rest in
       let few = length-map n.switches (function_of_switch u) in
       let new = length-map n.switches (λ (k : ℕ). new_switch n (switch_at u k)) in
-      let size : count_before (length (patched g).tasks) (patched g).tasks ≡ length outs = omega (arith, all, sum, few, new) in
+      let size : count_before (length (patched g).tasks) (patched g).tasks ≡ length outs = omega (arith, range.function_count, sum, few, new) in
       let place = place_among k n.switches in
-      let count = c.host.function_count in
       ap (value_of args)
       (ap (λ (i : ℕ). slice_get (outs ++ rest) (i + place)) size ∙ get_back outs rest place ∙ get_mapped (function_of_switch u) n.switches place k (place_get n.switches k h)
       ∙ ap (λ (f : Fun). Some f) (sym (switch_front g c.host c.donor k less))
-      ∙ sym (slice_get-get_or t.functions (switch_function t k) _ (omega (arith, count, less))))
+      ∙ sym (slice_get-get_or t.functions (switch_function t k) _ (omega (arith, c.host.function_count, less))))

@@ -1,18 +1,13 @@
 -- What the cone has of the host, with its new numbers.
 use Rattle.std.proofs.Common.{◌≡◌, ◌<◌, ◌+◌, ℕ, eqb, eq-eqb, List, [], ◌++◌, length, map, slice_get, Option, Some, None, IfSome, refl, sym, ◌∙◌, ap, subst, arith, append-nil}
-use Rattle.htl_exchange.proofs.Words.{Inv, Mode, Module, Switch}
+use Rattle.htl_exchange.proofs.{Words.Inv, Words.Mode, Words.Module, Words.Switch, Cones.Cone, Cones.IsUntouched, KeptModules.module_stays, Matches.IsModeIn, Matches.SameModule}
 use Rattle.htl_model.proofs.Stays.{module_is}
 use Rattle.htl_model.specs.Lines.{mode_name, module_name}
 use Rattle.htl_base.proofs.Places.{item_at, from_map, get_mapped}
 use Rattle.htl_patch.proofs.Words.{slice_get_within, get_or_from_slice_get, get_front, AreApart, IsModeThat, modes_of, mode_of_module, invs_of, inv_of_mode, Tables, mode_module, mode_period, Replacement, combined, donor_module, donor_switch, order, new_numbers, patched, place_among, Numbering, module_at, switch_at, new_mode, new_module, new_inv, new_switch, switches_of, switch_of_mode}
-use Rattle.htl_patch.proofs.Members.{Has, in_flat, in_places_0, places_append, places_nothing, places_map, place_get, place_test}
+use Rattle.htl_patch.proofs.{Members.Has, Members.in_flat, Members.in_places_0, Members.places_append, Members.places_nothing, Members.places_map, Members.place_get, Members.place_test, Replacing.CanReplace, Replacing.order_apart}
 use Rattle.htl_patch.proofs.Renumbering.{invs_new, mode_new, module_new, inv_new, owned_places, modes_apart, switches_apart, switch_owner}
-use Rattle.htl_patch.proofs.Replacing.{CanReplace, order_apart}
 use Rattle.htl_patch.proofs.Rooted.{behind, in_range, inv_at_is, invs_front, mode_at_is, modes_front}
-use Rattle.htl_exchange.proofs.Cones.{Cone}
-use Rattle.htl_exchange.proofs.Cones.{IsUntouched}
-use Rattle.htl_exchange.proofs.KeptModules.{module_stays}
-use Rattle.htl_exchange.proofs.Matches.{IsModeIn, SameModule}
 
 module _ (g : Replacement) (c : CanReplace g) (s : Cone) (a : IsUntouched g s) where
   abbrev apart : AreApart (order g)

@@ -1,15 +1,10 @@
 -- The modules of the cone stay in the patched program: with each those above it, and none stands under the patched mode.
 use Rattle.std.proofs.Common.{◌≡◌, ◌<◌, ℕ, zero, suc, Bool, true, false, not, ◌||◌, eqb, eq-eqb, List, map, slice_get, Option, Some, None, IfSome, refl, sym, ◌∙◌, ◌+◌, ap, subst, arith}
-use Rattle.htl_exchange.proofs.Words.{Module}
-use Rattle.htl_model.proofs.Stays.{module_is}
-use Rattle.htl_model.proofs.TestLaws.{and_true}
+use Rattle.htl_exchange.proofs.{Words.Module, Cones.Cone, Cones.IsUntouched}
+use Rattle.htl_model.proofs.{Stays.module_is, TestLaws.and_true}
 use Rattle.htl_patch.proofs.Words.{same_Some, get_front, ne_eqb, IsModeThat, is_within, is_root, parent_of, numbered, root_modules, modes_of, mode_of_module, Tables, mode_module, Replacement, combined, donor_mode, donor_module, order, below, children, mode_children, is_under, refines, is_donors}
 use Rattle.htl_model.specs.Selected.{is_at}
-use Rattle.htl_patch.proofs.Members.{Has, none, in_flat, of_flat, in_places_0}
-use Rattle.htl_patch.proofs.Replacing.{CanReplace}
-use Rattle.htl_patch.proofs.Transfers.{in_numbered}
-use Rattle.htl_exchange.proofs.Cones.{Cone}
-use Rattle.htl_exchange.proofs.Cones.{IsUntouched}
+use Rattle.htl_patch.proofs.{Members.Has, Members.none, Members.in_flat, Members.of_flat, Members.in_places_0, Replacing.CanReplace, Transfers.in_numbered}
 
 -- ---- levels
 

@@ -1,25 +1,16 @@
 -- What the invocations of the cone put out is what they put out.
 use Rattle.std.proofs.Common.{◌≡◌, ◌<◌, ◌+◌, ◌*◌, ℕ, zero, suc, Bool, true, false, cond, eqb, List, [], ◌∷◌, length, map, slice_get, Option, Some, None, option_map, ℤ, pos, refl, sym, ◌∙◌, ap, subst, arith, All}
-use Rattle.htl_exchange.proofs.Words.{End, Inv, Task, input_value, out, out_by, port_output, writer_from}
+use Rattle.htl_exchange.proofs.{Words.End, Words.Inv, Words.Task, Words.input_value, Words.out, Words.out_by, Words.port_output, Words.writer_from, Cones.Cone, Cones.ComesFrom, Cones.IsUntouched, Matches.IsModeIn, Matches.SeenSame}
 use Rattle.htl_base.specs.declared.Ty.{Ty}
 use Rattle.htl_model.specs.declared.parts.End.TheVariants as E
 use Rattle.htl_model.proofs.Words.{KeptApart, is_concrete, comm_period}
 use Rattle.htl_model.specs.Tables.{function_value, output_function}
 use Rattle.htl_base.proofs.Places.{map_same}
 use Rattle.htl_patch.proofs.Words.{same_Some, slice_get_within, get_or_from_slice_get, all_at, AreInRange, Tables, function_count, invs_of, inv_of_mode, Joins, Replacement, donor_inv, get_front, mode_module, new_numbers, patched, place_among, places_from, Numbering, inv_at, new_end, new_inv}
-use Rattle.htl_patch.proofs.Members.{Has, map_map, place_test}
-use Rattle.htl_patch.proofs.Renumbering.{inv_there}
-use Rattle.htl_patch.proofs.Replacing.{CanReplace}
-use Rattle.htl_exchange.proofs.Cones.{Cone}
-use Rattle.htl_exchange.proofs.Cones.{ComesFrom, IsUntouched}
+use Rattle.htl_patch.proofs.{Members.Has, Members.map_map, Members.place_test, Renumbering.inv_there, Replacing.CanReplace, Rooted.AreKept, Rooted.IsKept, Rooted.ends_kept, Rooted.in_range}
 use Rattle.htl_runs.proofs.values.JobOutputs.{writer_is}
-use Rattle.htl_emach.proofs.Completing.{concrete_task}
-use Rattle.htl_emach.proofs.Soundness.{has_ends}
-use Rattle.htl_exchange.proofs.Matches.{IsModeIn, SeenSame}
-use Rattle.htl_exchange.proofs.KeptItems.{inv_has, inv_mode_in, invs_same, mode_has, new_inv_there}
-use Rattle.htl_patch.proofs.Rooted.{AreKept, IsKept, ends_kept, in_range}
-use Rattle.htl_exchange.proofs.KeptFunctions.{output_same}
-use Rattle.htl_exchange.proofs.TakenInvs.{task_taken}
+use Rattle.htl_emach.proofs.{Completing.concrete_task, Soundness.has_ends}
+use Rattle.htl_exchange.proofs.{KeptItems.inv_has, KeptItems.inv_mode_in, KeptItems.invs_same, KeptItems.mode_has, KeptItems.new_inv_there, KeptFunctions.output_same, TakenInvs.task_taken}
 
 -- the first writer of a port among these invocations, with the place of its output
 abbrev pub first_writer : Tables → ℕ → List ℕ → Option (ℕ × ℕ)
@@ -51,10 +42,7 @@ output_task : (t : Tables) (k o : ℕ) (x : Inv) → AreInRange t → KeptApart 
     → (y : Task) × (slice_get t.tasks x.task ≡ Some y) × (o < function_count y)
 output_task t k o x range kept at concrete less =
     let y = concrete_task t k x range at concrete in
-    let many = (has_ends t 12 (omega arith) range kept).writes k x at in
-    let types = ap (λ (z : List Ty). length z) y.outs in
-    let count = y.count in
-    (y.task, y.at, omega (arith, less, many, types, count))
+    (y.task, y.at, omega (arith, less, (has_ends t 12 (omega arith) range kept).writes k x at, ap (λ (z : List Ty). length z) y.outs, y.count))
 
 module _ (g : Replacement) (c : CanReplace g) (j : Joins g) (range : AreInRange (patched g)) (kept : KeptApart g.host 12) (s : Cone) (a : IsUntouched g s) where
   abbrev t : Tables
@@ -112,11 +100,9 @@ module _ (g : Replacement) (c : CanReplace g) (j : Joins g) (range : AreInRange 
   out_same f h seen (suc steps) k start o x inside at less =
       let r = a.invs k inside in
       let same : r.0 ≡ x = same_Some r.0 x (sym r.1 ∙ at) in
-      let owner = subst (λ (y : Inv). s.modules (mode_module t y.mode)) same r.2.owner in
-      let concrete = subst (λ (y : Inv). is_concrete t y ≡ true) same r.2.concrete in
       let reads = subst (λ (y : Inv). All (ComesFrom t s) y.reads) same r.2.reads in
-      let is = inv_mode_in g c s a k x at owner in
-      let task = output_task t k o x c.host kept at concrete less in
+      let is = inv_mode_in g c s a k x at (subst (λ (y : Inv). s.modules (mode_module t y.mode)) same r.2.owner) in
+      let task = output_task t k o x c.host kept at (subst (λ (y : Inv). is_concrete t y ≡ true) same r.2.concrete) less in
       let made : ℕ → ℕ → ℤ = λ w q. out steps t f w start q in
       let others : ℕ → ℕ → ℤ = λ w q. out steps (patched g) h w start q in
       let has = inv_has g c s a k x at is in

@@ -1,18 +1,11 @@
 -- A mode of the cone is switched to what it was switched to.
 use Rattle.std.proofs.Common.{◌≡◌, subst, sym, ◌+◌, ℕ, suc, Bool, true, false, cond, not, ◌&&◌, eqb, List, [], ◌∷◌, map, get_or, slice_get, Some, ℤ, pos, refl, ◌∙◌, ap, arith}
-use Rattle.htl_exchange.proofs.Words.{Switch, switch_holds, target, target_from}
-use Rattle.htl_model.specs.Functions.{is_zero}
-use Rattle.htl_model.specs.Tables.{function_value}
+use Rattle.htl_exchange.proofs.{Words.Switch, Words.switch_holds, Words.target, Words.target_from, Cones.Cone, Cones.IsUntouched, Matches.IsModeIn, Matches.owner_in, Matches.SameOn, KeptFunctions.switch_same}
+use Rattle.htl_model.specs.{Functions.is_zero, Tables.function_value}
 use Rattle.htl_base.proofs.Places.{map_same}
 use Rattle.htl_patch.proofs.Words.{slice_get_within, get_or_from_slice_get, all_at, AreInRange, Tables, mode_module, switch_function, Joins, Replacement, new_numbers, patched, place_among, places_from, Numbering, new_switch, switch_at, switches_of, switch_of_mode}
-use Rattle.htl_patch.proofs.Members.{Has}
-use Rattle.htl_patch.proofs.Renumbering.{switch_there}
-use Rattle.htl_patch.proofs.Replacing.{CanReplace}
-use Rattle.htl_exchange.proofs.Cones.{Cone}
-use Rattle.htl_exchange.proofs.Cones.{IsUntouched}
-use Rattle.htl_exchange.proofs.Matches.{IsModeIn, owner_in, SameOn}
+use Rattle.htl_patch.proofs.{Members.Has, Renumbering.switch_there, Replacing.CanReplace}
 use Rattle.htl_exchange.proofs.KeptItems.{switches_new, switch_has, switch_new}
-use Rattle.htl_exchange.proofs.KeptFunctions.{switch_same}
 
 -- the mode that the first of these switches that holds names; m where none holds
 abbrev pub first_target : Tables → List ℤ → ℕ → List ℕ → ℕ
@@ -51,8 +44,7 @@ module _ (g : Replacement) (c : CanReplace g) (j : Joins g) (range : AreInRange 
   holds_same : (v w : List ℤ) (m k : ℕ) (x : Switch) → SameOn s v w → IsModeIn t s m → Has (switches_of t m) k → slice_get t.switches k ≡ Some x → x.mode ≡ m
       → switch_holds (patched g) w (place_among k n.switches) (new_switch n x) ≡ switch_holds t v k x
   holds_same v w m k x same is h at mode =
-      let inside : s.modules (mode_module t x.mode) = subst (λ y. s.modules (mode_module t y)) (sym mode) (owner_in t s m is) in
-      let reads = a.switches k x at inside in
+      let reads = a.switches k x at (subst (λ y. s.modules (mode_module t y)) (sym mode) (owner_in t s m is)) in
       let args : map (λ c. get_or w c (pos 0)) x.reads ≡ map (λ c. get_or v c (pos 0)) x.reads =
       map_same (λ c. get_or w c (pos 0)) (λ c. get_or v c (pos 0)) x.reads (λ i c e. same c (all_at s.comms x.reads i c reads e)) in
       ap (λ (z : ℤ). not (is_zero z))

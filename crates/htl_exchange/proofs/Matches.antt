@@ -1,11 +1,9 @@
 -- Two tables of which one has a part of the other under other numbers.
 use Rattle.std.proofs.Common.{◌≡◌, subst, sym, ℕ, ◌<◌, true, eqb, List, length, get_or, slice_get, Some, ℤ, pos, option_map}
-use Rattle.htl_exchange.proofs.Words.{Inv, Mode, Module, Stay, out, target}
-use Rattle.htl_model.proofs.Words.{Tables, is_concrete, mode_module, mode_period}
+use Rattle.htl_exchange.proofs.{Words.Inv, Words.Mode, Words.Module, Words.Stay, Words.out, Words.target, Cones.Cone}
+use Rattle.htl_model.proofs.{Words.Tables, Words.is_concrete, Words.mode_module, Words.mode_period, Stays.module_is}
 use Rattle.htl_model.specs.declared.parts.End.TheVariants as E
 use Rattle.htl_model.specs.Lines.{mode_name, module_name}
-use Rattle.htl_model.proofs.Stays.{module_is}
-use Rattle.htl_exchange.proofs.Cones.{Cone}
 
 -- a mode of a module of the cone
 pub record IsModeIn (t : Tables) (s : Cone) (m : ℕ) : Type 0 where

@@ -1,17 +1,12 @@
 -- The patched program has the cone of the host under new numbers.
 use Rattle.std.proofs.Common.{◌≡◌, ℕ, true, map, slice_get, Some, refl, sym, ◌∙◌, ap}
-use Rattle.htl_exchange.proofs.Words.{Inv}
+use Rattle.htl_exchange.proofs.{Words.Inv, Cones.Cone, Cones.IsUntouched, Matches.IsWrittenBy, Matches.Matches, Matches.SameInv, KeptOutputs.out_same, KeptTargets.target_same}
 use Rattle.htl_model.specs.declared.parts.End.TheVariants as E
 use Rattle.htl_model.proofs.Words.{KeptApart, is_concrete}
 use Rattle.htl_base.proofs.Places.{get_mapped}
 use Rattle.htl_patch.proofs.Words.{AreInRange, Tables, Joins, Replacement, donor_end, new_numbers, order, patched, place_among, get_front, donor_inv, Numbering, new_end, new_inv}
 use Rattle.htl_patch.proofs.Replacing.{CanReplace}
-use Rattle.htl_exchange.proofs.Cones.{Cone}
-use Rattle.htl_exchange.proofs.Cones.{IsUntouched}
-use Rattle.htl_exchange.proofs.Matches.{IsWrittenBy, Matches, SameInv}
 use Rattle.htl_exchange.proofs.KeptItems.{inv_has, inv_mode_in, mode_name_same, module_name_same, new_inv_there, owner_same, period_same, same_module, test_same}
-use Rattle.htl_exchange.proofs.KeptOutputs.{out_same}
-use Rattle.htl_exchange.proofs.KeptTargets.{target_same}
 use Rattle.htl_exchange.proofs.TakenInvs.{Origin, hosts, donors, concrete_host, concrete_taken, donors_end, old_end, origin}
 
 module _ (g : Replacement) (c : CanReplace g) (j : Joins g) (range : AreInRange (patched g)) (kept : KeptApart g.host 12) (s : Cone) (a : IsUntouched g s) where

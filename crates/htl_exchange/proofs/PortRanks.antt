@@ -2,11 +2,9 @@
 use Rattle.std.proofs.Common.{◌≡◌, ℕ, zero, suc, ◌+◌, ◌<◌, Bool, true, false, length, slice_get, Some, ℤ, refl, sym, ap, ◌∙◌, arith}
 use Rattle.htl_model.proofs.Words.{slice_get_within, count_below, Tables, AreInRange, KeptApart, PortCycles, Precedes, direct, through, feeds, is_concrete, out}
 use Rattle.htl_exchange.proofs.Words.{Inv, writer_from}
-use Rattle.htl_model.proofs.NumbersBelow.{count_strict}
-use Rattle.htl_model.proofs.PortChains.{no_cycle, precedes, precedes_says, precedes_finds}
+use Rattle.htl_model.proofs.{NumbersBelow.count_strict, PortChains.no_cycle, PortChains.precedes, PortChains.precedes_says, PortChains.precedes_finds}
 use Rattle.htl_runs.specs.values.Values.{Orders}
-use Rattle.htl_runs.proofs.values.JobOutputs.{writer_is, below_less, out_stable}
-use Rattle.htl_runs.proofs.values.PortWriters.{fed}
+use Rattle.htl_runs.proofs.{values.JobOutputs.writer_is, values.JobOutputs.below_less, values.JobOutputs.out_stable, values.PortWriters.fed}
 
 module _ (t : Tables) (range : AreInRange t) (kept : KeptApart t 12) where
   -- how many invocations precede one
@@ -33,8 +31,7 @@ module _ (t : Tables) (range : AreInRange t) (kept : KeptApart t 12) where
   pub out_enough : (seen : ℕ → ℕ → ℤ) (i s k : ℕ) (x : Inv) → slice_get t.invs i ≡ Some x → is_concrete t x ≡ true → (n more : ℕ) → n ≡ more + length t.invs → out n t seen i s k ≡ out (length t.invs) t seen i s k
   out_enough seen i s k x at con n zero e = let same : n ≡ length t.invs = omega (arith, e) in ap (λ (z : ℕ). out z t seen i s k) same
   out_enough seen i s k x at con n (suc more) e =
-      let same : n ≡ suc (more + length t.invs) = omega (arith, e) in
-      ap (λ (z : ℕ). out z t seen i s k) same
+      ap (λ (z : ℕ). out z t seen i s k) {y = suc (more + length t.invs)} (omega (arith, e))
       ∙ sym (out_stable t range kept seen x.mode s rank (ranks_rise x.mode) (more + length t.invs) i k x at con refl
       (let h = below_less rank i (length t.invs) (slice_get_within t.invs i x at) in omega (arith, h)))
       ∙ out_enough seen i s k x at con (more + length t.invs) more refl

@@ -1,15 +1,10 @@
 -- Each frame takes the path that it took, where all root modules are in the cone.
 use Rattle.std.proofs.Common.{◌≡◌, ℕ, suc, ◌+◌, ◌*◌, cond, eqb, List, [], ◌∷◌, map, Option, Some, None, option_map, refl, sym, ap, ap₂, ◌∙◌}
 use Rattle.htl_exchange.proofs.Words.{Event, Stay, mode_in_state, mode_of, state, stay_of}
-use Rattle.htl_model.specs.declared.frame.Round.{Round}
-use Rattle.htl_model.specs.Selected.{entry}
-use Rattle.htl_refine.specs.FrameRuns.{frame_modes, path_in, path_of}
-use Rattle.htl_refine.specs.Records.{modes_at}
-use Rattle.htl_refine.specs.Roots.{entry_place, place_among}
+use Rattle.htl_model.specs.{declared.frame.Round.Round, Selected.entry}
+use Rattle.htl_refine.specs.{FrameRuns.frame_modes, FrameRuns.path_in, FrameRuns.path_of, Records.modes_at, Roots.entry_place, Roots.place_among}
 use Rattle.htl_runs.proofs.frames.PlacedStays.{entry_is}
-use Rattle.htl_patch.proofs.Words.{Tables, choices, modes_of, root_modules, rounds, starts}
-use Rattle.htl_patch.proofs.Members.{Has}
-use Rattle.htl_patch.proofs.Embedded.{Embeds}
+use Rattle.htl_patch.proofs.{Words.Tables, Words.choices, Words.modes_of, Words.root_modules, Words.rounds, Words.starts, Members.Has, Embedded.Embeds}
 use Rattle.htl_patch.proofs.EmbeddedPaths.{AreOfRoots, all_of, choices_same, later, moved, rounds_same}
 
 -- the place of a number among its likes, where no two of them become one

@@ -1,13 +1,10 @@
 -- The lines of the part are the same.
 use Rattle.std.proofs.Common.{◌≡◌, ℕ, zero, suc, Bool, true, false, cond, not, ◌||◌, eqb, List, [], ◌∷◌, ◌++◌, codes, decimal, subst, Option, Some, None, ℤ, option_map, refl, ap, ap₂, ◌∙◌}
-use Rattle.htl_exchange.proofs.Words.{Comm, Event, ModeLine, Stay, ValueLine, before, mode_in_state, mode_of, same_mode, state, stay_of, value_in}
+use Rattle.htl_exchange.proofs.{Words.Comm, Words.Event, Words.ModeLine, Words.Stay, Words.ValueLine, Words.before, Words.mode_in_state, Words.mode_of, Words.same_mode, Words.state, Words.stay_of, Words.value_in, Cones.Cone}
 use Rattle.htl_model.proofs.Words.{AreInRange, KeptApart, Tables}
-use Rattle.htl_model.specs.Functions.{same}
-use Rattle.htl_model.specs.Lines.{line_text, lines_text, shown_mode}
-use Rattle.htl_exchange.proofs.Cones.{Cone}
+use Rattle.htl_model.specs.{Functions.same, Lines.line_text, Lines.lines_text, Lines.shown_mode}
 use Rattle.htl_exchange.specs.Texts.{mode_text, value_text}
-use Rattle.htl_exchange.proofs.Matches.{IsModeIn, Matches, moved}
-use Rattle.htl_exchange.proofs.SameRuns.{is_same, real_at}
+use Rattle.htl_exchange.proofs.{Matches.IsModeIn, Matches.Matches, Matches.moved, SameRuns.is_same, SameRuns.real_at}
 
 module _ (t u : Tables) (range : AreInRange t) (other : AreInRange u) (kept : KeptApart t 12) (also : KeptApart u 12) (s : Cone) (unit mode invocation : ℕ → ℕ) (e : Matches t u s unit mode invocation) (es : List Event) where
   -- ---- values

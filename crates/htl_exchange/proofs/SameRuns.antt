@@ -1,14 +1,10 @@
 -- At each instant the part shows the same.
 use Rattle.std.proofs.Common.{◌≡◌, ◌⊎◌, inl, inr, ℕ, zero, suc, ◌*◌, ◌/◌, ◌<◌, ◌≤◌, cond, ltb, List, [], get_or, slice_get, Option, Some, None, ℤ, pos, refl, sym, ap, ap₂, ◌∙◌, arith}
-use Rattle.htl_exchange.proofs.Words.{Comm, Event, Stay, State, state, val, sense, last_sense, stay_of, next_value, next_values, first_value, written}
-use Rattle.htl_model.proofs.Words.{AreInRange, KeptApart, Tables, cases_at_most, cases_lt, le-ltb, subst}
-use Rattle.htl_model.proofs.Laws.{state_step, seen_before}
-use Rattle.htl_exchange.proofs.Cones.{Cone}
+use Rattle.htl_exchange.proofs.{Words.Comm, Words.Event, Words.Stay, Words.State, Words.state, Words.val, Words.sense, Words.last_sense, Words.stay_of, Words.next_value, Words.next_values, Words.first_value, Words.written, Cones.Cone}
+use Rattle.htl_model.proofs.{Words.AreInRange, Words.KeptApart, Words.Tables, Words.cases_at_most, Words.cases_lt, Words.le-ltb, Words.subst, Laws.state_step, Laws.seen_before}
 use Rattle.htl_refine.proofs.Standing.{standing_at}
 use Rattle.htl_runs.proofs.values.OneWriter.{distinct}
-use Rattle.htl_exchange.proofs.Matches.{IsModeIn, Matches, SameOn, SeenSame}
-use Rattle.htl_exchange.proofs.SameStays.{StaysSame, next_same, stay_in}
-use Rattle.htl_exchange.proofs.SameValues.{written_same, value_at, first_at}
+use Rattle.htl_exchange.proofs.{Matches.IsModeIn, Matches.Matches, Matches.SameOn, Matches.SeenSame, SameStays.StaysSame, SameStays.next_same, SameStays.stay_in, SameValues.written_same, SameValues.value_at, SameValues.first_at}
 
 module _ (t u : Tables) (range : AreInRange t) (other : AreInRange u) (kept : KeptApart t 12) (also : KeptApart u 12) (s : Cone) (unit mode invocation : ℕ → ℕ) (e : Matches t u s unit mode invocation) (es : List Event) where
   sense_same : (c at : ℕ) → sense u es c at ≡ sense t es c at

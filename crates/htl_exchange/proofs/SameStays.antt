@@ -1,10 +1,8 @@
 -- The modules of the part are in the same rounds.
 use Rattle.std.proofs.Common.{◌≡◌, subst, sym, ℕ, zero, suc, ◌+◌, ◌<◌, Bool, true, false, eqb, List, length, slice_get, Option, Some, None, ℤ, option_map, refl, ap, ◌∙◌, arith}
-use Rattle.htl_exchange.proofs.Words.{Module, Stay, go_on, go_on_or_begin, next_stay, runs, stay_of, stays_at, stays_to, target}
-use Rattle.htl_model.proofs.Words.{AreInRange, Tables, slice_get_within, mode_module, mode_period}
-use Rattle.htl_model.proofs.Stays.{stay_at, module_is}
+use Rattle.htl_exchange.proofs.{Words.Module, Words.Stay, Words.go_on, Words.go_on_or_begin, Words.next_stay, Words.runs, Words.stay_of, Words.stays_at, Words.stays_to, Words.target, Cones.Cone}
+use Rattle.htl_model.proofs.{Words.AreInRange, Words.Tables, Words.slice_get_within, Words.mode_module, Words.mode_period, Stays.stay_at, Stays.module_is}
 use Rattle.htl_base.proofs.Places.{item_at}
-use Rattle.htl_exchange.proofs.Cones.{Cone}
 use Rattle.htl_refine.proofs.Standing.{IsStanding, lower_is, parent_lower}
 use Rattle.htl_exchange.proofs.Matches.{IsModeIn, owner_in, Matches, SameModule, SameOn, moved}
 
@@ -31,9 +29,8 @@ next_is t range v now old k x at =
     by : (p : Option ℕ) → x.parent ≡ p → k < length t.modules → by_parent t (stays_to t v now old k) there p ≡ by_parent t (stays_at t v now old) there p
     by None e within = refl
     by (Some m) e within =
-        let less : mode_module t m < k = parent_lower t range k m x at e in
         ap (λ (o : Option Stay). elim (in_mode m o) as (λ _. Option Stay) [ true ↦ there | false ↦ None ])
-        (sym (lower_is t v now old k (length t.modules) (mode_module t m) less (omega (arith, within))))
+        (sym (lower_is t v now old k (length t.modules) (mode_module t m) (parent_lower t range k m x at e) (omega (arith, within))))
 
 module _ (t u : Tables) (range : AreInRange t) (other : AreInRange u) (s : Cone) (unit mode invocation : ℕ → ℕ) (e : Matches t u s unit mode invocation) where
   -- where a module of the part is, elsewhere

@@ -1,18 +1,13 @@
 -- The communicators of the part have the same values.
 use Rattle.std.proofs.Common.{◌≡◌, inl, inr, ℕ, ◌+◌, ◌*◌, ◌≤◌, true, eqb, eqb-true, eq-eqb, List, length, get_or, slice_get, Option, Some, None, ℤ, pos, option_map, refl, sym, ap, ◌∙◌, arith}
 use Rattle.htl_exchange.proofs.Words.{Comm, Inv, Stay, Write, out, stay_of, write_from, written, written_by, next_value, next_values, first_value, first_values}
-use Rattle.htl_model.proofs.Words.{AreInRange, KeptApart, Tables, comm_period, cases_lt, list_to, mode_module, slice_get_within}
-use Rattle.htl_model.proofs.Listed.{get_list_to, length-list_to}
-use Rattle.htl_base.proofs.Words.{get_or_past}
+use Rattle.htl_model.proofs.{Words.AreInRange, Words.KeptApart, Words.Tables, Words.comm_period, Words.cases_lt, Words.list_to, Words.mode_module, Words.slice_get_within, Listed.get_list_to, Listed.length-list_to}
+use Rattle.htl_base.proofs.{Words.get_or_past, Words.same_Some}
 use Rattle.std.proofs.lemmas.Option.{slice_get_past}
-use Rattle.htl_exchange.proofs.Cones.{Cone}
+use Rattle.htl_exchange.proofs.{Cones.Cone, Matches.IsModeIn, Matches.owner_in, Matches.Matches, Matches.SameOn, Matches.SeenSame, Matches.moved, PortRanks.out_enough, SameStays.StaysSame, SameStays.stay_in}
 use Rattle.htl_runs.specs.values.Values.{AreDistinct, IsDue}
 use Rattle.htl_refine.proofs.Standing.{IsStanding}
 use Rattle.htl_runs.proofs.values.DueWrites.{found_write, no_due}
-use Rattle.htl_base.proofs.Words.{same_Some}
-use Rattle.htl_exchange.proofs.Matches.{IsModeIn, owner_in, Matches, SameOn, SeenSame, moved}
-use Rattle.htl_exchange.proofs.PortRanks.{out_enough}
-use Rattle.htl_exchange.proofs.SameStays.{StaysSame, stay_in}
 
 -- two writes of one invocation that are due are of one round
 one_start : (t : Tables) (stays : List (Option Stay)) (now i j k l c d : ℕ) (a : IsDue t stays now i k c) (b : IsDue t stays now j l d) → i ≡ j → a.start ≡ b.start
@@ -72,7 +67,6 @@ module _ (t u : Tables) (range : AreInRange t) (other : AreInRange u) (kept : Ke
       let w = e.others l k c d.instance d.inv d.stands.known d.stands.concrete d.end inside in
       let r = e.invs w.number w.inside in
       let is : r.other ≡ d.inv = same_Some r.other d.inv (sym r.elsewhere ∙ ap (slice_get u.invs) (sym w.is) ∙ d.stands.known) in
-      let one : w.inv ≡ r.inv = same_Some w.inv r.inv (sym w.there ∙ r.there) in
       let there : option_map (moved mode) (stay_of stays (mode_module t r.inv.mode)) ≡ Some (record { mode = mode r.inv.mode; start = d.start }) =
       sym (stay_same r.inv.mode r.owner) ∙ ap (λ m. stay_of others (mode_module u m)) (sym r.mode_is) ∙ ap (λ (x : Inv). stay_of others (mode_module u x.mode)) is
       ∙ d.stands.in_round ∙ ap (λ (x : Inv). Some (record { mode = x.mode; start = d.start })) (sym is) ∙ ap (λ (m : ℕ). Some (record { mode = m; start = d.start })) r.mode_is in
@@ -87,7 +81,7 @@ module _ (t u : Tables) (range : AreInRange t) (other : AreInRange u) (kept : Ke
             concrete = r.concrete;
             in_round = by r.inv.mode d.start r.owner (stay_of stays (mode_module t r.inv.mode)) refl there;
           };
-          end = ap (λ (x : Inv). slice_get x.writes k) (sym one) ∙ w.end;
+          end = ap (λ (x : Inv). slice_get x.writes k) (sym (same_Some w.inv r.inv (sym w.there ∙ r.there))) ∙ w.end;
           at = ap (λ p. d.start + d.instance * p) (sym (period_same c)) ∙ d.at;
         };
       }
@@ -111,12 +105,10 @@ module _ (t u : Tables) (range : AreInRange t) (other : AreInRange u) (kept : Ke
       by : (a b : Option Write) → write_from t stays c now 0 t.invs ≡ a → write_from u others c now 0 u.invs ≡ b → written_by u h older c b ≡ written_by t f old c a
       by None None p q = was c inside
       by None (Some w) p q =
-          let d = found_write u others c now 0 u.invs w (all u) q in
-          let r = due_here w.inv w.output c d.0 inside in
+          let r = due_here w.inv w.output c (found_write u others c now 0 u.invs w (all u) q).0 inside in
           absurd (no_due t stays c now p r.number w.output r.due)
       by (Some w) None p q =
-          let d = found_write t stays c now 0 t.invs w (all t) p in
-          let r = due_there w.inv w.output c d.0 inside in
+          let r = due_there w.inv w.output c (found_write t stays c now 0 t.invs w (all t) p).0 inside in
           absurd (no_due u others c now q (invocation w.inv) w.output r.due)
       by (Some w) (Some v) p q =
           let d = found_write t stays c now 0 t.invs w (all t) p in

@@ -2,15 +2,11 @@
 use Rattle.std.proofs.Common.{◌≡◌, ◌+◌, inl, inr, ℕ, Bool, true, false, not, eq-eqb, List, length, map, slice_get, Option, Some, None, sym, ◌∙◌, ap, subst}
 use Rattle.htl_exchange.proofs.Words.{End, Inv, Task}
 use Rattle.htl_model.specs.declared.parts.End.TheVariants as E
-use Rattle.htl_model.proofs.Stays.{module_is}
-use Rattle.htl_model.proofs.Words.{is_concrete}
+use Rattle.htl_model.proofs.{Stays.module_is, Words.is_concrete}
 use Rattle.htl_base.proofs.Places.{get_back, get_mapped}
 use Rattle.htl_patch.proofs.Words.{from_map, same_Some, all_at, get_or_from_slice_get, get_front, AreApart, IsInvInRange, Tables, mode_module, modes_of, invs_of, Joins, is_transferred, Replacement, combined, donor_inv, donor_task, donor_end, order, new_numbers, patched, place_among, Numbering, inv_at, task_at, new_end, new_inv, new_task, tasks_of, task_of_module}
-use Rattle.htl_patch.proofs.Members.{Has, of_flat, in_flat, in_places_0, place_at}
-use Rattle.htl_patch.proofs.Renumbering.{mode_there, inv_there, task_new, invs_apart}
-use Rattle.htl_patch.proofs.Replacing.{CanReplace, order_apart}
-use Rattle.htl_patch.proofs.CombinedTables.{combined_sound, guest_owner, sided}
-use Rattle.htl_patch.proofs.Transfers.{transferred_true}
+use Rattle.htl_patch.proofs.{Members.Has, Members.of_flat, Members.in_flat, Members.in_places_0, Members.place_at, Renumbering.mode_there, Renumbering.inv_there, Renumbering.task_new, Renumbering.invs_apart, Transfers.transferred_true}
+use Rattle.htl_patch.proofs.{Replacing.CanReplace, Replacing.order_apart, CombinedTables.combined_sound, CombinedTables.guest_owner, CombinedTables.sided}
 
 -- an end that is an instance in the new tables is one in the old ones
 pub old_end : (n : Numbering) (ends : List End) (j c k : ℕ) → slice_get (map (new_end n) ends) j ≡ Some (E.Comm c k) → slice_get ends j ≡ Some (E.Comm c k)
@@ -48,8 +44,7 @@ module _ (g : Replacement) (c : CanReplace g) (j : Joins g) where
       let i = inv_there u r.0 k r.2 in
       let q = of_flat (modes_of u) (order g) r.0 r.1 in
       let m = mode_there u q.0 r.0 q.2 in
-      let mode : x.mode ≡ r.0 = ap (λ (y : Inv). y.mode) (same_Some x i.0 (sym at ∙ i.1)) ∙ i.2 in
-      subst (Has (order g)) (sym (ap (mode_module u) mode ∙ module_is u r.0 m.0 m.1 ∙ m.2)) q.1
+      subst (Has (order g)) (sym (ap (mode_module u) (ap (λ (y : Inv). y.mode) (same_Some x i.0 (sym at ∙ i.1)) ∙ i.2) ∙ module_is u r.0 m.0 m.1 ∙ m.2)) q.1
 
   -- and so is its task
   pub task_taken : (k : ℕ) (x : Inv) → Has n.invs k → slice_get u.invs k ≡ Some x → Has n.tasks x.task
@@ -61,9 +56,8 @@ module _ (g : Replacement) (c : CanReplace g) (j : Joins g) where
   pub concrete_taken : (k : ℕ) (x : Inv) → Has n.invs k → slice_get u.invs k ≡ Some x → is_concrete (patched g) (new_inv n x) ≡ is_concrete u x
   concrete_taken k x h at =
       let r = ((combined_sound g c j.comms).invs k x at).task in
-      let same : task_at u x.task ≡ r.0 = get_or_from_slice_get u.tasks x.task r.0 _ r.1 in
       let new : slice_get (patched g).tasks (place_among x.task n.tasks) ≡ Some (new_task n r.0) =
-      task_new u (order g) apart x.task (task_taken k x h at) ∙ ap (λ (y : Task). Some (new_task n y)) same in
+      task_new u (order g) apart x.task (task_taken k x h at) ∙ ap (λ (y : Task). Some (new_task n y)) (get_or_from_slice_get u.tasks x.task r.0 _ r.1) in
       ap concrete_task new ∙ sym (ap concrete_task r.1)
 
   pub concrete_host : (k : ℕ) (x : Inv) → slice_get g.host.invs k ≡ Some x → is_concrete u x ≡ is_concrete g.host x
@@ -90,10 +84,9 @@ module _ (g : Replacement) (c : CanReplace g) (j : Joins g) where
       let q = of_flat (invs_of u) n.modes k h in
       let i = inv_there u q.0 k q.2 in
       let is : y ≡ new_inv n i.0 = sym r.2 ∙ ap (new_inv n) (get_or_from_slice_get u.invs k i.0 _ i.1) in
-      let place : l ≡ place_among k n.invs = sym (place_at n.invs l k (invs_apart u (order g) apart) r.1) in
       let test : is_concrete (patched g) y ≡ is_concrete u i.0 = ap (is_concrete (patched g)) is ∙ concrete_taken k i.0 h i.1 in
       elim (sided (donor_inv g) g.host.invs g.donor.invs k i.0 i.1) [
-        | inl at ↦ hosts k i.0 place at is (test ∙ concrete_host k i.0 at)
+        | inl at ↦ hosts k i.0 (sym (place_at n.invs l k (invs_apart u (order g) apart) r.1)) at is (test ∙ concrete_host k i.0 at)
         | inr b ↦ (let own : Has (order g) (mode_module u i.0.mode) = owner_taken k i.0 h i.1 in
             let low = (all_at (IsInvInRange g.donor) g.donor.invs b.0 b.1 c.donor.invs b.3).owner in
             let unit : mode_module u i.0.mode ≡ length g.host.modules + mode_module g.donor b.1.mode = ap (λ (z : Inv). mode_module u z.mode) (sym b.4) ∙ guest_owner g c j.comms b.1.mode low in

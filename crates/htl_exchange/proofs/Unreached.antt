@@ -1,16 +1,12 @@
 -- What neither refinement reaches is a cone of influence.
 use Rattle.std.proofs.Common.{◌≡◌, ◌<◌, ℕ, true, length, slice_get, Some, sym, ◌∙◌, ap, arith}
-use Rattle.htl_exchange.proofs.Words.{End, Inv, Module, Port}
+use Rattle.htl_exchange.proofs.{Words.End, Words.Inv, Words.Module, Words.Port, Cones.ComesFrom, Cones.Cone, Cones.IsInvOf, Cones.IsModuleOf, Cones.IsUntouched}
 use Rattle.htl_model.specs.declared.parts.End.TheVariants as E
-use Rattle.htl_model.proofs.Words.{AreInRange, IsEndInRange, IsInvInRange, IsModeInRange, KeptApart, Tables, is_concrete, mode_module}
-use Rattle.htl_model.proofs.Stays.{module_is}
-use Rattle.htl_base.proofs.Places.{each_at, item_at}
-use Rattle.htl_base.proofs.Words.{same_Some}
-use Rattle.htl_patch.proofs.Words.{Replacement}
-use Rattle.htl_patch.proofs.Counting.{all_from}
+use Rattle.htl_model.proofs.{Words.AreInRange, Words.IsEndInRange, Words.IsInvInRange, Words.IsModeInRange, Words.KeptApart, Words.Tables, Words.is_concrete, Words.mode_module, Stays.module_is}
+use Rattle.htl_base.proofs.{Places.each_at, Places.item_at, Words.same_Some}
+use Rattle.htl_patch.proofs.{Words.Replacement, Counting.all_from}
 use Rattle.htl_refine.proofs.Standing.{parent_lower}
 use Rattle.htl_runs.proofs.values.JobOutputs.{writer_concrete}
-use Rattle.htl_exchange.proofs.Cones.{ComesFrom, Cone, IsInvOf, IsModuleOf, IsUntouched}
 use Rattle.htl_exchange.specs.Reached.{IsUnreached, module_mode, inv_output, comm_value, follows, reads, refines, replaces, runs, switches, takes, writes}
 
 abbrev pub unreached : Replacement → Cone
@@ -28,9 +24,7 @@ module _ (g : Replacement) (range : AreInRange g.host) (kept : KeptApart g.host 
   owner_low : (m : ℕ) → m < length t.modes → mode_module t m < length t.modules
   owner_low m less =
       let r = item_at t.modes m less in
-      let own = (each_at (IsModeInRange t) t.modes range.modes m r.0 r.1).owner in
-      let same = module_is t m r.0 r.1 in
-      omega (arith, own, same)
+      omega (arith, (each_at (IsModeInRange t) t.modes range.modes m r.0 r.1).owner, module_is t m r.0 r.1)
 
   inv_in_range : (k : ℕ) (x : Inv) → slice_get t.invs k ≡ Some x → IsInvInRange t x
   inv_in_range k x at = each_at (IsInvInRange t) t.invs range.invs k x at

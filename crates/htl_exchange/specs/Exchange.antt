@@ -1,18 +1,11 @@
 -- What a run of the patched program shows as one of the old program does.
 use Rattle.std.specs.Prelude.{◌≡◌, ◌<◌, ℕ, List, length, slice_get, Some, option_map}
 use Rattle.htl_load.specs.Alike.{AreAlike}
-use Rattle.htl_model.specs.declared.event.Event.{Event}
-use Rattle.htl_model.specs.declared.state.Stay.{Stay}
-use Rattle.htl_model.specs.Meaning.{module_stay, val}
-use Rattle.htl_model.specs.Selections.{root_modules}
-use Rattle.htl_model.specs.Tables.{Tables}
-use Rattle.htl_patch.specs.Combined.{Replacement}
-use Rattle.htl_patch.specs.Patched.{new_numbers, order, patched}
-use Rattle.htl_patch.specs.Renumbered.{place_among}
+use Rattle.htl_model.specs.{declared.event.Event.Event, declared.state.Stay.Stay, Meaning.module_stay, Meaning.val, Selections.root_modules, Tables.Tables}
+use Rattle.htl_patch.specs.{Combined.Replacement, Patched.new_numbers, Patched.order, Patched.patched, Renumbered.place_among}
 use Rattle.htl_refine.specs.FrameRuns.{frame_modes, path_of}
 use Rattle.htl_walk.specs.PathJobs.{path_jobs}
-use Rattle.htl_exchange.specs.Reached.{IsUnreached, module_mode, comm_value}
-use Rattle.htl_exchange.specs.Texts.{mode_text, value_text}
+use Rattle.htl_exchange.specs.{Reached.IsUnreached, Reached.module_mode, Reached.comm_value, Texts.mode_text, Texts.value_text}
 
 -- the number of a module in the patched program
 abbrev pub new_module_number : Replacement → ℕ → ℕ

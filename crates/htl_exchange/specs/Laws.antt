@@ -1,11 +1,8 @@
 -- What holds of the runs of a patched object.
 use Rattle.std.specs.Prelude.{ℕ, List}
 use Rattle.htl_model.specs.declared.event.Event.{Event}
-use Rattle.htl_object.specs.Accepted.{IsAccepted}
-use Rattle.htl_object.specs.Ranges.{IsInRange}
-use Rattle.htl_object.specs.declared.object.Object.{Object}
-use Rattle.htl_patch.specs.Combined.{Replacement}
-use Rattle.htl_patch.specs.Object.{CanPatch}
+use Rattle.htl_object.specs.{Accepted.IsAccepted, Ranges.IsInRange, declared.object.Object.Object}
+use Rattle.htl_patch.specs.{Combined.Replacement, Object.CanPatch}
 use Rattle.htl_exchange.specs.Exchange.{AreRootsUnreached, ShowsTheSame, TakesTheSamePath}
 
 -- the law of the exchange: what neither refinement reaches shows the same at each instant, whatever the sensors show

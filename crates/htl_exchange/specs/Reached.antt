@@ -1,13 +1,8 @@
 -- What of the old program one of the two refinements reaches: what it writes or changes, and whatever depends on that.
 use Rattle.std.specs.Prelude.{◌≡◌, ℕ, true, slice_get, Some}
 use Rattle.htl_model.specs.declared.parts.End.TheVariants as E
-use Rattle.htl_model.specs.declared.parts.Inv.{Inv}
-use Rattle.htl_model.specs.declared.parts.Module.{Module}
-use Rattle.htl_model.specs.declared.parts.Switch.{Switch}
-use Rattle.htl_model.specs.PortWriters.{WritesPort}
-use Rattle.htl_model.specs.Tables.{is_concrete, mode_module}
-use Rattle.htl_patch.specs.Combined.{Replacement}
-use Rattle.htl_patch.specs.Joining.{is_transferred}
+use Rattle.htl_model.specs.{declared.parts.Inv.Inv, declared.parts.Module.Module, declared.parts.Switch.Switch, PortWriters.WritesPort, Tables.is_concrete, Tables.mode_module}
+use Rattle.htl_patch.specs.{Combined.Replacement, Joining.is_transferred}
 
 -- what the meaning tells of an instant: the mode of a module, the value of a communicator, what an invocation puts out
 pub data Quantity : Type 0 where

@@ -1,9 +1,6 @@
 -- The text of one line of an instant.
 use Rattle.std.specs.Prelude.{ℕ, List}
-use Rattle.htl_model.specs.declared.event.Event.{Event}
-use Rattle.htl_model.specs.Lines.{lines_text}
-use Rattle.htl_model.specs.Meaning.{before, mode_line, state, value_line}
-use Rattle.htl_model.specs.Tables.{Tables}
+use Rattle.htl_model.specs.{declared.event.Event.Event, Lines.lines_text, Meaning.before, Meaning.mode_line, Meaning.state, Meaning.value_line, Tables.Tables}
 
 -- what the line of a communicator is at an instant; empty where it has none
 abbrev pub value_text : Tables → List Event → ℕ → ℕ → List ℕ

@@ -1,9 +1,6 @@
 -- The types and the values of operators.
 use Rattle.std.proofs.Common.{◌≡◌, Bool, true, false, cond, List, Option, Some, None, ℤ, pos, refl, inl, inr}
-use Rattle.htl_base.specs.declared.Ty.{Ty}
-use Rattle.htl_base.specs.declared.Ty.TheVariants.{Int as IntTy, Bool as BoolTy}
-use Rattle.htl_base.specs.declared.operator.UnOp.{UnOp}
-use Rattle.htl_base.specs.declared.operator.UnOp.TheVariants.{Neg, Not}
+use Rattle.htl_base.specs.{declared.Ty.Ty, declared.Ty.TheVariants.Int as IntTy, declared.Ty.TheVariants.Bool as BoolTy, declared.operator.UnOp.UnOp, declared.operator.UnOp.TheVariants.Neg, declared.operator.UnOp.TheVariants.Not}
 use Rattle.htl_base.specs.declared.operator.BinOp.{BinOp}
 use Rattle.htl_base.specs.declared.operator.BinOp.TheVariants.{Add, Sub, Mul, Div, Rem, Lt, Le, Gt, Ge, Eq, Ne, And, Or}
 use Rattle.htl_model.specs.Functions.{Term, Number, Truth, Arg, Unary, Binary, Choose, value, type_of, type_one, type_two, type_choose, both_int, both_bool, same_type, as_bool, of_test, is_zero, negate, combine}

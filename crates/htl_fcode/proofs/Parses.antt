@@ -1,17 +1,12 @@
 -- The parse of code keeps a stack of expressions; the stack of types holds their types.
 use Rattle.std.proofs.Common.{◌≡◌, ℕ, ◌+◌, ◌≤◌, ◌<◌, zero, suc, Bool, true, false, ◌&&◌, cond, option_map, ltb, leb, List, [], ◌∷◌, length, get_or, slice_get, map, Option, Some, None, ℤ, pos, refl, sym, ap, ◌∙◌, subst, arith}
 use Rattle.htl_model.proofs.Words.{lt-ltb, and_parts, nat_tests, length-map, slice_get-get_or, slice_get_within}
-use Rattle.htl_base.specs.declared.Ty.{Ty}
-use Rattle.htl_base.specs.declared.Ty.TheVariants.{Int as IntTy, Bool as BoolTy}
-use Rattle.htl_base.specs.declared.operator.UnOp.{UnOp}
-use Rattle.htl_base.specs.declared.operator.BinOp.{BinOp}
+use Rattle.htl_base.specs.{declared.Ty.Ty, declared.Ty.TheVariants.Int as IntTy, declared.Ty.TheVariants.Bool as BoolTy, declared.operator.UnOp.UnOp, declared.operator.BinOp.BinOp}
 use Rattle.htl_model.specs.declared.function.FInstr.{FInstr}
 use Rattle.htl_model.specs.declared.function.FInstr.TheVariants as I
 use Rattle.htl_model.specs.Functions.{Term, Number, Truth, Arg, Unary, Binary, Choose, value, held, type_of, type_one, type_two, type_choose, same_type, of_test, stacked, fold_one, fold_two, fold_choose, bools_fit}
-use Rattle.htl_fcode.specs.declared.operation.Operation.{Operation}
+use Rattle.htl_fcode.specs.{declared.operation.Operation.Operation, Arguments.AreArguments, Stacks.operation_of, Stacks.put, Stacks.put_some, Stacks.in_place, Stacks.values_after, Stacks.types_after}
 use Rattle.htl_fcode.specs.declared.operation.Operation.TheVariants as O
-use Rattle.htl_fcode.specs.Arguments.{AreArguments}
-use Rattle.htl_fcode.specs.Stacks.{operation_of, put, put_some, in_place, values_after, types_after}
 use Rattle.htl_fcode.proofs.Operators.{IsTyped-type_one, AreTyped-type_two, IsTypedChoice-type_choose, AreTyped-same_type}
 
 -- the expressions after an operation

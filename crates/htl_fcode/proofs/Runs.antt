@@ -2,18 +2,12 @@
 -- ends with the function's value alone.
 use Rattle.std.proofs.Common.{◌≡◌, ℕ, zero, suc, ◌≤◌, ◌<◌, true, option_map, List, [], ◌∷◌, length, drop, get_or, map, Option, Some, None, IsSome, ℤ, pos, negsuc, refl, sym, ap, ◌∙◌, subst, arith, inl, inr, drop-cons}
 use Rattle.std.specs.Coded.{coded_option, coded_list, coded_ℤ}
-use Rattle.std.proofs.Math.Logic.{∥∥₁_elim, ∥∥₁_map}
+use Rattle.std.proofs.{Math.Logic.∥∥₁_elim, Math.Logic.∥∥₁_map, lemmas.List.drop_all}
 use base.Stored.{Coded-set}
-use Rattle.std.proofs.lemmas.List.{drop_all}
-use Rattle.htl_base.specs.declared.Ty.{Ty}
-use Rattle.htl_base.specs.declared.Ty.TheVariants.{Int as IntTy, Bool as BoolTy}
-use Rattle.htl_model.specs.declared.function.FInstr.{FInstr}
-use Rattle.htl_model.specs.declared.function.Code.{Code}
-use Rattle.htl_model.specs.Functions.{Term, value_or, stack_of, only, bools_fit, Verified}
-use Rattle.htl_model.specs.Tables.{fun, Compiled}
+use Rattle.htl_base.specs.{declared.Ty.Ty, declared.Ty.TheVariants.Int as IntTy, declared.Ty.TheVariants.Bool as BoolTy}
+use Rattle.htl_model.specs.{declared.function.FInstr.FInstr, declared.function.Code.Code, Functions.Term, Functions.value_or, Functions.stack_of, Functions.only, Functions.bools_fit, Functions.Verified, Tables.fun, Tables.Compiled}
 use Rattle.htl_model.specs.Ranges.{FitsType}
-use Rattle.htl_fcode.specs.Arguments.{AreArguments}
-use Rattle.htl_fcode.specs.Stacks.{operation_of, values_after, values_run, types_after, types_run}
+use Rattle.htl_fcode.specs.{Arguments.AreArguments, Stacks.operation_of, Stacks.values_after, Stacks.values_run, Stacks.types_after, Stacks.types_run}
 use Rattle.htl_fcode.proofs.Operators.{FitsType-value}
 use Rattle.htl_fcode.proofs.Parses.{parsed, stacked-operation, BoolsFit, BoolsFit-split, BoolsFit-join, Stands, StandsThere, before, after, all_values, values_parsed}
 

@@ -1,13 +1,11 @@
 -- The stack of the function machine, its top first: what each instruction makes of the values on it, and of
 -- their types.
 use Rattle.std.specs.Prelude.{cond, ltb, leb, List, [], ◌∷◌, length, slice_get, Option, Some, None, ℤ, pos}
-use Rattle.htl_base.specs.declared.Ty.{Ty}
-use Rattle.htl_base.specs.declared.Ty.TheVariants.{Int as IntTy, Bool as BoolTy}
+use Rattle.htl_base.specs.{declared.Ty.Ty, declared.Ty.TheVariants.Int as IntTy, declared.Ty.TheVariants.Bool as BoolTy}
 use Rattle.htl_base.specs.declared.operator.UnOp.TheVariants as un
 use Rattle.htl_base.specs.declared.operator.BinOp.TheVariants as bin
-use Rattle.htl_model.specs.declared.function.FInstr.{FInstr}
+use Rattle.htl_model.specs.{declared.function.FInstr.FInstr, Functions.negate, Functions.combine, Functions.is_zero, Functions.type_one, Functions.type_two, Functions.type_choose}
 use Rattle.htl_model.specs.declared.function.FInstr.TheVariants as I
-use Rattle.htl_model.specs.Functions.{negate, combine, is_zero, type_one, type_two, type_choose}
 use Rattle.htl_fcode.specs.declared.operation.Operation.{Operation}
 use Rattle.htl_fcode.specs.declared.operation.Operation.TheVariants.{Number, Truth, Argument, Unary, Binary, Choose}
 

@@ -1,15 +1,10 @@
 -- Each answer of the compiler has one cause.
 use Rattle.std.proofs.Common.{◌≡◌, ◌↔◌, ℕ, ◌<◌, List, Some, None, Result, Err, refl, sym, ap, ◌∙◌, subst, arith}
-use Rattle.htl_base.specs.declared.Ty.{Ty}
-use Rattle.htl_base.specs.declared.Ty.TheVariants.{Int as IntTy, Bool as BoolTy}
-use Rattle.htl_model.specs.declared.function.Code.{Code}
-use Rattle.htl_model.specs.Functions.{Term, Unary, Binary, Choose, type_of, type_one, held}
+use Rattle.htl_base.specs.{declared.Ty.Ty, declared.Ty.TheVariants.Int as IntTy, declared.Ty.TheVariants.Bool as BoolTy}
+use Rattle.htl_model.specs.{declared.function.Code.Code, Functions.Term, Functions.Unary, Functions.Binary, Functions.Choose, Functions.type_of, Functions.type_one, Functions.held}
 use Rattle.htl_fcode.proofs.Operators.{IsTyped-type_one, AreTyped-type_two, IsTypedChoice-type_choose, AreTyped-same_type}
-use Rattle.htl_func.specs.declared.compiler.FnFault.{FnFault}
-use Rattle.htl_func.specs.declared.compiler.FnFault.TheVariants.{IllTyped, Deep, Memory}
+use Rattle.htl_func.specs.{declared.compiler.FnFault.FnFault, declared.compiler.FnFault.TheVariants.IllTyped, declared.compiler.FnFault.TheVariants.Deep, declared.compiler.FnFault.TheVariants.Memory, Compiled.IsFunction, Faults.IsFault}
 use Rattle.htl_func.specs.Expressions.{first_ill, ill_typed, or_else, at_fault, unless_type}
-use Rattle.htl_func.specs.Compiled.{IsFunction}
-use Rattle.htl_func.specs.Faults.{IsFault}
 
 -- a typed expression has no ill-typed operator
 pub first_ill-typed : (args : List Ty) (e : Term) (t : Ty) → type_of args e ≡ Some t → first_ill args e ≡ None

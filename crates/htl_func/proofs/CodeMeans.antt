@@ -1,22 +1,14 @@
 -- The postfix form of an expression is code that means it.
 use Rattle.std.proofs.Common.{◌≡◌, ℕ, ◌≤◌, true, List, [], ◌∷◌, ◌++◌, length, Some, ℤ, refl, sym, ap, ◌∙◌, arith, append-nil, length-append}
 use Rattle.std.proofs.lemmas.List.{map-append}
-use Rattle.htl_base.specs.declared.Ty.{Ty}
-use Rattle.htl_base.specs.declared.operator.UnOp.{UnOp}
+use Rattle.htl_base.specs.{declared.Ty.Ty, declared.operator.UnOp.UnOp, declared.operator.BinOp.BinOp}
 use Rattle.htl_base.specs.declared.operator.UnOp.TheVariants as un
-use Rattle.htl_base.specs.declared.operator.BinOp.{BinOp}
 use Rattle.htl_base.specs.declared.operator.BinOp.TheVariants as bin
-use Rattle.htl_model.specs.declared.function.FInstr.{FInstr}
+use Rattle.htl_model.specs.{declared.function.FInstr.FInstr, declared.function.Code.Code, TermCode.stack_of-spelled, Tables.fun, Tables.Compiled, Small.nodes}
 use Rattle.htl_model.specs.declared.function.FInstr.TheVariants as I
-use Rattle.htl_model.specs.declared.function.Code.{Code}
 use Rattle.htl_model.specs.Functions.{Term, Number, Truth, Unary, Binary, Choose, value, value_or, held, type_of, type_one, type_two, negate, combine, of_unary, of_binary, spelled, postfix, stack_of, tree, only, bools_fit}
-use Rattle.htl_model.specs.TermCode.{stack_of-spelled}
-use Rattle.htl_model.specs.Tables.{fun, Compiled}
-use Rattle.htl_fcode.proofs.Parses.{BoolsFit-split, BoolsFit-join}
-use Rattle.htl_fcode.proofs.Runs.{zeros}
-use Rattle.htl_model.specs.Small.{nodes}
-use Rattle.htl_func.specs.Expressions.{without_tokens}
-use Rattle.htl_func.specs.Compiled.{IsFunction, IsCompiled}
+use Rattle.htl_fcode.proofs.{Parses.BoolsFit-split, Parses.BoolsFit-join, Runs.zeros}
+use Rattle.htl_func.specs.{Expressions.without_tokens, Compiled.IsFunction, Compiled.IsCompiled}
 
 -- ---- the postfix form by parts
 

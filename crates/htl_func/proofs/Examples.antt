@@ -1,7 +1,6 @@
 -- Small expressions, worked by hand.
 use Rattle.std.proofs.Common.{◌≡◌, true, [], ◌∷◌, Some, None, pos, negsuc, refl}
-use Rattle.htl_base.specs.declared.Ty.TheVariants.{Int as IntTy, Bool as BoolTy}
-use Rattle.htl_base.specs.declared.operator.UnOp.TheVariants.{Neg, Not}
+use Rattle.htl_base.specs.{declared.Ty.TheVariants.Int as IntTy, declared.Ty.TheVariants.Bool as BoolTy, declared.operator.UnOp.TheVariants.Neg, declared.operator.UnOp.TheVariants.Not}
 use Rattle.htl_base.specs.declared.operator.BinOp.TheVariants.{Add, Div, Rem, Lt}
 use Rattle.htl_model.specs.declared.function.FInstr.TheVariants as I
 use Rattle.htl_model.specs.Functions.{Term, Number, Truth, Arg, Unary, Binary, Choose, value, held, postfix, tree}

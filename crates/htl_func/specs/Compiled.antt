@@ -1,10 +1,7 @@
 -- What a compiled function is.
 use Rattle.std.specs.Prelude.{◌≡◌, ◌≤◌, List, Some, ℤ}
-use Rattle.htl_base.specs.declared.limits.TheConstants.{MAX_STACK}
-use Rattle.htl_base.specs.declared.Ty.{Ty}
-use Rattle.htl_model.specs.declared.function.Code.{Code}
-use Rattle.htl_model.specs.Functions.{Term, type_of, held, value, postfix, tree, Verified}
-use Rattle.htl_model.specs.Tables.{fun, Compiled}
+use Rattle.htl_base.specs.{declared.limits.TheConstants.MAX_STACK, declared.Ty.Ty}
+use Rattle.htl_model.specs.{declared.function.Code.Code, Functions.Term, Functions.type_of, Functions.held, Functions.value, Functions.postfix, Functions.tree, Functions.Verified, Tables.fun, Tables.Compiled}
 use Rattle.htl_func.specs.Expressions.{without_tokens}
 
 -- an expression that is a function: of the type that is wanted, and holding at most 64 values

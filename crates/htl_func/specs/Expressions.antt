@@ -1,7 +1,6 @@
 -- Expressions: their first ill-typed operator, and what the compiler makes of them.
 use Rattle.std.specs.Prelude.{ℕ, List, Option, Some, None}
-use Rattle.htl_base.specs.declared.Ty.{Ty}
-use Rattle.htl_base.specs.declared.Ty.TheVariants.{Int as IntTy, Bool as BoolTy}
+use Rattle.htl_base.specs.{declared.Ty.Ty, declared.Ty.TheVariants.Int as IntTy, declared.Ty.TheVariants.Bool as BoolTy}
 use Rattle.htl_model.specs.Functions.{Term, Number, Truth, Arg, Unary, Binary, Choose, type_of, type_one, type_two, type_choose}
 
 -- an expression with every token number 0

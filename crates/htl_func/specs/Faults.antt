@@ -1,11 +1,8 @@
 -- Why an expression isn't compiled.
 use Rattle.std.specs.Prelude.{◌≡◌, ◌<◌, ℕ, List, Some}
-use Rattle.htl_base.specs.declared.limits.TheConstants.{MAX_STACK}
-use Rattle.htl_base.specs.declared.Ty.{Ty}
+use Rattle.htl_base.specs.{declared.limits.TheConstants.MAX_STACK, declared.Ty.Ty}
 use Rattle.htl_model.specs.Functions.{Term, type_of, held}
-use Rattle.htl_func.specs.declared.compiler.FnFault.{FnFault}
-use Rattle.htl_func.specs.declared.compiler.FnFault.TheVariants.{IllTyped, Deep, Memory}
-use Rattle.htl_func.specs.Expressions.{ill_typed}
+use Rattle.htl_func.specs.{declared.compiler.FnFault.FnFault, declared.compiler.FnFault.TheVariants.IllTyped, declared.compiler.FnFault.TheVariants.Deep, declared.compiler.FnFault.TheVariants.Memory, Expressions.ill_typed}
 
 -- the cause of each fault of an expression
 abbrev pub IsFault : ℕ → List Ty → Ty → Term → FnFault → Type 0

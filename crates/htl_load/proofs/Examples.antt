@@ -1,11 +1,9 @@
 -- Worked example: tables with the same frame, starts, paths, nodes and jobs, of which not as many are known at the first start.
 use Rattle.std.specs.Prelude.{◌≡◌, ℕ, List, [], ◌∷◌, None, false, refl, map, codes, pos}
 use Rattle.htl_load.proofs.Words.{AreAlike, Leg, Tables}
-use Rattle.htl_model.proofs.Sources.{call, formula, int_one, mode, module_named, plain, task}
-use Rattle.htl_model.proofs.Words.{Arg}
-use Rattle.htl_model.specs.Frames.{hyper, starts, paths, nodes, node}
+use Rattle.htl_model.proofs.{Sources.call, Sources.formula, Sources.int_one, Sources.mode, Sources.module_named, Sources.plain, Sources.task, Words.Arg}
+use Rattle.htl_model.specs.{Frames.hyper, Frames.starts, Frames.paths, Frames.nodes, Frames.node, declared.parts.Inv.Inv}
 use Rattle.htl_model.specs.declared.parts.End.TheVariants as E
-use Rattle.htl_model.specs.declared.parts.Inv.{Inv}
 use Rattle.htl_walk.specs.PathJobs.{path_jobs, legs}
 
 -- two root modules, A of period 10 and B of period 20, with these invocations

@@ -1,13 +1,10 @@
 -- Why an object isn't accepted.
 use Rattle.std.specs.Prelude.{◌≡◌, Some}
 use Rattle.htl_ecode.specs.Departure.{departure}
-use Rattle.htl_model.specs.Broken.{IsFirstBroken}
-use Rattle.htl_model.specs.FunctionTypes.{FitPlaces}
-use Rattle.htl_object.specs.Accepted.{IsFormed, IsSpelled}
-use Rattle.htl_load.specs.Unfit.{IsFirstUnfit}
-use Rattle.htl_load.specs.declared.fault.ObjectFault.{ObjectFault}
+use Rattle.htl_model.specs.{Broken.IsFirstBroken, FunctionTypes.FitPlaces}
+use Rattle.htl_object.specs.{Accepted.IsFormed, Accepted.IsSpelled, declared.object.Object.Object}
+use Rattle.htl_load.specs.{Unfit.IsFirstUnfit, declared.fault.ObjectFault.ObjectFault}
 use Rattle.htl_load.specs.declared.fault.ObjectFault.TheVariants as fault
-use Rattle.htl_object.specs.declared.object.Object.{Object}
 use Rattle.htl_walk.specs.NodeWalks.{IsFirstFailing, instrs_of}
 
 -- ---- the faults of each test

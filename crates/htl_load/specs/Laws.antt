@@ -1,12 +1,9 @@
 -- Refusals of the loader.
 use Rattle.std.specs.Prelude.{◌≡◌, ◌≢◌}
 use Rattle.htl_model.specs.declared.form_fault.FormFault.{FormFault}
-use Rattle.htl_object.specs.Accepted.{IsAccepted}
-use Rattle.htl_load.specs.Faults.{IsRefused}
-use Rattle.htl_load.specs.declared.fault.ObjectFault.{ObjectFault}
+use Rattle.htl_object.specs.{Accepted.IsAccepted, Ranges.IsInRange, declared.object.Object.Object}
+use Rattle.htl_load.specs.{Faults.IsRefused, declared.fault.ObjectFault.ObjectFault}
 use Rattle.htl_load.specs.declared.fault.ObjectFault.TheVariants as fault
-use Rattle.htl_object.specs.Ranges.{IsInRange}
-use Rattle.htl_object.specs.declared.object.Object.{Object}
 
 -- an accepted object has no fault
 abbrev pub AcceptedIsNotRefused : Type 0

@@ -1,13 +1,9 @@
 -- What loading answers.
 use Rattle.std.specs.Prelude.{◌≡◌, ℕ, List, Some, Result, Ok, Err}
-use Rattle.htl_load.specs.Faults.{IsRefused}
-use Rattle.htl_load.specs.declared.fault.LoadFault.{LoadFault}
+use Rattle.htl_load.specs.{Faults.IsRefused, declared.fault.LoadFault.LoadFault, declared.fault.ObjectFault.ObjectFault}
 use Rattle.htl_load.specs.declared.fault.LoadFault.TheVariants as load
-use Rattle.htl_load.specs.declared.fault.ObjectFault.{ObjectFault}
 use Rattle.htl_load.specs.declared.fault.ObjectFault.TheVariants as fault
-use Rattle.htl_object.specs.Files.{first_bad}
-use Rattle.htl_object.specs.Objects.{IsObject, object_bytes}
-use Rattle.htl_object.specs.declared.object.Object.{Object}
+use Rattle.htl_object.specs.{Files.first_bad, Objects.IsObject, Objects.object_bytes, declared.object.Object.Object}
 
 -- the object, which is in range, has these bytes
 pub record HasBytes (bytes : List ℕ) (o : Object) : Type 0 where

@@ -1,7 +1,6 @@
 -- The first function that isn't verified code of the types of its place.
 use Rattle.std.specs.Prelude.{◌<◌, ◌≤◌, ℕ, length}
-use Rattle.htl_model.specs.Tables.{Tables}
-use Rattle.htl_model.specs.FunctionTypes.{FitsPlace}
+use Rattle.htl_model.specs.{Tables.Tables, FunctionTypes.FitsPlace}
 
 -- the functions from one place on, below another, fit theirs
 abbrev pub FitBetween : Tables → ℕ → ℕ → Type 0

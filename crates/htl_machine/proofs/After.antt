@@ -5,18 +5,10 @@ use Rattle.htl_model.specs.declared.event.Event.TheVariants as V
 use Rattle.htl_smach.specs.declared.left.Left.{Left}
 use Rattle.htl_smach.specs.Rounds as rounds
 use Rattle.htl_runs.specs.lists.RecordEffects.{with_records}
-use Rattle.htl_runs.proofs.jobs.Accepted.{accepted_is_loaded}
-use Rattle.htl_machine.proofs.Composing.{instant_composed, counts_after, jobs_are, e_are, s_are, new_going, new_beginning, records_composed}
-use Rattle.htl_runs.proofs.events.NextReading.{instant_values}
-use Rattle.htl_runs.proofs.events.NextInstant.{modes_read, valued_next}
-use Rattle.htl_runs.proofs.instants.BothMachines.{next_is, switch_values}
-use Rattle.htl_runs.proofs.lists.LoadedLists.{loaded_code}
-use Rattle.htl_runs.proofs.values.SensorValues.{sensors_are}
-use Rattle.htl_runs.proofs.lines.Joined.{joined-map}
-use Rattle.htl_runs.proofs.lines.LoadedRecords.{loaded_new}
-use Rattle.htl_machine.proofs.Ready.{node_known}
-use Rattle.htl_machine.proofs.NextStands.{IsScheduleOf, beginning, going, going_s_machine, going_on, list_over, begun_s_machine, begun_goes}
-use Rattle.htl_machine.proofs.ToBegin.{is_to_begin}
+use Rattle.htl_runs.proofs.{jobs.Accepted.accepted_is_loaded, events.NextReading.instant_values, events.NextInstant.modes_read, events.NextInstant.valued_next, instants.BothMachines.next_is, instants.BothMachines.switch_values}
+use Rattle.htl_machine.proofs.{Composing.instant_composed, Composing.counts_after, Composing.jobs_are, Composing.e_are, Composing.s_are, Composing.new_going, Composing.new_beginning, Composing.records_composed, Ready.node_known}
+use Rattle.htl_runs.proofs.{lists.LoadedLists.loaded_code, values.SensorValues.sensors_are, lines.Joined.joined-map, lines.LoadedRecords.loaded_new}
+use Rattle.htl_machine.proofs.{NextStands.IsScheduleOf, NextStands.beginning, NextStands.going, NextStands.going_s_machine, NextStands.going_on, NextStands.list_over, NextStands.begun_s_machine, NextStands.begun_goes, ToBegin.is_to_begin}
 
 -- ---- lengths that are kept
 

@@ -2,8 +2,7 @@
 use Rattle.std.proofs.Common.{◌≡◌, ℕ, zero, suc, ◌+◌, ◌-◌, ◌<◌, ◌≤◌, ◌++◌, Bool, true, false, cond, List, [], ◌∷◌, length, get_or, slice_get, Option, Some, None, IfSome, Result, Ok, Err, refl, sym, ap, ◌∙◌, subst, arith}
 use Rattle.htl_machine.proofs.Words.{length-map, Puts, append_known-start, Puts-failed, Puts-second, Event, joined, AreInRange, Tables, Job, SInstr, Schedule, Point, Left, job_at, time_after, work_after, next_point, left_by, walk_from, finishes_by, left_same, time_passes, Round, Stands, round_begun, ECode, Calendar, Content, phase_path, Between, Plan, list_walk, count_left_before, modes_at, Shown, ListAt, Tally, CanFollow, IsToBegin, complete_at, complete_by, run_records, with_records, path_lines, SMachineAt, due_by, list_begun, Turn, reading_text, closing_text, first_records, beginning_text, Prints, Counted, s_machine_replay, Records, turn_at, instrs_by, node_by, turn_list, next_at, instrs_of, plan_text, some_records, not_some, passes, same_Some}
 use Rattle.htl_walk.specs.declared.schedule.SInstr.TheVariants.{Dispatch, Idle, End}
-use Rattle.htl_machine.proofs.Closings.{reads_second}
-use Rattle.htl_machine.proofs.Modes.{modes_are}
+use Rattle.htl_machine.proofs.{Closings.reads_second, Modes.modes_are}
 use Rattle.htl_runs.proofs.records.DoneBefore.{before_count}
 
 -- ---- the list

@@ -3,16 +3,9 @@ use Rattle.std.proofs.Common.{◌≡◌, ℕ, zero, suc, ◌≤◌, ◌<◌, fal
 use Rattle.htl_machine.proofs.Words.{length-map, slice_get_within, same_Some, Event, Comm, Inv, FitsType, hyper, Tables, task_worst, is_concrete, initial, SInstr, Job, absent_job, job_at, ECode, Standing, first_standing, Content, first_content, StandsSafely, IsShaped, inv_worst, AreTookWithin, Object, IsAccepted, Shown, Seen, IsBefore, IsUpTo, Follows, GoesBy, IsSensorValue, IsLength, IsFinished, first_seen, position_from, at_reading, shown_as, taken_as, s_machine_taking, SMachineFollows, IsLoaded, IsValued, IsTookWithin, RunState, finished_before, schedules_of, turn_at, turn_by, list_turn, ListAt, turn_list, Turn, not_some}
 use Rattle.htl_model.specs.declared.event.Event.TheVariants as V
 use Rattle.htl_smach.specs.Rounds as rounds
-use Rattle.htl_runs.proofs.lists.RunLists.{job_is_of}
-use Rattle.htl_runs.proofs.events.SameLists.{node_same}
-use Rattle.htl_runs.proofs.lists.LoadedLists.{loaded_run}
-use Rattle.htl_runs.proofs.jobs.Accepted.{accepted_is_loaded}
-use Rattle.htl_runs.proofs.events.NextInstant.{valued_first}
-use Rattle.htl_runs.proofs.events.NextLength.{s_machine_follows}
-use Rattle.htl_runs.proofs.events.NextReading.{s_machine_alike}
+use Rattle.htl_runs.proofs.{lists.RunLists.job_is_of, events.SameLists.node_same, lists.LoadedLists.loaded_run, jobs.Accepted.accepted_is_loaded, events.NextInstant.valued_first, events.NextLength.s_machine_follows}
+use Rattle.htl_runs.proofs.{events.NextReading.s_machine_alike, events.SameSensors.Alike, events.SameSensors.took_at, events.SameSensors.took_sense, events.ToldSoFar.reading_kept, events.ToldSoFar.sense_kept, events.ToldSoFar.took_kept}
 use Rattle.htl_runs.proofs.events.SameBefore.{AreSameBefore, same_at, same_sense, same_took, valued_stays, jobs_stay, s_stays}
-use Rattle.htl_runs.proofs.events.SameSensors.{Alike, took_at, took_sense}
-use Rattle.htl_runs.proofs.events.ToldSoFar.{reading_kept, sense_kept, took_kept}
 use Rattle.htl_runs.proofs.frames.JobWindows.{position_some}
 
 -- ---- the list by which the machine goes

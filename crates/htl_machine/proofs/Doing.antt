@@ -2,8 +2,7 @@
 use Rattle.std.proofs.Common.{◌≡◌, ℕ, zero, suc, Bool, true, false, cond, eqb, List, [], ◌∷◌, ◌++◌, length, slice_get, Option, Some, None, Ok, Err, refl, sym, ap, ◌∙◌, subst, arith, append-nil, length-append}
 use Rattle.htl_machine.proofs.Words.{append_known, Puts, append_known-start, append_known-more, Puts-failed, Event, joined, Tables, SInstr, Round, ECode, EInstr, Done, EDone, Content, IsShaped, Standing, content_after, StandsSafely, Midway, Onward, phase_path, done_of, IsRunning, Shown, instr_line, shows_code, Tally, one_instr, with_instrs, s_machine_does, s_machine_at, s_machine_replay, instr_lines, path_lines, told_in_phase, IsDoing, e_line}
 use Rattle.htl_smach.specs.Rounds as rounds
-use Rattle.htl_runs.proofs.values.PhaseSteps.{running_on, running_done}
-use Rattle.htl_runs.proofs.lines.Joined.{joined-append}
+use Rattle.htl_runs.proofs.{values.PhaseSteps.running_on, values.PhaseSteps.running_done, lines.Joined.joined-append}
 
 -- ---- one address more
 

@@ -2,8 +2,7 @@
 use Rattle.std.proofs.Common.{◌≡◌, ℕ, ◌-◌, ◌≤◌, true, false, List, [], ◌++◌, Option, Result, Ok, Err, refl, sym, subst}
 use Rattle.htl_machine.proofs.Words.{append-nil, Puts, Puts-second, Event, joined, hyper, Tables, SInstr, ECode, phase_path, IsAccepted, Seen, IsUpTo, node_by, path_lines, IsReadyAt, due_by, Opens, closing_text, beginning_text, lines_of, schedules_of, instrs_of, Schedule, plan_text, new_lines, some_records, some_round_begins}
 use Rattle.htl_smach.specs.declared.left.Left.{Left}
-use Rattle.htl_machine.proofs.After.{lines_are_composed, text_goes_on, text_begins}
-use Rattle.htl_machine.proofs.Beginnings.{then_more}
+use Rattle.htl_machine.proofs.{After.lines_are_composed, After.text_goes_on, After.text_begins, Beginnings.then_more}
 
 module _ (m : Seen) (es : List Event) (now : ℕ) (accepted : IsAccepted m.object) (read : m.run_state.reading ≤ now) (u : IsUpTo m es now) where
   abbrev t : Tables

@@ -1,9 +1,7 @@
 -- What an instant is given: the machine that its fields hold stands before it, under the names of its parts.
 use Rattle.std.proofs.Common.{◌≡◌, ◌≤◌, ℕ, true, List, [], ℤ, Option, None, refl, sym, subst}
 use Rattle.htl_machine.proofs.Words.{Event, Tables, SInstr, Schedule, ECode, Round, Standing, Content, FollowsCode, Onward, phase_path, IsAccepted, IsToClose, IsToCloseAndBegin, Seen, IsUpTo, schedule_by, IsReadyAt, IsOpened, instrs_of, some_round_begins}
-use Rattle.htl_machine.proofs.After.{over}
-use Rattle.htl_machine.proofs.Ready.{ready}
-use Rattle.htl_machine.proofs.ToClose.{follows_at, to_close, to_close_and_begin}
+use Rattle.htl_machine.proofs.{After.over, Ready.ready, ToClose.follows_at, ToClose.to_close, ToClose.to_close_and_begin}
 
 -- a machine before an instant, whose tables and code are named otherwise
 pub record IsGiven (m : Seen) (es : List Event) (at : ℕ) (t : Tables) (code : ECode) (idle : List SInstr) : Type 0 where

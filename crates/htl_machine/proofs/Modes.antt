@@ -1,8 +1,7 @@
 -- The modes of the modules, as the E machine answers them and as the meaning has them.
 use Rattle.std.proofs.Common.{◌≡◌, ℕ, zero, suc, ◌+◌, ◌<◌, true, List, [], ◌∷◌, ◌++◌, length, take, get_or, map, set, Option, Some, None, option_map, refl, sym, ap, ap₂, ◌∙◌, arith, inl, inr}
 use Rattle.htl_machine.proofs.Words.{ext_get_or, take_more, take_more_set, length-set, Event, Stay, AreInRange, eqb-true, cases_lt, state, stay_of, mode_of, same_mode, Tables, ECode, Calendar, list_at, Between, modes_at, states_are_selections}
-use Rattle.htl_machine.proofs.Agreeing.{modes_switched}
-use Rattle.htl_machine.proofs.Settling.{list_is}
+use Rattle.htl_machine.proofs.{Agreeing.modes_switched, Settling.list_is}
 
 -- one place more is noted
 pub one_noted : (xs ys zs : List (Option ℕ)) (k : ℕ) (o : Option ℕ) → k < length ys → length xs ≡ length ys → take k xs ≡ take k ys → o ≡ list_at ys k → zs ≡ set xs k o

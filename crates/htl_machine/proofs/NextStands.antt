@@ -3,14 +3,9 @@ use Rattle.std.proofs.Common.{◌≡◌, ◌≢◌, ℕ, zero, suc, ◌+◌, ◌
 use Rattle.htl_machine.proofs.Words.{eqb-true, eqb-false, Event, Module, places_from, frame_of, hyper, is_root, root_modules, Tables, state, SInstr, Round, no_round, ECode, EInstr, Done, ModeReads, Content, phase_path, AreTookWithin, ListAt, GoesBy, IsLoaded, SMachineAt, SMachineStands, SMachineFollows, due_by, Leaves, s_machine_replay, s_machine_at, Records, raise_all, some_round_begins, all_reads, Turn, AreTurns, AreListed, turn_at, turn_by, list_turn, IsAtEnd, turn_list}
 use Rattle.htl_smach.specs.Rounds as rounds
 use Rattle.htl_ecode.specs.declared.instr.EInstr.TheVariants as I
-use Rattle.htl_runs.proofs.instants.NoModules.{stands_nowhere}
-use Rattle.htl_runs.proofs.records.SMachineInstants.{s_machine_closes, not_running}
-use Rattle.htl_runs.proofs.instants.SMachineSteps.{with_flags, s_machine_left, s_machine_on, s_machine_ends}
-use Rattle.htl_runs.proofs.instants.BothMachines.{records_leave}
-use Rattle.htl_runs.proofs.frames.RoundStarts.{begins_never}
-use Rattle.htl_runs.proofs.instants.FirstRecords.{first_left, first_over}
-use Rattle.htl_runs.proofs.lists.LoadedLists.{loaded_begins, loaded_empty, loaded_listed, loaded_turns}
-use Rattle.htl_runs.proofs.instants.ToldReleases.{read_phase_tells}
+use Rattle.htl_runs.proofs.{instants.NoModules.stands_nowhere, records.SMachineInstants.s_machine_closes, records.SMachineInstants.not_running, instants.BothMachines.records_leave, frames.RoundStarts.begins_never}
+use Rattle.htl_runs.proofs.{instants.SMachineSteps.with_flags, instants.SMachineSteps.s_machine_left, instants.SMachineSteps.s_machine_on, instants.SMachineSteps.s_machine_ends, instants.ToldReleases.read_phase_tells}
+use Rattle.htl_runs.proofs.{instants.FirstRecords.first_left, instants.FirstRecords.first_over, lists.LoadedLists.loaded_begins, lists.LoadedLists.loaded_empty, lists.LoadedLists.loaded_listed, lists.LoadedLists.loaded_turns}
 
 -- ---- when a list begins
 

@@ -2,8 +2,7 @@
 use Rattle.std.proofs.Common.{◌≡◌, ◌≢◌, ◌<◌, ◌≤◌, ◌%◌, ℕ, zero, suc, Bool, true, false, cond, ◌||◌, eqb, List, [], ◌∷◌, length, take, refl, sym, ap, ap₂, ◌∙◌, arith, inl, inr}
 use Rattle.htl_machine.proofs.Words.{list_any, eq-eqb, ne_eqb, cases_eq, list_any-append, KeptApart, frame_of, starts_below, root_periods, AreInRange, root_modules, Tables, frame_some, Object, IsAccepted, IsNumbering, some_round_begins, opens, Numbering, or_with_false}
 use Rattle.htl_model.specs.Frames as frames
-use Rattle.htl_runs.proofs.jobs.Accepted.{accepted_is_loaded}
-use Rattle.htl_runs.proofs.lists.NextLists.{begins_at}
+use Rattle.htl_runs.proofs.{jobs.Accepted.accepted_is_loaded, lists.NextLists.begins_at}
 
 -- ---- among the starts below an end
 

@@ -2,9 +2,7 @@
 use Rattle.std.proofs.Common.{◌≡◌, ℕ, zero, suc, ◌+◌, ◌-◌, ◌≤◌, ◌<◌, Bool, true, false, cond, List, [], ◌∷◌, ◌++◌, length, take, drop, slice_get, Option, Some, None, option_map, Result, Ok, Err, refl, sym, ap, ap₂, ◌∙◌, subst, arith, append-nil, ◌⊎◌, inl, inr}
 use Rattle.htl_machine.proofs.Words.{slice_get_past, same_Some, append_known, Puts, append_known-start, append_known-more, Puts-failed, Puts-second, joined, Tables, Job, SInstr, Round, next_left, after, told, told_from, Content, Shown, done_line, step_line, shows_jobs, Tally, one_record, with_records, Plan, list_walk, SMachineAt, due_by, IsRecording, Prints, Counted, IsPrinting, inv_at, slice_text, job_text, place_text, code_text, plan_text, record_text, record_of, RunLine, StepLine, printed, closed_slice_line, job_done_line, job_lines, step_lines, shows_code, some_records, not_some, take_more_get, cases_up_to}
 use Rattle.htl_smach.specs.declared.left.Left.{Left}
-use Rattle.htl_runs.proofs.lines.Joined.{joined-append}
-use Rattle.htl_runs.proofs.lines.PutLines.{Puts-first}
-use Rattle.htl_runs.proofs.records.SMachineInstants.{next_some, next_none, told_get}
+use Rattle.htl_runs.proofs.{lines.Joined.joined-append, lines.PutLines.Puts-first, records.SMachineInstants.next_some, records.SMachineInstants.next_none, records.SMachineInstants.told_get}
 
 -- ---- the lines of one record
 

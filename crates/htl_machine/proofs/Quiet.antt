@@ -2,16 +2,10 @@
 use Rattle.std.proofs.Common.{◌≡◌, ℕ, zero, suc, ◌+◌, ◌-◌, ◌%◌, ◌<◌, ◌≤◌, Bool, true, false, cond, ◌||◌, not, eqb, List, [], ◌∷◌, ◌++◌, length, get_or, slice_get, map, Option, Some, None, IfSome, ℤ, pos, refl, sym, ap, ap₂, ◌∙◌, subst, arith}
 use Rattle.htl_machine.proofs.Words.{nat_tests, append_known, append-nil, slice_get_within, Event, Line, ValueLine, ModeLine, Comm, same, lines_text, joined, up_to, state, before, value_in, mode_in_state, value_line, mode_line, value_lines, same_mode, Tables, mode_period, SInstr, next_left, ECode, Done, e_path, spelled_departs_not, Block, Content, IsDueAt, IsNext, IsNextOf, phase_path, sound, Sound, Object, IsAccepted, instant_records, RunRecord, records_at, plan_text, Shown, shows_code, shows_values, Tally, Seen, IsUpTo, schedule_by, text_between, node_by, path_lines, IsLoaded, IsReadyAt, due_by, IsOpened, closing_text, IsPassing, ArePassing, IsOnward, lines_of, schedules_of, Records, replay, s_machine_replay, AreShown, ShowsNothing, e_line, some_records, some_round_begins, IsQuiet, AreQuiet, IsEmpty, PassOver, beginnings_end, standing_at, up_to_none}
 use Rattle.htl_smach.specs.Rounds as rounds
-use Rattle.htl_runs.proofs.jobs.Accepted.{accepted_is_loaded}
-use Rattle.htl_machine.proofs.After.{closed_values, s_machine_goes_on, lines_are_composed, next_up_to, passed_of, records_go_on, list_goes_on, text_goes_on}
-use Rattle.htl_machine.proofs.Agreeing.{modes_open}
-use Rattle.htl_machine.proofs.Composing.{counts_after}
-use Rattle.htl_machine.proofs.Passing.{up_to_more}
-use Rattle.htl_machine.proofs.Ready.{ready}
-use Rattle.htl_runs.proofs.records.RecordSteps.{recording_start, recording_end}
-use Rattle.htl_runs.proofs.lists.NextLists.{begins_whole}
+use Rattle.htl_runs.proofs.{jobs.Accepted.accepted_is_loaded, records.RecordSteps.recording_start, records.RecordSteps.recording_end, lists.NextLists.begins_whole}
+use Rattle.htl_machine.proofs.{After.closed_values, After.s_machine_goes_on, After.lines_are_composed, After.next_up_to, After.passed_of, After.records_go_on, After.list_goes_on, After.text_goes_on, Agreeing.modes_open, Passing.up_to_more}
+use Rattle.htl_machine.proofs.{Composing.counts_after, Ready.ready, Settling.same_mode_self, Settling.same_self}
 use Rattle.htl_runs.proofs.values.IdleInstants.{IsIdle, idle, round_ends}
-use Rattle.htl_machine.proofs.Settling.{same_mode_self, same_self}
 
 -- ---- where nothing changes there are no lines
 

@@ -2,15 +2,9 @@
 use Rattle.std.proofs.Common.{◌≡◌, ◌≤◌, ◌<◌, ℕ, zero, suc, ◌-◌, false, List, [], length, get_or, Option, Some, None, IfSome, refl, sym, ap, ◌∙◌, subst, arith}
 use Rattle.htl_machine.proofs.Words.{get_or_from_slice_get, Content, IsAccepted, Event, hyper, Tables, Object, IsShort, AreTookWithin, map_at, Round, Stands, IsTold, no_round, Job, SInstr, Schedule, InForm, ListAt, Seen, IsUpTo, GoesBy, schedule_by, SMachineFollows, SMachineStands, IsLoaded, IsReadyAt, due_by, schedules_of, AreOf, old_records, plan_records, standing_old, some_records, Turn, AreTurns, turn_walk, left_before, turn_at, turn_by, node_by, turn_list, not_some, all_at, item_at}
 use Rattle.htl_runs.specs.lists.RecordEffects.{with_records}
-use Rattle.htl_runs.proofs.lists.RunLists.{node_below}
-use Rattle.htl_runs.proofs.jobs.Accepted.{accepted_is_loaded}
-use Rattle.htl_runs.proofs.lines.LoadedRecords.{loaded_old}
-use Rattle.htl_runs.proofs.instants.NoModules.{records_nothing}
-use Rattle.htl_runs.proofs.records.SMachineInstants.{s_machine_opens}
-use Rattle.htl_runs.proofs.instants.BothMachines.{records_are}
-use Rattle.htl_runs.proofs.instants.FirstRecords.{no_list, stands_told, first_s_machine, first_recorded}
+use Rattle.htl_runs.proofs.{lists.RunLists.node_below, jobs.Accepted.accepted_is_loaded, lines.LoadedRecords.loaded_old, instants.NoModules.records_nothing, records.SMachineInstants.s_machine_opens, instants.BothMachines.records_are}
+use Rattle.htl_runs.proofs.{instants.FirstRecords.no_list, instants.FirstRecords.stands_told, instants.FirstRecords.first_s_machine, instants.FirstRecords.first_recorded, frames.FrameValues.count_grows}
 use Rattle.htl_runs.proofs.lists.LoadedLists.{loaded_listed, loaded_of, loaded_turns, loaded_code, loaded_run}
-use Rattle.htl_runs.proofs.frames.FrameValues.{count_grows}
 
 -- ---- where there is no list
 

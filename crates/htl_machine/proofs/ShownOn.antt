@@ -2,8 +2,7 @@
 use Rattle.std.proofs.Common.{◌≡◌, ◌≢◌, ℕ, suc, ◌<◌, ◌≤◌, Bool, true, false, cond, not, eqb, List, ◌++◌, length, get_or, set, Option, ℤ, pos, negsuc, refl, sym, ap, ◌∙◌, subst, arith, get_or-set_same, get_or-set_other}
 use Rattle.htl_machine.proofs.Words.{eqb-true, nat_tests, Event, same, hyper, Tables, Round, Standing, list_at, Content, phase_path, IsAccepted, Seen, IsUpTo, GoesBy, ListAt, SMachineFollows, is_marked, MarksChanges, schedules_of, turn_at, records_at, MarksWaiting, Passed, Noted, Sensors, Tally}
 use Rattle.htl_smach.specs.declared.left.Left.{Left}
-use Rattle.htl_machine.proofs.After.{next_up_to}
-use Rattle.htl_machine.proofs.Composing.{counts_after}
+use Rattle.htl_machine.proofs.{After.next_up_to, Composing.counts_after}
 
 -- the machine before the next instant, with what its sensors are shown
 pub next_shown_up_to : (m : Seen) (es : List Event) (now : ℕ) (accepted : IsAccepted m.object) (read : m.run_state.reading ≤ now) (u : IsUpTo m es now) (shows : List ℤ) (world : Content) (s_machine : Round) (e1 : Standing) (last : Option ListAt) (old new : List Left)

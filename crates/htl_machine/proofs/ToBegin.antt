@@ -2,12 +2,9 @@
 use Rattle.std.proofs.Common.{◌≡◌, ℕ, zero, suc, ◌+◌, ◌-◌, ◌*◌, ◌%◌, ◌≤◌, ◌<◌, cond, eqb, List, length, map, drop, get_or, Option, Some, None, sym, ap, ap₂, ◌∙◌, subst, arith}
 use Rattle.htl_machine.proofs.Words.{length-map, Event, Place, frame_limit, frame_of, hyper, starts, state, Tables, limits_kept, Job, SInstr, placed_job, InForm, Round, ECode, ModeReads, phase_path, choice_of, derived_place, frame_modes, frame_places, nodes_below, path_of, AreTookWithin, modes_at, took, IsFeasibleRun, paths_read, states_are_selections, ListAt, IsToBegin, GoesBy, frame_start, IsLoaded, SMachineAt, list_begun, CanStart, IsAtEnd, Turn, AreTurns, next_list, next_node, s_machine_replay, turn_by, turn_at, list_turn, turn_list, next_at, raise_all, all_reads, standing_at}
 use Rattle.htl_smach.specs.Rounds as rounds
-use Rattle.htl_runs.proofs.instants.SMachineSteps.{with_flags, s_machine_told, windows}
-use Rattle.htl_runs.proofs.lists.AddedJobs.{lists_are_begun}
-use Rattle.htl_runs.proofs.lists.LoadedLists.{loaded_code, loaded_listed, loaded_of, loaded_run, loaded_turns}
-use Rattle.htl_runs.proofs.lists.NextLists.{lists_begin, at_is}
+use Rattle.htl_runs.proofs.{instants.SMachineSteps.with_flags, instants.SMachineSteps.s_machine_told, instants.SMachineSteps.windows, lists.AddedJobs.lists_are_begun, lists.NextLists.lists_begin, lists.NextLists.at_is}
+use Rattle.htl_runs.proofs.{lists.LoadedLists.loaded_code, lists.LoadedLists.loaded_listed, lists.LoadedLists.loaded_of, lists.LoadedLists.loaded_run, lists.LoadedLists.loaded_turns, instants.ToldReleases.read_phase_tells}
 use Rattle.htl_runs.proofs.lists.RunLists.{few, length-jobs, stands}
-use Rattle.htl_runs.proofs.instants.ToldReleases.{read_phase_tells}
 
 -- ---- the list that comes next
 

@@ -1,8 +1,7 @@
 -- What the last part of an instant asks for, once the first is done.
 use Rattle.std.proofs.Common.{◌≡◌, ◌≤◌, ℕ, true, List, [], ℤ, Option, None, sym, subst, ◌∙◌}
 use Rattle.htl_machine.proofs.Words.{Event, Tables, SInstr, Schedule, ECode, Round, Standing, Content, FollowsCode, Onward, phase_path, Object, IsAccepted, IsToClose, IsToCloseAndBegin, Seen, IsUpTo, IsReadyAt, IsOpened, some_round_begins, IsAtEnd, schedules_of, instrs_of}
-use Rattle.htl_machine.proofs.After.{opened_values, closed_values, to_begin}
-use Rattle.htl_machine.proofs.Asking.{noted_of, values_at, reads_at, begins_at}
+use Rattle.htl_machine.proofs.{After.opened_values, After.closed_values, After.to_begin, Asking.noted_of, Asking.values_at, Asking.reads_at, Asking.begins_at}
 
 -- the same, where the tables and the code are named otherwise
 pub follows_at : (o : Object) (es : List Event) (at : ℕ) (t : Tables) (code : ECode) (m : Standing) → t ≡ o.tables → code ≡ o.ecode → FollowsCode o.tables o.ecode es at m → FollowsCode t code es at m

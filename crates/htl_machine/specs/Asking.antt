@@ -1,18 +1,10 @@
 -- What the parts of an instant ask for, of a machine that stands before it.
 use Rattle.std.specs.Prelude.{◌≡◌, ◌≤◌, ◌<◌, ℕ, List, [], length, ℤ, Option, None}
 use Rattle.htl_machine.specs.Common.{Event, KeptApart, Tables, SInstr, ECode, Round, Standing, list_at, Content, Onward, phase_path, StandsSafely, IsShaped}
-use Rattle.htl_model.specs.Frames.{frame_limit}
-use Rattle.htl_model.specs.FunctionTypes.{FitPlaces}
-use Rattle.htl_model.specs.Meaning.{state, before, mode_in_state}
+use Rattle.htl_model.specs.{Frames.frame_limit, FunctionTypes.FitPlaces, Meaning.state, Meaning.before, Meaning.mode_in_state}
 use Rattle.htl_ecode.specs.Spelling.{Spells}
-use Rattle.htl_runs.specs.values.PhaseEffects.{replay}
-use Rattle.htl_machine.specs.Beginning.{IsToBegin}
-use Rattle.htl_machine.specs.Doing.{IsStarting}
-use Rattle.htl_machine.specs.Noting.{MarksChanges}
-use Rattle.htl_machine.specs.declared.numbering.ListAt.{ListAt}
-use Rattle.htl_runs.specs.lists.ListLengths.{instrs_of}
-use Rattle.htl_machine.specs.declared.works.Machines.{Machines}
-use Rattle.htl_machine.specs.declared.works.Program.{Program}
+use Rattle.htl_runs.specs.{values.PhaseEffects.replay, lists.ListLengths.instrs_of}
+use Rattle.htl_machine.specs.{Beginning.IsToBegin, Doing.IsStarting, Noting.MarksChanges, declared.numbering.ListAt.ListAt, declared.works.Machines.Machines, declared.works.Program.Program}
 
 -- of the object
 pub record IsSound (t : Tables) (code : ECode) : Type 0 where

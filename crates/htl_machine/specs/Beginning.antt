@@ -1,12 +1,7 @@
 -- The beginning of a list.
 use Rattle.std.specs.Prelude.{◌≡◌, ◌≤◌, ◌<◌, ◌+◌, ◌-◌, ◌%◌, ℕ, suc, List, [], length, get_or, Option}
-use Rattle.htl_machine.specs.Common.{Event, frame_of, starts, Tables, SInstr, Round, Stands, IsInForm, ECode, phase_path, modes_at}
-use Rattle.htl_machine.specs.declared.numbering.ListAt.{ListAt}
-use Rattle.htl_runs.specs.records.SMachineStands.{SMachineAt}
-use Rattle.htl_runs.specs.lists.FirstStand.{list_begun, CanStart}
-use Rattle.htl_runs.specs.instants.Releases.{s_machine_replay}
-use Rattle.htl_runs.specs.records.RecordSteps.{AreOf}
-use Rattle.htl_runs.specs.lists.RunLists.{turn_at}
+use Rattle.htl_machine.specs.{Common.Event, Common.frame_of, Common.starts, Common.Tables, Common.SInstr, Common.Round, Common.Stands, Common.IsInForm, Common.ECode, Common.phase_path, Common.modes_at, declared.numbering.ListAt.ListAt}
+use Rattle.htl_runs.specs.{records.SMachineStands.SMachineAt, lists.FirstStand.list_begun, lists.FirstStand.CanStart, instants.Releases.s_machine_replay, records.RecordSteps.AreOf, lists.RunLists.turn_at}
 use Rattle.htl_machine.specs.StandingList.{turn_list, next_at}
 
 -- a list may begin behind another: a start of the frame is at the instant, its node has a number, the S machine may begin or go on, and

@@ -2,15 +2,9 @@
 use Rattle.std.specs.Prelude.{◌≡◌, ℕ, zero, suc, ◌+◌, ◌-◌, ◌≤◌, false, true, List, map, slice_get, Option, Some, None, ℤ}
 use Rattle.htl_machine.specs.Common.{Event, up_to, hyper, Comm, Inv, Tables, is_concrete, task_worst, state, SInstr, Round, no_round, Standing, Content, Object, Shown}
 use Rattle.htl_model.specs.Ranges.{FitsType}
-use Rattle.htl_machine.specs.declared.numbering.ListAt.{ListAt}
-use Rattle.htl_runs.specs.lines.Programs.{schedules_of, lines_of}
-use Rattle.htl_runs.specs.lists.StandingLists.{Turn}
-use Rattle.htl_runs.specs.lists.RecordEffects.{finished_before}
-use Rattle.htl_runs.specs.lists.RunLists.{turn_at}
-use Rattle.htl_machine.specs.StandingList.{instrs_by, turn_list}
-use Rattle.htl_runs.specs.events.ToldSoFar.{IsKept, IsValued, RunState}
-use Rattle.htl_runs.specs.lists.StandingLists.{SMachineFollows}
-use Rattle.htl_runs.specs.lines.Lines.{e_done, jobs_done, s_done}
+use Rattle.htl_machine.specs.{declared.numbering.ListAt.ListAt, StandingList.instrs_by, StandingList.turn_list}
+use Rattle.htl_runs.specs.{lines.Programs.schedules_of, lines.Programs.lines_of, lists.StandingLists.Turn, lists.RecordEffects.finished_before, lists.RunLists.turn_at, lists.StandingLists.SMachineFollows}
+use Rattle.htl_runs.specs.{events.ToldSoFar.IsKept, events.ToldSoFar.IsValued, events.ToldSoFar.RunState, lines.Lines.e_done, lines.Lines.jobs_done, lines.Lines.s_done}
 
 -- what contracts see of a machine
 pub record Seen : Type 0 where

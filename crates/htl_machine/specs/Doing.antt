@@ -3,15 +3,9 @@ use Rattle.std.specs.Prelude.{◌≡◌, ℕ, cond, eqb, List, [], length, Optio
 use Rattle.htl_machine.specs.Common.{append_known, Event, joined, Tables, SInstr, Round, ECode, EInstr, Content, Standing, StandsSafely, state, Shown, instr_line, shows_code}
 use Rattle.htl_smach.specs.Rounds as rounds
 use Rattle.htl_ecode.specs.Paths as paths
-use Rattle.htl_emach.specs.Pending.{Between}
-use Rattle.htl_emach.specs.Shapes.{IsShaped, SensorsStay}
-use Rattle.htl_runs.specs.values.PhaseEffects.{IsRunning}
-use Rattle.htl_machine.specs.declared.tally.Tally.{Tally}
-use Rattle.htl_machine.specs.Counts.{with_instrs}
-use Rattle.htl_runs.specs.instants.Releases.{s_machine_replay}
-use Rattle.htl_machine.specs.Noting.{MarksChanges, KeepsNoted}
-use Rattle.htl_machine.specs.declared.noted.Noted.{Noted}
-use Rattle.htl_runs.specs.lines.Lines.{e_line}
+use Rattle.htl_emach.specs.{Pending.Between, Shapes.IsShaped, Shapes.SensorsStay}
+use Rattle.htl_runs.specs.{values.PhaseEffects.IsRunning, instants.Releases.s_machine_replay, lines.Lines.e_line}
+use Rattle.htl_machine.specs.{declared.tally.Tally.Tally, Counts.with_instrs, Noting.MarksChanges, Noting.KeepsNoted, declared.noted.Noted.Noted}
 
 -- the line of an instruction
 abbrev pub instr_lines : Tables → Shown → ℕ → ℕ → EInstr → List ℕ

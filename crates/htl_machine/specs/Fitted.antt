@@ -1,16 +1,8 @@
 -- What a machine's fields keep whatever it follows: a place for each item of the tables, the jobs of the S machine, marks of
 -- what is another than was noted, and of the sensors that wait, and an instant before which nothing is due.
 use Rattle.std.specs.Prelude.{◌≡◌, ◌≤◌, ℕ, Bool, false, List, [], length}
-use Rattle.htl_machine.specs.Common.{Object, IsAccepted, Shown}
-use Rattle.htl_machine.specs.Calls.{Seen}
-use Rattle.htl_machine.specs.Noting.{MarksChanges}
-use Rattle.htl_machine.specs.Numbering.{IsPath}
-use Rattle.htl_machine.specs.Quiet.{AreQuiet}
-use Rattle.htl_machine.specs.Waiting.{MarksWaiting}
-use Rattle.htl_machine.specs.declared.noted.Noted.{Noted}
-use Rattle.htl_machine.specs.declared.path.Path.{Path}
-use Rattle.htl_machine.specs.declared.sensors.Sensors.{Sensors}
-use Rattle.htl_machine.specs.declared.works.Machines.{Machines}
+use Rattle.htl_machine.specs.{Common.Object, Common.IsAccepted, Common.Shown, Calls.Seen, Noting.MarksChanges, Numbering.IsPath, Quiet.AreQuiet, Waiting.MarksWaiting, declared.noted.Noted.Noted, declared.path.Path.Path}
+use Rattle.htl_machine.specs.{declared.sensors.Sensors.Sensors, declared.works.Machines.Machines}
 
 -- what contracts see of a machine with these fields
 abbrev pub seen_by : Object → Shown → Bool → ℕ → Sensors → List ℕ → Machines → Path → Seen

@@ -1,14 +1,7 @@
 -- How the machine stands as an instant begins, and what it owes once the instant is done.
 use Rattle.std.specs.Prelude.{◌≡◌, ◌≤◌, ℕ, ◌-◌, true, List, length}
-use Rattle.htl_machine.specs.Common.{Event, hyper, SInstr, Round, Stands, IsInForm, IsTold, Content, Plan}
-use Rattle.htl_machine.specs.Calls.{Seen}
-use Rattle.htl_runs.specs.records.SMachineStands.{SMachineAt}
-use Rattle.htl_runs.specs.records.DueRecords.{due_by}
-use Rattle.htl_runs.specs.lists.RecordEffects.{with_records}
-use Rattle.htl_runs.specs.lines.Programs.{schedules_of}
-use Rattle.htl_runs.specs.records.RecordSteps.{AreOf, Records}
-use Rattle.htl_runs.specs.lists.RunLists.{turn_at}
-use Rattle.htl_machine.specs.StandingList.{node_by}
+use Rattle.htl_machine.specs.{Common.Event, Common.hyper, Common.SInstr, Common.Round, Common.Stands, Common.IsInForm, Common.IsTold, Common.Content, Common.Plan, Calls.Seen, StandingList.node_by}
+use Rattle.htl_runs.specs.{records.SMachineStands.SMachineAt, records.DueRecords.due_by, lists.RecordEffects.with_records, lines.Programs.schedules_of, records.RecordSteps.AreOf, records.RecordSteps.Records, lists.RunLists.turn_at}
 use Rattle.htl_runs.specs.lines.RunRecords.{old_records, plan_records, some_records}
 
 -- before an instant the S machine stands in a list of these instructions, or in none, by an empty one

@@ -1,10 +1,8 @@
 -- What was noted of values and modes before an instant, and the marks of what may be another since.
 use Rattle.std.specs.Prelude.{◌≡◌, ℕ, Bool, true, false, eqb, List, length, get_or, slice_get, Option, Some, None, ℤ, pos}
-use Rattle.htl_machine.specs.Common.{Tables, EInstr, list_at}
+use Rattle.htl_machine.specs.{Common.Tables, Common.EInstr, Common.list_at, declared.noted.Noted.Noted, Marks.is_marked}
 use Rattle.htl_ecode.specs.declared.instr.EInstr.TheVariants as I
 use Rattle.htl_emach.specs.Contents.{comm_of, writes_at}
-use Rattle.htl_machine.specs.declared.noted.Noted.{Noted}
-use Rattle.htl_machine.specs.Marks.{is_marked}
 
 -- the communicator that an instruction writes
 abbrev pub written_comm : Tables → EInstr → Option ℕ

@@ -1,8 +1,6 @@
 -- How the code keeps where a run stands in its frame: the numbers of the frame, and the jobs that it has so far.
 use Rattle.std.specs.Prelude.{◌≡◌, ◌≤◌, ◌<◌, ◌*◌, ℕ, suc, true, List, Option, Some, drop, get_or, length, take}
-use Rattle.htl_machine.specs.Common.{frame_of, starts, Tables, Job, choice_of, new_jobs, nodes_below}
-use Rattle.htl_machine.specs.declared.numbering.ListAt.{ListAt}
-use Rattle.htl_machine.specs.declared.numbering.Numbering.{Numbering}
+use Rattle.htl_machine.specs.{Common.frame_of, Common.starts, Common.Tables, Common.Job, Common.choice_of, Common.new_jobs, Common.nodes_below, declared.numbering.ListAt.ListAt, declared.numbering.Numbering.Numbering}
 use Rattle.htl_machine.specs.declared.path.Path.{Path}
 
 -- the length of the frame, and how many nodes are below a node behind each start

@@ -2,17 +2,8 @@
 use Rattle.std.specs.Prelude.{◌≡◌, ◌≤◌, ◌-◌, ◌++◌, ℕ, cond, List, [], length, Option, ℤ}
 use Rattle.htl_machine.specs.Common.{Result, Puts, Event, joined, lines_text, value_lines, Tables, SInstr, Round, ECode, Content, phase_path, Shown, shows_values, Plan}
 use Rattle.htl_smach.specs.declared.left.Left.{Left}
-use Rattle.htl_runs.specs.values.PhaseEffects.{replay}
-use Rattle.htl_machine.specs.declared.tally.Tally.{Tally}
-use Rattle.htl_machine.specs.Counts.{with_records, with_instrs}
-use Rattle.htl_runs.specs.records.SMachineStands.{SMachineAt}
-use Rattle.htl_runs.specs.records.DueRecords.{due_by}
-use Rattle.htl_runs.specs.records.RecordSteps.{Records}
-use Rattle.htl_runs.specs.lists.RunLists.{turn_at}
-use Rattle.htl_runs.specs.values.ShownValues.{AreShown}
-use Rattle.htl_machine.specs.Doing.{path_lines}
-use Rattle.htl_machine.specs.Printing.{plan_text}
-use Rattle.htl_runs.specs.lines.RunRecords.{some_records}
+use Rattle.htl_runs.specs.{values.PhaseEffects.replay, records.SMachineStands.SMachineAt, records.DueRecords.due_by, records.RecordSteps.Records, lists.RunLists.turn_at, values.ShownValues.AreShown, lines.RunRecords.some_records}
+use Rattle.htl_machine.specs.{declared.tally.Tally.Tally, Counts.with_records, Counts.with_instrs, Doing.path_lines, Printing.plan_text}
 
 -- the lines of the records that are due, wherever the S machine stood, and those of the writes
 abbrev pub Opens : {T E : Type 0} → Tables → ECode → List Event → Shown → ℕ → Round → List SInstr → ℕ → Option (List ℕ) → Option (List ℕ) → ℕ → ℕ → Result T E → Type 0

@@ -2,34 +2,14 @@
 use Rattle.std.specs.Prelude.{◌≡◌, ◌≤◌, ◌++◌, ◌-◌, ℕ, suc, true, false, List, [], length, Option, Some, None, ℤ, OnOk}
 use Rattle.htl_machine.specs.Common.{Result, Puts, Event, KeptApart, HasValues, IsShaped, IsInForm, IsTold, Job, Round, SInstr, Stands, Onward, phase_path}
 use Rattle.htl_model.specs.FunctionTypes.{FitPlaces}
-use Rattle.htl_ecode.specs.Paths.{Done}
-use Rattle.htl_ecode.specs.Phases.{number_of}
-use Rattle.htl_ecode.specs.declared.phase.Phase.{Phase}
-use Rattle.htl_emach.specs.Following.{FollowsCode}
-use Rattle.htl_emach.specs.Shapes.{SensorsStay}
-use Rattle.htl_runs.specs.values.PhaseEffects.{replay}
-use Rattle.htl_runs.specs.records.DueRecords.{due_by}
-use Rattle.htl_runs.specs.records.RecordSteps.{AreOf, Records}
-use Rattle.htl_runs.specs.records.SMachineStands.{SMachineAt}
-use Rattle.htl_runs.specs.lists.ListLengths.{instrs_of}
-use Rattle.htl_runs.specs.lists.RunLists.{turn_at}
+use Rattle.htl_ecode.specs.{Paths.Done, Phases.number_of, declared.phase.Phase.Phase}
+use Rattle.htl_emach.specs.{Following.FollowsCode, Shapes.SensorsStay}
+use Rattle.htl_runs.specs.{values.PhaseEffects.replay, records.DueRecords.due_by, records.RecordSteps.AreOf, records.RecordSteps.Records, records.SMachineStands.SMachineAt, lists.ListLengths.instrs_of, lists.RunLists.turn_at}
 use Rattle.htl_runs.specs.instants.Releases.{s_machine_replay}
-use Rattle.htl_machine.specs.Asking.{IsSound, AreFitted, AreStarting, AreToRead, AreToClose, AreToCloseAndBegin}
-use Rattle.htl_machine.specs.Counts.{with_instrs, with_records}
-use Rattle.htl_machine.specs.Doing.{path_lines, told_in_phase}
-use Rattle.htl_machine.specs.Noting.{KeepsNoted}
-use Rattle.htl_machine.specs.Numbering.{IsPath}
-use Rattle.htl_machine.specs.Opening.{Opens, AreCounted, IsOpened, IsOpenedIdle, reading_text, closing_text, first_records, beginning_text}
-use Rattle.htl_machine.specs.Printing.{Prints, Counted}
-use Rattle.htl_machine.specs.StandingList.{turn_list}
-use Rattle.htl_machine.specs.Waiting.{MarksWaiting}
-use Rattle.htl_machine.specs.declared.numbering.ListAt.{ListAt}
-use Rattle.htl_machine.specs.declared.path.Path.{Path}
-use Rattle.htl_machine.specs.declared.sensors.Sensors.{Sensors}
-use Rattle.htl_machine.specs.declared.works.Machines.{Machines}
-use Rattle.htl_machine.specs.declared.works.Program.{Program}
-use Rattle.htl_machine.specs.declared.works.StandingList.{StandingList}
-use Rattle.htl_machine.specs.declared.works.Works.{Works}
+use Rattle.htl_machine.specs.{Asking.IsSound, Asking.AreFitted, Asking.AreStarting, Asking.AreToRead, Asking.AreToClose, Asking.AreToCloseAndBegin, Counts.with_instrs, Counts.with_records, Doing.path_lines, Doing.told_in_phase}
+use Rattle.htl_machine.specs.{Noting.KeepsNoted, Numbering.IsPath, Opening.Opens, Opening.AreCounted, Opening.IsOpened, Opening.IsOpenedIdle, Opening.reading_text, Opening.closing_text, Opening.first_records, Opening.beginning_text}
+use Rattle.htl_machine.specs.{Printing.Prints, Printing.Counted, StandingList.turn_list, Waiting.MarksWaiting, declared.numbering.ListAt.ListAt, declared.path.Path.Path, declared.sensors.Sensors.Sensors, declared.works.Machines.Machines}
+use Rattle.htl_machine.specs.{declared.works.Program.Program, declared.works.StandingList.StandingList, declared.works.Works.Works}
 
 -- the addresses of a phase
 abbrev pub path_in : Program → List Event → ℕ → ℕ → List Done

@@ -1,8 +1,6 @@
 -- The machine while it goes from instant to instant.
 use Rattle.std.specs.Prelude.{◌≡◌, ◌≤◌, ℕ, List, Option}
-use Rattle.htl_machine.specs.Common.{append_known, Event, IsAccepted}
-use Rattle.htl_machine.specs.Calls.{Seen, IsUpTo, IsSameRun, text_between}
-use Rattle.htl_machine.specs.Quiet.{AreQuiet}
+use Rattle.htl_machine.specs.{Common.append_known, Common.Event, Common.IsAccepted, Calls.Seen, Calls.IsUpTo, Calls.IsSameRun, Calls.text_between, Quiet.AreQuiet}
 
 -- all instants from `from` up to before `at` are done and written
 pub record IsPassing (first now : Seen) (es : List Event) (from at : ℕ) (w0 w : Option (List ℕ)) (f0 f : ℕ) : Type 0 where

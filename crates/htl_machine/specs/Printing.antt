@@ -1,16 +1,10 @@
 -- What is written and counted while the records of an instant are left.
 use Rattle.std.specs.Prelude.{◌≡◌, ◌≤◌, ℕ, ◌-◌, cond, List, [], ◌++◌, slice_get, Option, Some, None}
-use Rattle.htl_machine.specs.Common.{Result, append_known, Puts, joined, Tables, SInstr, Round, Shown, Plan}
+use Rattle.htl_machine.specs.{Common.Result, Common.append_known, Common.Puts, Common.joined, Common.Tables, Common.SInstr, Common.Round, Common.Shown, Common.Plan, declared.tally.Tally.Tally, Counts.with_records}
 use Rattle.htl_walk.specs.declared.job.Job.{Job}
-use Rattle.htl_console.specs.Lines.{done_line, slice_line, step_line}
-use Rattle.htl_console.specs.Shows.{shows_code, shows_jobs}
-use Rattle.htl_machine.specs.declared.tally.Tally.{Tally}
-use Rattle.htl_machine.specs.Counts.{with_records}
-use Rattle.htl_runs.specs.records.SMachineStands.{SMachineAt}
-use Rattle.htl_runs.specs.records.DueRecords.{due_by}
+use Rattle.htl_console.specs.{Lines.done_line, Lines.slice_line, Lines.step_line, Shows.shows_code, Shows.shows_jobs}
+use Rattle.htl_runs.specs.{records.SMachineStands.SMachineAt, records.DueRecords.due_by, lines.RunRecords.inv_at, lines.RunRecords.record_of, lines.RunRecords.some_records, lines.RunLines.record_text}
 use Rattle.htl_smach.specs.declared.left.Left.{Left}
-use Rattle.htl_runs.specs.lines.RunRecords.{inv_at, record_of, some_records}
-use Rattle.htl_runs.specs.lines.RunLines.{record_text}
 
 -- ---- the lines of one record
 

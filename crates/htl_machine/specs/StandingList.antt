@@ -1,9 +1,6 @@
 -- The list that stands, as the code keeps it, and the one that comes after it.
-use Rattle.htl_machine.specs.Common.{ℕ, List, [], get_or, Option, Some, None, Tables, SInstr, Schedule}
-use Rattle.htl_machine.specs.declared.numbering.ListAt.{ListAt}
-use Rattle.htl_runs.specs.lists.StandingLists.{Turn}
-use Rattle.htl_runs.specs.lists.NextLists.{next_list, next_node}
-use Rattle.htl_runs.specs.lists.ListLengths.{instrs_of}
+use Rattle.htl_machine.specs.{Common.ℕ, Common.List, Common.[], Common.get_or, Common.Option, Common.Some, Common.None, Common.Tables, Common.SInstr, Common.Schedule, declared.numbering.ListAt.ListAt}
+use Rattle.htl_runs.specs.{lists.StandingLists.Turn, lists.NextLists.next_list, lists.NextLists.next_node, lists.ListLengths.instrs_of}
 
 -- its node, and its number in the frame; 0 where none stands
 abbrev pub node_by : Option ListAt → ℕ

@@ -1,8 +1,6 @@
 -- The sensors that wait for an instance at which they take what they are shown.
 use Rattle.std.specs.Prelude.{◌≡◌, ◌%◌, ◌&&◌, ℕ, Bool, true, false, eqb, List, get_or, slice_get, Some, ℤ, pos}
-use Rattle.htl_machine.specs.Common.{Comm, Tables}
-use Rattle.htl_machine.specs.Marks.{is_marked}
-use Rattle.htl_machine.specs.declared.sensors.Sensors.{Sensors}
+use Rattle.htl_machine.specs.{Common.Comm, Common.Tables, Marks.is_marked, declared.sensors.Sensors.Sensors}
 
 -- a sensor that is shown another value than it has waits
 abbrev pub MarksWaiting : Tables → Sensors → List ℤ → Type 0

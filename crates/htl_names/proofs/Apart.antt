@@ -1,12 +1,9 @@
 -- In a tree of programs each module stands once in the order, so the modules in order have no more of a kind than the source.
 use Rattle.std.proofs.Common.{◌≡◌, inl, inr, ℕ, zero, suc, ◌+◌, ◌≤◌, ◌<◌, Bool, true, false, cond, eqb, List, [], ◌∷◌, length, take, slice_get, Option, Some, None, refl, sym, ◌∙◌, ap, ap₂, subst, arith, ◌≢◌, map, set, sum, sum_by, length-set, get_or-set_other, flat_map, count_by, ltb}
 use Rattle.htl_names.proofs.Words.{cases_eq, ne_eqb, nat_tests, same_Some, slice_get_within, get_or_from_slice_get, slice_get-get_or, length-flat_map, sum_by-le, sum-map, sum_by-cons, sum_by-append, sum_by_push, sum_by-set, get_or-le-sum_by, list_to, get_mapped, modules_of, PlainProgram, PlainMode, PlainModule, Key, ModeAt, ModuleAt, is_module, flat_map_at, place_in, refined_place, nth_module, mode_in, modules_at, modes_at, modules_in, mode_children, children, order, module_at, mode_at, module_modes, mode_order, refining_program, refinements, refined_by, modes_of, below}
-use Rattle.htl_names.proofs.FlatMaps.{at_part, same_part, flat_map_is, most_in_part}
-use Rattle.htl_names.proofs.ListLaws.{flat_map_flat_map, flat_map_places}
-use Rattle.htl_names.proofs.ModulePlaces.{Exists, Comes, top, under, child, comes}
-use Rattle.htl_names.proofs.Places.{program_of_module, within, modes_there}
+use Rattle.htl_names.proofs.{FlatMaps.at_part, FlatMaps.same_part, FlatMaps.flat_map_is, FlatMaps.most_in_part, ListLaws.flat_map_flat_map, ListLaws.flat_map_places, Places.program_of_module, Places.within, Places.modes_there}
+use Rattle.htl_names.proofs.{ModulePlaces.Exists, ModulePlaces.Comes, ModulePlaces.top, ModulePlaces.under, ModulePlaces.child, ModulePlaces.comes, Refinements.IsRefined, Refinements.in_refinements, Refinements.refined_none}
 use Rattle.htl_names.proofs.TreeLevels.{IsTree, refined_at, root_refines_none, root_refines_no_mode}
-use Rattle.htl_names.proofs.Refinements.{IsRefined, in_refinements, refined_none}
 
 -- where one item passes at most, it is the first
 place_is : {A : Type 0} (test : A → Bool) (xs : List A) (k : ℕ) (x : A) → count_by test xs ≤ 1 → slice_get xs k ≡ Some x → test x ≡ true → place_in test xs ≡ k

@@ -3,9 +3,8 @@ use Rattle.std.proofs.Common.{◌≡◌, ℕ, suc, ◌+◌, List, [], ◌∷◌,
 use Rattle.htl_names.proofs.Words.{cond_both, cond-true, none-some, same_Some, comms_of, PlainProgram, PlainModule, PlainMode, PlainTask, CommNode, ParamNode, InvokeNode, Entry, entry, params_of, param_entry, task_entries, port_entry, invoke_entry, mode_entries, module_entries, comm_entry, program_entries, entries_from, entries, program_key, module_key, task_key, mode_key, same_key, look_up, pair_of, flat_map_at, map_at, module_at, tasks_at, modes_at, mode_at, ports_at, invokes_at, ModeAt, Key, Space, symbols_of, layout, meaning, AreNamesRight, RepeatedName, same_key_decides, cases_less_more}
 use Rattle.htl_names.specs.declared.fault.NameFault.TheVariants as fault
 use Rattle.htl_names.specs.declared.key.Space.TheVariants as space
-use Rattle.htl_names.proofs.FlatMaps.{at_flat, flat_part}
+use Rattle.htl_names.proofs.{FlatMaps.at_flat, FlatMaps.flat_part, Places.part_is, Places.part_there, Places.module_there, Places.tasks_there, Places.modes_there, Places.program_of_module, Places.module_of_task, Places.module_of_mode}
 use Rattle.htl_names.proofs.Members.{at_place, Each, each_at, each_append, each_part, In, in_next, in_first, in_second, in_mapped_at, in_part_at}
-use Rattle.htl_names.proofs.Places.{part_is, part_there, module_there, tasks_there, modes_there, program_of_module, module_of_task, module_of_mode}
 
 -- where an entry comes from
 pub data Origin (ps : List PlainProgram) : Entry → Type 0 where

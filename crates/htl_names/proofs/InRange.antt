@@ -3,11 +3,9 @@ use Rattle.std.proofs.Common.{◌≤◌, ◌≡◌, ◌<◌, ◌+◌, ℕ, List,
 use Rattle.htl_names.proofs.Words.{slice_get_within, same_Some, length-map, All-map, AreApart, Mode, Module, Task, Inv, IsModeInRange, IsTaskInRange, IsCommInRange, AreInRange, IsPortInRange, IsEndInRange, IsInvInRange, IsModeThat, IsSwitchInRange, mode_module, out_params, comms_of, modules_of, invokes_of, names_of, InvokeNode, PlainProgram, PlainModule, PlainTask, PlainMode, PlainSwitch, Id, EndNode, ModeAt, Entry, entry, module_entries, comm_entry, entries, layout, symbols_of, meaning, comm_item, comm_items, mode_item, mode_items, module_items, port_item, port_items, task_item, task_items, invoke_item, invoke_items, switch_item, tables_of_tree, module_number, modes_before, tasks_before, mode_number, end_item, refined_mode, parent_number, comms_in, comm_key, module_key, task_key, mode_key, port_key, invoke_key, flat_map_at, AreNamesRight, module_at, tasks_at, ports_at, invokes_at, switches_at, usage, uses, comm_use, end_use, MeetsBounds, MeetsInvokeBounds, IsNarrowEnd, IsNarrowInvoke, mode_in, ModuleAt, refined_by, Comm, Port, Switch, different, different_owned, different_pairs, different_numbers, modes_of, all_at, from_map}
 use Rattle.htl_text.specs.declared.tree.EndNode.TheVariants as end
 use Rattle.htl_names.proofs.EntryLaws.{declared, one_place, one_entry, source_entries, entries_are, Origin, of_comm, of_module, of_task, of_mode as mode_origin, of_port, of_invoke}
-use Rattle.htl_names.proofs.FlatMaps.{at_part, same_part, part_of, given, counted, few_owned, owners_order, stands as item_stands}
-use Rattle.htl_names.proofs.SmallFunctions.{functions_in_range, functions_counted}
+use Rattle.htl_names.proofs.{FlatMaps.at_part, FlatMaps.same_part, FlatMaps.part_of, FlatMaps.given, FlatMaps.counted, FlatMaps.few_owned, FlatMaps.owners_order, FlatMaps.stands as item_stands, TreeLevels.refined_at}
+use Rattle.htl_names.proofs.{SmallFunctions.functions_in_range, SmallFunctions.functions_counted, ModulePlaces.Comes, ModulePlaces.top, ModulePlaces.under, ModulePlaces.child, ModulePlaces.comes}
 use Rattle.htl_names.proofs.Numbered.{task_small, switch_small, each_mode, each_module, module_in_range, mode_count, module_count, mode_number_is, all_in_modes, mode_numbered, mode_owner, mode_stands, mode_meant}
-use Rattle.htl_names.proofs.ModulePlaces.{Comes, top, under, child, comes}
-use Rattle.htl_names.proofs.TreeLevels.{refined_at}
 use Rattle.htl_names.proofs.Members.{In, in_next, in_second, in_part_at, All-from_places, in_first, in_mapped, all_given}
 use Rattle.htl_names.proofs.NameUses.{mode_period_span, worst_span, known, used_in_invoke, comm_period_span, initial_fits, used_in_switch, parent_stands}
 use Rattle.htl_names.proofs.Places.{modes_in, tasks_in, program_of_module, within as inside, part_in_source}

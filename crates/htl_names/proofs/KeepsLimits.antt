@@ -2,14 +2,8 @@
 use Rattle.std.proofs.Common.{◌≡◌, ◌<◌, ◌≤◌, ◌+◌, ◌*◌, cond, ℕ, suc, Bool, true, false, List, [], ◌∷◌, ◌++◌, map, length, slice_get, Option, Some, None, filter, sum, refl, sym, ◌∙◌, ap, subst, arith, length-append, flat_map}
 use Rattle.htl_names.proofs.Words.{AllZip, sum_by-cons, slice_get_within, same_Some, KeepsLimits, places_from, Tables, mode_module, Inv, Mode, PlainProgram, PlainModule, PlainMode, MeetsBounds, Layout, layout, symbols_of, mode_item, module_item, module_items_at, invoke_item, tables_of_tree, most_invokes, most_positions, selections, choices, flat_map_at, AreNamesRight, modules_at, invokes_at, nth_module, mode_in, ModeAt, ModuleAt, Module, mul-le, own_mode}
 use Rattle.htl_model.specs.Selections.{is_root, root_modules, mode_of_module, inv_of_mode, modes_of, invs_of, choices_from, root_mode}
-use Rattle.htl_names.proofs.InRange.{names-in-range}
-use Rattle.htl_names.proofs.Numbered.{module_count, each_mode, mode_owner, one_module}
-use Rattle.htl_names.proofs.ModulePlaces.{is_root_module, exist, roots_of}
-use Rattle.htl_names.proofs.FlatMaps.{few_owned}
-use Rattle.htl_names.proofs.Ordering.{kept_limit}
-use Rattle.htl_names.proofs.ListLaws.{invokes_most, map_places, length-places}
-use Rattle.htl_names.proofs.Places.{modes_in, modes_there, part_is}
-use Rattle.htl_names.proofs.Members.{at_place}
+use Rattle.htl_names.proofs.{InRange.names-in-range, Numbered.module_count, Numbered.each_mode, Numbered.mode_owner, Numbered.one_module, ModulePlaces.is_root_module, ModulePlaces.exist, ModulePlaces.roots_of, FlatMaps.few_owned}
+use Rattle.htl_names.proofs.{Ordering.kept_limit, ListLaws.invokes_most, ListLaws.map_places, ListLaws.length-places, Places.modes_in, Places.modes_there, Places.part_is, Members.at_place}
 
 -- root module u of the tables has no more modes, and in each selection no more positions than the most of one of these
 record IsRoot (t : Tables) (u : ℕ) (xs : List PlainMode) : Type 0 where

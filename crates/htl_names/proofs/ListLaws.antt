@@ -2,8 +2,7 @@
 use Rattle.std.proofs.Common.{◌<◌, ◌≡◌, inl, inr, ℕ, zero, suc, Bool, true, cond, ◌||◌, eqb, List, [], ◌∷◌, ◌++◌, slice_get, Some, fold, refl, sym, ◌∙◌, ap, ap₂, subst, eq-eqb, eqb-true, ◌≤◌, map, length, arith, ◌+◌, max, Option, IsSomeAnd, flat_map, count_by, bytes_eq}
 use Rattle.htl_names.proofs.Words.{AllZip-left, AllZip, list_any, nat_tests, length-from_keys, or_cases, cond_both, list_any-append, flat_map-map, MatchOption-at_some, slice_get_within, get_or_from_slice_get, none-some, same_Some, length-le_from_distinct_below, sum_by-cons, AreApart, list_to, places_from, greatest, names_of, Expr, PlainProgram, PlainMode, most_invokes, get_mapped, Id, flat_map_at, with_new, distinct, place_in, layout, meaning, comms_in, Layout, read_place, comm_key, Key, or-false, distinct_count, nat_eq_equiv, IsDistinct-push, apart_from_distinct, any_passes_from_place, bytes_eq-Decides, from_map}
 use Rattle.std.specs.List.{IsDistinct}
-use Rattle.htl_names.proofs.Members.{In}
-use Rattle.htl_names.proofs.FlatMaps.{flat_map_is, flat_map_parts}
+use Rattle.htl_names.proofs.{Members.In, FlatMaps.flat_map_is, FlatMaps.flat_map_parts}
 
 abbrev pub is_among : List ℕ → ℕ → Bool
 is_among xs x = list_any (eqb x) xs

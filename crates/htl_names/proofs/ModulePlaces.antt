@@ -1,9 +1,7 @@
 -- The modules in the order of the tables: where each comes from, and which of them are root modules.
 use Rattle.std.proofs.Common.{◌≡◌, ◌⊎◌, inl, inr, ℕ, zero, suc, ◌+◌, ◌<◌, Bool, true, false, cond, List, [], ◌∷◌, length, take, slice_get, Option, Some, None, filter, refl, ◌∙◌, ap, subst, sym, arith, flat_map}
 use Rattle.htl_names.proofs.Words.{common_steps, filter-append, none-some, same_Some, PlainProgram, PlainModule, PlainMode, Key, ModeAt, ModuleAt, module_at, modules_at, modes_at, modules_in, mode_children, children, order, refining_program, nth_module, mode_in, below, item_at}
-use Rattle.htl_names.proofs.Refinements.{IsRefined}
-use Rattle.htl_names.proofs.Members.{In}
-use Rattle.htl_names.proofs.FlatMaps.{at_flat, flat_part, part_of, of_list_to}
+use Rattle.htl_names.proofs.{Refinements.IsRefined, Members.In, FlatMaps.at_flat, FlatMaps.flat_part, FlatMaps.part_of, FlatMaps.of_list_to}
 
 -- the module of a module
 abbrev pub Exists : List PlainProgram → ModuleAt → Type 0

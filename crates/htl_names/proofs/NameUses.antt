@@ -6,10 +6,8 @@ use Rattle.htl_base.specs.declared.Ty.TheVariants as ty
 use Rattle.htl_text.specs.declared.tree.ConstNode.TheVariants as const
 use Rattle.htl_text.specs.declared.tree.EndNode.TheVariants as end
 use Rattle.htl_names.specs.declared.fault.NameFault.TheVariants as fault
-use Rattle.htl_names.proofs.EntryLaws.{Stands, means}
-use Rattle.htl_names.proofs.Members.{All-from_places, In, in_next, in_first, in_second, in_mapped, in_part, in_part_at}
+use Rattle.htl_names.proofs.{EntryLaws.Stands, EntryLaws.means, Members.All-from_places, Members.In, Members.in_next, Members.in_first, Members.in_second, Members.in_mapped, Members.in_part, Members.in_part_at, FlatMaps.flat_part}
 use Rattle.htl_names.proofs.Places.{part_there, program_of_module, module_of_task, module_of_mode}
-use Rattle.htl_names.proofs.FlatMaps.{flat_part}
 
 -- ---- a use is known
 

@@ -1,13 +1,9 @@
 -- Which items the numbers of the tables name; the modules of the tables are in range.
 use Rattle.std.proofs.Common.{◌≡◌, ◌<◌, ◌+◌, ℕ, zero, suc, true, List, [], ◌∷◌, length, take, slice_get, Some, None, refl, sym, ◌∙◌, ap, subst, arith, length-append, ◌≤◌, Option, IfSome, All}
 use Rattle.htl_names.proofs.Words.{length-take-le, slice_get_within, same_Some, Module, IsModeThat, IsModuleInRange, parent_of, is_within, mode_module, PlainProgram, PlainModule, PlainMode, PlainTask, PlainSwitch, modules_of, tasks_of, switches_of, ModeAt, ModuleAt, Layout, modes_before, mode_item, mode_items, module_item, module_items_at, module_items, layout, symbols_of, meaning, mode_number, tables_of_tree, flat_map_at, module_at, tasks_at, module_modes, switches_at, MeetsBounds, MeetsTaskBounds, MeetsSwitchBounds, mode_key, AreNamesRight, refinements, Refinement, level, usage, uses, mode_in, Id, modes_of, all_at, from_take, item_at}
-use Rattle.htl_names.proofs.FlatMaps.{at_part, at_flat, flat_part, list_to_at, of_list_to, counted, given, stands}
-use Rattle.htl_names.proofs.NameUses.{known, used_in_module}
-use Rattle.htl_names.proofs.Places.{modes_in, mode_parts, within, item_in_source, part_in_source}
+use Rattle.htl_names.proofs.{FlatMaps.at_part, FlatMaps.at_flat, FlatMaps.flat_part, FlatMaps.list_to_at, FlatMaps.of_list_to, FlatMaps.counted, FlatMaps.given, FlatMaps.stands, NameUses.known, NameUses.used_in_module}
+use Rattle.htl_names.proofs.{Places.modes_in, Places.mode_parts, Places.within, Places.item_in_source, Places.part_in_source, Ordering.right_tree, Ordering.number_is, Ordering.low, TreeLevels.level_step, Members.In, Members.all_given}
 use Rattle.htl_names.proofs.ModulePlaces.{Comes, top, under, child, comes, exist}
-use Rattle.htl_names.proofs.Ordering.{right_tree, number_is, low}
-use Rattle.htl_names.proofs.TreeLevels.{level_step}
-use Rattle.htl_names.proofs.Members.{In, all_given}
 
 -- ---- modes by their numbers
 

@@ -1,13 +1,9 @@
 -- Where the name rules are kept, the modules in order differ and are few, and their numbers fit the fields.
 use Rattle.std.proofs.Common.{◌≡◌, ℕ, suc, None, Option, length-append, ◌≤◌, ◌<◌, min, ◌^◌, ◌-◌, List, length, slice_get, Some, refl, arith, le_trans, [], All, ap, ◌+◌, ◌∙◌, ◌∷◌, flat_map}
 use Rattle.htl_names.proofs.Words.{list_to, mode_in, PlainProgram, PlainModule, PlainMode, PlainTask, ModeAt, ModuleAt, symbols_of, layout, module_number, size_of, Layout, layout_by, tables_by, tables_of_tree, counts, limits, AreNamesRight, ProgramTree, Limits, order, mode_order, mode_at, modes_at, tasks_at, ports_at, invokes_at, switches_at, refinements, level, levels, length-map, flat_map_single, slice_get_within, comms_of, modules_of, CommNode, MeetsBounds, IsNarrow, IsNarrowParent, IsNarrowInvoke, Tables, Key, modes_of, Entry, MeetsTaskBounds, all_at, params_of, out_params, tasks_of, ports_of, invokes_of, look_up, entries, meaning}
-use Rattle.htl_names.proofs.Apart.{order_number, few, few_in_modes}
+use Rattle.htl_names.proofs.{Apart.order_number, Apart.few, Apart.few_in_modes, FlatMaps.list_to_at, FlatMaps.take_length, TreeLevels.IsTree, TreeLevels.few_programs, Members.All-from_places, ListLaws.greatest_at, ListLaws.invokes_most}
 use Rattle.htl_names.proofs.Places.{part_is, part_there, modes_there, tasks_there, modes_in, tasks_in, mode_parts, module_in_source, item_in_source, part_in_source}
-use Rattle.htl_names.proofs.FlatMaps.{list_to_at, take_length}
-use Rattle.htl_names.proofs.TreeLevels.{IsTree, few_programs}
-use Rattle.htl_names.proofs.Members.{All-from_places}
 use Rattle.htl_names.proofs.ModulePlaces.{Comes, top, under, child, comes, exist}
-use Rattle.htl_names.proofs.ListLaws.{greatest_at, invokes_most}
 use Rattle.htl_names.proofs.EntryLaws.{Origin, of_program, of_comm, of_module, of_task, of_param, of_mode, of_port, of_invoke, found, origin}
 use Rattle.htl_names.proofs.NameUses.{comm_period_span, mode_period_span, worst_span, narrow_invoke}
 use Rattle.htl_names.specs.declared.fault.NameFault.TheVariants as fault

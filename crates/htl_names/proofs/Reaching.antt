@@ -1,8 +1,7 @@
 -- The search for the programs that are reached: which are marked, and which wait.
 use Rattle.std.proofs.Common.{◌≡◌, ◌<◌, ◌+◌, ◌⊎◌, ℕ, suc, Bool, true, false, cond, List, [], ◌∷◌, ◌++◌, length, map, get_or, replicate, sym, ◌∙◌, ap, arith}
-use Rattle.htl_names.proofs.Words.{nat_tests, common_steps, length-map, MarksReached, Graph, Refinement, edge_targets, edges_from, Reached, root, set}
+use Rattle.htl_names.proofs.{Words.nat_tests, Words.common_steps, Words.length-map, Words.MarksReached, Words.Graph, Words.Refinement, Words.edge_targets, Words.edges_from, Words.Reached, Words.root, Words.set, ListLaws.is_among}
 use Rattle.std.proofs.lemmas.List.{get_or-map}
-use Rattle.htl_names.proofs.ListLaws.{is_among}
 use Rattle.htl_names.specs.Programs.{below}
 
 -- marked or no program, or waits

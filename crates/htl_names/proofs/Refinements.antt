@@ -1,9 +1,7 @@
 -- Refinements, and the levels of programs by the table of refined modes.
 use Rattle.std.proofs.Common.{◌≡◌, ℕ, zero, suc, ◌≤◌, ◌<◌, Bool, true, cond, eqb, List, [], ◌∷◌, map, length, slice_get, Some, None, refl, ◌∙◌, ap, arith, ◌+◌, count_by}
 use Rattle.htl_names.proofs.Words.{list_any, nat_tests, sum_by-cons, slice_get_within, none-some, same_Some, PlainProgram, PlainMode, Key, ModeAt, symbols_of, mode_at, refining_program, edges, edge_targets, edges_from, refinement, refinement_by, Refinement, mode_refinement, module_refinements, program_refinements, refinements, refined_in, level_by, level, levels_by, levels, RefinedModes, AreRefinedModes, map_at, list_to, greatest, refined_at, from_map}
-use Rattle.htl_names.proofs.Members.{In, Each, in_part_at, each_at, each_flat_map_at, each_weaker}
-use Rattle.htl_names.proofs.ListLaws.{among_place}
-use Rattle.htl_names.proofs.Places.{program_of_module, module_of_mode}
+use Rattle.htl_names.proofs.{Members.In, Members.Each, Members.in_part_at, Members.each_at, Members.each_flat_map_at, Members.each_weaker, ListLaws.among_place, Places.program_of_module, Places.module_of_mode}
 
 -- ---- the refinement of a mode
 

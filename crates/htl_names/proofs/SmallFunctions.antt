@@ -2,12 +2,9 @@
 use Rattle.std.proofs.Common.{◌≡◌, ◌≤◌, ◌<◌, ◌+◌, ℕ, length-append, cond, eqb, List, [], length, map, slice_get, Some, refl, sym, ◌∙◌, ap, ap₂, subst, arith, flat_map, All}
 use Rattle.htl_model.proofs.PlaceLaws.{count_all}
 use Rattle.htl_names.proofs.Words.{AllZip, flat_map-map, map-map, slice_get_within, AllZip-long, length-map, IsSmallFunction, AreSmall, ArgumentsBelow, nodes, AreInRange, IsFunInRange, Tables, Fun, Formula, Compiled, count_before, get_mapped, ParamNode, names_of, out_params, out_values, tree_nodes, Expr, Variable, Prefix, Infix, Choice, PlainProgram, PlainTask, PlainOut, PlainOuts, PlainSwitch, Concrete, Abstract, Id, MeetsBounds, MeetsTaskBounds, Layout, layout, meaning, term_by, types_of, is_abstract, task_item, task_items, module_task_items, switch_items, function_items, input_place, flat_output_function, outs_functions, task_functions, module_functions, comms_in, switch_item, mode_switch_items, read_place, flat_switch_function, mode_functions, tables_of_tree, comm_key, AreNamesRight, tasks_at, switches_at, input_use, output_uses, outputs_uses, ModeAt, ModuleAt, BoolTy, FunctionType, output_type, task_types, switch_type, comm_type, function_types, all_at, item_at}
-use Rattle.htl_names.proofs.ListLaws.{zip_append, zip_map, zip_parts, zip_at, distinct_has, among_at, place_within, few_reads}
-use Rattle.htl_names.proofs.FlatMaps.{flat_map_is, flat_map_parts}
-use Rattle.htl_names.proofs.Members.{All-from_places, In, in_first, in_second, in_part, in_mapped, at_place, map_flat_map_at}
-use Rattle.htl_names.proofs.Numbered.{task_small, switch_small}
-use Rattle.htl_names.proofs.Places.{tasks_in}
-use Rattle.htl_names.proofs.NameUses.{known, used_in_task}
+use Rattle.htl_names.proofs.{ListLaws.zip_append, ListLaws.zip_map, ListLaws.zip_parts, ListLaws.zip_at, ListLaws.distinct_has, ListLaws.among_at, ListLaws.place_within, ListLaws.few_reads, FlatMaps.flat_map_is, FlatMaps.flat_map_parts}
+use Rattle.htl_names.proofs.{Members.All-from_places, Members.In, Members.in_first, Members.in_second, Members.in_part, Members.in_mapped, Members.at_place, Members.map_flat_map_at, Numbered.task_small, Numbered.switch_small}
+use Rattle.htl_names.proofs.{Places.tasks_in, NameUses.known, NameUses.used_in_task}
 
 -- ---- expressions
 

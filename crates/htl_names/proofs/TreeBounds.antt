@@ -1,7 +1,6 @@
 -- The trees that a source gives meet the conditions under which names are resolved.
 use Rattle.htl_names.proofs.Words.{length-map, All-weaker, distinct_count-le, MeetsTaskBounds, MeetsInvokeBounds, MeetsSwitchBounds, MeetsBounds, names_of, modules_of, IsBounded, PlainProgram, PlainTask, PlainSwitch, Id, InvokeNode, List, map, All, arith, flat_map, bytes_eq, modes_of, IsBoundedTask, IsBoundedInvoke, IsBoundedSwitch, IsBoundedMode, IsBoundedModule, IsBoundedProgram, all_at}
-use Rattle.htl_names.proofs.FlatMaps.{flat_part}
-use Rattle.htl_names.proofs.Members.{All-from_places}
+use Rattle.htl_names.proofs.{FlatMaps.flat_part, Members.All-from_places}
 
 -- ---- the parts
 

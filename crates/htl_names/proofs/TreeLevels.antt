@@ -1,11 +1,8 @@
 -- A tree of programs: its levels, how many programs it has, and the table of refined modes.
 use Rattle.std.proofs.Common.{◌≡◌, ℕ, zero, suc, ◌+◌, ◌≤◌, ◌<◌, inl, inr, true, eqb, List, [], ◌∷◌, length, Some, refl, sym, ◌∙◌, ap, subst, arith, cond, eq-or-lt_of_le, flat_map, count_by}
 use Rattle.htl_names.proofs.Words.{list_any, nat_tests, le-length_from_below, list_to, length-list_to, PlainProgram, PlainModule, Key, ModeAt, Reached, root, Refinement, refinement, mode_refinement, module_refinements, program_refinements, refinements, refined_count, edge_targets, edges, IsMisplaced, refined_by, level, length-map, sum_by-cons, modules_of, beneath, modes_of}
-use Rattle.htl_names.proofs.Places.{stable}
-use Rattle.htl_names.proofs.Refinements.{IsRefined, in_refinements, refinement_counts, refinement_below, refined_one, refined_none, edge_refines}
-use Rattle.htl_names.proofs.Members.{In, each_at}
-use Rattle.htl_names.proofs.ListLaws.{among_at, flat_map_flat_map}
-use Rattle.htl_names.proofs.FlatMaps.{list_to_at, flat_map_at_shorter, flat_map_at_single}
+use Rattle.htl_names.proofs.{Places.stable, Refinements.IsRefined, Refinements.in_refinements, Refinements.refinement_counts, Refinements.refinement_below, Refinements.refined_one, Refinements.refined_none, Refinements.edge_refines}
+use Rattle.htl_names.proofs.{Members.In, Members.each_at, ListLaws.among_at, ListLaws.flat_map_flat_map, FlatMaps.list_to_at, FlatMaps.flat_map_at_shorter, FlatMaps.flat_map_at_single}
 
 -- the programs make a tree
 abbrev pub IsTree : List (Key × ℕ) → List PlainProgram → Type 0

@@ -1,7 +1,6 @@
 -- What is asked of a tree whose names are resolved. Each tree of a source keeps it.
 use Rattle.std.specs.Prelude.{◌≤◌, List, All, length, map}
-use Rattle.std.specs.Set.{distinct_count}
-use Rattle.std.specs.Str.{bytes_eq}
+use Rattle.std.specs.{Set.distinct_count, Str.bytes_eq}
 use Rattle.htl_base.specs.declared.limits.TheConstants.{MAX_ARGUMENTS, MAX_ENDS, MAX_INSTRUCTIONS, MAX_SOURCE}
 use Rattle.htl_names.specs.Trees.{tree_nodes, names_of, out_params, out_values, modules_of, modes_of, tasks_of, invokes_of, switches_of, IsBounded, PlainProgram, PlainTask, PlainSwitch, InvokeNode}
 

@@ -2,8 +2,7 @@
 use Rattle.std.specs.Prelude.{ℕ, suc, ◌+◌, ◌≡◌, ◌<◌, ◌⊎◌, ◌∷◌, ◌++◌, List, [], length, slice_get, Some}
 use Rattle.htl_names.specs.Trees.{out_params, PlainProgram, PlainModule, PlainMode, PlainTask, Id, CommNode, ParamNode, InvokeNode, Key, Entry, NameFault}
 use Rattle.htl_names.specs.declared.fault.NameFault.TheVariants as fault
-use Rattle.htl_names.specs.Keys.{program_key, comm_key, module_key, task_key, mode_key, param_key, port_key, invoke_key}
-use Rattle.htl_names.specs.Lists.{flat_map_at, map_at}
+use Rattle.htl_names.specs.{Keys.program_key, Keys.comm_key, Keys.module_key, Keys.task_key, Keys.mode_key, Keys.param_key, Keys.port_key, Keys.invoke_key, Lists.flat_map_at, Lists.map_at}
 
 abbrev pub entry : Key → ℕ → Id → Entry
 entry key number id = record { key = key; number = number; token = id.token }

@@ -1,26 +1,15 @@
 -- The flat tables of a source whose names keep the rules.
 use Rattle.std.specs.Prelude.{ℕ, ℤ, pos, negsuc, Bool, true, false, ◌+◌, ◌&&◌, eqb, cond, List, [], ◌∷◌, ◌++◌, length, map, take, slice_get, Option, Some, None}
-use Rattle.std.specs.Int.{int_wrapping_neg, w64}
-use Rattle.std.specs.List.{flat_map}
+use Rattle.std.specs.{Int.int_wrapping_neg, Int.w64, List.flat_map}
 use Rattle.htl_names.specs.Trees.{Ty, Tables, Fun, Formula, names_of, out_params, PlainProgram, PlainModule, PlainMode, PlainTask, PlainOut, PlainOuts, PlainSwitch, Concrete, Abstract, Id, CommNode, ConstNode, ParamNode, EndNode, InvokeNode, Key, ModeAt, ModuleAt}
-use Rattle.htl_model.specs.declared.parts.Comm.{Comm}
-use Rattle.htl_model.specs.declared.parts.Mode.{Mode}
-use Rattle.htl_model.specs.declared.parts.Module.{Module}
-use Rattle.htl_model.specs.declared.parts.Port.{Port}
-use Rattle.htl_model.specs.declared.parts.Task.{Task}
-use Rattle.htl_model.specs.declared.parts.Inv.{Inv}
-use Rattle.htl_model.specs.declared.parts.Switch.{Switch}
-use Rattle.htl_model.specs.declared.parts.End.{End}
+use Rattle.htl_model.specs.{declared.parts.Comm.Comm, declared.parts.Mode.Mode, declared.parts.Module.Module, declared.parts.Port.Port, declared.parts.Task.Task, declared.parts.Inv.Inv, declared.parts.Switch.Switch, declared.parts.End.End}
 use Rattle.htl_model.specs.declared.parts.End.TheVariants as E
 use Rattle.htl_model.specs.Functions.{Term, Number as TermNumber, Truth, Arg, Unary, Binary, Choose}
 use Rattle.htl_text.specs.Expressions.{Expr, Number, Flag, Variable, Prefix, Infix, Choice}
 use Rattle.htl_text.specs.declared.tree.ConstNode.TheVariants as const
 use Rattle.htl_text.specs.declared.tree.EndNode.TheVariants as end
-use Rattle.htl_names.specs.declared.functions.Arguments.{Arguments}
-use Rattle.htl_names.specs.declared.functions.Arguments.TheVariants.{Inputs, Reads}
-use Rattle.htl_names.specs.Entries.{entries}
+use Rattle.htl_names.specs.{declared.functions.Arguments.Arguments, declared.functions.Arguments.TheVariants.Inputs, declared.functions.Arguments.TheVariants.Reads, Entries.entries, Lists.flat_map_at, Lists.place_in, Lists.distinct}
 use Rattle.htl_names.specs.Keys.{look_up, pair_of, comm_key, task_key, mode_key, param_key, port_key, invoke_key}
-use Rattle.htl_names.specs.Lists.{flat_map_at, place_in, distinct}
 use Rattle.htl_names.specs.Order.{order, mode_order, modes_at, module_at, tasks_at, ports_at, invokes_at, switches_at}
 
 -- the meanings of names, and the modules and modes by their numbers in the tables

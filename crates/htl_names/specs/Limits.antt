@@ -2,8 +2,7 @@
 use Rattle.std.specs.Prelude.{ℕ, ◌*◌, List, [], ◌∷◌, length, map, sum}
 use Rattle.htl_base.specs.declared.limits.TheConstants.{MAX_COMMUNICATORS, MAX_MODULES, MAX_MODES, MAX_PORTS, MAX_TASKS, MAX_INVOCATIONS, MAX_SWITCHES, MAX_MODE_INVOCATIONS, MAX_LEVELS, MAX_SELECTIONS, MAX_POSITIONS}
 use Rattle.htl_names.specs.Trees.{greatest, comms_of, modules_of, modes_of, ports_of, tasks_of, invokes_of, switches_of, PlainProgram, PlainModule, PlainMode, Key}
-use Rattle.htl_names.specs.Order.{modules_at}
-use Rattle.htl_names.specs.Programs.{levels}
+use Rattle.htl_names.specs.{Order.modules_at, Programs.levels}
 
 -- how many choices of one mode for each module there are
 abbrev pub choices : List PlainModule → ℕ

@@ -1,14 +1,8 @@
 -- When a name rule is broken, where, and which fault is the first.
 use Rattle.std.specs.Prelude.{ℕ, suc, ◌≡◌, ◌<◌, ◌⊎◌, ◌-◌, ◌^◌, min, List, length, slice_get, Some, Result, Ok, Err}
-use Rattle.htl_names.specs.Trees.{Tables, PlainProgram, NameFault, Entry, Use}
+use Rattle.htl_names.specs.{Trees.Tables, Trees.PlainProgram, Trees.NameFault, Trees.Entry, Trees.Use, Entries.entries, Entries.Repeats, Flat.symbols_of, Flat.tables_of_tree, Kinds.Judged, Kinds.kinds, Kinds.token_of, Kinds.IsWrongKind}
 use Rattle.htl_names.specs.declared.fault.NameFault.TheVariants as fault
-use Rattle.htl_names.specs.Entries.{entries, Repeats}
-use Rattle.htl_names.specs.Flat.{symbols_of, tables_of_tree}
-use Rattle.htl_names.specs.Kinds.{Judged, kinds, token_of, IsWrongKind}
-use Rattle.htl_names.specs.Limits.{counts, limits}
-use Rattle.htl_names.specs.Parents.{ParentUse, parents, IsUnmatchedParent}
-use Rattle.htl_names.specs.Programs.{IsMisplaced}
-use Rattle.htl_names.specs.Uses.{uses, IsUnknown}
+use Rattle.htl_names.specs.{Limits.counts, Limits.limits, Parents.ParentUse, Parents.parents, Parents.IsUnmatchedParent, Programs.IsMisplaced, Uses.uses, Uses.IsUnknown}
 
 -- the rules, in the order in which they are tried
 pub data NameRule : Type 0 where

@@ -1,10 +1,9 @@
 -- Bounds by which the numbers of a layout fit the fields of the tables.
 use Rattle.std.specs.Prelude.{ℕ, ◌≤◌, All, List, length, Option, Some, None}
 use Rattle.htl_base.specs.declared.limits.TheConstants.{MAX_MODULES, MAX_MODES, MAX_PORTS, MAX_TASKS, MAX_INVOCATIONS, MAX_PERIOD}
-use Rattle.htl_names.specs.Trees.{comms_of, PlainProgram, EndNode, InvokeNode, Key, ModeAt, ModuleAt}
+use Rattle.htl_names.specs.{Trees.comms_of, Trees.PlainProgram, Trees.EndNode, Trees.InvokeNode, Trees.Key, Trees.ModeAt, Trees.ModuleAt, Order.modes_at, Order.tasks_at, Order.invokes_at}
 use Rattle.htl_text.specs.declared.tree.EndNode.TheVariants as end
 use Rattle.htl_names.specs.Flat.{Layout, meaning, modes_before, tasks_before, ports_before, invokes_before, size_of}
-use Rattle.htl_names.specs.Order.{modes_at, tasks_at, invokes_at}
 
 -- the instance of an end; 0 at a port
 abbrev pub instance_of : EndNode → ℕ

@@ -2,8 +2,7 @@
 -- refinement with theirs, then the next root module.
 use Rattle.std.specs.Prelude.{ℕ, zero, suc, List, [], ◌∷◌, length, slice_get, Option, Some, None}
 use Rattle.std.specs.List.{flat_map}
-use Rattle.htl_names.specs.Trees.{list_to, PlainProgram, PlainModule, PlainMode, PlainTask, PlainSwitch, ParamNode, InvokeNode, Key, ModeAt, ModuleAt}
-use Rattle.htl_names.specs.Lists.{flat_map_at}
+use Rattle.htl_names.specs.{Trees.list_to, Trees.PlainProgram, Trees.PlainModule, Trees.PlainMode, Trees.PlainTask, Trees.PlainSwitch, Trees.ParamNode, Trees.InvokeNode, Trees.Key, Trees.ModeAt, Trees.ModuleAt, Lists.flat_map_at}
 use Rattle.htl_names.specs.Programs.{refining_program}
 
 -- ---- what stands at a place, nothing where there is no such place

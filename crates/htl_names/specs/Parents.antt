@@ -1,10 +1,7 @@
 -- The names after `parent`, in source order, and those that stand for nothing.
 use Rattle.std.specs.Prelude.{ℕ, zero, suc, ◌≡◌, ◌∷◌, List, [], Option, Some, None}
 use Rattle.std.specs.List.{flat_map}
-use Rattle.htl_names.specs.Trees.{PlainProgram, PlainModule, PlainMode, Id, InvokeNode, Key, ModeAt, RefinedModes}
-use Rattle.htl_names.specs.Keys.{look_up, invoke_key}
-use Rattle.htl_names.specs.Lists.{flat_map_at}
-use Rattle.htl_names.specs.RefinedModes.{refined_at}
+use Rattle.htl_names.specs.{Trees.PlainProgram, Trees.PlainModule, Trees.PlainMode, Trees.Id, Trees.InvokeNode, Trees.Key, Trees.ModeAt, Trees.RefinedModes, Keys.look_up, Keys.invoke_key, Lists.flat_map_at, RefinedModes.refined_at}
 use Rattle.htl_names.specs.Programs.{refined_by}
 
 -- a name after `parent`, in an invocation of program p

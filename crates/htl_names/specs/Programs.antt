@@ -1,9 +1,7 @@
 -- The tree of programs: each program but the root refines one mode, which names it in its head.
 use Rattle.std.specs.Prelude.{ℕ, zero, suc, ◌≡◌, ◌≢◌, ◌<◌, ◌⊎◌, true, false, eqb, ◌∷◌, List, [], map, length, get_or, Option, Some, None}
 use Rattle.std.specs.List.{list_any, count_by}
-use Rattle.htl_names.specs.Trees.{list_to, greatest, PlainProgram, PlainModule, PlainMode, Key, ModeAt, Refinement}
-use Rattle.htl_names.specs.Keys.{look_up, program_key}
-use Rattle.htl_names.specs.Lists.{map_at, flat_map_at}
+use Rattle.htl_names.specs.{Trees.list_to, Trees.greatest, Trees.PlainProgram, Trees.PlainModule, Trees.PlainMode, Trees.Key, Trees.ModeAt, Trees.Refinement, Keys.look_up, Keys.program_key, Lists.map_at, Lists.flat_map_at}
 
 -- the program that refines a mode: it stands in the mode's head
 abbrev pub refining_program : List (Key × ℕ) → PlainMode → Option ℕ

@@ -1,7 +1,6 @@
 -- What a step of the walk over a source records.
 use Rattle.std.specs.Prelude.{◌≡◌, false}
-use Rattle.htl_names.specs.Rows.{Rows, rows_joined}
-use Rattle.htl_names.specs.declared.recorder.Recorder.{Recorder}
+use Rattle.htl_names.specs.{Rows.Rows, Rows.rows_joined, declared.recorder.Recorder.Recorder}
 
 -- these rows were put behind the others, unless memory was lacking
 abbrev pub Adds : Rows → Recorder → Recorder → Type 0

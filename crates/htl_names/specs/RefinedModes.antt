@@ -1,8 +1,6 @@
 -- The modes that programs refine: of each program how many, counted up to 255, and the first of them; and which are reached.
 use Rattle.std.specs.Prelude.{◌≡◌, ◌<◌, ◌+◌, ◌||◌, ℕ, zero, suc, Bool, not, eqb, ltb, false, true, min, List, length, get_or, slice_set, Option, Some, None}
-use Rattle.htl_names.specs.Trees.{PlainProgram, ModeAt, RefinedModes, Refinement}
-use Rattle.htl_names.specs.Flat.{symbols_of}
-use Rattle.htl_names.specs.Programs.{Graph, Reached, refined_count, refined_by}
+use Rattle.htl_names.specs.{Trees.PlainProgram, Trees.ModeAt, Trees.RefinedModes, Trees.Refinement, Flat.symbols_of, Programs.Graph, Programs.Reached, Programs.refined_count, Programs.refined_by}
 
 -- a program that refines no mode
 abbrev pub refines_none : RefinedModes

@@ -2,18 +2,10 @@
 use Rattle.std.specs.Prelude.{◌≡◌, ℕ, suc, List, [], ◌∷◌, ◌++◌, cond, map, Some}
 use Rattle.std.specs.List.{flat_map}
 use Rattle.htl_names.specs.Trees.{names_of, PlainProgram, PlainOut, program_of, module_of, mode_of, task_of, out_of, switch_of, CommNode, ParamNode, EndNode, InvokeNode, Scope, Entry, Use}
-use Rattle.htl_text.specs.declared.tree.ModeNode.{ModeNode}
-use Rattle.htl_text.specs.declared.tree.ModuleNode.{ModuleNode}
-use Rattle.htl_text.specs.declared.tree.OutNode.{OutNode}
-use Rattle.htl_text.specs.declared.tree.ProgramNode.{ProgramNode}
-use Rattle.htl_text.specs.declared.tree.SwitchNode.{SwitchNode}
-use Rattle.htl_text.specs.declared.tree.TaskNode.{TaskNode}
-use Rattle.htl_names.specs.declared.rows.ParentName.{ParentName}
-use Rattle.htl_names.specs.Entries.{entry, task_entries, invoke_entry, mode_entries, module_entries, comm_entry, entries_from, entries}
-use Rattle.htl_names.specs.Kinds.{Judged, is_kind, token_of, comm_kinds, end_kinds, invoke_kinds, mode_kinds, task_kind, module_kinds, program_kinds, kinds}
-use Rattle.htl_names.specs.Keys.{key_in}
-use Rattle.htl_names.specs.Lists.{map_at, flat_map_at}
-use Rattle.htl_names.specs.Parents.{ParentUse, invoke_parent, mode_parents, module_parents, program_parents, parents}
+use Rattle.htl_text.specs.{declared.tree.ModeNode.ModeNode, declared.tree.ModuleNode.ModuleNode, declared.tree.OutNode.OutNode, declared.tree.ProgramNode.ProgramNode, declared.tree.SwitchNode.SwitchNode, declared.tree.TaskNode.TaskNode}
+use Rattle.htl_names.specs.{declared.rows.ParentName.ParentName, Entries.entry, Entries.task_entries, Entries.invoke_entry, Entries.mode_entries, Entries.module_entries, Entries.comm_entry, Entries.entries_from, Entries.entries}
+use Rattle.htl_names.specs.{Kinds.Judged, Kinds.is_kind, Kinds.token_of, Kinds.comm_kinds, Kinds.end_kinds, Kinds.invoke_kinds, Kinds.mode_kinds, Kinds.task_kind, Kinds.module_kinds, Kinds.program_kinds, Kinds.kinds, Keys.key_in}
+use Rattle.htl_names.specs.{Lists.map_at, Lists.flat_map_at, Parents.ParentUse, Parents.invoke_parent, Parents.mode_parents, Parents.module_parents, Parents.program_parents, Parents.parents}
 use Rattle.htl_names.specs.Uses.{use_in, task_uses, end_use, invoke_uses, switch_uses, mode_uses, module_uses, program_uses, uses}
 
 pub record Rows : Type 0 where

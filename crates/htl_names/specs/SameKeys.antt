@@ -2,11 +2,8 @@
 use Rattle.std.specs.Prelude.{◌≡◌, ◌+◌, ◌*◌, ◌%◌, ◌^◌, ℕ, List, [], ◌∷◌, ◌++◌, IsTrue}
 use Rattle.std.specs.Bool.{Decides}
 use Rattle.std.specs.Hash as fed
-use Rattle.std.proofs.Common.{arith, ap}
-use Rattle.std.proofs.lemmas.Bool.Decides.{Decides-and, Decides-eqb}
-use Rattle.std.proofs.lemmas.Slice.Eq.{bytes_eq-Decides}
-use Rattle.htl_names.specs.Trees.{Key, Scope, Space}
-use Rattle.htl_names.specs.Keys.{space_code, same_key}
+use Rattle.std.proofs.{Common.arith, Common.ap, lemmas.Bool.Decides.Decides-and, lemmas.Bool.Decides.Decides-eqb, lemmas.Slice.Eq.bytes_eq-Decides}
+use Rattle.htl_names.specs.{Trees.Key, Trees.Scope, Trees.Space, Keys.space_code, Keys.same_key}
 
 same_space : (a b : Space) → space_code a ≡ space_code b → a ≡ b
 same_space a b e = grind arith

@@ -1,10 +1,7 @@
 -- How many items of each kind a tree has, counted up to 2 ^ 64 - 1 in one pass.
 use Rattle.std.specs.Prelude.{ℕ, ◌≡◌, ◌+◌, ◌*◌, ◌-◌, ◌^◌, min, max, List, length, fold}
-use Rattle.htl_names.specs.Trees.{comms_of, modules_of, modes_of, ports_of, tasks_of, invokes_of, switches_of, PlainProgram, PlainModule, PlainMode}
-use Rattle.htl_names.specs.Limits.{most_invokes}
-use Rattle.htl_names.specs.declared.limits.ModeTally.{ModeTally}
-use Rattle.htl_names.specs.declared.limits.ModuleTally.{ModuleTally}
-use Rattle.htl_names.specs.declared.limits.Tally.{Tally}
+use Rattle.htl_names.specs.{Trees.comms_of, Trees.modules_of, Trees.modes_of, Trees.ports_of, Trees.tasks_of, Trees.invokes_of, Trees.switches_of, Trees.PlainProgram, Trees.PlainModule, Trees.PlainMode, Limits.most_invokes}
+use Rattle.htl_names.specs.{declared.limits.ModeTally.ModeTally, declared.limits.ModuleTally.ModuleTally, declared.limits.Tally.Tally}
 
 -- up to the greatest count
 abbrev pub capped : ℕ → ℕ

@@ -1,8 +1,7 @@
 -- What the test of one name rule tells.
 use Rattle.std.specs.Prelude.{ℕ, ◌≡◌, ◌<◌, ◌⊎◌, List, MatchOption, MatchResult, Option, Result}
-use Rattle.htl_names.specs.Trees.{PlainProgram, NameFault}
+use Rattle.htl_names.specs.{Trees.PlainProgram, Trees.NameFault, NameRules.NameRule, NameRules.order_of, NameRules.NameBroken, NameRules.AreNamesRight, NameRules.IsFirstNameFault}
 use Rattle.htl_names.specs.declared.fault.NameFault.TheVariants as fault
-use Rattle.htl_names.specs.NameRules.{NameRule, order_of, NameBroken, AreNamesRight, IsFirstNameFault}
 
 -- the rule is broken nowhere
 abbrev pub IsKept : List PlainProgram → NameRule → Type 0

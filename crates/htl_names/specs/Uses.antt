@@ -2,8 +2,7 @@
 use Rattle.std.specs.Prelude.{ℕ, ◌≤◌, MatchOption, ◌∷◌, ◌++◌, List, [], map, length, Option, Some, None, cond, leb}
 use Rattle.std.specs.List.{flat_map}
 use Rattle.htl_names.specs.Trees.{names_of, PlainProgram, PlainModule, PlainMode, PlainTask, PlainOut, PlainOuts, PlainSwitch, Concrete, Abstract, Id, EndNode, InvokeNode, Key, Use, Scope}
-use Rattle.htl_names.specs.Keys.{look_up, program_key, comm_key, task_key, mode_key, param_key, port_key, key_in}
-use Rattle.htl_names.specs.Lists.{flat_map_at}
+use Rattle.htl_names.specs.{Keys.look_up, Keys.program_key, Keys.comm_key, Keys.task_key, Keys.mode_key, Keys.param_key, Keys.port_key, Keys.key_in, Lists.flat_map_at}
 use Rattle.htl_text.specs.declared.tree.EndNode.TheVariants as end
 
 -- any item of the list will do

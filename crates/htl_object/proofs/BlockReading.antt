@@ -2,8 +2,7 @@
 use Rattle.std.proofs.Common.{◌≡◌, ◌+◌, ◌-◌, ◌<◌, ◌≤◌, ℕ, suc, max, Bool, true, false, not, List, [], ◌∷◌, ◌++◌, length, map, take, All, Ok, Err, inl, inr, refl, sym, ap, subst, ◌∙◌, arith}
 use Rattle.htl_object.proofs.Words.{not-true, cases_lt, take_at, length-append, All-push, All-cons, list_any, bytes_eq, Schedule, same_schedule, with_block, count_from, block_count, is_new, block_at, AreSpelled, schedule_bytes, schedule_at, IsSchedule, Spelling}
 use Rattle.htl_object.specs.Reading.{IsBytes, Read, ◌>>=◌, bad_at, need}
-use Rattle.htl_object.proofs.BlockLaws.{count_from-least, with_block-new}
-use Rattle.htl_object.proofs.BlockSpellings.{any_spelled, with_block_spelled}
+use Rattle.htl_object.proofs.{BlockLaws.count_from-least, BlockLaws.with_block-new, BlockSpellings.any_spelled, BlockSpellings.with_block_spelled}
 use Rattle.htl_object.proofs.ScheduleLaws.{schedule, schedule_equal, same_spelling, count_from-last}
 
 -- ---- one block

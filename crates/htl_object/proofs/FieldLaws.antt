@@ -1,8 +1,7 @@
 -- The fields that several items have: what is spelled is read, and what is read is spelled so.
 use Rattle.std.proofs.Common.{◌≡◌, ℕ, ◌^◌, ◌<◌, ◌≤◌, ◌==◌, Bool, true, false, cond, List, [], ◌∷◌, ◌++◌, length, take, drop, Option, Some, None, Ok, Err, refl, sym, ap, ◌∙◌, arith, inl, inr}
 use Rattle.htl_object.proofs.Words.{nat_le, nat_lt, FitsSigned, Width, w16, w32, w64, byte_len, from_be_bytes, to_be_bytes, cast_signed, cast_unsigned, cases_lt, eqb-true, eqb-false, ne_eqb, ltb-false, le-ltb, leb-true, le-leb, take_at, drop_at, take-append-drop, length-append, length-take, get_or-take, get_or_past, be_bytes_2, be_bytes_4, be_bytes_8, from_be_bytes-to_be_bytes_2, from_be_bytes-to_be_bytes_4, from_be_bytes-to_be_bytes_8, nat_tests, sfits_to_z, to_z-of_z, of_z-to_z, Fits-of_z, Fits-lt-pow, Fits-of_lt, is_name, Ty, Int, Truth, Index, Spelling, IsBytes, Read, bad_at, short, need, byte_at, number_at, plain_at, name_bytes, type_bytes, flag_bytes, value_bytes, option_bytes, option_of, option_at, name_at, type_at, flag_at, value_at, is_span, span_at, place_at, is_owner, owner_at, is_of, init_at, IsOption}
-use Rattle.htl_object.proofs.Lawful.{IsCodec, Taken, given-value, needed, last, checked, whole, refit}
-use Rattle.htl_object.proofs.Tagged.{of_plain, tagged}
+use Rattle.htl_object.proofs.{Lawful.IsCodec, Lawful.Taken, Lawful.given-value, Lawful.needed, Lawful.last, Lawful.checked, Lawful.whole, Lawful.refit, Tagged.of_plain, Tagged.tagged}
 
 IsBytes-take : (n : ℕ) (bytes : List ℕ) → IsBytes bytes → IsBytes (take n bytes)
 IsBytes-take n bytes h i =

@@ -2,11 +2,8 @@
 use Rattle.std.proofs.Common.{◌≡◌, ℕ, ◌==◌, List, [], ◌++◌, length, Option, None, Ok, Err, refl, sym, ap, subst, ◌∙◌, ◌↔◌}
 use Rattle.htl_object.proofs.Words.{nat_le, w16, to_be_bytes, flat_map, eqb-true, Index, Trailing, Comm, Mode, Module, Port, Task, Inv, Switch, Code, EInstr, Schedule, Anchors, Counts, Lists, comm_bytes, mode_bytes, module_bytes, port_bytes, task_bytes, inv_bytes, switch_bytes, code_bytes, Fits16, counts_of, counts_bytes, counts_at, AreCounts, anchors_bytes, anchors_at, AreAnchors, is_node_count, e_code_bytes, e_code_at, IsECode, counted_functions, front_bytes, front_at, IsFront, IsFrontInRange, with_schedules, file_bytes, file_at, IsFileInRange, whole_at, fault_of, first_bad, tables_of_lists, head_bytes, append-nil, nil_from_length}
 use Rattle.htl_object.specs.Reading.{IsBytes, Read, ◌>>=◌, bad_at, need, limited_count}
-use Rattle.htl_object.proofs.VersionLaws.{head, tail}
-use Rattle.htl_object.proofs.Lawful.{IsCodec, given-value, needed, bound, field, last, checked, counted, items, whole}
-use Rattle.htl_object.proofs.FieldLaws.{number16, number32}
-use Rattle.htl_object.proofs.ItemLaws.{comm, mode, unit, port, task, inv, switch}
-use Rattle.htl_object.proofs.InstructionLaws.{code, e_instr}
+use Rattle.htl_object.proofs.{VersionLaws.head, VersionLaws.tail, Lawful.IsCodec, Lawful.given-value, Lawful.needed, Lawful.bound, Lawful.field, Lawful.last, Lawful.checked, Lawful.counted, Lawful.items, Lawful.whole}
+use Rattle.htl_object.proofs.{FieldLaws.number16, FieldLaws.number32, ItemLaws.comm, ItemLaws.mode, ItemLaws.unit, ItemLaws.port, ItemLaws.task, ItemLaws.inv, ItemLaws.switch, InstructionLaws.code, InstructionLaws.e_instr}
 
 -- ---- parts
 

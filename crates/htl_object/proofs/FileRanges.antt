@@ -4,10 +4,8 @@ use Rattle.htl_object.proofs.Words.{nat_le, nat_lt, FitsSigned, w64, list_any, c
 use Rattle.htl_base.specs.declared.Ty.TheVariants as ty
 use Rattle.htl_ecode.specs.declared.instr.EInstr.TheVariants as I
 use Rattle.htl_model.specs.declared.parts.End.TheVariants as E
-use Rattle.htl_object.proofs.Each.{each_of, every, none_before, last_least, length_take, get_take}
-use Rattle.htl_object.proofs.NodeCounts.{nodes_few, node_count_so, small as le_test}
+use Rattle.htl_object.proofs.{Each.each_of, Each.every, Each.none_before, Each.last_least, Each.length_take, Each.get_take, NodeCounts.nodes_few, NodeCounts.node_count_so, NodeCounts.small as le_test, Listed.all_codes, Listed.object_again}
 use Rattle.htl_object.proofs.ListRanges.{counted, itself, right}
-use Rattle.htl_object.proofs.Listed.{all_codes, object_again}
 
 -- ---- tests
 

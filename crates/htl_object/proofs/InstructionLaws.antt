@@ -4,9 +4,8 @@ use Rattle.htl_object.proofs.Words.{nat_le, Ty, Tag, Index, EInstr, FInstr, SIns
 use Rattle.htl_ecode.specs.declared.instr.EInstr.TheVariants as E
 use Rattle.htl_model.specs.declared.function.FInstr.TheVariants as F
 use Rattle.htl_walk.specs.declared.schedule.SInstr.TheVariants as S
-use Rattle.htl_object.proofs.Lawful.{IsCodec, field, last, checked, counted, whole}
+use Rattle.htl_object.proofs.{Lawful.IsCodec, Lawful.field, Lawful.last, Lawful.checked, Lawful.counted, Lawful.whole, FieldLaws.byte, FieldLaws.number16, FieldLaws.number32, FieldLaws.value, FieldLaws.type}
 use Rattle.htl_object.proofs.Tagged.{TableTakes, ◌&◌, of_plain, of_parts, tagged}
-use Rattle.htl_object.proofs.FieldLaws.{byte, number16, number32, value, type}
 
 phase : IsCodec (λ n. n ∷ []) IsPhase phase_at
 phase = checked Tag is_phase byte

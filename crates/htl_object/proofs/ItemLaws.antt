@@ -3,8 +3,7 @@ use Rattle.std.proofs.Common.{◌≡◌, ◌-◌, ℕ, Bool, List, ◌++◌, len
 use Rattle.htl_base.specs.declared.limits.TheConstants.{MAX_LEVELS}
 use Rattle.htl_object.proofs.Words.{Ty, Spelling, Index, Comm, Mode, Module, Port, Task, End, Inv, Switch, bad_at, is_owner, comm_bytes, comm_at, is_named_comm, mode_bytes, mode_at, is_named_mode, last_module, module_bytes, module_at, is_named_module, is_mode_of, leads_up_within, port_bytes, port_at, last_mode, is_named_port, types_bytes, types_at, task_bytes, task_at, last_owner, is_named_task, end_bytes, end_table, end_at, ends_bytes, ends_at, is_instance, is_port_of, inv_bytes, inv_at, is_inv_mode, is_inv_task, is_parent, switch_bytes, switch_at, last_switch_mode, is_target, is_read, IsComm, IsMode, IsModule, IsPort, AreTypes, IsTask, IsEnd, AreEnds, IsInv, IsSwitch, ℤ, not, nat_le}
 use Rattle.htl_model.specs.declared.parts.End.TheVariants as N
-use Rattle.htl_object.proofs.Lawful.{IsCodec, field, tested, last, whole, checked, counted}
-use Rattle.htl_object.proofs.Tagged.{of_parts, tagged}
+use Rattle.htl_object.proofs.{Lawful.IsCodec, Lawful.field, Lawful.tested, Lawful.last, Lawful.whole, Lawful.checked, Lawful.counted, Tagged.of_parts, Tagged.tagged}
 use Rattle.htl_object.proofs.FieldLaws.{name, type, flag, span, init, owner, place, option, number16, number32}
 
 abbrev make_comm : List ℕ × (Ty × (Bool × (ℕ × ℤ))) → Comm

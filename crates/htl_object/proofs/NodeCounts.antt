@@ -1,8 +1,7 @@
 -- A count of schedules is one of nodes, which are few.
 use Rattle.std.proofs.Common.{◌≡◌, ◌≤◌, ℕ, true, ◌&&◌, eqb, List, length, None, refl, sym, ap, arith}
 use Rattle.htl_object.proofs.Words.{nat_le, is_none, nat_tests, length-map, limits_kept, rounds_have, choices_some, choices_starts, nodes_small, KeepsLimits, starts, rounds, rounds_at, choices, radices, ways, nodes, frame_limit, AreInRange, Tables, selections_of, positions_to, are_few, is_node_count, and_from, eq-eqb}
-use Rattle.htl_object.proofs.Limits.{selections_are}
-use Rattle.htl_object.proofs.Widest.{most_few}
+use Rattle.htl_object.proofs.{Limits.selections_are, Widest.most_few}
 
 pub small : (n m : ℕ) → n ≤ m → nat_le n m ≡ true
 small n m h = grind (arith, nat_tests)

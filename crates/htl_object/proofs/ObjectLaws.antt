@@ -2,11 +2,7 @@
 use Rattle.std.proofs.Common.{◌≡◌, ℕ, true, List, length, All, Option, Some, None, Ok, Err, refl, sym, ap, subst, ◌∙◌}
 use Rattle.htl_object.proofs.Words.{All-map, FitsSigned, w64, is_name, EInstr, Compiled, Code, Comm, Mode, Module, Port, Task, Schedule, AreAnchors, IsFileInRange, file_bytes, first_bad, fault_of, malformed_at, whole_at, IsSchedule, Is32, IsComm, IsMode, IsModule, IsPort, IsTask, IsCode, IsEInstr, IsSInstr, IsFInstr, OneSpelling, OneObject, NoBadField, SaysItself, object_of_lists, lists_of, HasWidths, KeepsFunction, KeepsTypes, IsObject, object_bytes, object_or, object_in, object_at, IsDecoded, IsReadAs, DecodeFault, Anchors, Lists, Bad, Malformed, Object}
 use Rattle.htl_ecode.specs.declared.instr.EInstr.TheVariants as I
-use Rattle.htl_object.proofs.Each.{all_of}
-use Rattle.htl_object.proofs.FileLaws.{whole-again, whole-takes, one-file, no-bad-field}
-use Rattle.htl_object.proofs.FileRanges.{file_in_range}
-use Rattle.htl_object.proofs.Listed.{lists_again, object_again}
-use Rattle.htl_object.proofs.Lawful.{given-value}
+use Rattle.htl_object.proofs.{Each.all_of, FileLaws.whole-again, FileLaws.whole-takes, FileLaws.one-file, FileLaws.no-bad-field, FileRanges.file_in_range, Listed.lists_again, Listed.object_again, Lawful.given-value}
 use Rattle.htl_object.proofs.ObjectRange.{lists_are_object}
 use Rattle.htl_object.specs.Reading.{IsBytes, Read, ◌>>=◌}
 use Rattle.htl_object.specs.declared.decoding.DecodeFault.TheVariants as fault

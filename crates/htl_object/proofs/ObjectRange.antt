@@ -2,9 +2,7 @@
 use Rattle.std.proofs.Common.{◌∙◌, arith}
 use Rattle.htl_object.proofs.Words.{nat_le, length-map, All-map, IsFileInRange, IsSchedule, IsEInstr, Anchors, Lists, EInstr, Compiled, Code, IsFunctionCode, IsPhased, IsShort, IsInRange, object_of_lists, and_first}
 use Rattle.htl_ecode.specs.declared.instr.EInstr.TheVariants as I
-use Rattle.htl_object.proofs.Each.{all_of}
-use Rattle.htl_object.proofs.ListRanges.{at_most, right, lists_in_range}
-use Rattle.htl_object.proofs.Limits.{lists_keep_limits, frames_kept, counted_schedules}
+use Rattle.htl_object.proofs.{Each.all_of, ListRanges.at_most, ListRanges.right, ListRanges.lists_in_range, Limits.lists_keep_limits, Limits.frames_kept, Limits.counted_schedules}
 
 phased : (i : EInstr) → IsEInstr i → IsPhased i
 phased (I.Future d p x) h = (at_most 1 p (and_first (nat_le 1 p) (nat_le p 3) h.1.0.1), at_most p 3 (right (nat_le 1 p) (nat_le p 3) h.1.0.1))

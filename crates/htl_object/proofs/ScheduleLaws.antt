@@ -3,11 +3,8 @@ use Rattle.std.proofs.Common.{◌≡◌, ◌≤◌, ◌<◌, ◌^◌, ℕ, zero,
 use Rattle.htl_object.proofs.Words.{nat_le, w16, w32, to_be_bytes, list_any, flat_map, bytes_eq, false≢true, not-true, leb-true, le-leb, length-map, flat_map-map, slice_eq-Decides, bytes_eq-Decides, SInstr, Schedule, s_code_at, schedule_bytes, schedule_at, IsSchedule, s_bytes, Each, Every, Fits16, Is32, IsSInstr, Index, Spelling, instr_numbers, same_schedule, with_block, blocks_from, number_in, numbers_from, block_numbers, block_list, blocks_bytes, count_from, block_count, block_number_at, is_new, block_at, schedules_of, blocks_at, IsShort}
 use Rattle.htl_walk.specs.declared.schedule.SInstr.TheVariants as S
 use Rattle.htl_object.specs.Reading.{◌>>=◌, field_at, number_at}
-use Rattle.htl_object.proofs.Lawful.{IsCodec, given-value, field, last, checked, counted, items, whole}
-use Rattle.htl_object.proofs.FieldLaws.{number16, number32}
-use Rattle.htl_object.proofs.InstructionLaws.{s_instr}
+use Rattle.htl_object.proofs.{Lawful.IsCodec, Lawful.given-value, Lawful.field, Lawful.last, Lawful.checked, Lawful.counted, Lawful.items, Lawful.whole, FieldLaws.number16, FieldLaws.number32, InstructionLaws.s_instr, Each.every}
 use Rattle.htl_object.proofs.BlockSpellings.{numbers_spelled, blocks_spelled}
-use Rattle.htl_object.proofs.Each.{every}
 use Rattle.htl_object.proofs.BlockLaws.{said, step, length-numbers, length-blocks, Steps, News, count_from-least, back, with_block-new, with_block-old}
 
 -- ---- one schedule

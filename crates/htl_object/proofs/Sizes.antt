@@ -3,9 +3,7 @@ use Rattle.std.proofs.Common.{◌≡◌, ℕ, zero, suc, ◌+◌, ◌*◌, ◌�
 use Rattle.std.specs.Prelude.{sum_by, nat_le, not}
 use Rattle.htl_object.proofs.Words.{w16, leb-true, length-append, sum_by-append, Bad, Spelling, Index, Task, type_at, types_at, task_at, last_owner, is_named_task}
 use Rattle.htl_object.specs.Reading.{Read, ◌>>=◌, bad_at, need, items_at, limited_count, number_at}
-use Rattle.htl_object.proofs.Lawful.{IsCodec, bound, needed, given-value}
-use Rattle.htl_object.proofs.FieldLaws.{name, owner, flag, span}
-use Rattle.htl_object.proofs.ItemLaws.{types}
+use Rattle.htl_object.proofs.{Lawful.IsCodec, Lawful.bound, Lawful.needed, Lawful.given-value, FieldLaws.name, FieldLaws.owner, FieldLaws.flag, FieldLaws.span, ItemLaws.types}
 
 record Yields {X : Type 0} (P : X → Type 0) (read : List ℕ → Read X) : Type 0 where
   pub all : (bytes : List ℕ) (y : X) (rest : List ℕ) → read bytes ≡ Ok (y, rest) → P y

@@ -2,8 +2,7 @@
 use Rattle.std.proofs.Common.{◌≡◌, ◌==◌, ◌||◌, ℕ, Bool, true, false, cond, List, ◌++◌, length, take, drop, Option, Some, None, Ok, refl, sym, ap, ◌∙◌, arith}
 use Rattle.htl_object.proofs.Words.{codes, nat_le, w16, to_be_bytes, bytes_eq, le-leb, eqb-true, take_at, drop_at, take-append-drop, length-append, bytes_eq-Decides, is_name, name_bytes, name_at, Fits16, MalKind, Magic, Version, Index, text_at, version_of, platform_bytes, head_bytes, head_at, platform_at, IsPlatformName, tail_bytes, tail_at}
 use Rattle.htl_object.specs.Reading.{IsBytes, Read, ◌>>=◌, bad_at, short, need}
-use Rattle.htl_object.proofs.Lawful.{IsCodec, Lawful, Taken, given-value, needed, field, last, checked, counted, whole}
-use Rattle.htl_object.proofs.FieldLaws.{number16, name}
+use Rattle.htl_object.proofs.{Lawful.IsCodec, Lawful.Lawful, Lawful.Taken, Lawful.given-value, Lawful.needed, Lawful.field, Lawful.last, Lawful.checked, Lawful.counted, Lawful.whole, FieldLaws.number16, FieldLaws.name}
 use Rattle.htl_object.proofs.ScheduleLaws.{AreSchedules, schedule, blocks}
 
 -- just this text

@@ -1,8 +1,7 @@
 -- A selection of each root module's widest mode.
 use Rattle.std.proofs.Common.{◌≡◌, ◌≤◌, ◌<◌, ◌⊎◌, ◌+◌, ◌*◌, ◌/◌, ◌%◌, ℕ, zero, suc, max, Bool, true, false, cond, eqb, List, [], ◌∷◌, length, drop, get_or, slice_get, Option, Some, None, refl, sym, ◌∙◌, ap, arith, inl, inr, length-append}
 use Rattle.htl_object.proofs.Words.{flat_map, count_by, mul_comm, mul_assoc, nat_tests, div-mul-add, mod-mul-add, mul-add-lt, slice_get-get_or, slice_get_within, modes_some, no_modules, KeepsLimits, places_from, AreInRange, is_root, root_modules, mode_of_module, inv_of_mode, modes_of, invs_of, choices_from, selection_count, root_mode, Tables, Inv, Mode, Module, widest_to, positions_to, is_mode_of, count_places}
-use Rattle.htl_object.proofs.Limits.{dropped, root_same, count_some}
-use Rattle.htl_object.proofs.ListRanges.{mode_of}
+use Rattle.htl_object.proofs.{Limits.dropped, Limits.root_same, Limits.count_some, ListRanges.mode_of}
 
 -- ---- the widest mode of a module
 

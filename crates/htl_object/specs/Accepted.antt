@@ -1,11 +1,8 @@
 -- Accepted objects.
 use Rattle.htl_ecode.specs.Spelling.{Spells}
-use Rattle.htl_model.specs.Broken.{Formed}
-use Rattle.htl_model.specs.FunctionTypes.{FitPlaces}
-use Rattle.htl_object.specs.Ranges.{IsInRange}
-use Rattle.htl_object.specs.declared.object.Object.{Object}
-use Rattle.htl_walk.specs.Feasible.{AreFeasible}
-use Rattle.htl_walk.specs.NodeWalks.{instrs_of}
+use Rattle.htl_model.specs.{Broken.Formed, FunctionTypes.FitPlaces}
+use Rattle.htl_object.specs.{Ranges.IsInRange, declared.object.Object.Object}
+use Rattle.htl_walk.specs.{Feasible.AreFeasible, NodeWalks.instrs_of}
 
 -- an object in range that breaks no form rule
 pub record IsFormed (o : Object) : Type 0 where

@@ -1,11 +1,9 @@
 -- Schedules with equal ones written once: for each schedule the number of its block, and then the blocks.
 use Rattle.std.specs.Prelude.{◌≡◌, ℕ, suc, max, not, nat_le, Bool, cond, List, [], ◌∷◌, ◌++◌, map, get_or, Ok, All}
-use Rattle.htl_object.specs.Common.{w16, to_be_bytes, bytes_eq, SInstr, Schedule}
-use Rattle.std.specs.List.{flat_map, list_any, position_or_len}
-use Rattle.htl_object.specs.Schedules.{schedule_bytes, schedule_at, IsSchedule}
+use Rattle.htl_object.specs.{Common.w16, Common.to_be_bytes, Common.bytes_eq, Common.SInstr, Common.Schedule, Schedules.schedule_bytes, Schedules.schedule_at, Schedules.IsSchedule}
+use Rattle.std.specs.{List.flat_map, List.list_any, List.position_or_len, Cmp.Lexicographic.pointwise}
 use Rattle.htl_object.specs.Reading.{Read, ◌>>=◌, field_at, items_at, number_at}
 use Rattle.htl_object.specs.declared.malformed.MalKind.TheVariants.{Index, Spelling}
-use Rattle.std.specs.Cmp.Lexicographic.{pointwise}
 use Rattle.htl_walk.specs.declared.schedule.SInstr.TheVariants as S
 
 -- ---- blocks of a list, for any test of equality

@@ -1,7 +1,6 @@
 -- Communicators.
 use Rattle.std.specs.Prelude.{ℕ, Bool, not, List, ◌++◌, Ok}
-use Rattle.htl_object.specs.Common.{w32, to_be_bytes, list_any, bytes_eq, Comm}
-use Rattle.htl_object.specs.declared.malformed.MalKind.TheVariants.{Spelling}
+use Rattle.htl_object.specs.{Common.w32, Common.to_be_bytes, Common.list_any, Common.bytes_eq, Common.Comm, declared.malformed.MalKind.TheVariants.Spelling}
 use Rattle.htl_object.specs.Reading.{Read, ◌>>=◌, bad_at, need}
 use Rattle.htl_object.specs.Fields.{name_bytes, type_bytes, flag_bytes, value_bytes, name_at, type_at, flag_at, span_at, init_at}
 

@@ -1,10 +1,8 @@
 -- The fields that several items have: how each is spelled, and how it is read.
 use Rattle.std.specs.Prelude.{ℕ, ℤ, pos, Bool, true, false, cond, ◌==◌, ◌&&◌, ◌||◌, List, [], ◌∷◌, length, take, drop, Option, Some, None, Ok, nat_lt, nat_le}
-use Rattle.std.specs.Ordering.{int_eq}
-use Rattle.std.specs.Int.{w16, w32, w64, to_be_bytes, cast_signed, cast_unsigned}
-use Rattle.htl_object.specs.Common.{MAX_PERIOD, is_name, Ty}
+use Rattle.std.specs.{Ordering.int_eq, Int.w16, Int.w32, Int.w64, Int.to_be_bytes, Int.cast_signed, Int.cast_unsigned}
+use Rattle.htl_object.specs.{Common.MAX_PERIOD, Common.is_name, Common.Ty, declared.malformed.MalKind.TheVariants.Index, declared.malformed.MalKind.TheVariants.Spelling}
 use Rattle.htl_base.specs.declared.Ty.TheVariants.{Int, Bool as Truth}
-use Rattle.htl_object.specs.declared.malformed.MalKind.TheVariants.{Index, Spelling}
 use Rattle.htl_object.specs.Reading.{Read, ◌>>=◌, bad_at, short, need, field_at, byte_at, number_at, tagged_at, plain_at}
 
 -- ---- spelling

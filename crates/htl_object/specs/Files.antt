@@ -2,22 +2,11 @@
 use Rattle.std.specs.Prelude.{◌≡◌, ℕ, zero, suc, ◌+◌, ◌-◌, ◌*◌, max, ◌==◌, ◌&&◌, Bool, false, cond, slice_get, is_none, List, [], ◌++◌, length, Option, Some, None, Ok, Err, nat_le, count_by, sum_by}
 use Rattle.htl_object.specs.Common.{w16, w32, to_be_bytes, flat_map, frame_limit, nodes, Tables, Mode, Module, Task, Inv, EInstr, Schedule}
 use Rattle.htl_base.specs.declared.limits.TheConstants.{MAX_COMMUNICATORS, MAX_MODULES, MAX_MODES, MAX_PORTS, MAX_TASKS, MAX_INVOCATIONS, MAX_SWITCHES, MAX_SELECTIONS, MAX_POSITIONS}
-use Rattle.htl_object.specs.declared.malformed.MalKind.TheVariants.{Trailing}
-use Rattle.htl_object.specs.declared.malformed.Malformed.{Malformed}
-use Rattle.htl_object.specs.declared.malformed.Bad.{Bad}
-use Rattle.htl_object.specs.declared.lists.Anchors.{Anchors}
-use Rattle.htl_object.specs.declared.lists.Counts.{Counts}
-use Rattle.htl_object.specs.declared.lists.Lists.{Lists}
-use Rattle.htl_object.specs.Lists.{tables_of_lists}
+use Rattle.htl_object.specs.{declared.malformed.MalKind.TheVariants.Trailing, declared.malformed.Malformed.Malformed, declared.malformed.Bad.Bad, declared.lists.Anchors.Anchors, declared.lists.Counts.Counts, declared.lists.Lists.Lists}
+use Rattle.htl_object.specs.{Lists.tables_of_lists, Comms.comm_bytes, Comms.comm_at, Modes.mode_bytes, Modes.mode_at, Modules.module_bytes, Modules.module_at, Modules.is_mode_of, Schedules.IsSchedule}
 use Rattle.htl_object.specs.Reading.{Read, ◌>>=◌, bad_at, need, items_at, number_at, limited_count}
-use Rattle.htl_object.specs.Comms.{comm_bytes, comm_at}
-use Rattle.htl_object.specs.Modes.{mode_bytes, mode_at}
-use Rattle.htl_object.specs.Modules.{module_bytes, module_at, is_mode_of}
-use Rattle.htl_object.specs.Ports.{port_bytes, port_at, task_bytes, task_at}
-use Rattle.htl_object.specs.Invocations.{inv_bytes, inv_at, switch_bytes, switch_at}
-use Rattle.htl_object.specs.Instructions.{code_bytes, code_at, e_bytes, e_instr_at}
-use Rattle.htl_object.specs.Schedules.{IsSchedule}
-use Rattle.htl_object.specs.Versions.{head_bytes, head_at, IsPlatformName, tail_bytes, tail_at}
+use Rattle.htl_object.specs.{Ports.port_bytes, Ports.port_at, Ports.task_bytes, Ports.task_at, Invocations.inv_bytes, Invocations.inv_at, Invocations.switch_bytes, Invocations.switch_at}
+use Rattle.htl_object.specs.{Instructions.code_bytes, Instructions.code_at, Instructions.e_bytes, Instructions.e_instr_at, Versions.head_bytes, Versions.head_at, Versions.IsPlatformName, Versions.tail_bytes, Versions.tail_at}
 use Rattle.htl_object.specs.Items.{Each, Every, Fits16, Is32, IsComm, IsMode, IsModule, IsPort, IsTask, IsInv, IsSwitch, IsCode, IsEInstr}
 
 -- ---- counts

@@ -2,12 +2,11 @@
 use Rattle.std.specs.Prelude.{ℕ, ◌&&◌, Bool, List, [], ◌∷◌, ◌++◌, Ok, nat_le, length}
 use Rattle.htl_object.specs.Common.{w16, w32, to_be_bytes, EInstr, FInstr, SInstr, Fun, Formula, Compiled, Code, flat_map}
 use Rattle.htl_base.specs.declared.limits.TheConstants.{MAX_INSTRUCTIONS, MAX_ARGUMENTS}
-use Rattle.htl_object.specs.declared.malformed.MalKind.TheVariants.{Tag, Index}
+use Rattle.htl_object.specs.{declared.malformed.MalKind.TheVariants.Tag, declared.malformed.MalKind.TheVariants.Index, Fields.value_bytes, Fields.value_at, Fields.type_bytes, Fields.type_at}
 use Rattle.htl_ecode.specs.declared.instr.EInstr.TheVariants as E
 use Rattle.htl_model.specs.declared.function.FInstr.TheVariants as F
 use Rattle.htl_walk.specs.declared.schedule.SInstr.TheVariants as S
 use Rattle.htl_object.specs.Reading.{Read, ◌>>=◌, field_at, byte_at, number_at, tagged_at, plain_at, one_at, two_at, three_at, items_at, list_at}
-use Rattle.htl_object.specs.Fields.{value_bytes, value_at, type_bytes, type_at}
 
 -- ---- E code
 

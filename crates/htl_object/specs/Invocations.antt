@@ -1,12 +1,10 @@
 -- Invocations and switches.
 use Rattle.std.specs.Prelude.{ℕ, ◌==◌, ◌&&◌, ◌-◌, Bool, true, false, not, List, [], ◌∷◌, ◌++◌, Option, Ok, Some, None, length, slice_get, nat_lt, nat_le, count_by}
-use Rattle.htl_object.specs.Common.{w16, w32, to_be_bytes, list_any, flat_map, Mode, Port, Task, End, Inv, Switch}
+use Rattle.htl_object.specs.{Common.w16, Common.w32, Common.to_be_bytes, Common.list_any, Common.flat_map, Common.Mode, Common.Port, Common.Task, Common.End, Common.Inv, Common.Switch, declared.malformed.MalKind.TheVariants.Index}
 use Rattle.htl_base.specs.declared.limits.TheConstants.{MAX_PERIOD, MAX_ENDS, MAX_ARGUMENTS, MAX_MODE_INVOCATIONS}
-use Rattle.htl_object.specs.declared.malformed.MalKind.TheVariants.{Index}
 use Rattle.htl_model.specs.declared.parts.End.TheVariants as E
 use Rattle.htl_object.specs.Reading.{Read, ◌>>=◌, field_at, number_at, tagged_at, one_at, two_at, list_at}
-use Rattle.htl_object.specs.Fields.{option_bytes, option_at, place_at, is_owner}
-use Rattle.htl_object.specs.Modules.{is_mode_of}
+use Rattle.htl_object.specs.{Fields.option_bytes, Fields.option_at, Fields.place_at, Fields.is_owner, Modules.is_mode_of}
 
 -- ---- ends
 

@@ -5,13 +5,9 @@ use Rattle.htl_model.specs.declared.parts.End.TheVariants as N
 use Rattle.htl_walk.specs.declared.schedule.SInstr.TheVariants as S
 use Rattle.htl_ecode.specs.declared.instr.EInstr.TheVariants as E
 use Rattle.htl_model.specs.declared.function.FInstr.TheVariants as F
-use Rattle.htl_object.specs.Fields.{is_span, is_of, is_owner}
-use Rattle.htl_object.specs.Comms.{is_named_comm}
-use Rattle.htl_object.specs.Modes.{is_named_mode, last_module}
-use Rattle.htl_object.specs.Modules.{is_named_module, is_mode_of, leads_up_within}
-use Rattle.htl_object.specs.Ports.{last_mode, is_named_port, last_owner, is_named_task}
+use Rattle.htl_object.specs.{Fields.is_span, Fields.is_of, Fields.is_owner, Comms.is_named_comm, Modes.is_named_mode, Modes.last_module, Modules.is_named_module, Modules.is_mode_of, Modules.leads_up_within}
+use Rattle.htl_object.specs.{Ports.last_mode, Ports.is_named_port, Ports.last_owner, Ports.is_named_task, Instructions.is_phase, Instructions.is_body}
 use Rattle.htl_object.specs.Invocations.{is_instance, is_port_of, is_inv_mode, is_inv_task, is_parent, last_switch_mode, is_target, is_read}
-use Rattle.htl_object.specs.Instructions.{is_phase, is_body}
 
 -- each item fits, given those before it
 abbrev pub Each : {X : Type 0} → (List X → X → Type 0) → List X → List X → Type 0

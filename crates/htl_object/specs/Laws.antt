@@ -1,15 +1,9 @@
 -- The laws of objects and their bytes.
 use Rattle.std.specs.Prelude.{◌≡◌, ◌↔◌, ◌<◌, ℕ, List, [], get_or, None, Ok}
-use Rattle.htl_model.specs.Broken.{KeptTo, KeepsLimits}
-use Rattle.htl_object.specs.Common.{frame_limit, nodes, AreInRange, Tables, AreFeasible, SInstr}
-use Rattle.htl_model.specs.Selections.{selection_count, round_length}
-use Rattle.htl_object.specs.Files.{first_bad}
-use Rattle.htl_object.specs.Objects.{object_bytes, object_in, IsObject}
-use Rattle.htl_object.specs.Reading.{IsBytes}
+use Rattle.htl_model.specs.{Broken.KeptTo, Broken.KeepsLimits, Selections.selection_count, Selections.round_length}
+use Rattle.htl_object.specs.{Common.frame_limit, Common.nodes, Common.AreInRange, Common.Tables, Common.AreFeasible, Common.SInstr, Files.first_bad, Objects.object_bytes, Objects.object_in, Objects.IsObject, Reading.IsBytes}
 use Rattle.htl_object.specs.declared.object.Object.{Object}
-use Rattle.htl_walk.specs.EqualPeriods.{RootsHaveOnePeriod}
-use Rattle.htl_walk.specs.Jobs.{abstract_jobs}
-use Rattle.htl_walk.specs.Walk.{ScheduleIsAccepted}
+use Rattle.htl_walk.specs.{EqualPeriods.RootsHaveOnePeriod, Jobs.abstract_jobs, Walk.ScheduleIsAccepted}
 
 -- Bytes that say an object are its one spelling, and it is in range.
 abbrev pub OneSpelling : Type 0

@@ -2,11 +2,7 @@
 use Rattle.std.specs.Prelude.{ℕ, List, [], ◌∷◌, length, map, get_or}
 use Rattle.htl_ecode.specs.declared.ecode.ECode.{ECode}
 use Rattle.htl_model.specs.Lists.{list_to}
-use Rattle.htl_object.specs.Common.{Tables, Fun, Formula, Compiled, Code}
-use Rattle.htl_object.specs.declared.lists.Anchors.{Anchors}
-use Rattle.htl_object.specs.declared.lists.Counts.{Counts}
-use Rattle.htl_object.specs.declared.lists.Lists.{Lists}
-use Rattle.htl_object.specs.declared.object.Object.{Object}
+use Rattle.htl_object.specs.{Common.Tables, Common.Fun, Common.Formula, Common.Compiled, Common.Code, declared.lists.Anchors.Anchors, declared.lists.Counts.Counts, declared.lists.Lists.Lists, declared.object.Object.Object}
 
 -- ---- the object of lists
 

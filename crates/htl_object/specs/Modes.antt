@@ -1,9 +1,7 @@
 -- Modes: their owners don't fall along the list, and the names of one owner differ.
 use Rattle.std.specs.Prelude.{ℕ, ◌==◌, ◌&&◌, ◌-◌, Bool, not, List, ◌++◌, Ok, Some, None, length, slice_get}
-use Rattle.htl_object.specs.Common.{w16, w32, to_be_bytes, list_any, bytes_eq, Mode}
-use Rattle.htl_object.specs.declared.malformed.MalKind.TheVariants.{Spelling}
+use Rattle.htl_object.specs.{Common.w16, Common.w32, Common.to_be_bytes, Common.list_any, Common.bytes_eq, Common.Mode, declared.malformed.MalKind.TheVariants.Spelling, Fields.name_bytes, Fields.name_at, Fields.owner_at, Fields.span_at}
 use Rattle.htl_object.specs.Reading.{Read, ◌>>=◌, bad_at, need}
-use Rattle.htl_object.specs.Fields.{name_bytes, name_at, owner_at, span_at}
 
 abbrev pub mode_bytes : Mode → List ℕ
 mode_bytes m = name_bytes m.name ++ (to_be_bytes w16 m.module ++ to_be_bytes w32 m.period)

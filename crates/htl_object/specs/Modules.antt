@@ -1,7 +1,6 @@
 -- Modules: a parent is a mode of an earlier module, a start one of the module itself.
 use Rattle.std.specs.Prelude.{ℕ, zero, suc, ◌==◌, ◌-◌, Bool, true, false, not, List, ◌++◌, Option, Ok, Some, None, length, slice_get}
-use Rattle.htl_object.specs.Common.{w16, MAX_LEVELS, to_be_bytes, list_any, bytes_eq, Mode, Module}
-use Rattle.htl_object.specs.declared.malformed.MalKind.TheVariants.{Spelling, Index}
+use Rattle.htl_object.specs.{Common.w16, Common.MAX_LEVELS, Common.to_be_bytes, Common.list_any, Common.bytes_eq, Common.Mode, Common.Module, declared.malformed.MalKind.TheVariants.Spelling, declared.malformed.MalKind.TheVariants.Index}
 use Rattle.htl_object.specs.Reading.{Read, ◌>>=◌, bad_at, need, field_at, number_at}
 use Rattle.htl_object.specs.Fields.{name_bytes, option_bytes, name_at, option_at}
 

@@ -1,7 +1,6 @@
 -- The names of items, each under its owner.
 use Rattle.std.specs.Prelude.{ℕ, ◌==◌, ◌&&◌, Bool, List, map}
-use Rattle.htl_object.specs.Common.{bytes_eq, Comm, Mode, Module, Port, Task}
-use Rattle.htl_object.specs.declared.names.OwnedName.{OwnedName}
+use Rattle.htl_object.specs.{Common.bytes_eq, Common.Comm, Common.Mode, Common.Module, Common.Port, Common.Task, declared.names.OwnedName.OwnedName}
 
 abbrev pub owned : ℕ → List ℕ → OwnedName
 owned owner name = record { owner = owner; name = name }

@@ -1,8 +1,6 @@
 -- What is noted of the items before the next.
 use Rattle.std.specs.Prelude.{◌≡◌, ◌<◌, ◌≤◌, ◌==◌, ◌&&◌, ◌||◌, ◌+◌, ℕ, Bool, false, List, get_or, slice_get, Some, count_by}
-use Rattle.htl_object.specs.Common.{MAX_COMMUNICATORS, MAX_TASKS, list_any, Inv}
-use Rattle.htl_object.specs.Invocations.{last_inv_mode}
-use Rattle.htl_object.specs.declared.notes.InvNotes.{InvNotes}
+use Rattle.htl_object.specs.{Common.MAX_COMMUNICATORS, Common.MAX_TASKS, Common.list_any, Common.Inv, Invocations.last_inv_mode, declared.notes.InvNotes.InvNotes}
 
 -- a mark for each communicator that a switch reads
 abbrev pub MarksRead : List Bool → List ℕ → Type 0

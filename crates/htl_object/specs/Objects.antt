@@ -1,17 +1,10 @@
 -- An object as bytes: its one spelling, and what bytes say.
 use Rattle.std.specs.Prelude.{◌≡◌, ℕ, true, List, Result, Ok, Err, Some, All, FitsSigned}
-use Rattle.htl_object.specs.Common.{w64, is_name, EInstr, Fun, Formula, Compiled}
+use Rattle.htl_object.specs.{Common.w64, Common.is_name, Common.EInstr, Common.Fun, Common.Formula, Common.Compiled, Files.file_bytes, Files.whole_at, Files.malformed_at, Files.first_bad, Lists.lists_of, Lists.object_of_lists}
 use Rattle.htl_ecode.specs.declared.instr.EInstr.TheVariants as E
-use Rattle.htl_object.specs.Files.{file_bytes, whole_at, malformed_at, first_bad}
-use Rattle.htl_object.specs.Items.{Is16, Is32, IsFInstr, IsSInstr}
-use Rattle.htl_object.specs.Lists.{lists_of, object_of_lists}
-use Rattle.htl_object.specs.Ranges.{IsInRange}
+use Rattle.htl_object.specs.{Items.Is16, Items.Is32, Items.IsFInstr, Items.IsSInstr, Ranges.IsInRange, Versions.IsPlatformName, declared.decoding.DecodeFault.DecodeFault, declared.lists.Lists.Lists, declared.malformed.Malformed.Malformed}
 use Rattle.htl_object.specs.Reading.{Read, ◌>>=◌}
-use Rattle.htl_object.specs.Versions.{IsPlatformName}
-use Rattle.htl_object.specs.declared.decoding.DecodeFault.{DecodeFault}
 use Rattle.htl_object.specs.declared.decoding.DecodeFault.TheVariants as fault
-use Rattle.htl_object.specs.declared.lists.Lists.{Lists}
-use Rattle.htl_object.specs.declared.malformed.Malformed.{Malformed}
 use Rattle.htl_object.specs.declared.object.Object.{Object}
 
 -- ---- spelling

@@ -1,7 +1,6 @@
 -- Pieces of bytes as keys of an index.
 use Rattle.std.specs.Prelude.{◌≡◌, ◌∷◌, ℕ, List, [], IsTrue}
-use Rattle.htl_object.specs.Common.{bytes_eq, ap, bytes_eq-Decides}
-use Rattle.htl_object.specs.declared.block_reader.Piece.{Piece}
+use Rattle.htl_object.specs.{Common.bytes_eq, Common.ap, Common.bytes_eq-Decides, declared.block_reader.Piece.Piece}
 
 -- a piece is hashed as a whole
 abbrev pub piece_writes : Piece → List (List ℕ)

@@ -1,7 +1,6 @@
 -- Ports and tasks: names differ within their owners.
 use Rattle.std.specs.Prelude.{ℕ, ◌==◌, ◌&&◌, ◌-◌, Bool, not, List, ◌++◌, Ok, Some, None, length, slice_get}
-use Rattle.htl_object.specs.Common.{w16, w32, to_be_bytes, list_any, flat_map, bytes_eq, MAX_ENDS, Ty, Port, Task}
-use Rattle.htl_object.specs.declared.malformed.MalKind.TheVariants.{Spelling}
+use Rattle.htl_object.specs.{Common.w16, Common.w32, Common.to_be_bytes, Common.list_any, Common.flat_map, Common.bytes_eq, Common.MAX_ENDS, Common.Ty, Common.Port, Common.Task, declared.malformed.MalKind.TheVariants.Spelling}
 use Rattle.htl_object.specs.Reading.{Read, ◌>>=◌, bad_at, need, list_at}
 use Rattle.htl_object.specs.Fields.{name_bytes, type_bytes, flag_bytes, name_at, type_at, flag_at, owner_at, span_at}
 

@@ -1,8 +1,7 @@
 -- The ranges of the numbers in an object.
 use Rattle.std.specs.Prelude.{◌≡◌, ◌≤◌, None, length, All}
-use Rattle.htl_object.specs.Common.{EInstr, KeepsLimits, frame_limit, nodes, AreInRange, Fun, Formula, Compiled, Schedule}
+use Rattle.htl_object.specs.{Common.EInstr, Common.KeepsLimits, Common.frame_limit, Common.nodes, Common.AreInRange, Common.Fun, Common.Formula, Common.Compiled, Common.Schedule, declared.object.Object.Object}
 use Rattle.htl_ecode.specs.declared.instr.EInstr.TheVariants as I
-use Rattle.htl_object.specs.declared.object.Object.{Object}
 
 abbrev pub IsFunctionCode : Fun → Type 0
 IsFunctionCode (Formula first e) = ⊥

@@ -1,9 +1,7 @@
 -- Reading from left to right: what stands at the front of bytes, or the first bad field.
 use Rattle.std.specs.Prelude.{◌≡◌, ◌<◌, ℕ, get_or, zero, suc, Bool, cond, List, [], ◌∷◌, ◌++◌, length, take, drop, Result, Ok, Err, nat_lt, nat_le, ◌==◌}
 use Rattle.std.specs.Int.{Width, w16, byte_len, from_be_bytes}
-use Rattle.htl_object.specs.declared.malformed.MalKind.{MalKind}
-use Rattle.htl_object.specs.declared.malformed.MalKind.TheVariants.{Short, Index, Tag}
-use Rattle.htl_object.specs.declared.malformed.Bad.{Bad}
+use Rattle.htl_object.specs.{declared.malformed.MalKind.MalKind, declared.malformed.MalKind.TheVariants.Short, declared.malformed.MalKind.TheVariants.Index, declared.malformed.MalKind.TheVariants.Tag, declared.malformed.Bad.Bad}
 use Rattle.htl_object.specs.declared.malformed.Stop.{Stop}
 use Rattle.htl_object.specs.declared.malformed.Stop.TheVariants as stop
 

@@ -2,10 +2,8 @@
 use Rattle.std.specs.Prelude.{◌≡◌, ◌∷◌, ◌++◌, ℕ, Bool, true, false, ◌&&◌, eqb, List, [], IsTrue}
 use Rattle.std.specs.Bool.{Decides}
 use Rattle.std.specs.Hash as fed
-use Rattle.htl_object.specs.Common.{bytes_eq, bytes_eq-Decides}
+use Rattle.htl_object.specs.{Common.bytes_eq, Common.bytes_eq-Decides, declared.names.OwnedName.OwnedName, Names.owned, Names.same_name}
 use Rattle.std.proofs.Common.{refl, sym, ◌∙◌, ap, subst, eqb-true, eq-eqb}
-use Rattle.htl_object.specs.declared.names.OwnedName.{OwnedName}
-use Rattle.htl_object.specs.Names.{owned, same_name}
 
 -- both tests passed
 both : (a b : Bool) → (a && b) ≡ true → (a ≡ true) × (b ≡ true)

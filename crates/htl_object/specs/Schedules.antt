@@ -1,8 +1,6 @@
 -- One schedule.
 use Rattle.std.specs.Prelude.{ℕ, List, [], ◌++◌, length, Ok}
-use Rattle.htl_object.specs.Common.{w32, to_be_bytes, flat_map, SInstr, Schedule}
-use Rattle.htl_object.specs.Instructions.{s_bytes, s_instr_at}
-use Rattle.htl_object.specs.Items.{Every, Is32, IsSInstr}
+use Rattle.htl_object.specs.{Common.w32, Common.to_be_bytes, Common.flat_map, Common.SInstr, Common.Schedule, Instructions.s_bytes, Instructions.s_instr_at, Items.Every, Items.Is32, Items.IsSInstr}
 use Rattle.htl_object.specs.Reading.{Read, ◌>>=◌, items_at, number_at}
 
 abbrev pub schedule_bytes : Schedule → List ℕ

@@ -1,12 +1,8 @@
 -- The two versions of the file, which differ in the first item and in the last.
 use Rattle.std.specs.Prelude.{◌≡◌, true, ℕ, ◌==◌, ◌||◌, cond, Bool, List, [], ◌++◌, length, take, drop, Option, Some, None, Ok, nat_le, codes}
-use Rattle.htl_object.specs.Common.{w16, to_be_bytes, flat_map, bytes_eq, is_name, Schedule}
-use Rattle.htl_object.specs.Blocks.{blocks_at, blocks_bytes}
-use Rattle.htl_object.specs.Fields.{name_bytes, name_at}
+use Rattle.htl_object.specs.{Common.w16, Common.to_be_bytes, Common.flat_map, Common.bytes_eq, Common.is_name, Common.Schedule, Blocks.blocks_at, Blocks.blocks_bytes, Fields.name_bytes, Fields.name_at, declared.malformed.MalKind.MalKind}
 use Rattle.htl_object.specs.Reading.{Read, ◌>>=◌, bad_at, short, need, field_at, items_at, number_at}
-use Rattle.htl_object.specs.Schedules.{schedule_at, schedule_bytes}
-use Rattle.htl_object.specs.declared.malformed.MalKind.{MalKind}
-use Rattle.htl_object.specs.declared.malformed.MalKind.TheVariants.{Magic, Version, Index}
+use Rattle.htl_object.specs.{Schedules.schedule_at, Schedules.schedule_bytes, declared.malformed.MalKind.TheVariants.Magic, declared.malformed.MalKind.TheVariants.Version, declared.malformed.MalKind.TheVariants.Index}
 
 -- ---- the head: a text, the version, and in version 2 the platform's name
 

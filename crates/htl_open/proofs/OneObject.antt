@@ -6,8 +6,7 @@ use Rattle.htl_load.proofs.Words.{HasBytes, RefusesBytes, RefusesObject, IsAccep
 use Rattle.htl_load.specs.declared.fault.ObjectFault.{ObjectFault}
 use Rattle.htl_load.specs.declared.fault.ObjectFault.TheVariants as fault
 use Rattle.htl_object.proofs.ObjectLaws.{one_object, says_itself}
-use Rattle.htl_open.specs.Files.{IsObjectFile}
-use Rattle.htl_open.specs.Objects.{HasObjectTables, IsAcceptedFile, IsObjectTables, SpeaksOfObject}
+use Rattle.htl_open.specs.{Files.IsObjectFile, Objects.HasObjectTables, Objects.IsAcceptedFile, Objects.IsObjectTables, Objects.SpeaksOfObject}
 
 pub one_of_bytes : (bytes : List ℕ) (o p : Object) → HasBytes bytes o → HasBytes bytes p → o ≡ p
 one_of_bytes bytes o p h k = one_object o p h.object k.object (sym h.spelled ∙ k.spelled)

@@ -2,9 +2,7 @@
 use Rattle.std.specs.Prelude.{ℕ, ◌≡◌, ◌≤◌, Option, None, Some, List, length}
 use Rattle.std.specs.FinMap.{get}
 use Rattle.htl_base.specs.declared.limits.TheConstants.{MAX_OBJECT}
-use Rattle.htl_edge.specs.Causes.{Rose}
-use Rattle.htl_edge.specs.Holdings.{Holdings, HoldsUnder, IsTooLong}
-use Rattle.htl_edge.specs.declared.shelf.ShelfFault.TheVariants.{TooLong as LongFile}
+use Rattle.htl_edge.specs.{Causes.Rose, Holdings.Holdings, Holdings.HoldsUnder, Holdings.IsTooLong, declared.shelf.ShelfFault.TheVariants.TooLong as LongFile}
 
 -- what a shelf holds, and its counts of faults before a call and after
 pub record Files : Type 0 where

@@ -3,19 +3,15 @@ use Rattle.std.specs.Prelude.{ℕ, ◌≡◌, ◌⊎◌, List, [], ◌++◌, Opt
 use Rattle.std.specs.Io.KnownBytes.{append_known}
 use Rattle.htl_ecode.specs.declared.fault.EKind.{EKind}
 use Rattle.htl_ecode.specs.declared.fault.EKind.TheVariants as departure
-use Rattle.htl_edge.specs.Causes.{Rose}
-use Rattle.htl_edge.specs.Content.{AppendsPrefix}
+use Rattle.htl_edge.specs.{Causes.Rose, Content.AppendsPrefix}
 use Rattle.htl_load.specs.declared.fault.ObjectFault.{ObjectFault}
 use Rattle.htl_load.specs.declared.fault.ObjectFault.TheVariants as object
-use Rattle.htl_model.specs.Lines.{module_name, mode_name}
-use Rattle.htl_model.specs.Tables.{Tables}
-use Rattle.htl_model.specs.declared.form_fault.FormFault.{FormFault}
+use Rattle.htl_model.specs.{Lines.module_name, Lines.mode_name, Tables.Tables, declared.form_fault.FormFault.FormFault}
 use Rattle.htl_object.specs.declared.malformed.MalKind.{MalKind}
 use Rattle.htl_object.specs.declared.malformed.MalKind.TheVariants as field
 use Rattle.htl_walk.specs.declared.miss.Miss.{Miss}
 use Rattle.htl_walk.specs.declared.miss.Miss.TheVariants as miss
-use Rattle.htl_open.specs.declared.stop.ShelfCause.{ShelfCause}
-use Rattle.htl_open.specs.declared.stop.ShelfCause.TheVariants.{Failed, TooLong}
+use Rattle.htl_open.specs.{declared.stop.ShelfCause.ShelfCause, declared.stop.ShelfCause.TheVariants.Failed, declared.stop.ShelfCause.TheVariants.TooLong}
 
 -- ---- a broken form rule
 

@@ -3,14 +3,11 @@ use Rattle.std.specs.Prelude.{ℕ, ◌≡◌, ◌≤◌, Option, Some, List, len
 use Rattle.std.specs.declared.result.Result.{Result}
 use Rattle.htl_base.specs.declared.limits.TheConstants.{MAX_OBJECT}
 use Rattle.htl_edge.specs.Holdings.{Holdings}
-use Rattle.htl_load.specs.Loading.{HasBytes, RefusesBytes}
-use Rattle.htl_load.specs.declared.fault.ObjectFault.{ObjectFault}
+use Rattle.htl_load.specs.{Loading.HasBytes, Loading.RefusesBytes, declared.fault.ObjectFault.ObjectFault}
 use Rattle.htl_load.specs.declared.fault.ObjectFault.TheVariants as fault
 use Rattle.htl_model.specs.Tables.{Tables}
-use Rattle.htl_object.specs.Accepted.{IsAccepted}
-use Rattle.htl_object.specs.declared.object.Object.{Object}
-use Rattle.htl_open.specs.Files.{IsGiven, IsObjectFile}
-use Rattle.htl_open.specs.declared.object.ObjectStop.{ObjectStop}
+use Rattle.htl_object.specs.{Accepted.IsAccepted, declared.object.Object.Object}
+use Rattle.htl_open.specs.{Files.IsGiven, Files.IsObjectFile, declared.object.ObjectStop.ObjectStop}
 use Rattle.htl_open.specs.declared.object.ObjectStop.TheVariants as stop
 
 -- ---- reading bytes

@@ -1,14 +1,10 @@
 -- Why a file isn't had, and why no accepted object is, answer by answer.
 use Rattle.std.specs.Prelude.{ℕ, Option, List}
 use Rattle.htl_base.specs.declared.limits.TheConstants.{MAX_OBJECT}
-use Rattle.htl_open.specs.Files.{Files, IsFaultOf, IsLongFile}
-use Rattle.htl_open.specs.Objects.{IsRefusedFile, IsObjectTables, SpeaksOfObject}
-use Rattle.htl_open.specs.declared.stop.FetchStop.{FetchStop}
+use Rattle.htl_open.specs.{Files.Files, Files.IsFaultOf, Files.IsLongFile, Objects.IsRefusedFile, Objects.IsObjectTables, Objects.SpeaksOfObject, declared.stop.FetchStop.FetchStop, declared.stop.OpenStop.OpenStop}
 use Rattle.htl_open.specs.declared.stop.FetchStop.TheVariants as fetch
-use Rattle.htl_open.specs.declared.stop.OpenStop.{OpenStop}
 use Rattle.htl_open.specs.declared.stop.OpenStop.TheVariants as open_stop
-use Rattle.htl_open.specs.declared.stop.ShelfCause.{ShelfCause}
-use Rattle.htl_open.specs.declared.stop.ShelfCause.TheVariants.{Failed, TooLong}
+use Rattle.htl_open.specs.{declared.stop.ShelfCause.ShelfCause, declared.stop.ShelfCause.TheVariants.Failed, declared.stop.ShelfCause.TheVariants.TooLong}
 
 -- the shelf counted a fault of the name, or has more than 16,777,216 bytes under it
 abbrev pub IsShelfCause : Option (List ℕ) → Files → ShelfCause → Type 0

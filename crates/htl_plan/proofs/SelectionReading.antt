@@ -3,15 +3,11 @@ use Rattle.std.proofs.Common.{◌≡◌, ◌≤◌, ◌+◌, ℕ, Bool, true, fa
 use Rattle.std.specs.Prelude.{◌==◌, if◌then◌else◌}
 use Rattle.htl_plan.proofs.Words.{OnOk, length-take, prepend_known, prepend_known-append, prepend_known-nil, AreInRange, Tables, IsSelection, OfScript, LosesFront, ScriptFault, ScriptKind, Place, LinesAhead, IsLinePlace, IsAtLine, AnswersLine, ReadsOn, Gives, behind_line, bytes_taken, first_place, nothing_read, line_in, size_fault, text_of}
 use Rattle.htl_base.proofs.Tests.{true_not_false}
-use Rattle.std.proofs.lemmas.Bool.{eq-eqb}
-use Rattle.std.proofs.lemmas.List.{take_all}
-use Rattle.htl_script.specs.Lines.{ScriptLine, lines_of, size_of}
-use Rattle.htl_script.specs.declared.fault.ScriptStop.{ScriptStop}
+use Rattle.std.proofs.{lemmas.Bool.eq-eqb, lemmas.List.take_all}
+use Rattle.htl_script.specs.{Lines.ScriptLine, Lines.lines_of, Lines.size_of, declared.fault.ScriptStop.ScriptStop}
 use Rattle.htl_script.specs.declared.fault.ScriptKind.TheVariants as kind
 use Rattle.htl_script.specs.declared.fault.ScriptStop.TheVariants as stop
-use Rattle.htl_script.proofs.ReadingOn.{passed_count, reads_count, reads_gives}
-use Rattle.htl_script.proofs.Splitting.{by_size}
-use Rattle.htl_script.proofs.Streaming.{gives_map, gives_more, given_script}
+use Rattle.htl_script.proofs.{ReadingOn.passed_count, ReadingOn.reads_count, ReadingOn.reads_gives, Splitting.by_size, Streaming.gives_map, Streaming.gives_more, Streaming.given_script}
 use Rattle.htl_plan.specs.SelectionInput.{Input, Whole, Bad, judged_text, listed, ended, input_of_lines, input_of}
 use Rattle.htl_plan.specs.SelectionReaders.{rest_of, TakesLine, AnswersEnd, IsAnswer}
 use Rattle.htl_plan.proofs.SelectionEntries.{whole_right}

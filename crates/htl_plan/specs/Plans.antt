@@ -1,17 +1,10 @@
 -- The plan of a selection: the text of one frame in which all modules stay in their modes.
 use Rattle.std.specs.Prelude.{ℕ, ◌+◌, Bool, true, false, cond, List, [], ◌∷◌, ◌++◌, length, Option, Some, None}
-use Rattle.htl_model.specs.Tables.{Tables}
-use Rattle.htl_walk.specs.declared.schedule.Schedule.{Schedule}
-use Rattle.htl_walk.specs.NodeWalks.{instrs_of}
+use Rattle.htl_model.specs.{Tables.Tables, Frames.hyper, Frames.frame_of, Frames.starts}
+use Rattle.htl_walk.specs.{declared.schedule.Schedule.Schedule, NodeWalks.instrs_of, declared.job.Job.Job, declared.schedule.SInstr.SInstr, Feasible.lists_of, PathJobs.legs_of, Walk.Left, Walk.job_at, Walk.worst_cases}
 use Rattle.std.specs.List.{flat_map}
 use Rattle.htl_console.specs.Lines.{slice_line, done_line, plan_line}
-use Rattle.htl_model.specs.Frames.{hyper, frame_of, starts}
 use Rattle.htl_refine.specs.FrameRuns.{Frame, frame_jobs, frame_places, path_of, walk_of}
-use Rattle.htl_walk.specs.declared.job.Job.{Job}
-use Rattle.htl_walk.specs.declared.schedule.SInstr.{SInstr}
-use Rattle.htl_walk.specs.Feasible.{lists_of}
-use Rattle.htl_walk.specs.PathJobs.{legs_of}
-use Rattle.htl_walk.specs.Walk.{Left, job_at, worst_cases}
 
 -- ---- the text
 

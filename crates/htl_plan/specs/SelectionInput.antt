@@ -1,18 +1,9 @@
 -- The input of a plan: one line for each module, in order, which says the mode in which it is.
 use Rattle.std.specs.Prelude.{ℕ, ◌+◌, Bool, not, ◌&&◌, List, [], ◌∷◌, ◌++◌, length, Option, Some, None, is_some, ◌==◌, codes, if◌then◌else◌, Ok, Err}
-use Rattle.std.specs.declared.result.Result.{Result}
-use Rattle.std.specs.List.{position_from}
-use Rattle.std.specs.Option.{option_map}
-use Rattle.std.specs.Str.{bytes_eq}
-use Rattle.htl_model.specs.declared.parts.Module.{Module}
-use Rattle.htl_model.specs.Tables.{Tables}
-use Rattle.htl_script.specs.declared.fault.ScriptKind.{ScriptKind}
-use Rattle.htl_model.specs.declared.parts.Mode.{Mode}
-use Rattle.htl_model.specs.Ranges.{parent_of}
-use Rattle.htl_model.specs.Selected.{is_active}
+use Rattle.std.specs.{declared.result.Result.Result, List.position_from, Option.option_map, Str.bytes_eq}
+use Rattle.htl_model.specs.{declared.parts.Module.Module, Tables.Tables, declared.parts.Mode.Mode, Ranges.parent_of, Selected.is_active}
+use Rattle.htl_script.specs.{declared.fault.ScriptKind.ScriptKind, Lines.ScriptLine, Lines.lines_of, Lines.size_of, Lines.is_past_limit, Lines.is_long, Lines.is_passed_over, Statements.fields_of}
 use Rattle.htl_script.specs.declared.fault.ScriptKind.TheVariants as kind
-use Rattle.htl_script.specs.Lines.{ScriptLine, lines_of, size_of, is_past_limit, is_long, is_passed_over}
-use Rattle.htl_script.specs.Statements.{fields_of}
 
 -- The input is whole, with an entry for each module; or one of its lines is the first with a fault.
 pub data Input : Type 0 where

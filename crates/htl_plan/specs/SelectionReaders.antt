@@ -4,10 +4,8 @@ use Rattle.std.specs.declared.result.Result.{Result}
 use Rattle.htl_edge.specs.Causes.{Rose}
 use Rattle.htl_model.specs.Tables.{Tables}
 use Rattle.htl_script.specs.declared.fault.ScriptKind.TheVariants as kind
-use Rattle.htl_script.specs.declared.fault.ScriptStop.{ScriptStop}
+use Rattle.htl_script.specs.{declared.fault.ScriptStop.ScriptStop, LineReading.LinesAhead, LineReading.text_of, LineReading.behind_line, Lines.lines_of}
 use Rattle.htl_script.specs.declared.fault.ScriptStop.TheVariants as stop
-use Rattle.htl_script.specs.LineReading.{LinesAhead, text_of, behind_line}
-use Rattle.htl_script.specs.Lines.{lines_of}
 use Rattle.htl_plan.specs.SelectionInput.{Input, Whole, Bad, judged_text, listed, input_of_lines}
 
 -- what is left behind a reader of lines gives, where these bytes follow, with these entries

@@ -1,12 +1,9 @@
 -- What reading a platform file answers.
 use Rattle.std.specs.Prelude.{◌≡◌, ℕ, List, Option, Some, None, Result, Ok, Err}
 use Rattle.htl_model.specs.Tables.{Tables}
-use Rattle.htl_platform.specs.Platforms.{document_in, platform_of}
-use Rattle.htl_platform.specs.declared.fault.PlatformFault.{PlatformFault}
+use Rattle.htl_platform.specs.{Platforms.document_in, Platforms.platform_of, declared.fault.PlatformFault.PlatformFault, declared.fault.PlatformStop.PlatformStop, declared.platform.Platform.Platform}
 use Rattle.htl_platform.specs.declared.fault.PlatformFault.TheVariants as fault
-use Rattle.htl_platform.specs.declared.fault.PlatformStop.{PlatformStop}
 use Rattle.htl_platform.specs.declared.fault.PlatformStop.TheVariants as stop
-use Rattle.htl_platform.specs.declared.platform.Platform.{Platform}
 
 -- the platform or the fault that is said, unless memory runs out
 abbrev pub Tells : Result Platform PlatformFault → Result Platform PlatformStop → Type 0

@@ -1,7 +1,6 @@
 -- Tables with other worst cases.
 use Rattle.std.specs.Prelude.{List, ℕ, [], ◌∷◌}
-use Rattle.htl_model.specs.Tables.{Tables}
-use Rattle.htl_model.specs.declared.parts.Task.{Task}
+use Rattle.htl_model.specs.{Tables.Tables, declared.parts.Task.Task}
 
 -- each task with the worst case of its place; without one it keeps its own
 abbrev pub tasks_with : List Task → List ℕ → List Task

@@ -1,12 +1,8 @@
 -- The entries of a platform file, and what each has to be.
 use Rattle.std.specs.Prelude.{ℕ, ℤ, pos, negsuc, Bool, false, cond, ◌&&◌, nat_le, List, [], ◌∷◌, ◌++◌, slice_get, is_some, option_and_then, Option, Some, None, codes}
-use Rattle.std.specs.List.{list_any}
-use Rattle.std.specs.Str.{bytes_eq}
-use Rattle.htl_base.specs.Names.{is_name}
-use Rattle.htl_base.specs.declared.limits.TheConstants.{MAX_PERIOD}
-use Rattle.htl_model.specs.Tables.{Tables}
-use Rattle.htl_model.specs.declared.parts.Module.{Module}
-use Rattle.htl_model.specs.declared.parts.Task.{Task}
+use Rattle.std.specs.{List.list_any, Str.bytes_eq}
+use Rattle.htl_base.specs.{Names.is_name, declared.limits.TheConstants.MAX_PERIOD}
+use Rattle.htl_model.specs.{Tables.Tables, declared.parts.Module.Module, declared.parts.Task.Task}
 use Rattle.toml.specs.Data.{Data, Members, no_members, member, get_member, as_str, as_integer, as_table}
 
 -- a key and its value

@@ -2,8 +2,7 @@
 use Rattle.std.specs.Prelude.{ℕ, suc, Bool, cond, List, [], ◌∷◌, length, is_none, Option, Some, None, codes}
 use Rattle.htl_model.specs.Tables.{Tables}
 use Rattle.toml.specs.Data.{Members, get_member}
-use Rattle.htl_platform.specs.Entries.{entries_of, worst_of, is_top_entry, is_whole_entry, is_declared, is_worst_entry}
-use Rattle.htl_platform.specs.declared.fault.PlatformFault.{PlatformFault}
+use Rattle.htl_platform.specs.{Entries.entries_of, Entries.worst_of, Entries.is_top_entry, Entries.is_whole_entry, Entries.is_declared, Entries.is_worst_entry, declared.fault.PlatformFault.PlatformFault}
 use Rattle.htl_platform.specs.declared.fault.PlatformFault.TheVariants as fault
 
 -- the place, counted from k, of the first item that fails the test

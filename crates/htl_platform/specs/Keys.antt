@@ -1,10 +1,7 @@
 -- The keys of tasks in an index.
 use Rattle.std.specs.Prelude.{◌≡◌, ℕ, Bool, List, map, Vec}
-use Rattle.std.specs.List.{list_any}
-use Rattle.std.specs.Str.{bytes_eq}
-use Rattle.std.specs.declared.alloc.Global.{Global}
-use Rattle.htl_model.specs.declared.parts.Module.{Module}
-use Rattle.htl_model.specs.declared.parts.Task.{Task}
+use Rattle.std.specs.{List.list_any, Str.bytes_eq, declared.alloc.Global.Global}
+use Rattle.htl_model.specs.{declared.parts.Module.Module, declared.parts.Task.Task}
 use Rattle.htl_platform.specs.Entries.{key_of}
 
 abbrev pub has_key : List (Vec ℕ Global) → List ℕ → Bool

@@ -1,16 +1,10 @@
 -- The platform that a file says for the tasks of tables, or the file's first fault.
 use Rattle.std.specs.Prelude.{ℕ, Bool, false, cond, List, [], map, option_and_then, Option, Some, None, Result, Ok, Err, codes}
 use Rattle.std.specs.Str.{is_utf8}
-use Rattle.htl_model.specs.Tables.{Tables}
-use Rattle.htl_model.specs.declared.parts.Module.{Module}
-use Rattle.htl_model.specs.declared.parts.Task.{Task}
-use Rattle.toml.specs.Data.{Members, get_member, as_str}
-use Rattle.toml.specs.Parse.{parse_document}
-use Rattle.htl_platform.specs.Entries.{is_platform_name, worst_of, key_of, worst_or}
-use Rattle.htl_platform.specs.Faults.{fault_in}
-use Rattle.htl_platform.specs.declared.fault.PlatformFault.{PlatformFault}
+use Rattle.htl_model.specs.{Tables.Tables, declared.parts.Module.Module, declared.parts.Task.Task}
+use Rattle.toml.specs.{Data.Members, Data.get_member, Data.as_str, Parse.parse_document}
+use Rattle.htl_platform.specs.{Entries.is_platform_name, Entries.worst_of, Entries.key_of, Entries.worst_or, Faults.fault_in, declared.fault.PlatformFault.PlatformFault, declared.platform.Platform.Platform}
 use Rattle.htl_platform.specs.declared.fault.PlatformFault.TheVariants as fault
-use Rattle.htl_platform.specs.declared.platform.Platform.{Platform}
 
 -- a `name` that is one
 abbrev pub has_name : Members → Bool

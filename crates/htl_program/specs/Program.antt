@@ -1,14 +1,8 @@
 -- What the program comes to.
 use Rattle.std.specs.Prelude.{◌≡◌, ◌⊎◌, ℕ, Option, None, List}
-use Rattle.htl_open.specs.Files.{Files, counted_files}
-use Rattle.htl_open.specs.Lines.{Tells}
-use Rattle.htl_top.specs.Answers.{Streams, IsUntouched, AreCountsKept, KeepsCounts}
-use Rattle.htl_top.specs.Calls.{IsCall, HasSource, HasObject}
-use Rattle.htl_top.specs.Status.{status_of, fault_line}
-use Rattle.htl_top.specs.ErrorLines.{IsLineTold}
-use Rattle.htl_top.specs.Words.{command_of}
-use Rattle.htl_top.specs.declared.outcome.Outcome.{Outcome}
-use Rattle.htl_top.specs.declared.outcome.Outcome.TheVariants.{Done, Memory}
+use Rattle.htl_open.specs.{Files.Files, Files.counted_files, Lines.Tells}
+use Rattle.htl_top.specs.{Answers.Streams, Answers.IsUntouched, Answers.AreCountsKept, Answers.KeepsCounts, Calls.IsCall, Calls.HasSource, Calls.HasObject, Status.status_of, Status.fault_line, ErrorLines.IsLineTold, Words.command_of}
+use Rattle.htl_top.specs.{declared.outcome.Outcome.Outcome, declared.outcome.Outcome.TheVariants.Done, declared.outcome.Outcome.TheVariants.Memory}
 
 -- The status is that of what `htl` answers to these words over the shelf and the streams; each count of faults stands where it
 -- stood, unless the answer is the one of which it is the cause; `Told` holds of the line that tells of the answer, and after Done

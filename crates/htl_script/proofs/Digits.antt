@@ -1,8 +1,7 @@
 -- Numbers that stand still at the end of 64 bits.
 use Rattle.std.proofs.Common.{◌≡◌, ◌-◌, ◌^◌, ◌≤◌, ℕ, min, true, List, [], ◌∷◌, length, take, Some, None, refl, sym, ap, ◌∙◌, arith}
 use Rattle.std.specs.Prelude.{if◌then◌else◌}
-use Rattle.std.specs.List.{list_all}
-use Rattle.std.specs.Char.{is_ascii_digit}
+use Rattle.std.specs.{List.list_all, Char.is_ascii_digit}
 use Rattle.std.proofs.lemmas.List.{take_all}
 use Rattle.htl_script.proofs.Words.{fold, with_digit, with_digit_capped}
 

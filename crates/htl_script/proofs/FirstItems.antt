@@ -1,7 +1,6 @@
 -- The first item that passes a test, found by a search.
 use Rattle.std.proofs.Common.{◌≡◌, ◌+◌, ◌<◌, ℕ, zero, suc, Bool, true, false, cond, List, [], ◌∷◌, Option, Some, None, refl, sym, subst, ap, ◌∙◌, arith}
-use Rattle.std.proofs.lemmas.Bool.{false_from_ne_true}
-use Rattle.std.proofs.lemmas.Option.{slice_get-get_or, get_or_from_slice_get}
+use Rattle.std.proofs.{lemmas.Bool.false_from_ne_true, lemmas.Option.slice_get-get_or, lemmas.Option.get_or_from_slice_get}
 use Rattle.std.specs.Prelude.{slice_index}
 use Rattle.memchr.specs.Find.{IsFirstByte}
 use Rattle.htl_script.proofs.Words.{slice_get, position_from, none-some, same_Some, slice_get_within}

@@ -1,8 +1,7 @@
 -- The first item with a name, found among names in order.
 use Rattle.std.proofs.Common.{inl, inr, ◌≡◌, ◌≢◌, ◌+◌, ℕ, Bool, true, false, ◌&&◌, not, cond, List, ◌∷◌, ◌++◌, length, get_or, Option, Some, None, Ok, Err, refl, ap, ◌∙◌, arith}
 use Rattle.htl_script.proofs.Words.{slice_get, position_from, bytes_eq, cases_Bool, none-some, same_Some, slice_get_within, bytes_eq-Decides, Comm, Inv, Mode, Module, Task, Tables, is_sensor, is_invocation, dotted, sensor_name, through, name_of, count_of, number_named, IsOrder, IsPlace, Keyed, keyed, keyed_name, Named, Sensor, Invocation}
-use Rattle.htl_script.proofs.FirstItems.{first_is, none_is}
-use Rattle.htl_script.proofs.Orders.{no_earlier, none_named, unkeyed}
+use Rattle.htl_script.proofs.{FirstItems.first_is, FirstItems.none_is, Orders.no_earlier, Orders.none_named, Orders.unkeyed}
 
 -- ---- a name that is asked for
 

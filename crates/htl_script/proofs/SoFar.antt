@@ -1,7 +1,6 @@
 -- What a reader of events has read behind its call, where no event was given yet.
 use Rattle.std.proofs.Common.{◌≡◌, ◌≤◌, ℕ, List, [], length, Option, Ok, refl, sym, subst}
-use Rattle.htl_script.proofs.Words.{prepend_known-nil, Tables, Past, Ahead, LinesAhead, ahead_of, IsLinePlace, ReadsOn, Gives, IsSame, LosesPiece}
-use Rattle.htl_script.proofs.Streaming.{gives_on}
+use Rattle.htl_script.proofs.{Words.prepend_known-nil, Words.Tables, Words.Past, Words.Ahead, Words.LinesAhead, Words.ahead_of, Words.IsLinePlace, Words.ReadsOn, Words.Gives, Words.IsSame, Words.LosesPiece, Streaming.gives_on}
 use Rattle.htl_script.proofs.Taken.{taken_none, taken_on_line}
 
 pub record IsSoFar (t : Tables) (first now : Ahead) (known rest : Option (List ℕ)) : Type 0 where

@@ -3,8 +3,7 @@ use Rattle.std.proofs.Common.{arith, ◌≡◌, ◌≤◌, ◌+◌, ℕ, List, [
 use Rattle.htl_script.proofs.Words.{bytes_taken, prepend_known, LosesFront, StopsAtLine, ScriptStop, Event, Tables, Past, past_after_if, Place, Ahead, LinesAhead, TakesLine, lines_in, IsLinePlace, ReadsOn, behind_line, ahead_of, LosesPiece, at_start, taken_of, prepend_known-append, prepend_known-nil, is_line_feed, take-append-drop, length-drop, length-take}
 use Rattle.std.proofs.lemmas.List.Sums.{count_by-le-length}
 use Rattle.htl_script.specs.declared.fault.ScriptStop.TheVariants as stop
-use Rattle.htl_script.proofs.ReadingOn.{passed_count, reads_count}
-use Rattle.htl_script.proofs.Feeds.{feeds_both, moved}
+use Rattle.htl_script.proofs.{ReadingOn.passed_count, ReadingOn.reads_count, Feeds.feeds_both, Feeds.moved}
 
 -- nothing
 pub taken_none : {T E : Type 0} (a : Ahead) (known : Option (List ℕ)) (x : T) → LosesPiece {T = T} {E = E} a a known known (Ok x)

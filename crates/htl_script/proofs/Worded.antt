@@ -1,10 +1,8 @@
 -- A line, by its first word: what stands behind it is judged by its fields.
 use Rattle.std.proofs.Common.{◌≡◌, ◌<◌, ◌≤◌, ◌+◌, ◌-◌, ℕ, zero, suc, Bool, true, false, List, [], ◌∷◌, length, take, drop, get_or, Option, Some, None, refl, sym, ap, ◌∙◌, subst, arith}
 use Rattle.std.specs.Prelude.{codes, if◌then◌else◌, ◌==◌}
-use Rattle.std.specs.List.{list_all}
-use Rattle.std.specs.Char.{is_ascii_digit}
-use Rattle.std.proofs.lemmas.List.Folds.{list_all_at}
-use Rattle.std.proofs.lemmas.Option.{get_or_from_slice_get}
+use Rattle.std.specs.{List.list_all, Char.is_ascii_digit}
+use Rattle.std.proofs.{lemmas.List.Folds.list_all_at, lemmas.Option.get_or_from_slice_get}
 use Rattle.htl_script.specs.Numbers.{is_numeral, number_of, signed_of, less_than_zero}
 use Rattle.htl_script.specs.Statements.{Sense, Took, Statement, named_fields, named_statement, statement_of_fields, worded_statement}
 use Rattle.htl_script.proofs.Words.{slice_get, position_from, option_map, bytes_eq, bytes_eq-Decides, eqb-true, length-slice_split, is_space, fields_of}

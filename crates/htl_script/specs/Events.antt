@@ -1,12 +1,8 @@
 -- The events that a script can have.
 use Rattle.std.specs.Prelude.{ℕ, ◌≡◌, ◌<◌, ◌≤◌, true, ℤ, List, [], ◌∷◌, ◌++◌, Option, Some, IsSome, IfSome, slice_get}
 use Rattle.htl_base.specs.declared.limits.TheConstants.{MAX_INSTANT}
-use Rattle.htl_model.specs.declared.parts.Comm.{Comm}
-use Rattle.htl_model.specs.declared.parts.Inv.{Inv}
-use Rattle.htl_model.specs.declared.event.Event.{Event}
+use Rattle.htl_model.specs.{declared.parts.Comm.Comm, declared.parts.Inv.Inv, declared.event.Event.Event, Tables.Tables, Tables.is_concrete, Ranges.FitsType}
 use Rattle.htl_model.specs.declared.event.Event.TheVariants as event
-use Rattle.htl_model.specs.Tables.{Tables, is_concrete}
-use Rattle.htl_model.specs.Ranges.{FitsType}
 use Rattle.htl_script.specs.Judging.{worst_of}
 
 -- a sensor, and a value of its type

@@ -1,21 +1,12 @@
 -- The rules by which a line of a script is judged, against the events before it.
 use Rattle.std.specs.Prelude.{ℕ, ◌-◌, ◌^◌, Bool, true, false, ◌&&◌, ◌||◌, not, ℤ, pos, neg_ℤ, List, [], ◌∷◌, ◌++◌, Option, Some, None, is_some, is_none, slice_get, nat_lt, nat_le, ◌==◌, unwrap_or, if◌then◌else◌, Ok, Err}
-use Rattle.std.specs.declared.result.Result.{Result}
-use Rattle.std.specs.List.{position_from}
-use Rattle.std.specs.Option.{option_map}
-use Rattle.std.specs.Str.{bytes_eq}
-use Rattle.htl_base.specs.declared.Ty.{Ty}
+use Rattle.std.specs.{declared.result.Result.Result, List.position_from, Option.option_map, Str.bytes_eq}
+use Rattle.htl_base.specs.{declared.Ty.Ty, declared.limits.TheConstants.MAX_INSTANT}
 use Rattle.htl_base.specs.declared.Ty.TheVariants as ty
-use Rattle.htl_base.specs.declared.limits.TheConstants.{MAX_INSTANT}
-use Rattle.htl_model.specs.declared.parts.Comm.{Comm}
-use Rattle.htl_model.specs.declared.parts.Inv.{Inv}
-use Rattle.htl_model.specs.declared.event.Event.{Event}
+use Rattle.htl_model.specs.{declared.parts.Comm.Comm, declared.parts.Inv.Inv, declared.event.Event.Event, Tables.Tables, Tables.task_worst}
 use Rattle.htl_model.specs.declared.event.Event.TheVariants as event
-use Rattle.htl_model.specs.Tables.{Tables, task_worst}
-use Rattle.htl_script.specs.declared.fault.ScriptKind.{ScriptKind}
+use Rattle.htl_script.specs.{declared.fault.ScriptKind.ScriptKind, declared.judge.Past.Past, Lines.ScriptLine, Lines.is_past_limit, Lines.is_long, Lines.is_passed_over}
 use Rattle.htl_script.specs.declared.fault.ScriptKind.TheVariants as kind
-use Rattle.htl_script.specs.declared.judge.Past.{Past}
-use Rattle.htl_script.specs.Lines.{ScriptLine, is_past_limit, is_long, is_passed_over}
 use Rattle.htl_script.specs.Statements.{Statement, At, Sense, Took, End, statement_of}
 
 -- ---- what the events before a line leave: the last reading, and the instant with which the run ends

@@ -1,10 +1,7 @@
 -- What scripts say.
 use Rattle.std.specs.Prelude.{◌≡◌, ℕ, List, None}
-use Rattle.htl_model.specs.Exchanged.{with_functions}
-use Rattle.htl_model.specs.Tables.{Tables, Fun}
-use Rattle.htl_model.specs.declared.event.Event.{Event}
-use Rattle.htl_script.specs.Events.{AreEvents, EndWith}
-use Rattle.htl_script.specs.Script.{Whole, script_of}
+use Rattle.htl_model.specs.{Exchanged.with_functions, Tables.Tables, Tables.Fun, declared.event.Event.Event}
+use Rattle.htl_script.specs.{Events.AreEvents, Events.EndWith, Script.Whole, Script.script_of}
 
 -- a script says the same of tables, whatever functions they have
 abbrev pub FunctionsDecideNoScript : Type 0

@@ -1,13 +1,10 @@
 -- Lines that are read one by one, over bytes that were read ahead.
 use Rattle.std.specs.Prelude.{ℕ, ◌+◌, ◌≤◌, ◌<◌, ◌⊎◌, ◌≡◌, Bool, true, false, not, Option, Some, None, List, [], ◌∷◌, ◌++◌, length, drop, All, Ok, Err, ◌==◌, if◌then◌else◌}
-use Rattle.std.specs.declared.result.Result.{Result}
-use Rattle.std.specs.Io.KnownBytes.{prepend_known, IsAtEnd}
+use Rattle.std.specs.{declared.result.Result.Result, Io.KnownBytes.prepend_known, Io.KnownBytes.IsAtEnd}
 use Rattle.htl_base.specs.declared.limits.TheConstants.{MAX_LINE, MAX_SCRIPT}
-use Rattle.htl_script.specs.declared.fault.ScriptKind.{ScriptKind}
+use Rattle.htl_script.specs.{declared.fault.ScriptKind.ScriptKind, declared.fault.ScriptStop.ScriptStop, Lines.ScriptLine, Lines.is_line_feed, Lines.lines_of, Lines.size_of, Lines.is_past_limit, Lines.is_long, Lines.feeds_of}
 use Rattle.htl_script.specs.declared.fault.ScriptKind.TheVariants as kind
-use Rattle.htl_script.specs.declared.fault.ScriptStop.{ScriptStop}
 use Rattle.htl_script.specs.declared.fault.ScriptStop.TheVariants as stop
-use Rattle.htl_script.specs.Lines.{ScriptLine, is_line_feed, lines_of, size_of, is_past_limit, is_long, feeds_of}
 
 -- the bytes that were read ahead, and whether the source was seen to have no more
 pub record Pending : Type 0 where

@@ -1,11 +1,7 @@
 -- The sensors and the concrete invocations of tables, by their names.
 use Rattle.std.specs.Prelude.{ℕ, cond, List, ◌∷◌, ◌++◌, length, slice_get, Option, Some, None}
-use Rattle.htl_model.specs.declared.parts.Comm.{Comm}
-use Rattle.htl_model.specs.declared.parts.Inv.{Inv}
-use Rattle.htl_model.specs.Tables.{Tables}
-use Rattle.htl_script.specs.Judging.{sensor_of, invocation_of}
-use Rattle.htl_script.specs.declared.naming.Named.{Named}
-use Rattle.htl_script.specs.declared.naming.Named.TheVariants.{Sensor, Invocation}
+use Rattle.htl_model.specs.{declared.parts.Comm.Comm, declared.parts.Inv.Inv, Tables.Tables}
+use Rattle.htl_script.specs.{Judging.sensor_of, Judging.invocation_of, declared.naming.Named.Named, declared.naming.Named.TheVariants.Sensor, declared.naming.Named.TheVariants.Invocation}
 
 -- the name of an invocation, where it is concrete: MODULE.MODE.TASK
 abbrev pub dotted : Tables → Inv → Option (List ℕ)

@@ -1,8 +1,6 @@
 -- The numbers in the lines of a script.
 use Rattle.std.specs.Prelude.{ℕ, ◌+◌, ◌-◌, ◌*◌, Bool, true, false, ◌&&◌, ◌||◌, not, List, [], ◌∷◌, Option, Some, None, length, slice_index, nat_lt, ◌==◌, if◌then◌else◌}
-use Rattle.std.specs.List.{list_all, fold}
-use Rattle.std.specs.Char.{is_ascii_digit}
-use Rattle.std.specs.Option.{option_map}
+use Rattle.std.specs.{List.list_all, List.fold, Char.is_ascii_digit, Option.option_map}
 
 -- decimal digits, at least one, with no zero before others
 abbrev pub is_numeral : List ℕ → Bool

@@ -1,16 +1,8 @@
 -- Numbers in the order of their names, with a key of each.
 use Rattle.std.specs.Prelude.{◌≡◌, ℕ, ◌≤◌, ◌<◌, List, ◌∷◌, length, get_or, Option, Some, IsSome, Ok, Err}
-use Rattle.std.specs.Option.{option_map}
-use Rattle.std.specs.declared.cmp.Ordering.{Ordering}
-use Rattle.std.specs.declared.cmp.Ordering.TheVariants.{Less, Greater}
-use Rattle.std.specs.Ordering.{nat_cmp}
-use Rattle.std.specs.Cmp.Lexicographic.{slice_cmp}
-use Rattle.std.specs.declared.result.Result.{Result}
+use Rattle.std.specs.{Option.option_map, declared.cmp.Ordering.Ordering, declared.cmp.Ordering.TheVariants.Less, declared.cmp.Ordering.TheVariants.Greater, Ordering.nat_cmp, Cmp.Lexicographic.slice_cmp, declared.result.Result.Result}
 use Rattle.htl_model.specs.Tables.{Tables}
-use Rattle.htl_script.specs.Keys.{Keyed, key_of}
-use Rattle.htl_script.specs.Naming.{name_of, count_of}
-use Rattle.htl_script.specs.declared.index.Index.{Index}
-use Rattle.htl_script.specs.declared.naming.Named.TheVariants.{Sensor, Invocation}
+use Rattle.htl_script.specs.{Keys.Keyed, Keys.key_of, Naming.name_of, Naming.count_of, declared.index.Index.Index, declared.naming.Named.TheVariants.Sensor, declared.naming.Named.TheVariants.Invocation}
 
 -- a name with its key in front: keys decide first, and names where keys are equal
 abbrev pub keyed : List ℕ → List ℕ

@@ -1,10 +1,7 @@
 -- Where a reader of a script is.
 use Rattle.std.specs.Prelude.{ℕ, List, ◌++◌}
 use Rattle.htl_model.specs.Tables.{Tables}
-use Rattle.htl_script.specs.declared.judge.Past.{Past}
-use Rattle.htl_script.specs.Lines.{lines_of}
-use Rattle.htl_script.specs.Script.{Script}
-use Rattle.htl_script.specs.Reading.{rest_of_lines}
+use Rattle.htl_script.specs.{declared.judge.Past.Past, Lines.lines_of, Script.Script, Reading.rest_of_lines}
 
 -- the number of the line that is being read, the bytes before it, what was read of it, and what the events so
 -- far leave

@@ -1,13 +1,9 @@
 -- A script that is read in parts: what is still to come of it.
 use Rattle.std.specs.Prelude.{ℕ, min, ◌+◌, ◌-◌, ◌*◌, ◌^◌, ◌≡◌, List, [], ◌∷◌, ◌++◌, Option, Some, None, Ok, Err, IfSome, ◌<◌, ◌≤◌, length}
 use Rattle.std.specs.Io.KnownBytes.{prepend_known}
-use Rattle.htl_model.specs.declared.event.Event.{Event}
-use Rattle.htl_model.specs.Tables.{Tables}
+use Rattle.htl_model.specs.{declared.event.Event.Event, Tables.Tables}
 use Rattle.htl_script.specs.declared.fault.ScriptKind.TheVariants as kind
-use Rattle.htl_script.specs.Lines.{ScriptLine, size_of, feeds_of}
-use Rattle.htl_script.specs.Judging.{past_after, judged}
-use Rattle.htl_script.specs.declared.judge.Past.{Past}
-use Rattle.htl_script.specs.Script.{Script, Whole, Bad, listed}
+use Rattle.htl_script.specs.{Lines.ScriptLine, Lines.size_of, Lines.feeds_of, Judging.past_after, Judging.judged, declared.judge.Past.Past, Script.Script, Script.Whole, Script.Bad, Script.listed}
 
 -- a number and one more digit, where the number stands still at the end of 64 bits
 abbrev pub with_digit_capped : ℕ → ℕ → ℕ

@@ -1,11 +1,8 @@
 -- The events of a script.
 use Rattle.std.specs.Prelude.{ℕ, ◌+◌, List, [], ◌∷◌, ◌++◌, Option, Some, None, Ok, Err}
-use Rattle.htl_model.specs.declared.event.Event.{Event}
-use Rattle.htl_model.specs.Tables.{Tables}
-use Rattle.htl_script.specs.declared.fault.ScriptKind.{ScriptKind}
+use Rattle.htl_model.specs.{declared.event.Event.Event, Tables.Tables}
+use Rattle.htl_script.specs.{declared.fault.ScriptKind.ScriptKind, Lines.ScriptLine, Lines.lines_of, Lines.size_of, Judging.past_of, Judging.judged}
 use Rattle.htl_script.specs.declared.fault.ScriptKind.TheVariants as kind
-use Rattle.htl_script.specs.Lines.{ScriptLine, lines_of, size_of}
-use Rattle.htl_script.specs.Judging.{past_of, judged}
 
 -- A script is whole, with its events and the instant with which the run ends; or one of its lines is the first
 -- with a fault, with the events before it.

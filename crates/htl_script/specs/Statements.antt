@@ -1,8 +1,6 @@
 -- What a line of a script says.
 use Rattle.std.specs.Prelude.{ℕ, Bool, List, [], ◌∷◌, Option, None, length, ◌==◌, codes, if◌then◌else◌}
-use Rattle.std.specs.List.{slice_split}
-use Rattle.std.specs.Option.{option_map}
-use Rattle.std.specs.Str.{bytes_eq}
+use Rattle.std.specs.{List.slice_split, Option.option_map, Str.bytes_eq}
 use Rattle.htl_script.specs.Numbers.{number_of, signed_of}
 
 -- One of the four forms, with numbers of any size. A sensor's value is a number with or without a `-`.

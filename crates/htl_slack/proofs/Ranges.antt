@@ -1,12 +1,8 @@
 -- Tables in range stay in range with another worst case from 1 to 1,000,000 for a task.
 use Rattle.std.proofs.Common.{◌≡◌, ◌<◌, ℕ, zero, suc, ◌+◌, List, [], ◌∷◌, length, get_or, Option, Some, None, All, IfSome, refl, sym, ◌∙◌, ap, arith}
-use Rattle.htl_model.specs.declared.parts.Inv.{Inv}
-use Rattle.htl_model.specs.declared.parts.Module.{Module}
-use Rattle.htl_model.specs.declared.parts.Task.{Task}
-use Rattle.htl_model.specs.declared.parts.End.{End}
+use Rattle.htl_model.specs.{declared.parts.Inv.Inv, declared.parts.Module.Module, declared.parts.Task.Task, declared.parts.End.End, Tables.Tables, Tables.mode_module, Tables.count_before}
 use Rattle.htl_model.specs.declared.parts.End.TheVariants as E
 use Rattle.htl_model.specs.Ranges.{AreInRange, IsSpan, IsModeThat, parent_of, is_within, are_different_owned, IsModuleInRange, IsEndInRange, IsTaskInRange, IsInvInRange}
-use Rattle.htl_model.specs.Tables.{Tables, mode_module, count_before}
 use Rattle.htl_edf.specs.Greatest.{worst_in, with_worst}
 use Rattle.htl_slack.proofs.WorstAt.{length-worst_in, map-worst_in, count_before-worst_in, task_there}
 

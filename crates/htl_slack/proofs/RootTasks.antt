@@ -1,13 +1,8 @@
 -- Tasks that are invoked in root modules: how they are found, and that their worst cases are within their modules' periods.
 use Rattle.std.proofs.Common.{◌≡◌, ◌≤◌, ◌<◌, ℕ, zero, suc, Bool, true, false, ◌||◌, ◌&&◌, eqb, eqb-true, eq-eqb, List, [], ◌∷◌, length, slice_get, Option, Some, None, refl, sym, ◌∙◌, ap, subst, arith, inl, inr}
 use Rattle.htl_edf.proofs.Words.{list_any, slice_get_cases, KeptApart, unit_period, AreInRange, IsInvInRange, IsModeInRange, IsTaskInRange, IsSpan, Tables, mode_module, mode_period, task_worst, and_parts, cases_lt}
-use Rattle.htl_walk.proofs.Words.{is_root, each_at}
-use Rattle.htl_model.specs.declared.parts.Inv.{Inv}
-use Rattle.htl_model.specs.declared.parts.Mode.{Mode}
-use Rattle.htl_model.specs.declared.parts.Module.{Module}
-use Rattle.htl_model.specs.declared.parts.Task.{Task}
-use Rattle.htl_model.specs.FormRules.{WorstCases, Itself, Site}
-use Rattle.htl_walk.proofs.PathReady.{IsRootAt, as_unit}
+use Rattle.htl_walk.proofs.{Words.is_root, Words.each_at, PathReady.IsRootAt, PathReady.as_unit}
+use Rattle.htl_model.specs.{declared.parts.Inv.Inv, declared.parts.Mode.Mode, declared.parts.Module.Module, declared.parts.Task.Task, FormRules.WorstCases, FormRules.Itself, FormRules.Site}
 use Rattle.htl_slack.specs.RootTasks.{IsRootTask, task_module, limit_of, is_root_at, invokes}
 
 -- ---- the test

@@ -1,14 +1,9 @@
 -- The search by halves ends with the greatest worst case.
 use Rattle.std.proofs.Common.{◌≡◌, ◌≤◌, ◌<◌, ◌+◌, ◌-◌, ◌/◌, ℕ, suc, pos, Option, Some, None, sym, subst, ◌∙◌, arith}
 use Rattle.htl_model.specs.declared.frame.Frame.{Frame}
-use Rattle.htl_edf.proofs.Words.{nodes, IsFrame, Tables, task_worst, AreReady, ExplainsNodes}
-use Rattle.htl_edf.specs.Greatest.{with_worst, Fits, IsGreatest}
-use Rattle.htl_edf.proofs.Greatest.{greatest_by_one_more}
-use Rattle.htl_edf.specs.declared.plan.PlanFault.TheVariants.{Overload}
-use Rattle.htl_edf.proofs.FrameTasks.{frame_with_worst}
-use Rattle.htl_edf.proofs.ReadyTasks.{own_worst, ready_with_worst}
-use Rattle.htl_slack.specs.declared.report.Above.{Above}
-use Rattle.htl_slack.specs.Slack.{NoneOverloaded, IsFirstOverload, IsKnown}
+use Rattle.htl_edf.proofs.{Words.nodes, Words.IsFrame, Words.Tables, Words.task_worst, Words.AreReady, Words.ExplainsNodes, Greatest.greatest_by_one_more, FrameTasks.frame_with_worst, ReadyTasks.own_worst, ReadyTasks.ready_with_worst}
+use Rattle.htl_edf.specs.{Greatest.with_worst, Greatest.Fits, Greatest.IsGreatest, declared.plan.PlanFault.TheVariants.Overload}
+use Rattle.htl_slack.specs.{declared.report.Above.Above, Slack.NoneOverloaded, Slack.IsFirstOverload, Slack.IsKnown}
 
 -- the own worst case is the first that is known to fit
 pub own_fits : (t : Tables) (task : ℕ) → NoneOverloaded t → Fits t task (task_worst t task)

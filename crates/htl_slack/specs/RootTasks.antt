@@ -1,10 +1,6 @@
 -- Tasks that are invoked in root modules.
 use Rattle.std.specs.Prelude.{◌≡◌, ℕ, Bool, false, ◌&&◌, eqb, slice_get, Some, None}
-use Rattle.htl_model.specs.declared.parts.Inv.{Inv}
-use Rattle.htl_model.specs.declared.parts.Module.{Module}
-use Rattle.htl_model.specs.Frames.{unit_period}
-use Rattle.htl_model.specs.Selections.{is_root}
-use Rattle.htl_model.specs.Tables.{Tables, mode_module}
+use Rattle.htl_model.specs.{declared.parts.Inv.Inv, declared.parts.Module.Module, Frames.unit_period, Selections.is_root, Tables.Tables, Tables.mode_module}
 
 -- an invocation of the task stands in a mode of a module without a parent
 pub record IsRootTask (t : Tables) (task : ℕ) : Type 0 where

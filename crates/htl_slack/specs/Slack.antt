@@ -1,11 +1,8 @@
 -- What stands in the way of a greater worst case.
 use Rattle.std.specs.Prelude.{◌≡◌, ℕ, suc, ◌<◌, pos, Option, Some, None}
-use Rattle.htl_model.specs.Frames.{paths}
-use Rattle.htl_model.specs.Tables.{Tables}
+use Rattle.htl_model.specs.{Frames.paths, Tables.Tables}
 use Rattle.htl_walk.specs.PathJobs.{path_jobs}
-use Rattle.htl_edf.specs.Windows.{NoOverload, Reported}
-use Rattle.htl_edf.specs.Lists.{tightened}
-use Rattle.htl_edf.specs.Greatest.{with_worst}
+use Rattle.htl_edf.specs.{Windows.NoOverload, Windows.Reported, Lists.tightened, Greatest.with_worst}
 use Rattle.htl_slack.specs.declared.report.Above.{Above}
 
 -- no path is overloaded

@@ -2,10 +2,7 @@
 use Rattle.std.proofs.Common.{◌≡◌, ℕ, ◌<◌, List, [], ◌∷◌, length, get_or, map, slice_get, Option, Some, None, refl, sym, ap, ◌∙◌, subst, arith, inl, inr}
 use Rattle.std.specs.List.{flat_map}
 use Rattle.htl_times.proofs.Words.{none-some, cases_lt, get_or_past, Round, rounds, rounds_of, starts_below, unit_period, multiple_of, root_modules, Tables, frame_some, kept_apart, instrs_of, place, frame_modes, frame_places, running_places, IsAccepted, Object, Schedule}
-use Rattle.htl_times.specs.declared.greatest.Greatest.{Greatest}
-use Rattle.htl_times.specs.Accepted.{AcceptedIsFeasible}
-use Rattle.htl_times.specs.Laws.{AreNoLater}
-use Rattle.htl_times.specs.Response.{IsLatest, IsLatestOf}
+use Rattle.htl_times.specs.{declared.greatest.Greatest.Greatest, Accepted.AcceptedIsFeasible, Laws.AreNoLater, Response.IsLatest, Response.IsLatestOf}
 use Rattle.htl_times.proofs.NoLater.{finishes_no_later}
 
 pub accepted_is_feasible : AcceptedIsFeasible

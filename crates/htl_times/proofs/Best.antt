@@ -1,13 +1,9 @@
 -- The greatest of what was seen.
 use Rattle.std.proofs.Common.{◌≡◌, ℕ, suc, ◌+◌, ◌≤◌, ◌<◌, ◌⊎◌, inl, inr, Bool, true, false, ltb, cond, List, length, set, get_or, slice_get, Option, Some, None, refl, sym, ap, ◌∙◌, subst, arith, get_or-set_other, get_or-set_same}
-use Rattle.std.proofs.lemmas.Bool.{cases_eq, cases_lt, ltb-true, ltb-false}
-use Rattle.std.proofs.lemmas.Option.{slice_get_within}
-use Rattle.std.proofs.Math.ListN.{length-set}
+use Rattle.std.proofs.{lemmas.Bool.cases_eq, lemmas.Bool.cases_lt, lemmas.Bool.ltb-true, lemmas.Bool.ltb-false, lemmas.Option.slice_get_within, Math.ListN.length-set}
 use Rattle.htl_times.proofs.Words.{Place, paths, path_places, Tables, same_Some, SInstr, place}
-use Rattle.htl_times.specs.declared.greatest.Greatest.{Greatest}
-use Rattle.htl_times.specs.Busy.{busy, IsBusiestOf}
+use Rattle.htl_times.specs.{declared.greatest.Greatest.Greatest, Busy.busy, Busy.IsBusiestOf, Response.worst_finish, Response.FinishesAfter, Response.IsLatestOf}
 use Rattle.htl_times.specs.Noting.{BusyBefore, greater_of, IsBest, SeenBefore, SeenTo, AreBestTo, AreBestBefore, AreEmpty, Tells, IsToldBy, rows_after}
-use Rattle.htl_times.specs.Response.{worst_finish, FinishesAfter, IsLatestOf}
 
 -- ---- one row
 

@@ -1,10 +1,7 @@
 -- Worked examples: two root modules of periods 10 and 20, whose jobs a and b take 3 and 9 ticks.
 use Rattle.std.specs.Prelude.{◌≡◌, ◌-◌, List, [], ◌∷◌, Some, None, refl, map}
 use Rattle.htl_times.proofs.Words.{Dispatch, End, SInstr, two_periods}
-use Rattle.htl_times.specs.Busy.{busy}
-use Rattle.htl_times.specs.Noting.{greater_of}
-use Rattle.htl_times.specs.Response.{worst_finish}
-use Rattle.htl_times.specs.Roots.{root_of}
+use Rattle.htl_times.specs.{Busy.busy, Noting.greater_of, Response.worst_finish, Roots.root_of}
 
 abbrev node_lists : List (List SInstr)
 node_lists = (Dispatch 0 3 ∷ Dispatch 1 10 ∷ End ∷ []) ∷ (Dispatch 1 12 ∷ Dispatch 2 15 ∷ End ∷ []) ∷ []

@@ -1,8 +1,7 @@
 -- A path asks for no more ticks than its frame has: what is done takes time.
 use Rattle.std.proofs.Common.{◌≡◌, ℕ, zero, suc, ◌+◌, ◌≤◌, ◌<◌, ◌⊎◌, inl, inr, true, cond, List, [], ◌∷◌, length, drop, set, get_or, slice_get, sum, Some, refl, sym, ap, ◌∙◌, arith}
 use Rattle.std.specs.List.{All, fold}
-use Rattle.std.proofs.Math.ListN.{drop_of_length-le}
-use Rattle.std.proofs.lemmas.List.{get_or_past, set_past}
+use Rattle.std.proofs.{Math.ListN.drop_of_length-le, lemmas.List.get_or_past, lemmas.List.set_past}
 use Rattle.htl_walk.proofs.Acceptance.{left_falls_to, no_finish}
 use Rattle.htl_times.proofs.Words.{frame_of, Job, SInstr, Dispatch, Idle, End, lists_of, path_jobs, legs, Leg, AreChained, IsPathAccepted, HasWork, Point, job_at, time_after, work_after, next_point, last_point, first_point, worst_cases, work, form_joined, joined, show_joined, stays, legs_follow, each_at, job_there, work_some, path_work, not_some}
 use Rattle.htl_times.proofs.Halfway.{drop_here}

@@ -1,7 +1,6 @@
 -- Finishes that are noted on the way through a list.
 use Rattle.std.proofs.Common.{◌≡◌, ℕ, zero, suc, ◌≤◌, Bool, true, false, cond, ◌&&◌, List, [], ◌∷◌, length, drop, set, get_or, slice_get, Option, Some, None, refl, sym, ap, ◌∙◌, subst, arith}
-use Rattle.std.proofs.Math.ListN.{drop_of_length-le}
-use Rattle.std.proofs.lemmas.List.{get_or_past, set_past}
+use Rattle.std.proofs.{Math.ListN.drop_of_length-le, lemmas.List.get_or_past, lemmas.List.set_past}
 use Rattle.htl_times.proofs.Words.{or_else, Point, Left, is_position, job_at, time_after, work_after, next_point, walk_from, last_point, finish, left_by, Job, SInstr, Dispatch, not_some, same_Some}
 use Rattle.htl_times.specs.Noting.{told, AreNoted, IsHalfway, AreFinishes}
 

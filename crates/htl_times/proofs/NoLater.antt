@@ -4,9 +4,7 @@ use Rattle.htl_refine.proofs.ServedFrames.{paths_are}
 use Rattle.std.proofs.lemmas.List.{length-map}
 use Rattle.htl_times.proofs.Words.{take_all}
 use Rattle.htl_times.proofs.Words.{Event, Place, StandsFor, chosen, KeptApart, frame_of, starts, paths, path_places, AreInRange, Tables, Job, SInstr, lists_of, placed_job, job_in, path_jobs, legs_of, legs, RefinesFront, Leg, walk_path, end_to_end, AreChained, IsPathAccepted, Refines, HasWork, Left, first_point, worst_cases, walk_from, job_at, DoneBy, accepted_joined, Ahead, dominance, finish_ahead, same_Some, joined, show_joined, legs_follow, each_at, job_there, job_is, work_some, work_present, derived_place, derived_jobs, place, frame_modes, path_of, frame_places, frame_at, walk_of, lengths_of, IsFeasibleRun, chosen_exact_apart, finish_record, last_is, from_map, get_mapped, placed_present, path_refinement, paths_read, path_work, have_lengths, within_worst, frames_are_served, frame_serves, states_are_selections}
-use Rattle.htl_times.specs.declared.greatest.Greatest.{Greatest}
-use Rattle.htl_times.specs.Response.{worst_walk, worst_finish, IsLatest}
-use Rattle.htl_times.specs.Laws.{PathFinishesNoLater, FinishesNoLater, LatestInWindow}
+use Rattle.htl_times.specs.{declared.greatest.Greatest.Greatest, Response.worst_walk, Response.worst_finish, Response.IsLatest, Laws.PathFinishesNoLater, Laws.FinishesNoLater, Laws.LatestInWindow}
 
 -- ---- a path
 

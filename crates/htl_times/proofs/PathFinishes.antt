@@ -4,10 +4,8 @@ use Rattle.std.proofs.lemmas.List.{length-map}
 use Rattle.htl_model.proofs.Listed.{list_same}
 use Rattle.htl_walk.proofs.NodeWalks.{reach_behind}
 use Rattle.htl_times.proofs.Words.{Frame, Place, IsFrame, or_else, starts, frame_of, node, path_places, list_to, Tables, Job, SInstr, Schedule, reach, reached, list_at, instrs_of, path_jobs, legs_of, list_point, walks_from, end_to_end, Point, Left, walk_from, last_point, first_point, finish, work, worst_cases, start_read, left_length, list_read, list_front}
-use Rattle.htl_times.proofs.BareWalks.{bare_walk, bare_last}
-use Rattle.htl_times.specs.BareJobs.{bare}
-use Rattle.htl_times.specs.Noting.{AreFinishesTo, AreWorstFinishes, AreEmpty, list_walk, work_of}
-use Rattle.htl_times.proofs.Halfway.{finish_told, first_first}
+use Rattle.htl_times.proofs.{BareWalks.bare_walk, BareWalks.bare_last, Halfway.finish_told, Halfway.first_first}
+use Rattle.htl_times.specs.{BareJobs.bare, Noting.AreFinishesTo, Noting.AreWorstFinishes, Noting.AreEmpty, Noting.list_walk, Noting.work_of}
 
 -- ---- records end to end
 

@@ -1,17 +1,11 @@
 -- One round more of a path, by where the modes of its module and the invocations of its mode begin.
 use Rattle.std.proofs.Common.{◌≡◌, ℕ, zero, suc, ◌+◌, ◌-◌, ◌*◌, ◌/◌, ◌%◌, ◌≤◌, ◌<◌, List, ◌++◌, length, drop, set, get_or, refl, sym, ap, ◌∙◌, subst, arith, inl, inr}
-use Rattle.std.proofs.lemmas.Grind.{same_number_lists}
-use Rattle.std.proofs.lemmas.List.{get_or-map, get_or-take, get_or-set_other, get_or-set_same, length-append, length-map}
-use Rattle.std.proofs.Math.Nat.{mod-lt}
-use Rattle.htl_model.proofs.Listed.{length-list_to, get_list_to}
-use Rattle.htl_model.proofs.PlaceSteps.{place_next, round_at, no_round, choices_cut}
+use Rattle.std.proofs.{lemmas.Grind.same_number_lists, lemmas.List.get_or-map, lemmas.List.get_or-take, lemmas.List.get_or-set_other, lemmas.List.get_or-set_same, lemmas.List.length-append, lemmas.List.length-map, Math.Nat.mod-lt}
+use Rattle.htl_model.proofs.{Listed.length-list_to, Listed.get_list_to, PlaceSteps.place_next, PlaceSteps.round_at, PlaceSteps.no_round, PlaceSteps.choices_cut, RootModeLaws.modes_between, RootModeLaws.mode_between, RootModeLaws.modes_most}
 use Rattle.htl_model.proofs.RisingKeys.{rises, run_length, run_at, most_below, none_below}
-use Rattle.htl_model.proofs.RootModeLaws.{modes_between, mode_between, modes_most}
 use Rattle.htl_model.specs.RootModes.{below}
 use Rattle.htl_times.proofs.Words.{cases_lt, Inv, Place, Round, AreInRange, Tables, choices, invs_of, list_to, modes_below, modes_of, places_in, places_of, rounds}
-use Rattle.htl_times.specs.PathPlaces.{round_modes, AreBegins, IsSurvey, run_places}
-use Rattle.htl_times.specs.declared.path_places.RoundModes.{RoundModes}
-use Rattle.htl_times.specs.declared.path_places.Survey.{Survey}
+use Rattle.htl_times.specs.{PathPlaces.round_modes, PathPlaces.AreBegins, PathPlaces.IsSurvey, PathPlaces.run_places, declared.path_places.RoundModes.RoundModes, declared.path_places.Survey.Survey}
 
 -- ---- where the invocations of each mode begin
 

@@ -1,12 +1,10 @@
 -- Without refinement, a run at the worst cases is the path's worst-case walk.
 use Rattle.std.proofs.Common.{◌≡◌, ℕ, ◌+◌, true, false, Bool, cond, ◌&&◌, eqb, leb, List, [], ◌∷◌, slice_get, Option, Some, None, refl, sym, ap, ◌∙◌}
-use Rattle.std.proofs.lemmas.Bool.{eqb-true}
-use Rattle.std.proofs.lemmas.List.{map-id}
-use Rattle.htl_times.proofs.Words.{map_same}
+use Rattle.std.proofs.{lemmas.Bool.eqb-true, lemmas.List.map-id}
+use Rattle.htl_times.proofs.{Words.map_same, NoLater.worst_is_reached_by}
 use Rattle.htl_times.proofs.Words.{Event, Place, Inv, chosen, followed, itself, path_places, Tables, task_worst, Job, SInstr, job_in, placed_job, placed_jobs, path_jobs, HasWork, worst_cases, each_at, derived_place, derived_jobs, frame_modes, path_of, frame_places, last_took, inv_worst, took, lengths_of, IsFeasibleRun, chosen_exact_apart, from_map, get_mapped, placed_present, paths_read, path_work, states_are_selections}
 use Rattle.htl_model.specs.declared.event.Event.TheVariants as V
 use Rattle.htl_times.specs.Laws.{AreConcrete, AreTookWorst, WorstIsReached}
-use Rattle.htl_times.proofs.NoLater.{worst_is_reached_by}
 
 -- ---- how long jobs take
 

@@ -1,25 +1,15 @@
 -- A root invocation stands on a path, and finishes there.
 use Rattle.std.proofs.Common.{◌≡◌, ◌≤◌, ◌<◌, ℕ, zero, suc, ◌+◌, ◌-◌, ◌*◌, ◌%◌, cond, List, [], ◌∷◌, length, drop, get_or, map, slice_get, Option, Some, None, refl, sym, ap, ◌∙◌, subst, arith}
-use Rattle.std.proofs.lemmas.Bool.{eq-eqb}
-use Rattle.std.proofs.lemmas.List.{length-map}
-use Rattle.std.proofs.lemmas.Option.{get_or_from_slice_get, slice_get_within}
-use Rattle.std.proofs.Math.Nat.{mod-eq_of_lt, mul-div_cancel}
-use Rattle.htl_base.proofs.Numbers.{grow_times, one_more_time, product_parts}
-use Rattle.htl_base.proofs.Places.{get_front, into_back}
+use Rattle.std.proofs.{lemmas.Bool.eq-eqb, lemmas.List.length-map, lemmas.Option.get_or_from_slice_get, lemmas.Option.slice_get_within, Math.Nat.mod-eq_of_lt, Math.Nat.mul-div_cancel}
+use Rattle.htl_base.proofs.{Numbers.grow_times, Numbers.one_more_time, Numbers.product_parts, Places.get_front, Places.into_back}
 use Rattle.htl_model.proofs.FrameLimits.{choices_some, rounds_have}
 use Rattle.htl_walk.proofs.Starts.{first_start}
 use Rattle.htl_walk.specs.PathJobs.{next_of}
-use Rattle.htl_refine.proofs.Members.{at_place, in_flat}
-use Rattle.htl_refine.proofs.Positions.{root_is}
-use Rattle.htl_refine.proofs.ServedFrames.{paths_are}
-use Rattle.htl_model.specs.Frames.{mode_in, root_periods, rounds_at}
-use Rattle.htl_model.specs.Selections.{inv_of_mode, is_root, mode_of_module}
+use Rattle.htl_refine.proofs.{Members.at_place, Members.in_flat, Positions.root_is, ServedFrames.paths_are}
+use Rattle.htl_model.specs.{Frames.mode_in, Frames.root_periods, Frames.rounds_at, Selections.inv_of_mode, Selections.is_root, Selections.mode_of_module}
 use Rattle.htl_times.proofs.Words.{each_at, item_at, get_mapped, not_some, same_Some, Inv, Mode, Module, Round, Tables, AreInRange, IsInvInRange, IsModeInRange, KeptApart, kept_apart, choices, frame_of, frame_some, instrs_of, invs_of, mode_module, modes_of, parent_mode, path_places, paths, place, places_in, places_of, root_modules, rounds, rounds_of, starts, starts_below, unit_period, Object, IsAccepted, HasWork, Job, legs_follow, path_jobs, path_work, placed_job}
-use Rattle.htl_times.proofs.AcceptedRuns.{accepted_is_feasible}
-use Rattle.htl_times.proofs.NoLater.{later_than_round}
-use Rattle.htl_times.proofs.Rising.{parentless_of_roots}
-use Rattle.htl_times.specs.Accepted.{EachRootHasRow}
-use Rattle.htl_times.specs.Response.{FinishesAfter}
+use Rattle.htl_times.proofs.{AcceptedRuns.accepted_is_feasible, NoLater.later_than_round, Rising.parentless_of_roots}
+use Rattle.htl_times.specs.{Accepted.EachRootHasRow, Response.FinishesAfter}
 
 -- ---- a round of a root module
 

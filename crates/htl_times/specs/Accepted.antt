@@ -1,15 +1,10 @@
 -- What an accepted object has: its runs, and its rows.
 use Rattle.std.specs.Prelude.{◌≡◌, ℕ, ◌<◌, List, length, slice_get, Option, Some, None}
-use Rattle.htl_model.specs.declared.event.Event.{Event}
-use Rattle.htl_model.specs.declared.parts.Inv.{Inv}
-use Rattle.htl_model.specs.Selections.{root_modules}
+use Rattle.htl_model.specs.{declared.event.Event.Event, declared.parts.Inv.Inv, Selections.root_modules}
 use Rattle.htl_walk.specs.NodeWalks.{instrs_of}
-use Rattle.htl_refine.specs.Records.{AreTookWithin}
-use Rattle.htl_refine.specs.ServedFrames.{IsFeasibleRun}
-use Rattle.htl_object.specs.Accepted.{IsAccepted}
-use Rattle.htl_object.specs.declared.object.Object.{Object}
-use Rattle.htl_times.specs.declared.greatest.Greatest.{Greatest}
-use Rattle.htl_times.specs.Response.{IsLatestOf}
+use Rattle.htl_refine.specs.{Records.AreTookWithin, ServedFrames.IsFeasibleRun}
+use Rattle.htl_object.specs.{Accepted.IsAccepted, declared.object.Object.Object}
+use Rattle.htl_times.specs.{declared.greatest.Greatest.Greatest, Response.IsLatestOf}
 
 -- runs of an accepted object with a root module, in which no job takes longer than its worst case, are such runs
 abbrev pub AcceptedIsFeasible : Type 0

@@ -1,11 +1,8 @@
 -- Jobs as far as a walk looks at them.
 use Rattle.std.specs.Prelude.{◌≤◌, []}
 use Rattle.htl_base.specs.declared.limits.TheConstants.{MAX_PERIOD}
-use Rattle.htl_model.specs.declared.frame.Place.{Place}
-use Rattle.htl_model.specs.Tables.{Tables}
-use Rattle.htl_walk.specs.declared.job.Job.{Job}
-use Rattle.htl_walk.specs.PathJobs.{placed_job}
-use Rattle.htl_walk.specs.Placing.{HasTimes}
+use Rattle.htl_model.specs.{declared.frame.Place.Place, Tables.Tables}
+use Rattle.htl_walk.specs.{declared.job.Job.Job, PathJobs.placed_job, Placing.HasTimes}
 
 -- a job without its window's end and its predecessors, which a walk doesn't look at
 abbrev pub bare : Job → Job

@@ -1,9 +1,7 @@
 -- How long the processor is busy in a frame.
 use Rattle.std.specs.Prelude.{◌≡◌, ℕ, ◌≤◌, ◌<◌, sum, Option, Some, None}
-use Rattle.htl_model.specs.Frames.{paths}
-use Rattle.htl_model.specs.Tables.{Tables}
-use Rattle.htl_walk.specs.PathJobs.{path_jobs}
-use Rattle.htl_walk.specs.Walk.{worst_cases}
+use Rattle.htl_model.specs.{Frames.paths, Tables.Tables}
+use Rattle.htl_walk.specs.{PathJobs.path_jobs, Walk.worst_cases}
 use Rattle.htl_times.specs.declared.greatest.Greatest.{Greatest}
 
 -- the sum of the worst cases of a path's jobs, in ticks; the path's utilisation is this over the frame's length

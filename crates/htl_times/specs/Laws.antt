@@ -1,25 +1,13 @@
 -- The laws of response times.
 use Rattle.std.specs.Prelude.{◌≡◌, ℕ, ◌+◌, ◌≤◌, ◌<◌, true, List, [], ◌∷◌, length, slice_get, get_or, Option, Some, None}
 use Rattle.std.specs.List.{All}
-use Rattle.htl_model.specs.declared.event.Event.{Event}
+use Rattle.htl_model.specs.{declared.event.Event.Event, declared.parts.Inv.Inv, Frames.frame_of, Frames.paths, Chosen.StandsFor, Tables.Tables, Tables.is_concrete, Tables.release, Tables.window_end}
 use Rattle.htl_model.specs.declared.event.Event.TheVariants as V
-use Rattle.htl_model.specs.declared.parts.Inv.{Inv}
-use Rattle.htl_model.specs.Frames.{frame_of, paths}
-use Rattle.htl_model.specs.Chosen.{StandsFor}
-use Rattle.htl_model.specs.Tables.{Tables, is_concrete, release, window_end}
-use Rattle.htl_walk.specs.declared.job.Job.{Job}
-use Rattle.htl_walk.specs.declared.schedule.SInstr.{SInstr}
-use Rattle.htl_walk.specs.Paths.{Leg, walk_path, end_to_end, AreChained, IsPathAccepted}
+use Rattle.htl_walk.specs.{declared.job.Job.Job, declared.schedule.SInstr.SInstr, Paths.Leg, Paths.walk_path, Paths.end_to_end, Paths.AreChained, Paths.IsPathAccepted, Walk.worst_cases, Walk.DoneBy}
 use Rattle.htl_walk.specs.Refinement.{Refines, HasWork, HaveLengths, AreWithinWorst}
-use Rattle.htl_walk.specs.Walk.{worst_cases, DoneBy}
-use Rattle.htl_refine.specs.FramePlaces.{place}
-use Rattle.htl_refine.specs.FrameRuns.{frame_modes, frame_places, frame_at, path_of, walk_of}
-use Rattle.htl_refine.specs.ServedFrames.{IsFeasibleRun}
-use Rattle.htl_refine.specs.ServedJobs.{Finishes}
-use Rattle.htl_times.specs.declared.greatest.Greatest.{Greatest}
+use Rattle.htl_refine.specs.{FramePlaces.place, FrameRuns.frame_modes, FrameRuns.frame_places, FrameRuns.frame_at, FrameRuns.path_of, FrameRuns.walk_of, ServedFrames.IsFeasibleRun, ServedJobs.Finishes}
+use Rattle.htl_times.specs.{declared.greatest.Greatest.Greatest, Response.worst_walk, Response.IsLatest, Busy.busy}
 use Rattle.htl_refine.specs.Records.{inv_worst, AreTookWithin}
-use Rattle.htl_times.specs.Response.{worst_walk, IsLatest}
-use Rattle.htl_times.specs.Busy.{busy}
 
 -- lists that are accepted for a path: jobs that refine the path's finish no later than in its worst-case walk
 abbrev pub PathFinishesNoLater : Type 0

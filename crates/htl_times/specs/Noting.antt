@@ -1,19 +1,9 @@
 -- What the code notes on its way: finishes in a walk, and the greatest of those that were seen.
 use Rattle.std.specs.Prelude.{◌≡◌, ℕ, ◌+◌, ◌≤◌, ◌<◌, ◌⊎◌, cond, ◌&&◌, ltb, List, drop, length, set, get_or, Option, Some, None}
-use Rattle.htl_model.specs.First.{or_else}
-use Rattle.htl_model.specs.Frames.{starts}
-use Rattle.htl_model.specs.Lists.{list_to}
-use Rattle.htl_model.specs.Tables.{Tables}
-use Rattle.htl_model.specs.declared.frame.Place.{Place}
-use Rattle.htl_walk.specs.Walk.{Point, Left, is_position, walk_from, last_point, finish, left_by}
-use Rattle.htl_walk.specs.NodeWalks.{list_at, reached}
-use Rattle.htl_walk.specs.PathJobs.{path_jobs}
-use Rattle.htl_walk.specs.Paths.{list_point, end_to_end}
-use Rattle.htl_walk.specs.declared.job.Job.{Job}
-use Rattle.htl_walk.specs.declared.schedule.SInstr.{SInstr}
-use Rattle.htl_times.specs.declared.greatest.Greatest.{Greatest}
-use Rattle.htl_times.specs.Busy.{busy}
-use Rattle.htl_times.specs.Response.{FinishesAfter, worst_finish}
+use Rattle.htl_model.specs.{First.or_else, Frames.starts, Lists.list_to, Tables.Tables, declared.frame.Place.Place}
+use Rattle.htl_walk.specs.{Walk.Point, Walk.Left, Walk.is_position, Walk.walk_from, Walk.last_point, Walk.finish, Walk.left_by, NodeWalks.list_at, NodeWalks.reached, PathJobs.path_jobs, Paths.list_point, Paths.end_to_end}
+use Rattle.htl_walk.specs.{declared.job.Job.Job, declared.schedule.SInstr.SInstr}
+use Rattle.htl_times.specs.{declared.greatest.Greatest.Greatest, Busy.busy, Response.FinishesAfter, Response.worst_finish}
 
 -- ---- a walk
 

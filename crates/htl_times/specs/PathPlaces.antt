@@ -1,15 +1,7 @@
 -- The positions of a path, read from where the modes of a module and the invocations of a mode begin.
 use Rattle.std.specs.Prelude.{◌≡◌, ℕ, ◌+◌, ◌≤◌, List, length, take, map, get_or}
-use Rattle.htl_model.specs.declared.frame.Place.{Place}
-use Rattle.htl_model.specs.declared.frame.Round.{Round}
-use Rattle.htl_model.specs.declared.parts.Inv.{Inv}
-use Rattle.htl_model.specs.Frames.{paths, places_of, rounds}
-use Rattle.htl_model.specs.Lists.{list_to}
-use Rattle.htl_model.specs.RootModes.{below}
-use Rattle.htl_model.specs.Selections.{modes_of}
-use Rattle.htl_model.specs.Tables.{Tables}
-use Rattle.htl_times.specs.declared.path_places.RoundModes.{RoundModes}
-use Rattle.htl_times.specs.declared.path_places.Survey.{Survey}
+use Rattle.htl_model.specs.{declared.frame.Place.Place, declared.frame.Round.Round, declared.parts.Inv.Inv, Frames.paths, Frames.places_of, Frames.rounds, Lists.list_to, RootModes.below, Selections.modes_of, Tables.Tables}
+use Rattle.htl_times.specs.{declared.path_places.RoundModes.RoundModes, declared.path_places.Survey.Survey}
 
 -- a round with the modes of its module, which stand together from the first on
 abbrev pub round_modes : Tables → Round → RoundModes

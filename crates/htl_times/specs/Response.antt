@@ -1,12 +1,7 @@
 -- Response times: when the jobs of a path finish in its worst-case walk, by its own lists.
 use Rattle.std.specs.Prelude.{◌≡◌, ℕ, ◌+◌, ◌≤◌, ◌<◌, List, slice_get, Option, Some, None}
-use Rattle.htl_model.specs.Frames.{paths, path_places}
-use Rattle.htl_model.specs.Tables.{Tables}
-use Rattle.htl_walk.specs.Feasible.{lists_of}
-use Rattle.htl_walk.specs.PathJobs.{path_jobs, legs}
-use Rattle.htl_walk.specs.Paths.{walk_path, end_to_end}
-use Rattle.htl_walk.specs.Walk.{Left, worst_cases, finish}
-use Rattle.htl_walk.specs.declared.schedule.SInstr.{SInstr}
+use Rattle.htl_model.specs.{Frames.paths, Frames.path_places, Tables.Tables}
+use Rattle.htl_walk.specs.{Feasible.lists_of, PathJobs.path_jobs, PathJobs.legs, Paths.walk_path, Paths.end_to_end, Walk.Left, Walk.worst_cases, Walk.finish, declared.schedule.SInstr.SInstr}
 use Rattle.htl_refine.specs.FramePlaces.{place}
 use Rattle.htl_times.specs.declared.greatest.Greatest.{Greatest}
 

@@ -1,11 +1,6 @@
 -- The root invocation in whose place an invocation can stand.
 use Rattle.std.specs.Prelude.{◌≡◌, ◌↔◌, ℕ, zero, suc, List, length, slice_get, Option, Some, None}
-use Rattle.htl_model.specs.declared.parts.Inv.{Inv}
-use Rattle.htl_model.specs.Chosen.{StandsFor}
-use Rattle.htl_model.specs.FrameRules.{KeptApart}
-use Rattle.htl_model.specs.Ranges.{AreInRange}
-use Rattle.htl_model.specs.SecondWriters.{parent_mode}
-use Rattle.htl_model.specs.Tables.{Tables}
+use Rattle.htl_model.specs.{declared.parts.Inv.Inv, Chosen.StandsFor, FrameRules.KeptApart, Ranges.AreInRange, SecondWriters.parent_mode, Tables.Tables}
 
 -- the parent of an invocation
 abbrev pub inv_parent : Tables → ℕ → Option ℕ

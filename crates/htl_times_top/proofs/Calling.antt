@@ -8,12 +8,8 @@ use Rattle.htl_load.specs.declared.fault.ObjectFault.{ObjectFault}
 use Rattle.htl_load.specs.declared.fault.ObjectFault.TheVariants as fault
 use Rattle.htl_open.proofs.GivenFiles as files
 use Rattle.htl_open.proofs.OneObject.{accepted_or_refused, one_refusal}
-use Rattle.htl_open.specs.Files.{Files, IsGiven}
-use Rattle.htl_open.specs.Objects.{IsAcceptedFile, IsObjectTables, IsRefusedFile, SpeaksOfObject}
-use Rattle.htl_open.specs.declared.stop.ShelfCause.TheVariants.{Failed, TooLong}
-use Rattle.htl_times_top.specs.Answers.{IsOrMemory, IsTimes, SpeaksOf}
-use Rattle.htl_times_top.specs.Status.{fault_line, IsFaultTold, IsLineTold}
-use Rattle.htl_times_top.specs.declared.outcome.Outcome.{Outcome}
+use Rattle.htl_open.specs.{Files.Files, Files.IsGiven, Objects.IsAcceptedFile, Objects.IsObjectTables, Objects.IsRefusedFile, Objects.SpeaksOfObject, declared.stop.ShelfCause.TheVariants.Failed, declared.stop.ShelfCause.TheVariants.TooLong}
+use Rattle.htl_times_top.specs.{Answers.IsOrMemory, Answers.IsTimes, Answers.SpeaksOf, Status.fault_line, Status.IsFaultTold, Status.IsLineTold, declared.outcome.Outcome.Outcome}
 use Rattle.htl_times_top.specs.declared.outcome.Outcome.TheVariants.{Done, Usage, Object, Shelf, Write, Memory}
 
 -- ---- of the words

@@ -1,9 +1,7 @@
 -- The name of an invocation, piece by piece.
 use Rattle.std.proofs.Common.{◌≡◌, ◌++◌, ℕ, List, [], Option, Some, None, codes, decimal, refl, sym, ap, ◌∙◌, slice_get}
 use Rattle.htl_console.specs.Names.{full_inv, inv_name, task_name}
-use Rattle.htl_model.specs.Lines.{mode_name, module_name}
-use Rattle.htl_model.specs.Tables.{Tables, mode_module}
-use Rattle.htl_model.specs.declared.parts.Inv.{Inv}
+use Rattle.htl_model.specs.{Lines.mode_name, Lines.module_name, Tables.Tables, Tables.mode_module, declared.parts.Inv.Inv}
 use Rattle.htl_open.proofs.Putting.{behind}
 use Rattle.htl_open.specs.Lines.{inv_task_name}
 

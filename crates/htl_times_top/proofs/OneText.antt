@@ -3,16 +3,11 @@ use Rattle.std.proofs.Common.{arith, ◌≡◌, ℕ, ◌<◌, List, [], length, 
 use Rattle.std.proofs.lemmas.List.{ext_get_or}
 use Rattle.htl_base.proofs.Words.{cases_lt, get_or_past, none-some}
 use Rattle.htl_model.specs.Tables.{Tables}
-use Rattle.htl_times.proofs.AcceptedRuns.{accepted_is_feasible}
-use Rattle.htl_times.proofs.NoLater.{latest_in_window}
-use Rattle.htl_times.specs.Busy.{IsBusiestOf}
-use Rattle.htl_times.specs.Response.{IsLatest, IsLatestOf}
-use Rattle.htl_times.specs.declared.greatest.Greatest.{Greatest}
-use Rattle.htl_times_top.specs.Laws.{OneText, LeftIsTrue}
-use Rattle.htl_times_top.specs.Texts.{times_text}
+use Rattle.htl_times.proofs.{AcceptedRuns.accepted_is_feasible, NoLater.latest_in_window}
+use Rattle.htl_times.specs.{Busy.IsBusiestOf, Response.IsLatest, Response.IsLatestOf, declared.greatest.Greatest.Greatest}
+use Rattle.htl_times_top.specs.{Laws.OneText, Laws.LeftIsTrue, Texts.times_text}
 use Rattle.htl_walk.proofs.Nodes.{some_root}
-use Rattle.htl_walk.specs.NodeWalks.{instrs_of}
-use Rattle.htl_walk.specs.declared.schedule.SInstr.{SInstr}
+use Rattle.htl_walk.specs.{NodeWalks.instrs_of, declared.schedule.SInstr.SInstr}
 
 -- ---- one of each
 

@@ -2,10 +2,7 @@
 use Rattle.std.proofs.Common.{◌≡◌, ℕ, ◌<◌, List, ◌++◌, take, length, get_or, Option, None, sym, ap, ◌∙◌, subst}
 use Rattle.htl_base.proofs.Words.{take-append_seam}
 use Rattle.htl_object.specs.declared.object.Object.{Object}
-use Rattle.htl_times.specs.Busy.{IsBusiestOf}
-use Rattle.htl_times.specs.Laws.{AreNoLater}
-use Rattle.htl_times.specs.Response.{IsLatestOf}
-use Rattle.htl_times.specs.declared.greatest.Greatest.{Greatest}
+use Rattle.htl_times.specs.{Busy.IsBusiestOf, Laws.AreNoLater, Response.IsLatestOf, declared.greatest.Greatest.Greatest}
 use Rattle.htl_times_top.specs.Answers.{AreTimes}
 use Rattle.htl_walk.specs.NodeWalks.{instrs_of}
 

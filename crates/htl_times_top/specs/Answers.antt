@@ -1,22 +1,13 @@
 -- What the call answers, and what stands for it.
 use Rattle.std.specs.Prelude.{ℕ, ◌≡◌, ◌⊎◌, ◌<◌, List, [], ◌∷◌, length, map, get_or, Option, Some, None}
-use Rattle.std.specs.Borrow.{Bor}
-use Rattle.std.specs.Io.KnownBytes.{append_known}
-use Rattle.htl_edge.specs.Causes.{Rose}
-use Rattle.htl_edge.specs.Content.{AppendsPrefix}
+use Rattle.std.specs.{Borrow.Bor, Io.KnownBytes.append_known}
+use Rattle.htl_edge.specs.{Causes.Rose, Content.AppendsPrefix}
 use Rattle.htl_model.specs.Tables.{Tables}
 use Rattle.htl_object.specs.declared.object.Object.{Object as ObjectOf}
-use Rattle.htl_open.specs.Files.{Files}
-use Rattle.htl_open.specs.Objects.{IsAcceptedFile, IsRefusedFile, SpeaksOfObject}
-use Rattle.htl_open.specs.Stops.{IsShelfCause}
-use Rattle.htl_open.specs.declared.stop.OpenStop.{OpenStop}
+use Rattle.htl_open.specs.{Files.Files, Objects.IsAcceptedFile, Objects.IsRefusedFile, Objects.SpeaksOfObject, Stops.IsShelfCause, declared.stop.OpenStop.OpenStop}
 use Rattle.htl_open.specs.declared.stop.OpenStop.TheVariants as stop
-use Rattle.htl_times.specs.Busy.{IsBusiestOf}
-use Rattle.htl_times.specs.Laws.{AreNoLater}
-use Rattle.htl_times.specs.Response.{IsLatestOf}
-use Rattle.htl_times.specs.declared.greatest.Greatest.{Greatest}
-use Rattle.htl_times_top.specs.Texts.{times_text}
-use Rattle.htl_times_top.specs.declared.outcome.Outcome.{Outcome}
+use Rattle.htl_times.specs.{Busy.IsBusiestOf, Laws.AreNoLater, Response.IsLatestOf, declared.greatest.Greatest.Greatest}
+use Rattle.htl_times_top.specs.{Texts.times_text, declared.outcome.Outcome.Outcome}
 use Rattle.htl_times_top.specs.declared.outcome.Outcome.TheVariants.{Done, Usage, Object, Shelf, Write, Memory}
 use Rattle.htl_walk.specs.NodeWalks.{instrs_of}
 

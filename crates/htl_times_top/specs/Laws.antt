@@ -1,12 +1,9 @@
 -- What follows of the text of latest finishes.
 use Rattle.std.specs.Prelude.{ℕ, ◌≡◌, List, slice_get, get_or, Option, Some, None}
 use Rattle.htl_model.specs.declared.parts.Inv.{Inv}
-use Rattle.htl_object.specs.Accepted.{IsAccepted}
-use Rattle.htl_object.specs.declared.object.Object.{Object}
-use Rattle.htl_times.specs.Laws.{IsInWindow}
-use Rattle.htl_times.specs.declared.greatest.Greatest.{Greatest}
-use Rattle.htl_times_top.specs.Answers.{AreTimes}
-use Rattle.htl_times_top.specs.Texts.{times_text}
+use Rattle.htl_object.specs.{Accepted.IsAccepted, declared.object.Object.Object}
+use Rattle.htl_times.specs.{Laws.IsInWindow, declared.greatest.Greatest.Greatest}
+use Rattle.htl_times_top.specs.{Answers.AreTimes, Texts.times_text}
 
 -- an object has one such text
 abbrev pub OneText : Type 0

@@ -1,12 +1,7 @@
 -- What the program comes to.
 use Rattle.std.specs.Prelude.{◌≡◌, ◌⊎◌, ℕ, Option, None, List}
-use Rattle.htl_open.specs.Files.{Files, counted_files}
-use Rattle.htl_open.specs.Lines.{Tells}
-use Rattle.htl_open.specs.Objects.{IsObjectTables}
-use Rattle.htl_open.specs.declared.stop.ShelfCause.TheVariants.{Failed}
-use Rattle.htl_times_top.specs.Answers.{object_named, IsTimes}
-use Rattle.htl_times_top.specs.Status.{fault_line, status_of, IsLineTold}
-use Rattle.htl_times_top.specs.declared.outcome.Outcome.{Outcome}
+use Rattle.htl_open.specs.{Files.Files, Files.counted_files, Lines.Tells, Objects.IsObjectTables, declared.stop.ShelfCause.TheVariants.Failed}
+use Rattle.htl_times_top.specs.{Answers.object_named, Answers.IsTimes, Status.fault_line, Status.status_of, Status.IsLineTold, declared.outcome.Outcome.Outcome}
 use Rattle.htl_times_top.specs.declared.outcome.Outcome.TheVariants.{Done, Memory, Shelf, Write}
 
 -- an output at one moment: what was written, and its count of faults

@@ -1,12 +1,8 @@
 -- The lines of the latest finishes of an object.
 use Rattle.std.specs.Prelude.{ℕ, ◌-◌, List, [], ◌++◌, get_or, Option, Some, None, codes, decimal}
-use Rattle.htl_console.specs.Listing.{all_lines}
-use Rattle.htl_console.specs.Names.{inv_name}
-use Rattle.htl_model.specs.Frames.{frame_of, paths}
-use Rattle.htl_model.specs.Tables.{Tables, release, task_worst, window_end}
-use Rattle.htl_model.specs.declared.parts.Inv.{Inv}
-use Rattle.htl_times.specs.Roots.{root_of}
-use Rattle.htl_times.specs.declared.greatest.Greatest.{Greatest}
+use Rattle.htl_console.specs.{Listing.all_lines, Names.inv_name}
+use Rattle.htl_model.specs.{Frames.frame_of, Frames.paths, Tables.Tables, Tables.release, Tables.task_worst, Tables.window_end, declared.parts.Inv.Inv}
+use Rattle.htl_times.specs.{Roots.root_of, declared.greatest.Greatest.Greatest}
 
 -- `time NAME worst W window R E`, with which the line of each invocation begins
 abbrev pub time_front : Tables → ℕ → Inv → List ℕ

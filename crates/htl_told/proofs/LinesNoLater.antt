@@ -2,15 +2,9 @@
 use Rattle.std.proofs.Common.{◌≡◌, ◌≤◌, ◌<◌, ◌⊎◌, inl, inr, ℕ, zero, suc, ◌+◌, ◌-◌, ◌*◌, ◌/◌, Bool, true, false, cond, ◌&&◌, eqb, ltb, leb, List, [], ◌∷◌, ◌++◌, length, map, slice_get, Option, Some, None, option_map, refl, sym, ap, ap₂, ◌∙◌, subst, arith}
 use Rattle.std.proofs.Math.Nat.{div-mul-le_self, lt-div-mul-add}
 use Rattle.htl_runs.proofs.Words.{not_some, same_Some, eqb-true, eq-eqb, lt-ltb, le-leb, ltb-true, leb-true, and_parts, Event, hyper, frame_of, joined, up_to, up_to_none, root_modules, unit_period, multiple_of, Tables, SInstr, Left, first_point, path_rises, frame_at, walk_of, IsFeasibleRun, frames_are_served, every_job_in_time, RunLine, closed_slice_line, job_lines_at, job_lines_to, DoneLine, done_time, is_in, inv_at, inv_period, schedules_of}
-use Rattle.htl_runs.proofs.jobs.FrameLines.{owed, of_run}
-use Rattle.htl_runs.proofs.jobs.JobTimes.{working}
-use Rattle.htl_runs.proofs.jobs.OneRecord.{out_of}
-use Rattle.htl_runs.proofs.lines.Joined.{joined-append}
-use Rattle.htl_runs.proofs.lines.RecordTimes.{nothing, joined_none, before_now}
+use Rattle.htl_runs.proofs.{jobs.FrameLines.owed, jobs.FrameLines.of_run, jobs.JobTimes.working, jobs.OneRecord.out_of, lines.Joined.joined-append, lines.RecordTimes.nothing, lines.RecordTimes.joined_none, lines.RecordTimes.before_now}
 use Rattle.htl_times.proofs.AcceptedRuns.{accepted_is_feasible}
-use Rattle.htl_times.specs.Response.{IsLatest}
-use Rattle.htl_times.specs.Roots.{root_of}
-use Rattle.htl_times.specs.declared.greatest.Greatest.{Greatest}
+use Rattle.htl_times.specs.{Response.IsLatest, Roots.root_of, declared.greatest.Greatest.Greatest}
 use Rattle.htl_told.specs.Laws.{ToldNoLater, round_begin}
 use Rattle.htl_told.proofs.RecordsNoLater.{left_no_later}
 

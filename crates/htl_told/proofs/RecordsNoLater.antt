@@ -2,13 +2,9 @@
 use Rattle.std.proofs.Common.{◌≡◌, ◌≤◌, ◌<◌, inr, ℕ, ◌+◌, ◌-◌, ◌*◌, true, List, slice_get, Some, refl, sym, ap, ◌∙◌, subst, arith}
 use Rattle.std.proofs.Math.Nat.{div-eq_of_lt-le}
 use Rattle.htl_runs.proofs.Words.{same_Some, Event, frame_of, Tables, Job, SInstr, Left, job_is, frame_modes, frame_at, walk_of, IsFeasibleRun, inv_at, inv_period}
-use Rattle.htl_runs.proofs.jobs.JobRounds.{is_placed}
-use Rattle.htl_runs.proofs.jobs.JobTimes.{working}
-use Rattle.htl_times.proofs.NoLater.{finishes_no_later}
-use Rattle.htl_times.proofs.Rising.{stands_within_root}
-use Rattle.htl_times.specs.Response.{IsLatest}
-use Rattle.htl_times.specs.Roots.{root_of}
-use Rattle.htl_times.specs.declared.greatest.Greatest.{Greatest}
+use Rattle.htl_runs.proofs.{jobs.JobRounds.is_placed, jobs.JobTimes.working}
+use Rattle.htl_times.proofs.{NoLater.finishes_no_later, Rising.stands_within_root}
+use Rattle.htl_times.specs.{Response.IsLatest, Roots.root_of, declared.greatest.Greatest.Greatest}
 use Rattle.htl_told.specs.Laws.{round_begin}
 use Rattle.htl_told.proofs.FrameRoots.{has_place}
 

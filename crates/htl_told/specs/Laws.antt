@@ -1,16 +1,10 @@
 -- What the job lines of a run and the latest finishes have to do with each other.
 use Rattle.std.specs.Prelude.{◌≡◌, ◌≤◌, ℕ, ◌+◌, ◌-◌, ◌*◌, ◌/◌, List, slice_get, Some}
 use Rattle.htl_model.specs.declared.event.Event.{Event}
-use Rattle.htl_object.specs.Accepted.{IsAccepted}
-use Rattle.htl_object.specs.declared.object.Object.{Object}
+use Rattle.htl_object.specs.{Accepted.IsAccepted, declared.object.Object.Object}
 use Rattle.htl_refine.specs.Records.{AreTookWithin}
-use Rattle.htl_runs.specs.jobs.JobTimes.{inv_period}
-use Rattle.htl_runs.specs.lines.Programs.{schedules_of}
-use Rattle.htl_runs.specs.lines.RunLines.{job_lines_to}
-use Rattle.htl_runs.specs.lines.RunLines.RunLine.{DoneLine}
-use Rattle.htl_times.specs.Response.{IsLatest}
-use Rattle.htl_times.specs.Roots.{root_of}
-use Rattle.htl_times.specs.declared.greatest.Greatest.{Greatest}
+use Rattle.htl_runs.specs.{jobs.JobTimes.inv_period, lines.Programs.schedules_of, lines.RunLines.job_lines_to, lines.RunLines.RunLine.DoneLine}
+use Rattle.htl_times.specs.{Response.IsLatest, Roots.root_of, declared.greatest.Greatest.Greatest}
 
 -- when the round begins in which an instant lies, where rounds last so many ticks; where two rounds meet it lies in the first
 abbrev pub round_begin : ℕ → ℕ → ℕ

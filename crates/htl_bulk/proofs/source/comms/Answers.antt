@@ -1,9 +1,8 @@
 use Rattle.std.proofs.Common.{◌≡◌, ◌∷◌, ◌++◌, ◌∙◌, [], false, ap, sym, arith, rules, to_z, of_z, w64}
-use Rattle.htl_bulk.proofs.Words.{CommNode, Id, bulk_comm, bulk_sensor, comm_named, list_to, number}
+use Rattle.htl_bulk.proofs.{Words.CommNode, Words.Id, Words.bulk_comm, Words.bulk_sensor, Words.comm_named, Words.list_to, Words.number, TreeParts.list_further}
 use Rattle.std.proofs.Common.{ℤ, pos}
 use Rattle.htl_base.specs.declared.Ty.TheVariants as ty
 use Rattle.htl_text.specs.declared.tree.ConstNode.TheVariants as const
-use Rattle.htl_bulk.proofs.TreeParts.{list_further}
 use Rattle.htl_bulk.proofs.source.comms.Goals as goal
 
 pub loop-k-preserved : goal.loop-k-preserved

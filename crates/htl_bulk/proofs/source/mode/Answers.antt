@@ -1,6 +1,5 @@
 use Rattle.std.proofs.Common.{◌≡◌, ◌∷◌, ◌∙◌, [], map, ap, rules}
-use Rattle.htl_bulk.proofs.Words.{switch_of}
-use Rattle.htl_bulk.proofs.TreeParts.{mode_made}
+use Rattle.htl_bulk.proofs.{Words.switch_of, TreeParts.mode_made}
 use Rattle.htl_bulk.proofs.source.mode.Goals as goal
 
 pub returns : goal.returns

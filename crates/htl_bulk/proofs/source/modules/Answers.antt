@@ -1,6 +1,5 @@
 use Rattle.std.proofs.Common.{◌≡◌, ◌∙◌, map, ap, arith}
-use Rattle.htl_bulk.proofs.Words.{bulk_module, list_to, module_of}
-use Rattle.htl_bulk.proofs.TreeParts.{map_further}
+use Rattle.htl_bulk.proofs.{Words.bulk_module, Words.list_to, Words.module_of, TreeParts.map_further}
 use Rattle.htl_bulk.proofs.source.modules.Goals as goal
 
 pub loop-k-preserved : goal.loop-k-preserved

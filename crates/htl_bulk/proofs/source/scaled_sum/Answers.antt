@@ -1,7 +1,6 @@
 use Rattle.std.proofs.Common.{◌≡◌, ◌+◌, ◌∙◌, suc, ap, arith, rules, to_z, of_z, w64}
-use Rattle.htl_bulk.proofs.Words.{in_expr, is_expr, scaled_sum}
+use Rattle.htl_bulk.proofs.{Words.in_expr, Words.is_expr, Words.scaled_sum, TreeParts.scaled_nodes}
 use Rattle.std.proofs.Common.{pos}
-use Rattle.htl_bulk.proofs.TreeParts.{scaled_nodes}
 use Rattle.htl_bulk.proofs.source.scaled_sum.Goals as goal
 
 pub new-requires : goal.new-requires

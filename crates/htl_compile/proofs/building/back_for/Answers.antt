@@ -1,7 +1,5 @@
 use Rattle.std.proofs.Common.{List, refl, ◌∙◌, ap₂, sym, subst}
-use Rattle.htl_compile.proofs.BuiltLaws.{no_limit, object_accepted}
-use Rattle.htl_compile.proofs.CodedLaws.{fitting_are_code}
-use Rattle.htl_compile.proofs.PlanLaws.{planned_is, unplanned_is}
+use Rattle.htl_compile.proofs.{BuiltLaws.no_limit, BuiltLaws.object_accepted, CodedLaws.fitting_are_code, PlanLaws.planned_is, PlanLaws.unplanned_is}
 use Rattle.htl_compile.proofs.Words.{ECode, kept_12, kept_apart, Offsets, IsAccepted, Object, Schedule}
 use Rattle.htl_compile.proofs.building.back_for.Goals as goal
 

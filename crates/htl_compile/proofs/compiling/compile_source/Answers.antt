@@ -1,5 +1,4 @@
-use Rattle.htl_compile.proofs.FromSource.{all_compiled}
-use Rattle.htl_compile.proofs.SourceStops.{all_unbuilt}
+use Rattle.htl_compile.proofs.{FromSource.all_compiled, SourceStops.all_unbuilt}
 use Rattle.htl_compile.proofs.compiling.compile_source.Goals as goal
 
 pub returns-clause-compiled : goal.returns-clause-compiled

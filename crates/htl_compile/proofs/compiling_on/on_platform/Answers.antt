@@ -1,6 +1,4 @@
-use Rattle.htl_compile.proofs.Words.{refl, sym, subst, KeepsLimits, FitPlaces}
-use Rattle.htl_compile.proofs.OnPlatform.{refused_on}
-use Rattle.htl_compile.proofs.PlatformTables.{fit_with, limits_with}
+use Rattle.htl_compile.proofs.{Words.refl, Words.sym, Words.subst, Words.KeepsLimits, Words.FitPlaces, OnPlatform.refused_on, PlatformTables.fit_with, PlatformTables.limits_with}
 use Rattle.htl_compile.proofs.compiling_on.on_platform.Goals as goal
 
 pub returns-in-Ok-clause-on : goal.returns-in-Ok-clause-on

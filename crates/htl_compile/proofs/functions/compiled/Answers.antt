@@ -1,7 +1,5 @@
 use Rattle.std.proofs.Common.{map, ap, sym, ◌∙◌, subst}
-use Rattle.htl_compile.proofs.Words.{FitPlaces, AreInRange, Tables, fun_of}
-use Rattle.htl_compile.proofs.CodedLaws.{coded_fit, coded_in_range}
-use Rattle.htl_compile.proofs.FunctionLaws.{rebuilt}
+use Rattle.htl_compile.proofs.{Words.FitPlaces, Words.AreInRange, Words.Tables, Words.fun_of, CodedLaws.coded_fit, CodedLaws.coded_in_range, FunctionLaws.rebuilt}
 use Rattle.htl_compile.proofs.functions.compiled.Goals as goal
 
 pub new-requires-2 : goal.new-requires-2

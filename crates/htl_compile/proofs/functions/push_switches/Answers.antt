@@ -1,6 +1,5 @@
 use Rattle.std.proofs.Common.{◌≡◌, ◌+◌, List, length, sym, ◌∙◌, ap, arith}
-use Rattle.htl_compile.proofs.FunctionLaws.{codes_to, typed_all, typed_further, typed_to}
-use Rattle.htl_compile.proofs.Words.{Tables, count_before, Switch, Task, tasks_of}
+use Rattle.htl_compile.proofs.{FunctionLaws.codes_to, FunctionLaws.typed_all, FunctionLaws.typed_further, FunctionLaws.typed_to, Words.Tables, Words.count_before, Words.Switch, Words.Task, Words.tasks_of}
 use Rattle.htl_compile.proofs.functions.push_switches.Goals as goal
 use Rattle.htl_compile.proofs.functions.push_switches.Goals.{After-loop-k}
 

@@ -1,6 +1,4 @@
-use Rattle.htl_compile.proofs.Words.{length, sym, subst, codes, limits_same, KeepsLimits}
-use Rattle.htl_compile.proofs.FunctionTokens.{ill_token, deep_token}
-use Rattle.htl_compile.proofs.SourceLaws.{function_fault}
+use Rattle.htl_compile.proofs.{Words.length, Words.sym, Words.subst, Words.codes, Words.limits_same, Words.KeepsLimits, FunctionTokens.ill_token, FunctionTokens.deep_token, SourceLaws.function_fault}
 use Rattle.htl_func.specs.declared.compiler.FnFault.TheVariants as fn_fault
 use Rattle.htl_compile.proofs.source.read_functions.Goals as goal
 

@@ -1,8 +1,6 @@
 use Rattle.std.proofs.Common.{ℕ, ◌<◌, length, refl, sym, subst}
-use Rattle.htl_compile.proofs.Words.{tree_of, bounded_tree, AreFunctionsBelow}
+use Rattle.htl_compile.proofs.{Words.tree_of, Words.bounded_tree, Words.AreFunctionsBelow, NameTokens.fault_token, PlacedFunctions.functions_placed}
 use Rattle.htl_names.specs.declared.fault.NameFault.TheVariants as name
-use Rattle.htl_compile.proofs.NameTokens.{fault_token}
-use Rattle.htl_compile.proofs.PlacedFunctions.{functions_placed}
 use Rattle.htl_compile.proofs.source.read_tree.Goals as goal
 
 pub resolve-requires : goal.resolve-requires

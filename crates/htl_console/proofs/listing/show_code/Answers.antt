@@ -1,5 +1,4 @@
-use Rattle.std.proofs.Common.{arith, add-one}
-use Rattle.std.proofs.lemmas.List.{get_or_default}
+use Rattle.std.proofs.{Common.arith, Common.add-one, lemmas.List.get_or_default}
 use Rattle.htl_console.specs.Listing.{code_line}
 use Rattle.htl_console.proofs.Writing.{IsWriting-step, IsWriting-cut}
 use Rattle.htl_console.proofs.listing.show_code.Goals as goal

@@ -1,6 +1,5 @@
 use Rattle.std.proofs.Common.{◌≡◌, List, map, ap, sym, ◌∙◌}
-use Rattle.htl_model.specs.declared.function.Function.{Function}
-use Rattle.htl_model.specs.Tables.{Tables, fun_of}
+use Rattle.htl_model.specs.{declared.function.Function.Function, Tables.Tables, Tables.fun_of}
 use Rattle.htl_console.proofs.Writing.{WasPut-first, WasPut-more, WasPut-last, Puts-cut}
 use Rattle.htl_console.proofs.listing.show_tables.Goals as goal
 

@@ -1,6 +1,5 @@
 use Rattle.std.proofs.Common.{◌≡◌, ◌/◌, ◌^◌, ◌<◌, true, ℕ, arith, sym, subst}
-use Rattle.htl_edf.proofs.Words.{trailing_zeros, w128, div-le_self, bit_at-trailing_zeros, has_bit}
-use Rattle.htl_edf.proofs.BitRows.{none_from, skipped_to, found_at}
+use Rattle.htl_edf.proofs.{Words.trailing_zeros, Words.w128, Words.div-le_self, Words.bit_at-trailing_zeros, Words.has_bit, BitRows.none_from, BitRows.skipped_to, BitRows.found_at}
 use Rattle.htl_edf.proofs.bits.next_bit.Goals as goal
 
 pub returns-then-rest-eq0-clause-skipped : goal.returns-then-rest-eq0-clause-skipped

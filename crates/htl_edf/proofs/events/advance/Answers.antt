@@ -1,6 +1,5 @@
 use Rattle.std.proofs.Common.{arith, ◌≡◌, sym, ap, ◌∙◌, ◌+◌, ◌-◌, ◌≤◌, ◌<◌, get_or, ℕ, List, Some, None, length}
-use Rattle.htl_edf.proofs.Words.{Job, edf, jobs_of, QuietFrom, tight}
-use Rattle.htl_edf.proofs.Jumps.{runs_some, left_some, runs_none, left_none, some_chosen}
+use Rattle.htl_edf.proofs.{Words.Job, Words.edf, Words.jobs_of, Words.QuietFrom, Words.tight, Jumps.runs_some, Jumps.left_some, Jumps.runs_none, Jumps.left_none, Jumps.some_chosen}
 use Rattle.htl_edf.proofs.ReadyRanks.{lowest_runs, none_runs, quiet_ahead, ahead_after}
 use Rattle.htl_edf.proofs.events.advance.Goals as goal
 use Rattle.htl_edf.proofs.events.advance.Goals.{then-until-t, else-until-t}

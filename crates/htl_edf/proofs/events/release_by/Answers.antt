@@ -1,6 +1,5 @@
 use Rattle.std.proofs.Common.{arith, ◌∙◌, ◌&&◌, ◌||◌, ap, eqb, ltb, get_or}
-use Rattle.htl_edf.proofs.Words.{has_bit, number_of}
-use Rattle.htl_edf.proofs.ReadyRanks.{releasing_start, releasing_more, releasing_done}
+use Rattle.htl_edf.proofs.{Words.has_bit, Words.number_of, ReadyRanks.releasing_start, ReadyRanks.releasing_more, ReadyRanks.releasing_done}
 use Rattle.htl_edf.proofs.events.release_by.Goals as goal
 
 pub loop-n-init : goal.loop-n-init

@@ -1,6 +1,5 @@
 use Rattle.std.proofs.Common.{◌≡◌, ◌∙◌, ◌<◌, arith, rules, get_or, to_z, of_z, w64, length}
-use Rattle.htl_edf.proofs.Words.{length-set, Tight, no_window}
-use Rattle.htl_edf.proofs.Turning.{ends_more, releases_kept}
+use Rattle.htl_edf.proofs.{Words.length-set, Words.Tight, Words.no_window, Turning.ends_more, Turning.releases_kept}
 use Rattle.htl_edf.proofs.in_order.fill_ends.Goals as goal
 
 pub loop-k-preserved : goal.loop-k-preserved

@@ -1,6 +1,5 @@
 use Rattle.std.proofs.Common.{◌≡◌, ◌∙◌, arith, rules, get_or, to_z, of_z, w64}
-use Rattle.htl_edf.proofs.Words.{length-set, Tight, no_window}
-use Rattle.htl_edf.proofs.Turning.{releases_more}
+use Rattle.htl_edf.proofs.{Words.length-set, Words.Tight, Words.no_window, Turning.releases_more}
 use Rattle.htl_edf.proofs.in_order.fill_releases.Goals as goal
 
 pub loop-k-preserved : goal.loop-k-preserved

@@ -1,5 +1,4 @@
-use Rattle.htl_edf.proofs.Words.{List, sym, subst, arith, AreWellFormed, IsReport, Job, jobs_of, NoCycle, tightened}
-use Rattle.htl_edf.proofs.NodeCode.{frame_end}
+use Rattle.htl_edf.proofs.{Words.List, Words.sym, Words.subst, Words.arith, Words.AreWellFormed, Words.IsReport, Words.Job, Words.jobs_of, Words.NoCycle, Words.tightened, NodeCode.frame_end}
 use Rattle.htl_edf.proofs.nodes.path_overload.Goals as goal
 
 pub overload_of-requires-clause-jobs : goal.overload_of-requires-clause-jobs

@@ -1,7 +1,6 @@
 use Rattle.std.proofs.Common.{◌<◌, ℕ, pos, arith, sym, subst, inl, inr}
 use Rattle.htl_base.proofs.Numbers.{cases_below_next}
-use Rattle.htl_edf.proofs.Words.{paths, path_jobs, instrs_of, ExplainsNodes, HasPart, IsReport, NoOverload, Reported, tightened}
-use Rattle.htl_edf.proofs.NodeLists.{nodes_accepted, nodes_refused}
+use Rattle.htl_edf.proofs.{Words.paths, Words.path_jobs, Words.instrs_of, Words.ExplainsNodes, Words.HasPart, Words.IsReport, Words.NoOverload, Words.Reported, Words.tightened, NodeLists.nodes_accepted, NodeLists.nodes_refused}
 use Rattle.htl_edf.proofs.NodeCode.{shared_parts, all_parts}
 use Rattle.htl_edf.proofs.nodes.plan_nodes.Goals.{then-number-eq0, else-number-eq0}
 use Rattle.htl_edf.proofs.nodes.plan_nodes.Goals as goal

@@ -1,6 +1,5 @@
 use Rattle.std.proofs.Common.{pos, subst, sym}
-use Rattle.htl_edf.proofs.Words.{ExplainsNodes}
-use Rattle.htl_edf.proofs.NodeLists.{nodes_refused}
+use Rattle.htl_edf.proofs.{Words.ExplainsNodes, NodeLists.nodes_refused}
 use Rattle.htl_edf.proofs.nodes.without_memory.Goals as goal
 
 pub returns-in-Some : goal.returns-in-Some

@@ -1,7 +1,5 @@
 use Rattle.std.proofs.Common.{arith, ◌≡◌, sym, length, ℕ, ℤ, pos, nat_abs, to_z, of_z, w64, get_or, subst}
-use Rattle.htl_edf.proofs.Words.{ints, jobs_of, no_window, Windows, Reported, tight}
-use Rattle.htl_edf.proofs.Bounds.{release_at-small, end_at-small}
-use Rattle.htl_edf.proofs.Found.{found_none, found_some, found_never, found_end}
+use Rattle.htl_edf.proofs.{Words.ints, Words.jobs_of, Words.no_window, Words.Windows, Words.Reported, Words.tight, Bounds.release_at-small, Bounds.end_at-small, Found.found_none, Found.found_some, Found.found_never, Found.found_end}
 use Rattle.htl_edf.proofs.overload.find_overload.Goals as goal
 
 reported_as : (v : Windows) (a c : ℕ) (b d : ℤ) (m n : ℕ) → a ≡ c → b ≡ d → m ≡ n → Reported v a b m → Reported v c d n

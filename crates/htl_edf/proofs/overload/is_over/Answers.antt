@@ -1,8 +1,7 @@
 use Rattle.std.proofs.Common.{◌≡◌, arith, ◌<◌, ◌≤◌, ℕ, ℤ, pos, ltb, ◌&&◌, lt-ltb, le-ltb, false, true, length, ◌+◌, to_z, of_z, w64, get_or, ◌+ℤ◌}
 use Rattle.std.specs.Prelude.{int_lt}
-use Rattle.htl_edf.proofs.Words.{ints, jobs_of, no_window, release_at, end_at}
+use Rattle.htl_edf.proofs.{Words.ints, Words.jobs_of, Words.no_window, Words.release_at, Words.end_at, Bounds.release_at-small}
 use Rattle.htl_edf.specs.Search.{over, demand_below}
-use Rattle.htl_edf.proofs.Bounds.{release_at-small}
 use Rattle.htl_edf.proofs.overload.is_over.Goals as goal
 
 over_then : (A B E F : ℤ) (d D : ℕ) → A ≡ E → B ≡ F → d ≡ D → 0 < d → int_lt A B ≡ (ltb 0 D && int_lt E F)

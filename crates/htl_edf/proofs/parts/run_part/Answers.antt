@@ -1,8 +1,5 @@
 use Rattle.std.proofs.Common.{arith, rules, ◌∙◌, ◌-◌, refl}
-use Rattle.htl_edf.proofs.Words.{jobs_of, tight, edf, slices_from}
-use Rattle.htl_edf.proofs.InTime.{in_time_none, in_time_more}
-use Rattle.htl_edf.proofs.PartRuns.{part_some, part_idle, part_none}
-use Rattle.htl_edf.proofs.ReadyRanks.{ahead_start}
+use Rattle.htl_edf.proofs.{Words.jobs_of, Words.tight, Words.edf, Words.slices_from, InTime.in_time_none, InTime.in_time_more, PartRuns.part_some, PartRuns.part_idle, PartRuns.part_none, ReadyRanks.ahead_start}
 use Rattle.htl_edf.proofs.parts.run_part.Goals as goal
 
 pub loop-t-init : goal.loop-t-init

@@ -1,6 +1,5 @@
 use Rattle.std.proofs.Common.{arith, ◌∙◌}
-use Rattle.htl_edf.proofs.InTime.{in_time_none, in_time_more}
-use Rattle.htl_edf.proofs.ReadyRanks.{ahead_start}
+use Rattle.htl_edf.proofs.{InTime.in_time_none, InTime.in_time_more, ReadyRanks.ahead_start}
 use Rattle.htl_edf.proofs.parts.run_until.Goals as goal
 
 pub loop-t-init : goal.loop-t-init

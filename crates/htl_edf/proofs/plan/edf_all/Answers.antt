@@ -1,5 +1,4 @@
-use Rattle.htl_edf.proofs.Words.{IfErr-weaker, ExplainsNodes, ExplainsPlan, kept_apart, no_limit}
-use Rattle.htl_edf.proofs.Plannable.{planned_ok, explained}
+use Rattle.htl_edf.proofs.{Words.IfErr-weaker, Words.ExplainsNodes, Words.ExplainsPlan, Words.kept_apart, Words.no_limit, Plannable.planned_ok, Plannable.explained}
 use Rattle.htl_edf.proofs.plan.edf_all.Goals as goal
 
 pub edf_nodes-requires-clause-limits : goal.edf_nodes-requires-clause-limits

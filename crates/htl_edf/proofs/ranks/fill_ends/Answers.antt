@@ -1,5 +1,4 @@
-use Rattle.htl_edf.proofs.Words.{arith, length, ints}
-use Rattle.htl_edf.proofs.Bounds.{end_at-small}
+use Rattle.htl_edf.proofs.{Words.arith, Words.length, Words.ints, Bounds.end_at-small}
 use Rattle.htl_edf.proofs.ranks.fill_ends.Goals as goal
 
 pub end_time-requires-clause-least : goal.end_time-requires-clause-least

@@ -1,5 +1,4 @@
-use Rattle.htl_edf.proofs.Words.{arith, length, ints, number_of}
-use Rattle.htl_edf.proofs.Bounds.{release_at-small}
+use Rattle.htl_edf.proofs.{Words.arith, Words.length, Words.ints, Words.number_of, Bounds.release_at-small}
 use Rattle.htl_edf.proofs.ranks.fill_releases.Goals as goal
 
 pub item-requires-clause-early : goal.item-requires-clause-early

@@ -1,7 +1,5 @@
 use Rattle.std.proofs.Common.{arith, ◌∙◌, length}
-use Rattle.htl_edf.proofs.Words.{ints, number_of, end_time, release_time}
-use Rattle.htl_edf.proofs.Bounds.{end_at-small}
-use Rattle.htl_edf.proofs.Ranking.{sorted_in_order}
+use Rattle.htl_edf.proofs.{Words.ints, Words.number_of, Words.end_time, Words.release_time, Bounds.end_at-small, Ranking.sorted_in_order}
 use Rattle.htl_edf.proofs.ranks.rank.Goals as goal
 
 pub fill_releases-requires-clause-ends : goal.fill_releases-requires-clause-ends

@@ -1,7 +1,5 @@
 use Rattle.std.proofs.Common.{◌∙◌, arith, sym, ℕ, ◌+◌, pos, ◌-ℤ◌}
-use Rattle.htl_edf.proofs.Words.{ints, clamps, absent_job, jobs_of, end_at}
-use Rattle.htl_edf.proofs.Bounds.{end_at-small}
-use Rattle.htl_edf.proofs.Tightening.{least_more_yes, least_skipped}
+use Rattle.htl_edf.proofs.{Words.ints, Words.clamps, Words.absent_job, Words.jobs_of, Words.end_at, Bounds.end_at-small, Tightening.least_more_yes, Tightening.least_skipped}
 use Rattle.htl_edf.proofs.rounds.ended.Goals as goal
 
 pub loop-q-init : goal.loop-q-init

@@ -1,7 +1,5 @@
 use Rattle.std.proofs.Common.{arith, ℕ, ◌+◌}
-use Rattle.htl_edf.proofs.Words.{ints, clamps, absent_job, jobs_of, release_at}
-use Rattle.htl_edf.proofs.Bounds.{release_at-small}
-use Rattle.htl_edf.proofs.Tightening.{greatest_more_yes, greatest_skipped}
+use Rattle.htl_edf.proofs.{Words.ints, Words.clamps, Words.absent_job, Words.jobs_of, Words.release_at, Bounds.release_at-small, Tightening.greatest_more_yes, Tightening.greatest_skipped}
 use Rattle.htl_edf.proofs.rounds.released.Goals as goal
 
 pub loop-p-init : goal.loop-p-init

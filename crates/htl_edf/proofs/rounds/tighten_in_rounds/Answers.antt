@@ -1,7 +1,5 @@
 use Rattle.std.proofs.Common.{◌≡◌, List, arith, sym, subst, length}
-use Rattle.htl_edf.proofs.Words.{length-take, Tight, HoldsAfter}
-use Rattle.htl_edf.proofs.Jumps.{are_tightened}
-use Rattle.htl_edf.proofs.Rest.{rested, agreed}
+use Rattle.htl_edf.proofs.{Words.length-take, Words.Tight, Words.HoldsAfter, Jumps.are_tightened, Rest.rested, Rest.agreed}
 use Rattle.htl_edf.proofs.rounds.tighten_in_rounds.Goals as goal
 
 pub returns : goal.returns

@@ -1,8 +1,5 @@
 use Rattle.std.proofs.Common.{◌≡◌, ◌≤◌, ◌+◌, ◌∙◌, List, length, sym, subst}
-use Rattle.htl_edf.proofs.Words.{NoOverload, SInstr, ScheduleIsAccepted, edf_schedule, tightened}
-use Rattle.htl_edf.proofs.Cutting.{whole_part}
-use Rattle.htl_edf.proofs.InTime.{none_overloaded}
-use Rattle.htl_edf.proofs.Walking.{meets_and_accepted, schedule_short}
+use Rattle.htl_edf.proofs.{Words.NoOverload, Words.SInstr, Words.ScheduleIsAccepted, Words.edf_schedule, Words.tightened, Cutting.whole_part, InTime.none_overloaded, Walking.meets_and_accepted, Walking.schedule_short}
 use Rattle.htl_edf.proofs.scheduler.schedule.Goals as goal
 
 is_edf : (c : goal.After-new) → c.in-Ok.part.instrs.items ≡ edf_schedule c.args.jobs.now c.args.period

@@ -1,6 +1,5 @@
 use Rattle.std.proofs.Common.{arith, rules, SFits, w64, ◌∙◌, ◌<◌, length, get_or, [], ap}
-use Rattle.htl_emach.proofs.Words.{to_z-of_z, function_value, output_function}
-use Rattle.htl_emach.proofs.Filling.{rows_hold, output_more}
+use Rattle.htl_emach.proofs.{Words.to_z-of_z, Words.function_value, Words.output_function, Filling.rows_hold, Filling.output_more}
 use Rattle.htl_emach.proofs.jobs.fill_outputs.Goals as goal
 
 pub put-requires : goal.put-requires

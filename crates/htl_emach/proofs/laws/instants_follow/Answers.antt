@@ -1,6 +1,4 @@
-use Rattle.htl_emach.proofs.Words.{arith, spelled_departs_not}
-use Rattle.htl_emach.proofs.Instants.{passes_instant}
-use Rattle.htl_emach.proofs.Soundness.{sound}
+use Rattle.htl_emach.proofs.{Words.arith, Words.spelled_departs_not, Instants.passes_instant, Soundness.sound}
 use Rattle.htl_emach.proofs.laws.instants_follow.Goals as goal
 
 pub returns : goal.returns

@@ -1,6 +1,5 @@
 use Rattle.std.proofs.Common.{◌≡◌, ◌<◌, length, drop, None, sym, ap, ◌∙◌, subst, arith}
-use Rattle.htl_emach.proofs.Words.{Tables, writer_of}
-use Rattle.htl_emach.proofs.PortEntries.{writer_on, as_listed}
+use Rattle.htl_emach.proofs.{Words.Tables, Words.writer_of, PortEntries.writer_on, PortEntries.as_listed}
 use Rattle.htl_emach.proofs.writers.port_writers.Goals as goal
 
 pub returns : goal.returns

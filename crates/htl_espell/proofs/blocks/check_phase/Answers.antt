@@ -1,7 +1,6 @@
 use Rattle.std.proofs.Common.{◌≡◌, Err, Ok, List, rules, refl, ap, sym, ◌∙◌, suc, add-one}
-use Rattle.htl_espell.proofs.Words.{number_of, EInstr, next_offset, fault_of, block_read}
+use Rattle.htl_espell.proofs.{Words.number_of, Words.EInstr, Words.next_offset, Words.fault_of, Words.block_read, Whole.block_fault, Whole.block_target}
 use Rattle.htl_espell.proofs.PhaseBlocks.{checking_starts, checking_more, checking_departs, checking_falls, next_not_before}
-use Rattle.htl_espell.proofs.Whole.{block_fault, block_target}
 use Rattle.htl_espell.proofs.blocks.check_phase.Goals as goal
 
 pub loop-block-init : goal.loop-block-init

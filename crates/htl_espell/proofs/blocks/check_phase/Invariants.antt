@@ -1,7 +1,6 @@
 use Rattle.std.proofs.Common.{◌≡◌}
 use Rattle.htl_espell.specs.Checks.{phase_departure}
-use Rattle.htl_espell.proofs.Words.{number_of}
-use Rattle.htl_espell.proofs.PhaseBlocks.{IsChecking, left_of}
+use Rattle.htl_espell.proofs.{Words.number_of, PhaseBlocks.IsChecking, PhaseBlocks.left_of}
 use Rattle.htl_espell.proofs.blocks.check_phase.Given as goal
 
 abbrev pub invariant-loop-block : goal.invariant-loop-block

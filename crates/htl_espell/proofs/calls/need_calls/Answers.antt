@@ -1,6 +1,5 @@
 use Rattle.std.proofs.Common.{inl, inr, true, false, refl, ◌≡◌, ◌∙◌, Ok, Err, List, eqb, ap, rules}
-use Rattle.htl_espell.proofs.Words.{number_of, joined, numbered, EInstr, next_of, release_wants}
-use Rattle.htl_espell.proofs.Chaining.{calls_read}
+use Rattle.htl_espell.proofs.{Words.number_of, Words.joined, Words.numbered, Words.EInstr, Words.next_of, Words.release_wants, Chaining.calls_read}
 use Rattle.htl_espell.proofs.calls.need_calls.Goals as goal
 
 pub returns-in-Write-clause-read : goal.returns-in-Write-clause-read

@@ -1,5 +1,4 @@
-use Rattle.htl_espell.proofs.Words.{refl, invs_are, release_wants}
-use Rattle.htl_espell.proofs.Chaining.{read_from_start, all_read, releases_wanted_of_mode}
+use Rattle.htl_espell.proofs.{Words.refl, Words.invs_are, Words.release_wants, Chaining.read_from_start, Chaining.all_read, Chaining.releases_wanted_of_mode}
 use Rattle.htl_espell.proofs.calls.need_releases.Goals as goal
 
 pub loop-k-init : goal.loop-k-init

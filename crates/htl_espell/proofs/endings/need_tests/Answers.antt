@@ -1,6 +1,5 @@
 use Rattle.std.proofs.Common.{arith, rules, Err, List, ◌≡◌, ◌∙◌, ap}
-use Rattle.htl_espell.proofs.Words.{EInstr, test_of, next_of}
-use Rattle.htl_espell.proofs.Chaining.{item_read, item_departs}
+use Rattle.htl_espell.proofs.{Words.EInstr, Words.test_of, Words.next_of, Chaining.item_read, Chaining.item_departs}
 use Rattle.htl_espell.proofs.endings.need_tests.Goals as goal
 
 pub loop-k-preserved : goal.loop-k-preserved

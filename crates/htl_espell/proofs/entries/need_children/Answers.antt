@@ -1,6 +1,5 @@
 use Rattle.std.proofs.Common.{arith, rules, Err, List, ◌≡◌, ◌∙◌, ap}
-use Rattle.htl_espell.proofs.Words.{EInstr, child_wants, next_of}
-use Rattle.htl_espell.proofs.Chaining.{item_read, item_departs}
+use Rattle.htl_espell.proofs.{Words.EInstr, Words.child_wants, Words.next_of, Chaining.item_read, Chaining.item_departs}
 use Rattle.htl_espell.proofs.entries.need_children.Goals as goal
 
 pub loop-k-preserved : goal.loop-k-preserved

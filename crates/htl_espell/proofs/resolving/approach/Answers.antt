@@ -1,7 +1,5 @@
 use Rattle.std.proofs.Common.{arith, ◌≡◌, ◌-◌, ◌+◌, ℕ, Some, length, sym, ap, subst, ◌∙◌}
-use Rattle.htl_espell.proofs.Words.{slice_get, Jump, after_jumps}
-use Rattle.htl_espell.proofs.Jumping.{arrive_by_jump, arrive_branch}
-use Rattle.htl_espell.proofs.AfterJumps.{after_jumps_more, after_jumps_joined, chains_in}
+use Rattle.htl_espell.proofs.{Words.slice_get, Words.Jump, Words.after_jumps, Jumping.arrive_by_jump, Jumping.arrive_branch, AfterJumps.after_jumps_more, AfterJumps.after_jumps_joined, AfterJumps.chains_in}
 use Rattle.htl_espell.proofs.resolving.approach.Goals as goal
 
 pub returns-in-Some-clause-fault : goal.returns-in-Some-clause-fault

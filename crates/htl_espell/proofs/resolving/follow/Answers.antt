@@ -1,6 +1,5 @@
 use Rattle.std.proofs.Common.{arith, ◌≡◌, ◌-◌, ◌+◌, ℕ, suc, Some, length, refl, sym, ap, subst, ◌∙◌}
-use Rattle.htl_espell.proofs.Words.{slice_get, slice_get_within, resolve, Jump, place_of, after_jumps}
-use Rattle.htl_espell.proofs.Jumping.{resolve_by_jump, resolve_by_chain, resolve_past, resolve_endless}
+use Rattle.htl_espell.proofs.{Words.slice_get, Words.slice_get_within, Words.resolve, Words.Jump, Words.place_of, Words.after_jumps, Jumping.resolve_by_jump, Jumping.resolve_by_chain, Jumping.resolve_past, Jumping.resolve_endless}
 use Rattle.htl_espell.proofs.AfterJumps.{resolve_passed, after_jumps_passed, after_jumps_more}
 use Rattle.htl_espell.proofs.resolving.follow.Goals as goal
 

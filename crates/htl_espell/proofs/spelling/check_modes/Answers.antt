@@ -1,6 +1,5 @@
 use Rattle.std.proofs.Common.{◌≡◌, ◌∙◌, Err, ap, rules}
-use Rattle.htl_espell.proofs.Words.{fault_of, mode_fault, offsets_fit, mode_below, start_more}
-use Rattle.htl_espell.proofs.ModeFaults.{modes_more, mode_departs}
+use Rattle.htl_espell.proofs.{Words.fault_of, Words.mode_fault, Words.offsets_fit, Words.mode_below, Words.start_more, ModeFaults.modes_more, ModeFaults.mode_departs}
 use Rattle.htl_espell.proofs.spelling.check_modes.Goals as goal
 
 pub check_mode-requires-clause-offsets : goal.check_mode-requires-clause-offsets

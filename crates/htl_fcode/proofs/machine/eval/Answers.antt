@@ -1,7 +1,6 @@
 use Rattle.std.proofs.Common.{◌≡◌, [], ◌∷◌, length, w64, sym, ap, ◌∙◌, subst, arith, rules, FitsSigned}
 use Rattle.std.proofs.lemmas.Int.{to_z-of_z}
-use Rattle.htl_model.specs.Tables.{Compiled, fun}
-use Rattle.htl_model.specs.Ranges.{FitsType}
+use Rattle.htl_model.specs.{Tables.Compiled, Tables.fun, Ranges.FitsType}
 use Rattle.htl_fcode.specs.Stacks.{values_run}
 use Rattle.htl_fcode.proofs.Runs.{values_run-verified, FitsType-verified, IsSome-values_after, values_run-end}
 use Rattle.htl_fcode.proofs.machine.eval.Goals as goal

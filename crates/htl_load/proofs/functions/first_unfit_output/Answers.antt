@@ -1,7 +1,6 @@
 use Rattle.std.proofs.Common.{◌≡◌, ◌+◌, length, get_or, List, Some, sym, ◌∙◌, ap, arith}
-use Rattle.htl_load.proofs.Words.{Ty, output_type, count_at, tasks_of, output_at, outputs_count, concrete_count}
+use Rattle.htl_load.proofs.{Words.Ty, Words.output_type, Words.count_at, Words.tasks_of, Words.output_at, Words.outputs_count, Words.concrete_count, UnfitLaws.fit_to}
 use Rattle.htl_base.specs.declared.Ty.TheVariants as ty
-use Rattle.htl_load.proofs.UnfitLaws.{fit_to}
 use Rattle.htl_load.proofs.functions.first_unfit_output.Goals as goal
 
 pub overflow_add-id : goal.overflow_add-id

@@ -1,5 +1,4 @@
-use Rattle.htl_load.proofs.Words.{arith, tasks_of, place_behind_task, at_end}
-use Rattle.htl_load.proofs.UnfitLaws.{fit_more, fit_to}
+use Rattle.htl_load.proofs.{Words.arith, Words.tasks_of, Words.place_behind_task, Words.at_end, UnfitLaws.fit_more, UnfitLaws.fit_to}
 use Rattle.htl_load.proofs.functions.first_unfit_task.Goals as goal
 
 pub overflow_add-id : goal.overflow_add-id

@@ -1,6 +1,5 @@
 use Rattle.std.proofs.Common.{◌≡◌, Err, sym, subst}
-use Rattle.htl_load.proofs.Refusals.{accepted_is_not_refused}
-use Rattle.htl_load.proofs.OneAnswer.{bad_field_told, accepted_bytes, fault_told}
+use Rattle.htl_load.proofs.{Refusals.accepted_is_not_refused, OneAnswer.bad_field_told, OneAnswer.accepted_bytes, OneAnswer.fault_told}
 use Rattle.htl_load.proofs.Words.{IsRefused, HasBytes, IsAccepted, IsDecoded, IsReadAs, DecodeFault, Object}
 use Rattle.htl_object.specs.declared.decoding.DecodeFault.TheVariants as decode
 use Rattle.htl_load.proofs.loading.load.Goals as goal

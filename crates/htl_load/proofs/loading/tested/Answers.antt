@@ -1,6 +1,5 @@
 use Rattle.std.proofs.Common.{◌∙◌, subst}
-use Rattle.htl_load.proofs.StateLaws.{form_refused, spelling_refused, schedule_refused}
-use Rattle.htl_load.proofs.Words.{IsSpellingFault, IsScheduleFault, IsSpelled, IsAccepted, Object}
+use Rattle.htl_load.proofs.{StateLaws.form_refused, StateLaws.spelling_refused, StateLaws.schedule_refused, Words.IsSpellingFault, Words.IsScheduleFault, Words.IsSpelled, Words.IsAccepted, Words.Object}
 use Rattle.htl_load.proofs.loading.tested.Goals as goal
 
 pub returns-in-Err-clause-refused : goal.returns-in-Err-clause-refused

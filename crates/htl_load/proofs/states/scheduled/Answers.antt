@@ -1,5 +1,4 @@
-use Rattle.htl_load.proofs.Words.{subst, IsAccepted}
-use Rattle.htl_load.proofs.StateLaws.{accepted_with}
+use Rattle.htl_load.proofs.{Words.subst, Words.IsAccepted, StateLaws.accepted_with}
 use Rattle.htl_load.proofs.states.scheduled.Goals as goal
 
 pub invariant_of-result : goal.invariant_of-result

@@ -1,9 +1,7 @@
 use Rattle.std.proofs.Common.{◌≡◌, ℕ, List, sym, ap, ◌∙◌, subst, length, ◌≤◌, suc, arith}
 use Rattle.htl_machine.proofs.Words.{IsSelection, SInstr, Round, IsInForm, Stands, phase_path, states_are_selections, modes_at, Event, AreToRead, AreToCloseAndBegin, CanFollow, with_instrs, with_records, MarksChanges, IsPath, first_records, AreOf, turn_at, replay, instrs_of}
 use Rattle.htl_machine.proofs.Beginnings.{HasBegun, may_follow, node_there, has_begun_so, first_done, first_counted, first_told, then_more, fails_so, ends_so, began_last}
-use Rattle.htl_machine.proofs.Closings.{switches_fail, reads_second, switches_start}
-use Rattle.htl_machine.proofs.Marking.{reads_next, sensors_then, sensors_same}
-use Rattle.htl_machine.proofs.Modes.{modes_are}
+use Rattle.htl_machine.proofs.{Closings.switches_fail, Closings.reads_second, Closings.switches_start, Marking.reads_next, Marking.sensors_then, Marking.sensors_same, Modes.modes_are}
 use Rattle.htl_runs.proofs.instants.FirstRecords.{at_told}
 use Rattle.htl_machine.proofs.beginning.close_and_begin.Given as given
 use Rattle.htl_machine.proofs.beginning.close_and_begin.Goals as goal

@@ -1,7 +1,5 @@
 use Rattle.std.proofs.Common.{length, ap, ◌∙◌}
-use Rattle.htl_machine.proofs.Words.{on_ok_weaker, phase_path, with_instrs, replay, s_machine_replay}
-use Rattle.htl_machine.proofs.Closings.{switches_fail, reads_second, switches_start}
-use Rattle.htl_machine.proofs.Marking.{reads_next, sensors_then}
+use Rattle.htl_machine.proofs.{Words.on_ok_weaker, Words.phase_path, Words.with_instrs, Words.replay, Words.s_machine_replay, Closings.switches_fail, Closings.reads_second, Closings.switches_start, Marking.reads_next, Marking.sensors_then}
 use Rattle.htl_machine.proofs.close.close_instant.Goals as goal
 
 pub do_instrs-requires-clause-starts : goal.do_instrs-requires-clause-starts

@@ -1,6 +1,5 @@
 use Rattle.std.proofs.Common.{ℕ, List, Option, ap, ◌∙◌}
-use Rattle.htl_machine.proofs.Words.{on_ok_weaker, list_at, Content}
-use Rattle.htl_machine.proofs.Closings.{modes_known, reads_fail, changes_last, reads_start}
+use Rattle.htl_machine.proofs.{Words.on_ok_weaker, Words.list_at, Words.Content, Closings.modes_known, Closings.reads_fail, Closings.changes_last, Closings.reads_start}
 use Rattle.htl_machine.proofs.close.read_instant.Goals as goal
 
 pub do_instrs-requires-clause-starts : goal.do_instrs-requires-clause-starts

@@ -1,7 +1,6 @@
 use Rattle.std.proofs.Common.{sym, ap, ◌∙◌}
 use Rattle.htl_smach.specs.Rounds.{Round, after}
-use Rattle.htl_runs.proofs.records.DueRecords.{is_running}
-use Rattle.htl_runs.proofs.records.RecordSteps.{answer_job, recording_step, recording_smaller, recording_end}
+use Rattle.htl_runs.proofs.{records.DueRecords.is_running, records.RecordSteps.answer_job, records.RecordSteps.recording_step, records.RecordSteps.recording_smaller, records.RecordSteps.recording_end}
 use Rattle.htl_machine.proofs.Printing.{printing_step, printing_cut, printing_end, printing_counted, never, nothing_written}
 use Rattle.htl_machine.proofs.instant_records.leave_records.Goals as goal
 

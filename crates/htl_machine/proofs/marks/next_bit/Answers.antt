@@ -1,6 +1,5 @@
 use Rattle.std.proofs.Common.{◌≡◌, ◌/◌, ◌^◌, ◌<◌, true, ℕ, w64, arith, sym, subst}
-use Rattle.htl_machine.proofs.Words.{trailing_zeros, div-le_self, bit_at-trailing_zeros, has_bit}
-use Rattle.htl_machine.proofs.MarkRows.{none_from, skipped_to, found_at}
+use Rattle.htl_machine.proofs.{Words.trailing_zeros, Words.div-le_self, Words.bit_at-trailing_zeros, Words.has_bit, MarkRows.none_from, MarkRows.skipped_to, MarkRows.found_at}
 use Rattle.htl_machine.proofs.marks.next_bit.Goals as goal
 
 pub returns-then-rest-eq0-clause-skipped : goal.returns-then-rest-eq0-clause-skipped

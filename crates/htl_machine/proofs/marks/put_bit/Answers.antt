@@ -1,6 +1,5 @@
 use Rattle.std.proofs.Common.{cond, eqb, sym, ◌∙◌, ap, arith}
-use Rattle.htl_machine.proofs.Words.{has_bit}
-use Rattle.htl_machine.proofs.RowBits.{cleared}
+use Rattle.htl_machine.proofs.{Words.has_bit, RowBits.cleared}
 use Rattle.htl_machine.proofs.marks.put_bit.Goals as goal
 
 pub returns-else-set : goal.returns-else-set

@@ -1,10 +1,7 @@
 use Rattle.std.proofs.Common.{List, [], ℤ, length, sym, ap, ◌∙◌, subst}
-use Rattle.htl_machine.proofs.Words.{phase_path, with_instrs, Puts-second, path_lines, MarksChanges, replay, AreShown}
-use Rattle.htl_machine.proofs.Beginnings.{then_more}
-use Rattle.htl_machine.proofs.Marking.{sensors_then, sensors_same}
-use Rattle.htl_machine.proofs.Openings.{opens_failed, opens_second, opened, writes_start}
+use Rattle.htl_machine.proofs.{Words.phase_path, Words.with_instrs, Words.Puts-second, Words.path_lines, Words.MarksChanges, Words.replay, Words.AreShown, Beginnings.then_more, Marking.sensors_then, Marking.sensors_same}
+use Rattle.htl_machine.proofs.{Openings.opens_failed, Openings.opens_second, Openings.opened, Openings.writes_start, Waits.waiting_stays, Waits.waiting_same}
 use Rattle.htl_runs.proofs.values.SensorSteps.{sensors_shaped}
-use Rattle.htl_machine.proofs.Waits.{waiting_stays, waiting_same}
 use Rattle.htl_machine.proofs.open.open_instant.Goals as goal
 
 pub do_instrs-requires-clause-starts : goal.do_instrs-requires-clause-starts

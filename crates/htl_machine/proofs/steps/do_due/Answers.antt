@@ -1,13 +1,9 @@
 use Rattle.std.proofs.Common.{◌∙◌, refl, arith}
 use Rattle.htl_ecode.specs.Phases.{number_of}
-use Rattle.htl_emach.proofs.Overdue.{nothing_overdue}
-use Rattle.htl_emach.proofs.PhaseNumbers.{number_range}
-use Rattle.htl_runs.proofs.values.PhaseSteps.{phase_replayed, phase_ends}
-use Rattle.htl_machine.proofs.Doing.{doing_start, doing_on, doing_cut, doing_end, doing_counted, doing_told}
-use Rattle.htl_machine.proofs.Marking.{noted_on, module_done, sensors_then}
-use Rattle.htl_runs.proofs.values.PhaseLengths.{fewer_then}
+use Rattle.htl_emach.proofs.{Overdue.nothing_overdue, PhaseNumbers.number_range, Instants.starts}
+use Rattle.htl_runs.proofs.{values.PhaseSteps.phase_replayed, values.PhaseSteps.phase_ends, values.PhaseLengths.fewer_then}
+use Rattle.htl_machine.proofs.{Doing.doing_start, Doing.doing_on, Doing.doing_cut, Doing.doing_end, Doing.doing_counted, Doing.doing_told, Marking.noted_on, Marking.module_done, Marking.sensors_then}
 use Rattle.htl_machine.proofs.steps.do_due.Goals as goal
-use Rattle.htl_emach.proofs.Instants.{starts}
 
 pub loop-done-init : goal.loop-done-init
 loop-done-init g c = record {

@@ -1,6 +1,5 @@
 use Rattle.htl_ecode.specs.Phases.{number_of}
-use Rattle.htl_emach.proofs.Instants.{starts}
-use Rattle.htl_emach.proofs.Overdue.{nothing_overdue}
+use Rattle.htl_emach.proofs.{Instants.starts, Overdue.nothing_overdue}
 use Rattle.htl_runs.proofs.values.PhaseSteps.{phase_replayed, phase_ends}
 use Rattle.htl_machine.proofs.Doing.{doing_start, doing_end, doing_counted, doing_told}
 use Rattle.htl_machine.proofs.steps.do_instrs.Goals as goal

@@ -1,7 +1,6 @@
 use Rattle.std.proofs.Common.{◌≡◌, ◌∙◌, ℕ, arith, ap, sym, get_or, fold, List}
-use Rattle.htl_names.proofs.Words.{zero-add, PlainProgram, tree_of, symbols_of, counts, most_positions, modules_at, capped, selected, placed}
+use Rattle.htl_names.proofs.{Words.zero-add, Words.PlainProgram, Words.tree_of, Words.symbols_of, Words.counts, Words.most_positions, Words.modules_at, Words.capped, Words.selected, Words.placed, Refinements.table-levels}
 use Rattle.htl_names.proofs.LimitLaws.{selected_all, placed_all}
-use Rattle.htl_names.proofs.Refinements.{table-levels}
 use Rattle.htl_names.proofs.limits.count_and_limit.Goals as goal
 
 -- the count of this limit

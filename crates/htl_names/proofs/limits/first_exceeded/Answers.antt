@@ -1,5 +1,4 @@
-use Rattle.htl_names.proofs.Words.{tree_of}
-use Rattle.htl_names.proofs.LimitLaws.{tallied, none_exceeded, exceeded}
+use Rattle.htl_names.proofs.{Words.tree_of, LimitLaws.tallied, LimitLaws.none_exceeded, LimitLaws.exceeded}
 use Rattle.htl_names.proofs.limits.first_exceeded.Goals as goal
 
 pub count_and_limit-count-requires-clause-counted : goal.count_and_limit-count-requires-clause-counted

@@ -1,7 +1,6 @@
 use Rattle.std.proofs.Common.{arith, ◌≡◌, ◌-◌, ◌++◌, ℕ, List, Option, Some, map, sym, ap, ◌∙◌, flat_map}
-use Rattle.htl_names.proofs.Words.{common_steps, mode_of, tree_of, PlainMode, flat_map_at, mode_in, mode_children, program_modules, ModuleAt, below}
+use Rattle.htl_names.proofs.{Words.common_steps, Words.mode_of, Words.tree_of, Words.PlainMode, Words.flat_map_at, Words.mode_in, Words.mode_children, Words.program_modules, Words.ModuleAt, Words.below, Walking.children_start}
 use Rattle.htl_names.proofs.Walking.{flat_map_inside, next_item}
-use Rattle.htl_names.proofs.Walking.{children_start}
 use Rattle.htl_names.proofs.order.+below.Goals as goal
 
 pub put_module-loop-k-preserved : goal.put_module-loop-k-preserved

@@ -1,6 +1,5 @@
 use Rattle.std.proofs.Common.{◌∙◌, refl, sym, subst, arith, below_more}
-use Rattle.htl_names.proofs.Words.{symbols_of, AreRefinedModes, IsMisplaced}
-use Rattle.htl_names.proofs.Searches.{misplaced_here, placed_here}
+use Rattle.htl_names.proofs.{Words.symbols_of, Words.AreRefinedModes, Words.IsMisplaced, Searches.misplaced_here, Searches.placed_here}
 use Rattle.htl_names.proofs.programs.first_misplaced.Goals as goal
 
 pub loop-p-preserved : goal.loop-p-preserved

@@ -1,6 +1,5 @@
 use Rattle.std.proofs.Common.{◌≡◌, ◌∙◌, ap, arith, fold, length, replicate}
-use Rattle.htl_names.proofs.Words.{common_steps, tree_of, with_refinement, refines_none, refinements, refinement_rows}
-use Rattle.htl_names.proofs.Searches.{refined_table}
+use Rattle.htl_names.proofs.{Words.common_steps, Words.tree_of, Words.with_refinement, Words.refines_none, Words.refinements, Words.refinement_rows, Searches.refined_table}
 use Rattle.htl_names.proofs.programs.program_graph.Goals as goal
 
 pub returns : goal.returns

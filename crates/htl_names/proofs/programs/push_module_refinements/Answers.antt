@@ -1,6 +1,5 @@
 use Rattle.std.proofs.Common.{◌≡◌, ◌++◌, ◌∙◌, ap, sym, append-nil, map, ℕ, List, Option, Some, None}
-use Rattle.htl_names.proofs.Words.{mode_of, flat_map_at, Refinement, mode_refinement, refinement_by}
-use Rattle.htl_names.proofs.Walking.{next_item}
+use Rattle.htl_names.proofs.{Words.mode_of, Words.flat_map_at, Words.Refinement, Words.mode_refinement, Words.refinement_by, Walking.next_item}
 use Rattle.htl_names.proofs.programs.push_module_refinements.Goals as goal
 use Rattle.htl_names.proofs.programs.push_module_refinements.Goals.{in-Some+in_ok-push, in_default}
 

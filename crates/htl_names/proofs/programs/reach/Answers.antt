@@ -1,6 +1,5 @@
 use Rattle.std.proofs.Common.{◌<◌, ◌+◌, ◌∷◌, ◌++◌, ◌∙◌, [], length, true, false, map, replicate, sym, ap, arith}
-use Rattle.htl_names.proofs.Words.{length-map, get_or_default, edge_targets, set}
-use Rattle.htl_names.proofs.Reaching.{Searches, owed, search_start, search_asked, marks_reached}
+use Rattle.htl_names.proofs.{Words.length-map, Words.get_or_default, Words.edge_targets, Words.set, Reaching.Searches, Reaching.owed, Reaching.search_start, Reaching.search_asked, Reaching.marks_reached}
 use Rattle.htl_names.proofs.programs.reach.Goals as goal
 
 pub loop-p-init : goal.loop-p-init

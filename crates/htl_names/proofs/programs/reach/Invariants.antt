@@ -1,6 +1,5 @@
 use Rattle.std.proofs.Common.{◌+◌, map, length}
-use Rattle.htl_names.proofs.Words.{edge_targets}
-use Rattle.htl_names.proofs.Reaching.{Searches, owed}
+use Rattle.htl_names.proofs.{Words.edge_targets, Reaching.Searches, Reaching.owed}
 use Rattle.htl_names.proofs.programs.reach.Given as goal
 
 abbrev pub invariant-loop-p : goal.invariant-loop-p

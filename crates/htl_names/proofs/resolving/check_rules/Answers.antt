@@ -1,7 +1,6 @@
 use Rattle.std.proofs.Common.{◌∙◌, sym, ap, subst, map, ℕ, List, arith, length, MatchOption}
 use Rattle.htl_names.proofs.Words.{tree_of, Key, first_some, unmatched_token, symbols_of, AreRefinedModes, UnknownName, WrongKind, ProgramTree, ParentName, Limits, program_refinements, Rows, parent_use_of, KeptBelow, IsRefusal}
-use Rattle.htl_names.proofs.RuleLaws.{uses_searched, kinds_searched, parents_searched, tried, all_right}
-use Rattle.htl_names.proofs.Walking.{length-map_at}
+use Rattle.htl_names.proofs.{RuleLaws.uses_searched, RuleLaws.kinds_searched, RuleLaws.parents_searched, RuleLaws.tried, RuleLaws.all_right, Walking.length-map_at}
 use Rattle.htl_names.specs.declared.fault.NameFault.TheVariants as fault
 use Rattle.htl_names.proofs.resolving.check_rules.Goals as goal
 use Rattle.htl_names.proofs.resolving.check_rules.Goals.{After-first_unknown, After-copied, In_ok-misplaced, After-first_unmatched, After-first_exceeded}

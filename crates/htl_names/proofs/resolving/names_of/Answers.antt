@@ -1,6 +1,5 @@
 use Rattle.std.proofs.Common.{◌∙◌, ap, map}
-use Rattle.htl_names.proofs.Words.{tree_of, pair_of, Rows}
-use Rattle.htl_names.proofs.RuleLaws.{is_err, names_repeated, names_apart}
+use Rattle.htl_names.proofs.{Words.tree_of, Words.pair_of, Words.Rows, RuleLaws.is_err, RuleLaws.names_repeated, RuleLaws.names_apart}
 use Rattle.htl_names.proofs.resolving.names_of.Goals as goal
 
 pub returns-in_err-symbols : goal.returns-in_err-symbols

@@ -1,10 +1,6 @@
 use Rattle.std.proofs.Common.{◌∙◌, sym, subst}
-use Rattle.htl_names.proofs.Words.{KeepsLimits, AreInRange, AreSmall, tables_of, tree_of, IsNarrow}
-use Rattle.htl_names.proofs.InRange.{names-in-range}
-use Rattle.htl_names.proofs.KeepsLimits.{names-keep-limits}
-use Rattle.htl_names.proofs.Ordering.{layout_is, tables_are, names-narrow}
-use Rattle.htl_names.proofs.RuleLaws.{resolved_err, is_err}
-use Rattle.htl_names.proofs.SmallFunctions.{functions_small}
+use Rattle.htl_names.proofs.{Words.KeepsLimits, Words.AreInRange, Words.AreSmall, Words.tables_of, Words.tree_of, Words.IsNarrow, InRange.names-in-range, KeepsLimits.names-keep-limits, RuleLaws.resolved_err, RuleLaws.is_err}
+use Rattle.htl_names.proofs.{Ordering.layout_is, Ordering.tables_are, Ordering.names-narrow, SmallFunctions.functions_small}
 use Rattle.htl_names.proofs.resolving.resolve.Goals as goal
 
 pub returns-in_err-symbols : goal.returns-in_err-symbols

@@ -1,6 +1,5 @@
 use Rattle.std.proofs.Common.{◌≡◌, ◌≤◌, sym, subst, List, ℕ, rules}
-use Rattle.htl_names.proofs.Words.{comms_in, read_place}
-use Rattle.htl_names.proofs.ListLaws.{read_place-le}
+use Rattle.htl_names.proofs.{Words.comms_in, Words.read_place, ListLaws.read_place-le}
 use Rattle.htl_names.proofs.switches.put_switches.Goals as goal
 
 pub formula-requires : goal.formula-requires

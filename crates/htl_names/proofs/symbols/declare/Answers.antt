@@ -1,6 +1,5 @@
 use Rattle.std.proofs.Common.{◌≡◌, ◌∙◌, length, refl, sym, arith, subst, add-one, ℕ, inr}
-use Rattle.htl_names.proofs.Words.{common_steps, slice_get_read, AreApartTo}
-use Rattle.htl_names.proofs.SymbolLaws.{repeats_here, apart_here}
+use Rattle.htl_names.proofs.{Words.common_steps, Words.slice_get_read, Words.AreApartTo, SymbolLaws.repeats_here, SymbolLaws.apart_here}
 use Rattle.htl_names.proofs.symbols.declare.Goals as goal
 
 pub returns-in-Some : goal.returns-in-Some

@@ -1,5 +1,4 @@
-use Rattle.htl_names.proofs.Words.{drop_more, common_steps, arith, length-append}
-use Rattle.htl_names.proofs.Walking.{length-map_at}
+use Rattle.htl_names.proofs.{Words.drop_more, Words.common_steps, Words.arith, Words.length-append, Walking.length-map_at}
 use Rattle.htl_names.proofs.walk.rows_of.Goals as goal
 
 pub loop-p-preserved : goal.loop-p-preserved

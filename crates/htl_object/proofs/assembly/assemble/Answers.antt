@@ -1,7 +1,5 @@
 use Rattle.std.proofs.Common.{map, ◌∙◌, ap, subst}
-use Rattle.htl_object.proofs.Words.{AreInRange, Tables, Compiled, fun_of, Code, Anchors}
-use Rattle.htl_object.proofs.Assembled.{assembled, whole}
-use Rattle.htl_object.proofs.ListRanges.{lists_in_range}
+use Rattle.htl_object.proofs.{Words.AreInRange, Words.Tables, Words.Compiled, Words.fun_of, Words.Code, Words.Anchors, Assembled.assembled, Assembled.whole, ListRanges.lists_in_range}
 use Rattle.htl_object.proofs.assembly.assemble.Goals as goal
 
 pub into_object-requires : goal.into_object-requires

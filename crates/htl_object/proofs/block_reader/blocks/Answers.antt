@@ -1,6 +1,4 @@
-use Rattle.htl_object.proofs.Words.{[], arith, block_at}
-use Rattle.htl_object.proofs.BlockReading.{numbers_below}
-use Rattle.htl_object.proofs.Sizes.{items-length}
+use Rattle.htl_object.proofs.{Words.[], Words.arith, Words.block_at, BlockReading.numbers_below, Sizes.items-length}
 use Rattle.htl_object.proofs.block_reader.blocks.Goals as goal
 
 pub copies-requires : goal.copies-requires

@@ -1,5 +1,4 @@
-use Rattle.htl_object.proofs.Words.{[], err_from_is_err_and, block_at, items_at}
-use Rattle.htl_object.proofs.Loops.{goes_on, stops}
+use Rattle.htl_object.proofs.{Words.[], Words.err_from_is_err_and, Words.block_at, Words.items_at, Loops.goes_on, Loops.stops}
 use Rattle.htl_object.proofs.block_reader.distinct_blocks.Goals as goal
 
 pub returns-in_err-block : goal.returns-in_err-block

@@ -1,7 +1,5 @@
 use Rattle.std.proofs.Common.{[], ◌++◌, map, refl}
-use Rattle.htl_object.proofs.Words.{w16, to_be_bytes, flat_map, bytes_eq, numbers_from, schedule_bytes}
-use Rattle.htl_object.proofs.Appends.{appends, puts_same}
-use Rattle.htl_object.proofs.ScheduleLaws.{put_as_blocks}
+use Rattle.htl_object.proofs.{Words.w16, Words.to_be_bytes, Words.flat_map, Words.bytes_eq, Words.numbers_from, Words.schedule_bytes, Appends.appends, Appends.puts_same, ScheduleLaws.put_as_blocks}
 use Rattle.htl_object.proofs.block_writer.put_blocks.Goals as goal
 
 pub returns-clause-spelled : goal.returns-clause-spelled

@@ -1,6 +1,5 @@
 use Rattle.std.proofs.Common.{ap, ◌∙◌, map}
-use Rattle.htl_object.proofs.Words.{w16, to_be_bytes, bytes_eq, with_block, number_in, schedule_bytes}
-use Rattle.htl_object.proofs.Appends.{puts_same, puts_whole}
+use Rattle.htl_object.proofs.{Words.w16, Words.to_be_bytes, Words.bytes_eq, Words.with_block, Words.number_in, Words.schedule_bytes, Appends.puts_same, Appends.puts_whole}
 use Rattle.htl_object.proofs.block_writer.put_number.Goals as goal
 
 pub returns-clause-number : goal.returns-clause-number

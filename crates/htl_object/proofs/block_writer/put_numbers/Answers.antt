@@ -1,5 +1,4 @@
-use Rattle.htl_object.proofs.Words.{map, All, w16, to_be_bytes, bytes_eq, IsSInstr, schedule_bytes}
-use Rattle.htl_object.proofs.Rounds.{kept, numbered, blocked}
+use Rattle.htl_object.proofs.{Words.map, Words.All, Words.w16, Words.to_be_bytes, Words.bytes_eq, Words.IsSInstr, Words.schedule_bytes, Rounds.kept, Rounds.numbered, Rounds.blocked}
 use Rattle.htl_object.proofs.block_writer.put_numbers.Goals as goal
 
 pub loop-schedule-preserved : goal.loop-schedule-preserved

@@ -1,6 +1,5 @@
 use Rattle.std.proofs.Common.{◌≡◌, map, take, drop, All}
-use Rattle.htl_object.proofs.Words.{w16, to_be_bytes, flat_map, bytes_eq, blocks_from, numbers_from, IsSInstr, schedule_bytes}
-use Rattle.htl_object.proofs.Appends.{PutsBut}
+use Rattle.htl_object.proofs.{Words.w16, Words.to_be_bytes, Words.flat_map, Words.bytes_eq, Words.blocks_from, Words.numbers_from, Words.IsSInstr, Words.schedule_bytes, Appends.PutsBut}
 use Rattle.htl_object.proofs.block_writer.put_numbers.Given as goal
 
 -- with the numbers and the blocks of what is left all is put

@@ -1,5 +1,4 @@
-use Rattle.htl_object.proofs.Words.{Mode, owned, same_name}
-use Rattle.htl_object.proofs.Naming.{differs_mapped}
+use Rattle.htl_object.proofs.{Words.Mode, Words.owned, Words.same_name, Naming.differs_mapped}
 use Rattle.htl_object.proofs.declaration_reader.note_mode.Goals as goal
 
 pub returns-clause-differs : goal.returns-clause-differs

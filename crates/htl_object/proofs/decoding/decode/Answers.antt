@@ -1,6 +1,5 @@
 use Rattle.std.proofs.Common.{◌≡◌, Some, sym, ◌∙◌, ap, subst, arith}
-use Rattle.htl_object.proofs.ObjectLaws.{object_said, fault_said, one_spelling, one_object, not_refused}
-use Rattle.htl_object.proofs.Words.{first_bad, object_at, IsBytes, Malformed}
+use Rattle.htl_object.proofs.{ObjectLaws.object_said, ObjectLaws.fault_said, ObjectLaws.one_spelling, ObjectLaws.one_object, ObjectLaws.not_refused, Words.first_bad, Words.object_at, Words.IsBytes, Words.Malformed}
 use Rattle.htl_object.specs.declared.decoding.DecodeFault.TheVariants as fault
 use Rattle.htl_object.proofs.decoding.decode.Goals as goal
 

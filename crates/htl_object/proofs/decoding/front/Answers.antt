@@ -1,7 +1,5 @@
 use Rattle.std.proofs.Common.{◌≡◌, [], Ok, refl, arith}
-use Rattle.htl_object.proofs.Words.{items_at, task_at}
-use Rattle.htl_object.proofs.Loops.{onward}
-use Rattle.htl_object.proofs.Sizes.{items-length, tasks-few}
+use Rattle.htl_object.proofs.{Words.items_at, Words.task_at, Loops.onward, Sizes.items-length, Sizes.tasks-few}
 use Rattle.htl_object.proofs.decoding.front.Goals as goal
 
 pub function_count-count-requires : goal.function_count-count-requires

@@ -1,7 +1,5 @@
 use Rattle.std.proofs.Common.{ap, ◌∙◌}
-use Rattle.htl_object.proofs.Words.{IfOk-weaker, object_bytes, object_in}
-use Rattle.htl_object.proofs.Appends.{puts_whole}
-use Rattle.htl_object.proofs.ObjectLaws.{says_itself}
+use Rattle.htl_object.proofs.{Words.IfOk-weaker, Words.object_bytes, Words.object_in, Appends.puts_whole, ObjectLaws.says_itself}
 use Rattle.htl_object.proofs.encoding.encode.Goals as goal
 
 pub returns-clause-spelled : goal.returns-clause-spelled

@@ -1,7 +1,6 @@
 use Rattle.std.proofs.Common.{◌≡◌, ◌++◌, map, length, sym, ap, subst, ◌∙◌}
 use Rattle.htl_object.proofs.Words.{flat_map, All-map, on_ok_weaker, list_to, Tables, fun_of, tables_of, Puts, comm_bytes, counts_bytes, anchors_bytes, e_code_bytes, code_bytes, inv_bytes, switch_bytes, anchors_of, codes_of, counts_in, mode_bytes, module_bytes, KeepsFunction, KeepsTypes, object_bytes, port_bytes, task_bytes, head_bytes, tail_bytes}
-use Rattle.htl_object.proofs.Appends.{appends, puts_same}
-use Rattle.htl_object.proofs.Spelled.{functions_spelled, enter_kept, begin_kept, decide_kept}
+use Rattle.htl_object.proofs.{Appends.appends, Appends.puts_same, Spelled.functions_spelled, Spelled.enter_kept, Spelled.begin_kept, Spelled.decide_kept}
 use Rattle.htl_object.proofs.encoding.put_object.Goals as goal
 
 pub returns-clause-spelled : goal.returns-clause-spelled

@@ -1,5 +1,4 @@
-use Rattle.htl_object.proofs.Words.{[], err_from_is_err_and, items_at}
-use Rattle.htl_object.proofs.Loops.{goes_on, stops}
+use Rattle.htl_object.proofs.{Words.[], Words.err_from_is_err_and, Words.items_at, Loops.goes_on, Loops.stops}
 use Rattle.htl_object.proofs.items.noted_items.Goals as goal
 
 pub returns-in_err-item-clause-gives : goal.returns-in_err-item-clause-gives

@@ -1,6 +1,5 @@
 use Rattle.std.proofs.Common.{◌≡◌, List, ℕ, [], Option, Some, None, ap, sym, ◌∙◌}
-use Rattle.htl_model.specs.Tables.{Tables}
-use Rattle.htl_model.specs.declared.parts.Mode.{Mode}
+use Rattle.htl_model.specs.{Tables.Tables, declared.parts.Mode.Mode}
 use Rattle.htl_open.proofs.Found.{found_at, none_at}
 use Rattle.htl_open.proofs.lookups.mode_name.Goals as goal
 

@@ -1,8 +1,6 @@
 use Rattle.std.proofs.Common.{◌≡◌, List, ℕ, [], Option, Some, None, ap, sym, ◌∙◌}
 use Rattle.std.specs.Prelude.{slice_get}
-use Rattle.htl_model.specs.Tables.{Tables}
-use Rattle.htl_model.specs.declared.parts.Inv.{Inv}
-use Rattle.htl_model.specs.declared.parts.Task.{Task}
+use Rattle.htl_model.specs.{Tables.Tables, declared.parts.Inv.Inv, declared.parts.Task.Task}
 use Rattle.htl_open.proofs.Found.{found_at, none_at}
 use Rattle.htl_open.proofs.lookups.task_name.Goals as goal
 

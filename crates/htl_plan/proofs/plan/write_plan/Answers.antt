@@ -1,7 +1,6 @@
 use Rattle.std.proofs.Common.{◌≡◌, ℕ, List, Some, take, ap, sym, subst, ◌∙◌}
-use Rattle.htl_plan.proofs.Words.{Puts, KeptApart, hyper, Tables, frame_jobs, path_of}
+use Rattle.htl_plan.proofs.{Words.Puts, Words.KeptApart, Words.hyper, Words.Tables, Words.frame_jobs, Words.path_of, PlanFrame.keeps_apart, PlanFrame.path_count, PlanFrame.path_inside, PlanFrame.plan_is}
 use Rattle.htl_edge.specs.declared.Failed.{Failed}
-use Rattle.htl_plan.proofs.PlanFrame.{keeps_apart, path_count, path_inside, plan_is}
 use Rattle.htl_plan.proofs.plan.write_plan.Goals as goal
 
 pub staying_jobs-count-requires-clause-kept : goal.staying_jobs-count-requires-clause-kept

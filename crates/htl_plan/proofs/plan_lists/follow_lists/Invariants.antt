@@ -1,6 +1,5 @@
 use Rattle.std.proofs.Common.{◌≡◌, ◌≤◌, ◌*◌, length, drop}
-use Rattle.htl_plan.proofs.Words.{lists_of, instrs_of, legs, end_to_end, walk_path, walks_from, worst_cases}
-use Rattle.htl_plan.proofs.ToldRecords.{IsTold}
+use Rattle.htl_plan.proofs.{Words.lists_of, Words.instrs_of, Words.legs, Words.end_to_end, Words.walk_path, Words.walks_from, Words.worst_cases, ToldRecords.IsTold}
 use Rattle.htl_plan.proofs.plan_lists.follow_lists.Given as goal
 
 abbrev pub invariant-loop-j : goal.invariant-loop-j

@@ -1,6 +1,5 @@
 use Rattle.std.proofs.Common.{◌≤◌, ◌<◌, List, length, get_or, ap, subst, ◌∙◌, arith}
-use Rattle.htl_plan.proofs.Words.{node, Tables, SInstr, Schedule}
-use Rattle.htl_plan.proofs.ListByList.{list_is, list_known, node_inside}
+use Rattle.htl_plan.proofs.{Words.node, Words.Tables, Words.SInstr, Words.Schedule, ListByList.list_is, ListByList.list_known, ListByList.node_inside}
 use Rattle.htl_plan.proofs.plan_lists.list_at.Goals as goal
 
 pub bounds-schedules-node : goal.bounds-schedules-node

@@ -1,6 +1,5 @@
 use Rattle.std.proofs.Common.{◌+◌, ℕ, [], ◌∷◌, get_or, ap, arith, add-one, ◌∙◌, sym, refl}
-use Rattle.htl_plan.proofs.Words.{slice_get-get_or, Dispatch, Point, left_by, next_point}
-use Rattle.htl_plan.proofs.PlanWalk.{left_next, last_next, last_reached, nothing_left, one_finish, one_text}
+use Rattle.htl_plan.proofs.{Words.slice_get-get_or, Words.Dispatch, Words.Point, Words.left_by, Words.next_point, PlanWalk.left_next, PlanWalk.last_next, PlanWalk.last_reached, PlanWalk.nothing_left, PlanWalk.one_finish, PlanWalk.one_text}
 use Rattle.htl_plan.proofs.ToldRecords.{IsTold-start, IsTold-step, IsTold-cut, IsTold-all, IsTold-count, IsTold-few}
 use Rattle.htl_plan.proofs.plan_walk.follow.Goals as goal
 

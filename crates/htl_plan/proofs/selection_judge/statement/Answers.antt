@@ -1,5 +1,4 @@
-use Rattle.htl_plan.proofs.Words.{sym, ap, Option, List, ℕ, entered}
-use Rattle.htl_plan.proofs.SelectionFields.{named_by-many}
+use Rattle.htl_plan.proofs.{Words.sym, Words.ap, Words.Option, Words.List, Words.ℕ, Words.entered, SelectionFields.named_by-many}
 use Rattle.htl_plan.proofs.selection_judge.statement.Goals as goal
 
 pub returns-in-Some-cut-2 : goal.returns-in-Some-cut-2

@@ -1,6 +1,5 @@
 use Rattle.std.proofs.Common.{◌≡◌, ◌<◌, ◌+◌, length, get_or, add-one, ap, ◌∙◌, sym, arith}
-use Rattle.htl_plan.proofs.Words.{starts, Tables, new_jobs, start_early, start_read}
-use Rattle.htl_plan.proofs.StayingJobs.{begun_before, more_begun, jobs_more, jobs_all, room}
+use Rattle.htl_plan.proofs.{Words.starts, Words.Tables, Words.new_jobs, Words.start_early, Words.start_read, StayingJobs.begun_before, StayingJobs.more_begun, StayingJobs.jobs_more, StayingJobs.jobs_all, StayingJobs.room}
 use Rattle.htl_plan.proofs.staying.staying_jobs.Goals as goal
 
 pub derive_begun-n-requires-clause-at : goal.derive_begun-n-requires-clause-at

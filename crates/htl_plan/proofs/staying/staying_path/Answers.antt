@@ -1,6 +1,5 @@
 use Rattle.std.proofs.Common.{◌≤◌, ◌<◌, ◌+◌, ◌*◌, suc, length, get_or, add-one, ap, ◌∙◌, sym, refl, subst, arith}
-use Rattle.htl_plan.proofs.Words.{starts, Tables, choice_of, path_of, choice_few, start_read}
-use Rattle.htl_plan.proofs.StayingPath.{path_from, path_last, path_next, path_small, radix_read}
+use Rattle.htl_plan.proofs.{Words.starts, Words.Tables, Words.choice_of, Words.path_of, Words.choice_few, Words.start_read, StayingPath.path_from, StayingPath.path_last, StayingPath.path_next, StayingPath.path_small, StayingPath.radix_read}
 use Rattle.htl_plan.proofs.staying.staying_path.Goals as goal
 
 pub begun_choice-requires : goal.begun_choice-requires

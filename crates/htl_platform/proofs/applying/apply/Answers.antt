@@ -1,6 +1,5 @@
 use Rattle.std.proofs.Common.{◌≡◌, List, ℕ, ◌∙◌, ap, sym, subst}
-use Rattle.htl_platform.proofs.Words.{AreInRange, Tables, tables_of, with_worst}
-use Rattle.htl_platform.proofs.WorstRanges.{timed_in_range}
+use Rattle.htl_platform.proofs.{Words.AreInRange, Words.Tables, Words.tables_of, Words.with_worst, WorstRanges.timed_in_range}
 use Rattle.htl_platform.proofs.applying.apply.Goals as goal
 
 pub new-requires : goal.new-requires

@@ -1,6 +1,5 @@
 use Rattle.std.proofs.Common.{ap, sym, ◌∙◌}
-use Rattle.htl_platform.proofs.Words.{table_view, Tables}
-use Rattle.htl_platform.proofs.KeyLaws.{bad_key-index}
+use Rattle.htl_platform.proofs.{Words.table_view, Words.Tables, KeyLaws.bad_key-index}
 use Rattle.htl_platform.proofs.keys.bad_key.Goals as goal
 
 pub returns : goal.returns

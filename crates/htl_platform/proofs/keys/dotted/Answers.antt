@@ -1,6 +1,5 @@
 use Rattle.std.proofs.Common.{◌≡◌, List, ℕ, true, [], ◌++◌, ◌∷◌, append_assoc, subst, sym, ap, ◌∙◌}
-use Rattle.htl_platform.proofs.Words.{IsUtf8, is_name}
-use Rattle.htl_platform.proofs.NameTexts.{IsUtf8-dotted}
+use Rattle.htl_platform.proofs.{Words.IsUtf8, Words.is_name, NameTexts.IsUtf8-dotted}
 use Rattle.htl_platform.proofs.keys.dotted.Goals as goal
 
 pub returns-clause-text : goal.returns-clause-text

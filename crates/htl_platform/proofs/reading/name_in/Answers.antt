@@ -1,6 +1,5 @@
 use Rattle.std.proofs.Common.{is_some, sym, ap, ◌∙◌}
-use Rattle.htl_platform.proofs.Words.{false≢true, table_view}
-use Rattle.htl_platform.proofs.ShapeLaws.{has_name-from_shape}
+use Rattle.htl_platform.proofs.{Words.false≢true, Words.table_view, ShapeLaws.has_name-from_shape}
 use Rattle.htl_platform.proofs.reading.name_in.Goals as goal
 
 pub unreachable-requires : goal.unreachable-requires

@@ -1,6 +1,5 @@
 use Rattle.std.proofs.Common.{◌≡◌, ℕ, List, All, subst, sym, ap, ◌∙◌}
-use Rattle.htl_platform.proofs.Words.{table_view, IsSpan, Tables, worst_of}
-use Rattle.htl_platform.proofs.SpanLaws.{spans}
+use Rattle.htl_platform.proofs.{Words.table_view, Words.IsSpan, Words.Tables, Words.worst_of, SpanLaws.spans}
 use Rattle.htl_platform.proofs.reading.read_platform.Goals as goal
 
 pub returns-clause-spans : goal.returns-clause-spans

@@ -1,6 +1,5 @@
 use Rattle.std.proofs.Common.{◌≡◌, ◌∙◌}
-use Rattle.htl_platform.proofs.Words.{table_view, worst_of}
-use Rattle.htl_platform.proofs.TableLaws.{first_failing-equal}
+use Rattle.htl_platform.proofs.{Words.table_view, Words.worst_of, TableLaws.first_failing-equal}
 use Rattle.htl_platform.proofs.table.first_in_worst.Goals as goal
 
 pub returns-in-Some : goal.returns-in-Some

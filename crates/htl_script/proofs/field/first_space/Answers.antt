@@ -1,5 +1,4 @@
-use Rattle.htl_script.proofs.Words.{is_space}
-use Rattle.htl_script.proofs.FirstItems.{first_byte}
+use Rattle.htl_script.proofs.{Words.is_space, FirstItems.first_byte}
 use Rattle.htl_script.proofs.field.first_space.Goals as goal
 
 pub returns-clause-first : goal.returns-clause-first

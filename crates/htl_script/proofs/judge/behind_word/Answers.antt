@@ -1,7 +1,6 @@
 use Rattle.std.proofs.Common.{◌∙◌, sym, ap, List, ℕ, Option}
-use Rattle.htl_script.proofs.Words.{Statement, judged_statement}
+use Rattle.htl_script.proofs.{Words.Statement, Words.judged_statement, Worded.named_fields-digits}
 use Rattle.htl_script.specs.Statements.{named_fields}
-use Rattle.htl_script.proofs.Worded.{named_fields-digits}
 use Rattle.htl_script.proofs.judge.behind_word.Goals as goal
 
 pub returns-in-Some : goal.returns-in-Some

@@ -1,7 +1,6 @@
 use Rattle.std.proofs.Common.{◌≡◌, ◌∙◌, sym, ap, ℤ, Result, Ok, rules, Option}
-use Rattle.htl_script.proofs.Words.{Event, ScriptKind, signed_of, is_value, Ty}
+use Rattle.htl_script.proofs.{Words.Event, Words.ScriptKind, Words.signed_of, Words.is_value, Words.Ty, Judged.sense_range, Judged.sense_value}
 use Rattle.htl_model.specs.declared.event.Event.TheVariants as event
-use Rattle.htl_script.proofs.Judged.{sense_range, sense_value}
 use Rattle.htl_script.proofs.judge.sense.Goals as goal
 
 pub returns-in_default-value_of : goal.returns-in_default-value_of

@@ -1,7 +1,6 @@
 use Rattle.std.proofs.Common.{◌∙◌, sym, ap, Option}
-use Rattle.htl_script.proofs.Words.{Statement, judged_statement}
+use Rattle.htl_script.proofs.{Words.Statement, Words.judged_statement, Worded.statement-worded}
 use Rattle.htl_script.specs.Statements.{statement_of_fields}
-use Rattle.htl_script.proofs.Worded.{statement-worded}
 use Rattle.htl_script.proofs.judge.statement.Goals as goal
 
 pub returns-in-Some : goal.returns-in-Some

@@ -1,7 +1,6 @@
 use Rattle.std.proofs.Common.{◌≡◌, take, true}
 use Rattle.htl_script.proofs.Words.{fold, with_digit_capped}
-use Rattle.std.specs.List.{list_all}
-use Rattle.std.specs.Char.{is_ascii_digit}
+use Rattle.std.specs.{List.list_all, Char.is_ascii_digit}
 use Rattle.htl_script.proofs.number.value.Given as goal
 
 -- the digits so far are digits, and the number is theirs

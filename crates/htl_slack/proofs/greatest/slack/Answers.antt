@@ -1,10 +1,7 @@
 use Rattle.std.proofs.Common.{◌≡◌, ◌≤◌, ◌<◌, length, sym, ◌∙◌, ap, subst, arith}
-use Rattle.htl_edf.proofs.Words.{frame_limit, nodes, Tables, task_worst, with_worst, AreReady, ExplainsNodes}
-use Rattle.htl_edf.proofs.FrameTasks.{limits_with_worst}
-use Rattle.htl_edf.proofs.PathOrder.{ready}
-use Rattle.htl_slack.proofs.RootTasks.{task_below, own_span, own_within, limit_small}
+use Rattle.htl_edf.proofs.{Words.frame_limit, Words.nodes, Words.Tables, Words.task_worst, Words.with_worst, Words.AreReady, Words.ExplainsNodes, FrameTasks.limits_with_worst, PathOrder.ready}
+use Rattle.htl_slack.proofs.{RootTasks.task_below, RootTasks.own_span, RootTasks.own_within, RootTasks.limit_small, Searching.nodes_same, Searching.no_fault, Searching.try_ready}
 use Rattle.htl_slack.specs.Slack.{NoneOverloaded}
-use Rattle.htl_slack.proofs.Searching.{nodes_same, no_fault, try_ready}
 use Rattle.htl_slack.proofs.greatest.slack.Goals as goal
 
 pub module_period-limit-requires : goal.module_period-limit-requires

@@ -1,6 +1,5 @@
 use Rattle.std.proofs.Common.{◌≡◌, List, ◌∙◌, ap}
-use Rattle.htl_model.specs.declared.parts.Task.{Task}
-use Rattle.htl_model.specs.Tables.{tables_of}
+use Rattle.htl_model.specs.{declared.parts.Task.Task, Tables.tables_of}
 use Rattle.htl_edf.specs.Greatest.{worst_in}
 use Rattle.htl_slack.proofs.WorstAt.{worst_in-put}
 use Rattle.htl_slack.proofs.raising.parts_with.Goals as goal

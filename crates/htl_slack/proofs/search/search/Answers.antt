@@ -1,9 +1,7 @@
 use Rattle.std.proofs.Common.{◌≡◌, ◌+◌, ◌-◌, ◌/◌, ◌∙◌, sym, subst, arith}
-use Rattle.htl_edf.proofs.Words.{Tables, task_worst, with_worst, Fits}
-use Rattle.htl_edf.proofs.ReadyTasks.{own_worst}
+use Rattle.htl_edf.proofs.{Words.Tables, Words.task_worst, Words.with_worst, Words.Fits, ReadyTasks.own_worst}
 use Rattle.htl_slack.specs.Slack.{NoneOverloaded, IsFirstOverload}
-use Rattle.htl_slack.proofs.Searching.{own_fits, is_greatest, middle, try_ready, try_frame}
-use Rattle.htl_slack.proofs.WorstAt.{raised_again, task_stays}
+use Rattle.htl_slack.proofs.{Searching.own_fits, Searching.is_greatest, Searching.middle, Searching.try_ready, Searching.try_frame, WorstAt.raised_again, WorstAt.task_stays}
 use Rattle.htl_slack.proofs.search.search.Goals as goal
 
 pub loop-low-init : goal.loop-low-init

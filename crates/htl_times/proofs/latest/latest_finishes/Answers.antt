@@ -1,8 +1,6 @@
 use Rattle.std.proofs.Common.{◌<◌, ◌∙◌, ℕ, None, ap, arith, get_or, length, subst, sym}
-use Rattle.htl_times.proofs.Words.{KeptApart, Tables, frame_limit, instrs_of, kept_12, kept_apart, nodes}
-use Rattle.htl_times.specs.Busy.{IsBusiestOf}
-use Rattle.htl_times.specs.Response.{IsLatestOf}
-use Rattle.htl_times.proofs.AcceptedRuns.{all_no_later, of_object}
+use Rattle.htl_times.proofs.{Words.KeptApart, Words.Tables, Words.frame_limit, Words.instrs_of, Words.kept_12, Words.kept_apart, Words.nodes, AcceptedRuns.all_no_later, AcceptedRuns.of_object}
+use Rattle.htl_times.specs.{Busy.IsBusiestOf, Response.IsLatestOf}
 use Rattle.htl_times.proofs.latest.latest_finishes.Goals as goal
 
 pub note_tables-requires-clause-limits : goal.note_tables-requires-clause-limits

@@ -1,6 +1,5 @@
 use Rattle.std.proofs.Common.{◌+◌, ◌++◌, List, take, drop, arith, sym, ap, ◌∙◌, append_assoc}
-use Rattle.htl_model.specs.declared.frame.Place.{Place}
-use Rattle.htl_model.specs.Frames.{places_in, rounds}
+use Rattle.htl_model.specs.{declared.frame.Place.Place, Frames.places_in, Frames.rounds}
 use Rattle.htl_times.proofs.PathRounds.{count_some, mode_within, begins_rise, ends_within, next_round, round_length}
 use Rattle.htl_times.proofs.path_places.put_path.Goals as goal
 

@@ -1,7 +1,6 @@
 use Rattle.std.proofs.Common.{map, sum, subst, sym, ap, ◌∙◌}
 use Rattle.std.specs.List.{All}
-use Rattle.htl_times.proofs.BareWalks.{bare_jobs, bare_short, bare_worst, times_alone}
-use Rattle.htl_times.proofs.Words.{formed_times, path_jobs, path_places, worst_cases}
+use Rattle.htl_times.proofs.{BareWalks.bare_jobs, BareWalks.bare_short, BareWalks.bare_worst, BareWalks.times_alone, Words.formed_times, Words.path_jobs, Words.path_places, Words.worst_cases}
 use Rattle.htl_times.specs.BareJobs.{HasTimesAlone, IsShort, bare_job}
 use Rattle.htl_times.proofs.path_walk.path_finishes.Goals as goal
 

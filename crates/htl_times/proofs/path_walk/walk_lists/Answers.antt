@@ -1,7 +1,6 @@
 use Rattle.std.proofs.Common.{◌≡◌, ◌<◌, length, get_or, None, refl, sym, ap, ◌∙◌, subst, arith, add-one}
-use Rattle.htl_times.proofs.Words.{Schedule, or_else, starts, reached, instrs_of, Point, walk_from, last_point, finish, work, worst_cases, path_jobs}
+use Rattle.htl_times.proofs.{Words.Schedule, Words.or_else, Words.starts, Words.reached, Words.instrs_of, Words.Point, Words.walk_from, Words.last_point, Words.finish, Words.work, Words.worst_cases, Words.path_jobs, BareWalks.bare_start}
 use Rattle.htl_times.specs.Noting.{AreFinishesTo}
-use Rattle.htl_times.proofs.BareWalks.{bare_start}
 use Rattle.htl_times.proofs.PathFinishes.{bare_length, none_yet, one_more, all_lists, walk_here, left_here}
 use Rattle.htl_times.proofs.path_walk.walk_lists.Goals as goal
 

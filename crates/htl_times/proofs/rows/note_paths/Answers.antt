@@ -1,7 +1,6 @@
 use Rattle.std.proofs.Common.{◌≡◌, ◌+◌, ◌∙◌, refl, sym, subst, arith, add-one}
-use Rattle.htl_times.proofs.Words.{paths, instrs_of}
+use Rattle.htl_times.proofs.{Words.paths, Words.instrs_of, Best.busy_more, Best.none_busy, Best.nothing_seen}
 use Rattle.htl_times.specs.Noting.{AreBestBefore, BusyBefore, IsBest, greater_of}
-use Rattle.htl_times.proofs.Best.{busy_more, none_busy, nothing_seen}
 use Rattle.htl_times.proofs.rows.note_paths.Goals as goal
 
 pub loop-path-init : goal.loop-path-init

@@ -1,10 +1,7 @@
 use Rattle.std.proofs.Common.{◌≡◌, ◌<◌, ◌+◌, List, Option, length, get_or, slice_get, Some, refl, sym, ap, ◌∙◌, subst, arith, add-one}
 use Rattle.std.proofs.lemmas.Option.{slice_get-get_or}
-use Rattle.htl_times.proofs.Words.{path_places, no_place, instrs_of}
-use Rattle.htl_times.specs.Noting.{AreBestTo, AreBestBefore, IsToldBy, rows_after}
-use Rattle.htl_times.specs.Response.{worst_finish}
-use Rattle.htl_times.specs.declared.greatest.Greatest.{Greatest}
-use Rattle.htl_times.proofs.Best.{path_begins, position_more, path_ends, rows_kept}
+use Rattle.htl_times.proofs.{Words.path_places, Words.no_place, Words.instrs_of, Best.path_begins, Best.position_more, Best.path_ends, Best.rows_kept}
+use Rattle.htl_times.specs.{Noting.AreBestTo, Noting.AreBestBefore, Noting.IsToldBy, Noting.rows_after, Response.worst_finish, declared.greatest.Greatest.Greatest}
 use Rattle.htl_times.proofs.rows.note_places.Goals as goal
 
 pub loop-k-init : goal.loop-k-init

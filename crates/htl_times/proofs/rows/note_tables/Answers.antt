@@ -1,6 +1,5 @@
 use Rattle.std.proofs.Common.{get_or, None, arith}
-use Rattle.htl_times.proofs.Words.{walkable, instrs_of}
-use Rattle.htl_times.proofs.Best.{busiest_is, latest_is}
+use Rattle.htl_times.proofs.{Words.walkable, Words.instrs_of, Best.busiest_is, Best.latest_is}
 use Rattle.htl_times.proofs.rows.note_tables.Goals as goal
 
 pub note_paths-requires-clause-walkable : goal.note_paths-requires-clause-walkable

@@ -1,6 +1,5 @@
 use Rattle.std.proofs.Common.{◌≡◌, sym, ap, ◌∙◌}
-use Rattle.htl_model.specs.Tables.{Tables}
-use Rattle.htl_model.specs.declared.parts.Inv.{Inv}
+use Rattle.htl_model.specs.{Tables.Tables, declared.parts.Inv.Inv}
 use Rattle.htl_open.proofs.Found.{found_at}
 use Rattle.htl_times_top.proofs.Names.{named}
 use Rattle.htl_times_top.proofs.lines.put_name.Goals as goal

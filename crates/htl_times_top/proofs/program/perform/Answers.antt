@@ -1,6 +1,5 @@
 use Rattle.std.proofs.Common.{◌≡◌, ◌∙◌, ap, inl, List, ℕ, map, string_bytes, Bor}
-use Rattle.htl_open.specs.Files.{files}
-use Rattle.htl_open.specs.Lines.{Tells}
+use Rattle.htl_open.specs.{Files.files, Lines.Tells}
 use Rattle.htl_times_top.specs.Program.{written}
 use Rattle.htl_times_top.proofs.SameWords.{EndsWith-same}
 use Rattle.htl_times_top.proofs.program.perform.Goals as goal

@@ -1,8 +1,7 @@
 use Rattle.std.proofs.Common.{◌≡◌, List, Option, length, sym, ap, ◌∙◌, subst}
 use Rattle.htl_base.proofs.Words.{append_known}
 use Rattle.htl_edge.specs.Content.{AppendsPrefix}
-use Rattle.htl_model.specs.Tables.{Tables}
-use Rattle.htl_model.specs.declared.parts.Inv.{Inv}
+use Rattle.htl_model.specs.{Tables.Tables, declared.parts.Inv.Inv}
 use Rattle.htl_times.specs.declared.greatest.Greatest.{Greatest}
 use Rattle.htl_times_top.proofs.Rows.{front_is, AreTimes-noted}
 use Rattle.htl_times_top.specs.Texts.{times_text}

@@ -1,9 +1,7 @@
 use Rattle.std.proofs.Common.{subst}
-use Rattle.htl_open.specs.Files.{files}
-use Rattle.htl_open.specs.Lines.{Tells}
+use Rattle.htl_open.specs.{Files.files, Lines.Tells}
 use Rattle.htl_times_top.proofs.Calling as calling
-use Rattle.htl_times_top.specs.Answers.{object_in, IsTimes}
-use Rattle.htl_times_top.specs.declared.outcome.Outcome.{Outcome}
+use Rattle.htl_times_top.specs.{Answers.object_in, Answers.IsTimes, declared.outcome.Outcome.Outcome}
 use Rattle.htl_times_top.proofs.top.times.Goals as goal
 
 pub returns : goal.returns

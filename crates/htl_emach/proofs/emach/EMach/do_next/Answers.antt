@@ -1,10 +1,6 @@
 use Rattle.htl_ecode.specs.Phases.{number_of}
 use Rattle.htl_ecode.proofs.SpellingLaws.{spelled_departs_not}
-use Rattle.htl_emach.proofs.Completing.{done_keeps}
-use Rattle.htl_emach.proofs.SafeCalls.{ready_safely, few_safely, after_safely}
-use Rattle.htl_emach.proofs.PhaseNumbers.{number_range}
-use Rattle.htl_emach.proofs.Quiet.{sensors_stay, outputs_stay}
-use Rattle.htl_emach.proofs.Soundness.{step_onward}
+use Rattle.htl_emach.proofs.{Completing.done_keeps, SafeCalls.ready_safely, SafeCalls.few_safely, SafeCalls.after_safely, PhaseNumbers.number_range, Quiet.sensors_stay, Quiet.outputs_stay, Soundness.step_onward}
 use Rattle.htl_emach.proofs.emach.EMach.do_next.Goals as goal
 
 pub advance-requires-clause-few : goal.advance-requires-clause-few

@@ -1,6 +1,5 @@
 use Rattle.std.proofs.Common.{◌≡◌, ℕ, List, subst}
-use Rattle.htl_emach.proofs.Words.{Event, Done, Midway, Onward, state, done_in, standing_after}
-use Rattle.htl_emach.proofs.PhaseNumbers.{number_of_phase}
+use Rattle.htl_emach.proofs.{Words.Event, Words.Done, Words.Midway, Words.Onward, Words.state, Words.done_in, Words.standing_after, PhaseNumbers.number_of_phase}
 use Rattle.htl_emach.proofs.emach.EMach.instant.Goals as goal
 
 pub returns-clause-answer : goal.returns-clause-answer

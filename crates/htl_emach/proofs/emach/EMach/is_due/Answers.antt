@@ -1,9 +1,7 @@
 use Rattle.std.proofs.Common.{◌≡◌, Option, None, Some, slice_get, ap, sym, refl}
 use Rattle.htl_ecode.specs.Phases.{number_of}
 use Rattle.htl_ecode.proofs.SpellingLaws.{spelled_departs_not}
-use Rattle.htl_emach.proofs.Words.{Block, EDone, done_at, done_in, state}
-use Rattle.htl_emach.proofs.PhaseNumbers.{number_range}
-use Rattle.htl_emach.proofs.Soundness.{step_onward}
+use Rattle.htl_emach.proofs.{Words.Block, Words.EDone, Words.done_at, Words.done_in, Words.state, PhaseNumbers.number_range, Soundness.step_onward}
 use Rattle.htl_emach.proofs.emach.EMach.is_due.Goals as goal
 
 pub returns-clause-onward : goal.returns-clause-onward

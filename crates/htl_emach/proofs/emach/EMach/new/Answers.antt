@@ -1,7 +1,4 @@
-use Rattle.htl_emach.proofs.Words.{arith, sym, subst, spelled_departs_not, FollowsCode, StandsSafely}
-use Rattle.htl_emach.proofs.Instants.{first_follows}
-use Rattle.htl_emach.proofs.SafeCalls.{first_safely}
-use Rattle.htl_emach.proofs.Soundness.{sound}
+use Rattle.htl_emach.proofs.{Words.arith, Words.sym, Words.subst, Words.spelled_departs_not, Words.FollowsCode, Words.StandsSafely, Instants.first_follows, SafeCalls.first_safely, Soundness.sound}
 use Rattle.htl_emach.proofs.emach.EMach.new.Goals as goal
 
 pub returns-clause-safe : goal.returns-clause-safe

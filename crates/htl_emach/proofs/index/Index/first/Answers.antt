@@ -1,6 +1,5 @@
 use Rattle.std.proofs.Common.{◌≡◌, ◌<◌, length, get_or, sym, ap, ◌∙◌, subst, arith}
-use Rattle.htl_emach.proofs.Words.{count_before, Indices, first_functions, length-list_to, get_list_to}
-use Rattle.htl_emach.proofs.IndexedPorts.{count_few}
+use Rattle.htl_emach.proofs.{Words.count_before, Words.Indices, Words.first_functions, Words.length-list_to, Words.get_list_to, IndexedPorts.count_few}
 use Rattle.htl_emach.proofs.index.Index.first.Goals as goal
 
 pub bounds-as_slice-task : goal.bounds-as_slice-task

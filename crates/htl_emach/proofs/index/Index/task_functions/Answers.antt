@@ -1,6 +1,5 @@
 use Rattle.std.proofs.Common.{◌≡◌, length, ap, arith, ◌∙◌}
-use Rattle.htl_emach.proofs.Words.{count_before, Indices}
-use Rattle.htl_emach.proofs.IndexedPorts.{count_few}
+use Rattle.htl_emach.proofs.{Words.count_before, Words.Indices, IndexedPorts.count_few}
 use Rattle.htl_emach.proofs.index.Index.task_functions.Goals as goal
 
 pub returns-clause-few : goal.returns-clause-few

@@ -1,6 +1,5 @@
 use Rattle.std.proofs.Common.{◌≡◌, ◌<◌, true, None, length, get_or, sym, ap, ◌∙◌, subst}
-use Rattle.htl_emach.proofs.Words.{Indices, port_writers, writer_of, is_own, length-list_to, get_list_to}
-use Rattle.htl_emach.proofs.IndexedPorts.{own_within, own_writer}
+use Rattle.htl_emach.proofs.{Words.Indices, Words.port_writers, Words.writer_of, Words.is_own, Words.length-list_to, Words.get_list_to, IndexedPorts.own_within, IndexedPorts.own_writer}
 use Rattle.htl_emach.proofs.index.Index.writer.Goals as goal
 
 pub bounds-as_slice-port : goal.bounds-as_slice-port

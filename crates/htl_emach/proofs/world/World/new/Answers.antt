@@ -1,5 +1,4 @@
-use Rattle.htl_emach.proofs.Words.{sym, subst, IsShaped}
-use Rattle.htl_emach.proofs.Keeping.{first_shaped}
+use Rattle.htl_emach.proofs.{Words.sym, Words.subst, Words.IsShaped, Keeping.first_shaped}
 use Rattle.htl_emach.proofs.world.World.new.Goals as goal
 
 pub returns-clause-shaped : goal.returns-clause-shaped

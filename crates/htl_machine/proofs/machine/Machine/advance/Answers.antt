@@ -1,9 +1,5 @@
 use Rattle.std.proofs.Common.{◌≤◌, ◌∙◌, ℕ, sym, ap, subst}
-use Rattle.htl_machine.proofs.Words.{Seen, IsUpTo, AreQuiet}
-use Rattle.htl_machine.proofs.Beginnings.{ends_so, fails_so}
-use Rattle.htl_machine.proofs.Viewing.{seen_in}
-use Rattle.htl_machine.proofs.Calling.{read_follows}
-use Rattle.htl_machine.proofs.Quiet.{quiet_then}
+use Rattle.htl_machine.proofs.{Words.Seen, Words.IsUpTo, Words.AreQuiet, Beginnings.ends_so, Beginnings.fails_so, Viewing.seen_in, Calling.read_follows, Quiet.quiet_then}
 use Rattle.htl_machine.proofs.machine.Machine.advance.Goals as goal
 
 pub returns-in-Err-clause-text : goal.returns-in-Err-clause-text

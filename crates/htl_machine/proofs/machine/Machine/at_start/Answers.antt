@@ -1,8 +1,5 @@
 use Rattle.std.proofs.Common.{◌∙◌, None, ap, sym, subst, map, length, replicate, arith}
-use Rattle.htl_machine.proofs.Words.{length-map, Inv, task_worst, Round, IsPath}
-use Rattle.htl_machine.proofs.Calling.{first_is}
-use Rattle.htl_machine.proofs.Quiet.{nothing_due}
-use Rattle.htl_machine.proofs.ShownOn.{noted_marks, none_waits}
+use Rattle.htl_machine.proofs.{Words.length-map, Words.Inv, Words.task_worst, Words.Round, Words.IsPath, Calling.first_is, Quiet.nothing_due, ShownOn.noted_marks, ShownOn.none_waits}
 use Rattle.htl_machine.proofs.machine.Machine.at_start.Goals as goal
 
 pub returns : goal.returns

@@ -1,8 +1,5 @@
 use Rattle.std.proofs.Common.{◌≡◌, ◌+◌, ℕ, suc, Ok, Err, sym, subst, arith}
-use Rattle.htl_machine.proofs.Words.{Puts, Failed, Seen, IsUpTo, text_between}
-use Rattle.htl_machine.proofs.Beginnings.{ends_so, fails_so}
-use Rattle.htl_machine.proofs.Viewing.{seen_in}
-use Rattle.htl_machine.proofs.Calling.{finished}
+use Rattle.htl_machine.proofs.{Words.Puts, Words.Failed, Words.Seen, Words.IsUpTo, Words.text_between, Beginnings.ends_so, Beginnings.fails_so, Viewing.seen_in, Calling.finished}
 use Rattle.htl_machine.proofs.machine.Machine.finish.Goals as goal
 
 pub returns-in-Err-clause-text : goal.returns-in-Err-clause-text

@@ -1,17 +1,9 @@
 use Rattle.std.proofs.Common.{◌≡◌, ◌∙◌, List, [], true, length, Err, Ok, refl, sym, ap, subst, arith}
 use Rattle.htl_machine.proofs.Words.{Puts, Failed, Round, phase_path, HasValues, Schedule, IsToClose, IsToCloseAndBegin, Seen, IsUpTo, schedule_by, with_instrs, with_records, IsPath, first_records, IsOpened, AreOf, instrs_of, some_round_begins, Event, lines_of, schedules_of, Tally}
-use Rattle.htl_machine.proofs.After.{passed_of, s_machine_goes_on, list_goes_on, over, s_machine_begins_so, list_begins, records_go_on, records_begin}
-use Rattle.htl_machine.proofs.Asking.{sound_of, noted_of, begun_at, stood_at, counts_at}
-use Rattle.htl_machine.proofs.Beginnings.{ends_so, fails_so}
-use Rattle.htl_machine.proofs.Ended.{open_failed, going_closed, begun_closed_at}
-use Rattle.htl_machine.proofs.NumberedStarts.{begins_so}
-use Rattle.htl_machine.proofs.Quiet.{nothing_due}
-use Rattle.htl_machine.proofs.InstantGiven.{IsGiven, given, given_closes, given_begins}
+use Rattle.htl_machine.proofs.{After.passed_of, After.s_machine_goes_on, After.list_goes_on, After.over, After.s_machine_begins_so, After.list_begins, After.records_go_on, After.records_begin, Beginnings.ends_so, Beginnings.fails_so}
+use Rattle.htl_machine.proofs.{Asking.sound_of, Asking.noted_of, Asking.begun_at, Asking.stood_at, Asking.counts_at, Ended.open_failed, Ended.going_closed, Ended.begun_closed_at, NumberedStarts.begins_so, Quiet.nothing_due, Viewing.seen_in}
+use Rattle.htl_machine.proofs.{InstantGiven.IsGiven, InstantGiven.given, InstantGiven.given_closes, InstantGiven.given_begins, Ready.list_known, ShownOn.next_shown_up_to, ShownOn.noted_marks, Spent.spent_fits}
 use Rattle.htl_runs.proofs.instants.ReleaseSteps.{replay_only}
-use Rattle.htl_machine.proofs.Ready.{list_known}
-use Rattle.htl_machine.proofs.ShownOn.{next_shown_up_to, noted_marks}
-use Rattle.htl_machine.proofs.Spent.{spent_fits}
-use Rattle.htl_machine.proofs.Viewing.{seen_in}
 use Rattle.htl_machine.proofs.Waits.{waiting_at, waiting_stays}
 use Rattle.htl_machine.proofs.machine.Machine.instant.Given as here
 use Rattle.htl_machine.proofs.machine.Machine.instant.Goals as goal

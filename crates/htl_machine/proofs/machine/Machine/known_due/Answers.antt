@@ -1,6 +1,5 @@
 use Rattle.std.proofs.Common.{◌∙◌, ℕ, ap, subst}
-use Rattle.htl_machine.proofs.Words.{Seen, AreQuiet}
-use Rattle.htl_machine.proofs.Passing.{up_to_reading}
+use Rattle.htl_machine.proofs.{Words.Seen, Words.AreQuiet, Passing.up_to_reading}
 use Rattle.htl_machine.proofs.machine.Machine.known_due.Goals as goal
 
 pub next_due-requires-clause-before : goal.next_due-requires-clause-before

@@ -1,5 +1,4 @@
-use Rattle.htl_machine.proofs.Words.{[], sym, subst, Seen, Follows}
-use Rattle.htl_machine.proofs.Calling.{new_follows_none}
+use Rattle.htl_machine.proofs.{Words.[], Words.sym, Words.subst, Words.Seen, Words.Follows, Calling.new_follows_none}
 use Rattle.htl_machine.proofs.machine.Machine.new.Goals as goal
 
 pub returns-clause-follows : goal.returns-clause-follows

@@ -1,7 +1,5 @@
 use Rattle.std.proofs.Common.{◌<◌, ◌≤◌, ℕ, refl, sym, ap, subst, arith, add-one}
-use Rattle.htl_machine.proofs.Words.{Seen, IsOnward}
-use Rattle.htl_machine.proofs.Passing.{all_on, all_start, passing_failed, passing_whole, up_to_reading}
-use Rattle.htl_machine.proofs.Quiet.{gone_to}
+use Rattle.htl_machine.proofs.{Words.Seen, Words.IsOnward, Passing.all_on, Passing.all_start, Passing.passing_failed, Passing.passing_whole, Passing.up_to_reading, Quiet.gone_to}
 use Rattle.htl_machine.proofs.machine.Machine.pass.Goals as goal
 
 pub loop-due-init : goal.loop-due-init

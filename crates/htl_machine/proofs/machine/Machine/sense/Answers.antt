@@ -1,8 +1,5 @@
 use Rattle.std.proofs.Common.{◌≡◌, ◌<◌, ◌∙◌, ℕ, cond, eqb, get_or, length, not, pos, set, length-set, rules, arith, ap, sym, subst}
-use Rattle.htl_machine.proofs.Words.{slice_get_within, same, Seen, Follows, IsSensorValue, shown_as, is_marked}
-use Rattle.htl_machine.proofs.Calling.{sense_follows}
-use Rattle.htl_machine.proofs.Quiet.{nothing_due}
-use Rattle.htl_machine.proofs.ShownOn.{sensed_waits}
+use Rattle.htl_machine.proofs.{Words.slice_get_within, Words.same, Words.Seen, Words.Follows, Words.IsSensorValue, Words.shown_as, Words.is_marked, Calling.sense_follows, Quiet.nothing_due, ShownOn.sensed_waits}
 use Rattle.htl_machine.proofs.machine.Machine.sense.Goals as goal
 
 pub returns-clause-follows : goal.returns-clause-follows

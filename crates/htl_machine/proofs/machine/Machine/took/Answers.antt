@@ -1,7 +1,5 @@
 use Rattle.std.proofs.Common.{◌≡◌, ◌≤◌, ℕ, Some, sym, ap, ◌∙◌, subst, List, length, length-set}
-use Rattle.htl_machine.proofs.Words.{Job, job_at, Round, Stands, Seen, Follows, IsLength, IsPath, position_from}
-use Rattle.htl_machine.proofs.Calling.{position_worst, took_follows}
-use Rattle.htl_machine.proofs.Quiet.{nothing_due}
+use Rattle.htl_machine.proofs.{Words.Job, Words.job_at, Words.Round, Words.Stands, Words.Seen, Words.Follows, Words.IsLength, Words.IsPath, Words.position_from, Calling.position_worst, Calling.took_follows, Quiet.nothing_due}
 use Rattle.htl_machine.proofs.machine.Machine.took.Goals as goal
 
 pub take-requires-clause-worst : goal.take-requires-clause-worst

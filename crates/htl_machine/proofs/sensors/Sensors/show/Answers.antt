@@ -1,8 +1,7 @@
 use Rattle.std.proofs.Common.{◌≡◌, ◌<◌, List, Some, ℤ, get_or, pos, ap, arith, length, slice_get, sym, subst, refl, ◌∙◌}
 use Rattle.htl_model.specs.Ranges.{FitsType}
 use Rattle.htl_emach.proofs.Keeping.{takes_value}
-use Rattle.htl_machine.proofs.Words.{slice_get_read, AreSet, Content}
-use Rattle.htl_machine.proofs.Waits.{taking_start, taking_step}
+use Rattle.htl_machine.proofs.{Words.slice_get_read, Words.AreSet, Words.Content, Waits.taking_start, Waits.taking_step}
 use Rattle.htl_machine.proofs.sensors.Sensors.show.Goals as goal
 
 pub loop-c-init : goal.loop-c-init

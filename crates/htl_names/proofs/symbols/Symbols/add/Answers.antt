@@ -1,6 +1,5 @@
 use Rattle.std.proofs.Common.{◌∙◌, sym, ap, ◌++◌, ◌∷◌, []}
-use Rattle.htl_names.proofs.Words.{look_up, insert_entry-new}
-use Rattle.htl_names.proofs.SymbolLaws.{lookup_is}
+use Rattle.htl_names.proofs.{Words.look_up, Words.insert_entry-new, SymbolLaws.lookup_is}
 use Rattle.htl_names.specs.contracts.key.KeyPartialEq.TheImpl as key_impl
 use Rattle.htl_names.proofs.symbols.Symbols.add.Goals as goal
 

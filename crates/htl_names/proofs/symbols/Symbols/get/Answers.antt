@@ -1,6 +1,5 @@
 use Rattle.std.proofs.Common.{◌∙◌, ap}
-use Rattle.htl_names.proofs.Words.{look_up}
-use Rattle.htl_names.proofs.SymbolLaws.{lookup_is}
+use Rattle.htl_names.proofs.{Words.look_up, SymbolLaws.lookup_is}
 use Rattle.htl_names.proofs.symbols.Symbols.get.Goals as goal
 
 pub returns : goal.returns

@@ -1,6 +1,5 @@
 use Rattle.std.proofs.Common.{append_assoc, append-nil, ◌∷◌, ◌++◌, map, ap, ◌∙◌}
-use Rattle.htl_names.proofs.Words.{out_of, entry, param_entry, task_key}
-use Rattle.htl_names.proofs.Walking.{map_at_all}
+use Rattle.htl_names.proofs.{Words.out_of, Words.entry, Words.param_entry, Words.task_key, Walking.map_at_all}
 use Rattle.htl_names.proofs.walk.TaskNodePart.add.Goals as goal
 
 pub returns-in-Concrete : goal.returns-in-Concrete

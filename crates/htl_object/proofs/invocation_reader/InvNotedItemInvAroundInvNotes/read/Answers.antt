@@ -1,5 +1,4 @@
-use Rattle.htl_object.proofs.Words.{sym, Inv}
-use Rattle.htl_object.proofs.Noting.{inv_more}
+use Rattle.htl_object.proofs.{Words.sym, Words.Inv, Noting.inv_more}
 use Rattle.htl_object.proofs.invocation_reader.InvNotedItemInvAroundInvNotes.read.Goals as goal
 
 pub returns-clause-noted : goal.returns-clause-noted

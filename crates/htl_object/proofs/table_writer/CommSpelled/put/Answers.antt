@@ -1,6 +1,5 @@
 use Rattle.std.proofs.Common.{◌++◌}
-use Rattle.htl_object.proofs.Words.{w32, to_be_bytes, name_bytes, type_bytes, flag_bytes, value_bytes}
-use Rattle.htl_object.proofs.Appends.{appends}
+use Rattle.htl_object.proofs.{Words.w32, Words.to_be_bytes, Words.name_bytes, Words.type_bytes, Words.flag_bytes, Words.value_bytes, Appends.appends}
 use Rattle.htl_object.proofs.table_writer.CommSpelled.put.Goals as goal
 
 pub returns-clause-spelled : goal.returns-clause-spelled

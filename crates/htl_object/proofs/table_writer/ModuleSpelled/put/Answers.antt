@@ -1,6 +1,5 @@
 use Rattle.std.proofs.Common.{◌++◌}
-use Rattle.htl_object.proofs.Words.{w16, to_be_bytes, name_bytes, option_bytes}
-use Rattle.htl_object.proofs.Appends.{appends}
+use Rattle.htl_object.proofs.{Words.w16, Words.to_be_bytes, Words.name_bytes, Words.option_bytes, Appends.appends}
 use Rattle.htl_object.proofs.table_writer.ModuleSpelled.put.Goals as goal
 
 pub returns-clause-spelled : goal.returns-clause-spelled

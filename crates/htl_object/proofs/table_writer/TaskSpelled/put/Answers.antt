@@ -1,6 +1,5 @@
 use Rattle.std.proofs.Common.{◌++◌}
-use Rattle.htl_object.proofs.Words.{w16, w32, to_be_bytes, name_bytes, flag_bytes, types_bytes}
-use Rattle.htl_object.proofs.Appends.{appends}
+use Rattle.htl_object.proofs.{Words.w16, Words.w32, Words.to_be_bytes, Words.name_bytes, Words.flag_bytes, Words.types_bytes, Appends.appends}
 use Rattle.htl_object.proofs.table_writer.TaskSpelled.put.Goals as goal
 
 pub returns-clause-spelled : goal.returns-clause-spelled

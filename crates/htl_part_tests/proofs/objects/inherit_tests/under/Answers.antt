@@ -1,8 +1,7 @@
 use Rattle.std.proofs.Common.{◌≡◌, ℕ, List, refl, sym, ap, ◌∙◌, subst}
 use Rattle.htl_object.proofs.ObjectLaws.{one_object}
 use Rattle.htl_object.specs.declared.object.Object.{Object}
-use Rattle.htl_load.specs.Alike.{AskTheSame}
-use Rattle.htl_load.specs.Loading.{HasBytes}
+use Rattle.htl_load.specs.{Alike.AskTheSame, Loading.HasBytes}
 use Rattle.htl_model.specs.Tables.{Tables}
 use Rattle.htl_part_tests.proofs.objects.inherit_tests.under.Goals as goal
 

@@ -1,5 +1,4 @@
-use Rattle.std.proofs.Common.{sym, subst, take, add-one}
-use Rattle.std.proofs.Math.Seq.{take-suc}
+use Rattle.std.proofs.{Common.sym, Common.subst, Common.take, Common.add-one, Math.Seq.take-suc}
 use Rattle.htl_machine.specs.Calls.{Follows}
 use Rattle.htl_part_tests.proofs.runs.machine_tests.play.Goals as goal
 

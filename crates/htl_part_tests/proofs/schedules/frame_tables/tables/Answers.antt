@@ -1,7 +1,6 @@
 use Rattle.std.proofs.Common.{◌∙◌, sym, subst}
 use Rattle.std.proofs.lemmas.List.Elements.{All-nil}
-use Rattle.htl_model.specs.FunctionCode.{IsCode, AreCode}
-use Rattle.htl_model.specs.Ranges.{AreInRange}
+use Rattle.htl_model.specs.{FunctionCode.IsCode, FunctionCode.AreCode, Ranges.AreInRange}
 use Rattle.htl_edf.specs.FrameSamples.{IsFramed}
 use Rattle.htl_edf.proofs.FrameSampleFits.{frame_in_range, frame_is_framed}
 use Rattle.htl_part_tests.proofs.schedules.frame_tables.tables.Goals as goal

@@ -1,7 +1,6 @@
 use Rattle.std.proofs.Common.{◌<◌, ◌≤◌, ◌+◌, length, get_or, subst, sym, arith}
-use Rattle.htl_refine.proofs.Words.{starts, start_read, new_jobs, choice_of}
+use Rattle.htl_refine.proofs.{Words.starts, Words.start_read, Words.new_jobs, Words.choice_of, BegunLimits.start_early, BegunLimits.choice_few, BegunLimits.new_few}
 use Rattle.htl_compile.proofs.Words.{kept_apart}
-use Rattle.htl_refine.proofs.BegunLimits.{start_early, choice_few, new_few}
 use Rattle.htl_part_tests.proofs.schedules.refine_tests.begun.Goals as goal
 
 pub begun_choice-requires : goal.begun_choice-requires

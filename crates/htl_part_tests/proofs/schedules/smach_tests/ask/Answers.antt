@@ -1,6 +1,5 @@
 use Rattle.std.proofs.Common.{◌≡◌, ℕ, zero, suc, ◌+◌, false, List, [], ◌∷◌, length, slice_get, Option, Some, None, IfSome, refl, sym, ap, ◌∙◌, arith}
-use Rattle.htl_runs.proofs.Words.{le-ltb, walk_from}
-use Rattle.htl_runs.proofs.Words.{Round, told, told_from, next_left, after, answer_is}
+use Rattle.htl_runs.proofs.{Words.le-ltb, Words.walk_from, Words.Round, Words.told, Words.told_from, Words.next_left, Words.after, Words.answer_is}
 use Rattle.htl_walk.specs.declared.schedule.SInstr.{SInstr}
 use Rattle.htl_walk.specs.Walk as walks
 use Rattle.htl_smach.specs.declared.left.Left.{Left}

@@ -1,6 +1,5 @@
 use Rattle.std.proofs.Common.{ℕ, ◌≤◌, ◌<◌, length, get_or, sym, ap, subst, arith, inl, inr}
-use Rattle.htl_runs.proofs.Words.{slice_get_within, absent_job, job_at}
-use Rattle.htl_runs.proofs.Words.{job_is, cases_eq}
+use Rattle.htl_runs.proofs.{Words.slice_get_within, Words.absent_job, Words.job_at, Words.job_is, Words.cases_eq}
 use Rattle.htl_walk.specs.declared.job.Job.{Job}
 use Rattle.htl_smach.proofs.Joined.{job_at_is}
 use Rattle.htl_part_tests.proofs.schedules.smach_tests.in_range.Goals as goal

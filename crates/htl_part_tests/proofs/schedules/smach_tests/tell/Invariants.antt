@@ -1,7 +1,6 @@
 use Rattle.std.proofs.Common.{◌≡◌, ℕ, ◌+◌, ◌≤◌, ◌<◌}
 use Rattle.htl_walk.specs.Walk.{job_at}
-use Rattle.htl_smach.specs.declared.state.PosState.TheVariants.{Pending}
-use Rattle.htl_smach.specs.Rounds.{Stands, state_of}
+use Rattle.htl_smach.specs.{declared.state.PosState.TheVariants.Pending, Rounds.Stands, Rounds.state_of}
 use Rattle.htl_part_tests.proofs.schedules.smach_tests.tell.Given as goal
 
 abbrev pub invariant-loop-p : goal.invariant-loop-p

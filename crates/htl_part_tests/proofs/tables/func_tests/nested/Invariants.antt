@@ -1,6 +1,5 @@
 use Rattle.std.proofs.Common.{◌≡◌, ◌+◌, ◌*◌}
-use Rattle.htl_model.specs.Functions.{term_of}
-use Rattle.htl_model.specs.Small.{ArgumentsBelow, nodes}
+use Rattle.htl_model.specs.{Functions.term_of, Small.ArgumentsBelow, Small.nodes}
 use Rattle.htl_part_tests.proofs.tables.func_tests.nested.Given as goal
 
 abbrev pub invariant-loop : goal.invariant-loop

@@ -1,6 +1,5 @@
 use Rattle.std.proofs.Common.{◌≡◌, ◌+◌, List, ℕ, Some, Err, sym, ap, ap₂, ◌∙◌, subst}
-use Rattle.htl_script.proofs.Words.{Keyed, Tables, tables_of, name_of, IsOrder, IsPlace, key_of, keyed, keyed_name}
-use Rattle.htl_script.proofs.Orders.{order_put}
+use Rattle.htl_script.proofs.{Words.Keyed, Words.Tables, Words.tables_of, Words.name_of, Words.IsOrder, Words.IsPlace, Words.key_of, Words.keyed, Words.keyed_name, Orders.order_put}
 use Rattle.htl_script.proofs.index.NameOrder.add.Goals as goal
 
 pub returns-in-Err-clause-ordered : goal.returns-in-Err-clause-ordered

@@ -1,6 +1,5 @@
 use Rattle.std.proofs.Common.{◌<◌, ℕ, length, get_or, Some, Ok, Err, sym, ap, ◌∙◌, subst, arith}
-use Rattle.htl_script.proofs.Words.{length-take, get_or-take, Keyed, Tables, name_of, IsPlace, keyed, keyed_name}
-use Rattle.htl_script.proofs.Named.{found_named, none_found}
+use Rattle.htl_script.proofs.{Words.length-take, Words.get_or-take, Words.Keyed, Words.Tables, Words.name_of, Words.IsPlace, Words.keyed, Words.keyed_name, Named.found_named, Named.none_found}
 use Rattle.htl_script.proofs.index.NameOrder.find.Goals as goal
 
 pub returns-in-Ok : goal.returns-in-Ok

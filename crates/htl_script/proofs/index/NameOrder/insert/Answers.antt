@@ -1,7 +1,6 @@
 use Rattle.std.proofs.Common.{◌++◌, ◌∷◌, length, take, drop, ap, ◌∙◌, arith}
 use Rattle.std.proofs.lemmas.List.{length-take}
-use Rattle.htl_script.proofs.Words.{Keyed}
-use Rattle.htl_script.proofs.Orders.{inserted}
+use Rattle.htl_script.proofs.{Words.Keyed, Orders.inserted}
 use Rattle.htl_script.proofs.index.NameOrder.insert.Goals as goal
 
 pub returns-clause-keys : goal.returns-clause-keys

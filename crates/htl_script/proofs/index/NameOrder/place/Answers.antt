@@ -1,6 +1,5 @@
 use Rattle.std.proofs.Common.{◌+◌, ◌-◌, ◌/◌, ℕ, List, get_or, take, Option, Ok, Err, sym, subst, arith}
-use Rattle.htl_script.proofs.Words.{Keyed, tables_of, name_of, AreRising, IsPlace, keyed, keyed_name}
-use Rattle.htl_script.proofs.Orders.{less_before, greater_after, equal_name}
+use Rattle.htl_script.proofs.{Words.Keyed, Words.tables_of, Words.name_of, Words.AreRising, Words.IsPlace, Words.keyed, Words.keyed_name, Orders.less_before, Orders.greater_after, Orders.equal_name}
 use Rattle.htl_script.proofs.index.NameOrder.place.Goals as goal
 
 pub halves-preserved-in-Less : goal.halves-preserved-in-Less

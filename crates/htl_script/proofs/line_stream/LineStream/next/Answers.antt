@@ -1,6 +1,5 @@
 use Rattle.std.proofs.Common.{Bool, List, ℕ, Option, Ok, eqb, length, refl, ap, ◌∙◌, subst}
-use Rattle.htl_script.proofs.Words.{Failed, LinesAhead, SeesByte, StopsBefore}
-use Rattle.htl_script.proofs.ReadingOn.{reads_none, reads_more, reads_on_byte}
+use Rattle.htl_script.proofs.{Words.Failed, Words.LinesAhead, Words.SeesByte, Words.StopsBefore, ReadingOn.reads_none, ReadingOn.reads_more, ReadingOn.reads_on_byte}
 use Rattle.htl_script.proofs.Splitting.{at_feed, answers_over, answers_refused, answers-byte}
 use Rattle.htl_script.proofs.line_stream.LineStream.next.Goals as goal
 

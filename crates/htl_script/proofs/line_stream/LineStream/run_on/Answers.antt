@@ -1,7 +1,5 @@
 use Rattle.std.proofs.Common.{◌++◌, take, sym, ap, ◌∙◌, subst}
-use Rattle.htl_script.proofs.Words.{LinesAhead, Pending, ReadsOn, take-append-drop}
-use Rattle.htl_script.proofs.Feeds.{no_feeds}
-use Rattle.htl_script.proofs.ReadingOn.{reads_run}
+use Rattle.htl_script.proofs.{Words.LinesAhead, Words.Pending, Words.ReadsOn, Words.take-append-drop, Feeds.no_feeds, ReadingOn.reads_run}
 use Rattle.htl_script.proofs.line_stream.LineStream.run_on.Goals as goal
 
 pub returns-clause-moved : goal.returns-clause-moved

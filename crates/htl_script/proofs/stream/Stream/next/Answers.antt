@@ -1,8 +1,6 @@
 use Rattle.std.proofs.Common.{◌≡◌, Bool, None, Some, Option, Ok, Err, refl, ap, ◌∙◌, subst, arith}
-use Rattle.htl_script.proofs.Words.{Event, Past, Place, Goes, Ahead, AnswersLine, TakesLine, ahead_of}
-use Rattle.htl_script.proofs.SoFar.{so_far_none, so_far_on}
+use Rattle.htl_script.proofs.{Words.Event, Words.Past, Words.Place, Words.Goes, Words.Ahead, Words.AnswersLine, Words.TakesLine, Words.ahead_of, SoFar.so_far_none, SoFar.so_far_on, Taken.taken_as, Taken.taken_judged, Taken.taken_on}
 use Rattle.htl_script.proofs.Streaming.{goes_on, gives_none, gives_event, gives_fault, gives_stop, gives_end}
-use Rattle.htl_script.proofs.Taken.{taken_as, taken_judged, taken_on}
 use Rattle.htl_script.proofs.stream.Stream.next.Goals as goal
 
 pub lines-init : goal.lines-init
